@@ -1,0 +1,2 @@
+//! Step systems, their runs over lists of answers, and agreement of two runs.
+#![tactic(auto)]
