@@ -1,0 +1,2 @@
+//! Validation: the type of code, and the first fault of a module (WebAssembly Core 2.0, chapter 3).
+#![tactic(auto)]
