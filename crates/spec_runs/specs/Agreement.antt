@@ -1,5 +1,5 @@
 -- When two runs agree, and a law of one step from which they do.
-use Rattle.std.specs.Prelude.{◌≡◌, ◌≢◌, ℕ, zero, suc, List, Option, Some, None, IsTrue}
+use Rattle.std.specs.Prelude.{◌≡◌, ◌≢◌, ℕ, zero, suc, List, Some, None, IsTrue}
 use Rattle.spec_runs.specs.Systems.{Outside, Moving, Waits, System, Ran, run}
 
 -- The same events. Where the first run stands at a wait or an end, the second stands at the same, with the same
