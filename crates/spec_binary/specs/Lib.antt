@@ -1,7 +1,10 @@
+pub mod Options
+pub mod Opcodes
 pub mod Types
 pub mod Instructions
 pub mod Parts
 pub mod Sections
 pub mod Modules
+pub mod Indices
 pub mod SmallForm
 pub mod WrittenForm

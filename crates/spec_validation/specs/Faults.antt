@@ -1,6 +1,6 @@
 -- The first fault of a module (WebAssembly Core 2.0, section 3.4). Looked through so far: types, functions, tables,
 -- memories, exports, the start function, bodies and data segments.
-use Rattle.std.specs.Prelude.{◌≡◌, ℕ, ◌+◌, ◌-◌, length, ◌&&◌, ◌||◌, nat_eq, nat_le, nat_lt, Bool, true, false, List, [], ◌∷◌, ◌++◌, map, replicate, slice_get, Option, Some, None, is_some, if◌then◌else◌, bytes_eq}
+use Rattle.std.specs.Prelude.{ℕ, ◌+◌, length, ◌&&◌, ◌||◌, nat_le, nat_lt, Bool, true, false, List, [], ◌∷◌, ◌++◌, slice_get, Option, Some, None, is_some, if◌then◌else◌, bytes_eq}
 use Rattle.wasm_form.specs.declared.types.ValType.{ValType}
 use Rattle.wasm_form.specs.declared.types.ValType.TheVariants.{I32, I64, FuncRef}
 use Rattle.wasm_form.specs.declared.types.FuncType.{FuncType}
@@ -18,7 +18,9 @@ use Rattle.wasm_form.specs.declared.module.DataMode.{DataMode}
 use Rattle.wasm_form.specs.declared.module.DataMode.TheVariants.{Active, Passive}
 use Rattle.wasm_form.specs.declared.module.Data.{Data}
 use Rattle.wasm_form.specs.declared.module.Module.{Module}
-use Rattle.spec_validation.specs.Stacks.{◌>>=◌, same_type}
+use Rattle.spec_binary.specs.Options.{◌>>=◌}
+use Rattle.spec_binary.specs.Indices.{function_type, declared_locals, nullary_at}
+use Rattle.spec_validation.specs.Stacks.{same_type}
 use Rattle.spec_validation.specs.Typing.{Context, height}
 
 -- where a type stands: of a function or a table that the module defines, or in a body
@@ -83,10 +85,6 @@ body_supported n c = unless (locals_supported c.locals) (UnsupportedType (Body n
 
 -- ---- parts of the module
 
--- the type of a function, by its number
-abbrev pub function_type : Module → ℕ → Option FuncType
-function_type m f = slice_get m.funcs f >>= λ t. slice_get m.types t
-
 abbrev pub all_typed : Module → List ℕ → Bool
 all_typed m [] = true
 all_typed m (t ∷ ts) = nat_lt t (length m.types) && all_typed m ts
@@ -134,14 +132,9 @@ abbrev pub all_there : Module → List Export → Bool
 all_there m [] = true
 all_there m (e ∷ es) = is_there m e.desc && all_there m es
 
--- a function type without parameters and results
-abbrev pub is_nullary : Option FuncType → Bool
-is_nullary None = false
-is_nullary (Some f) = nat_eq (length f.params) 0 && nat_eq (length f.results) 0
-
 abbrev pub start_fits : Module → Option ℕ → Bool
 start_fits m None = true
-start_fits m (Some f) = is_nullary (function_type m f)
+start_fits m (Some f) = nullary_at (function_type m f)
 
 -- a constant expression of type i32, which is one i32.const so far
 abbrev pub i32_step : Open.Instr-F Instr Expr → Bool
@@ -161,11 +154,6 @@ datas_fit m [] = true
 datas_fit m (d ∷ ds) = mode_fits m d.mode && datas_fit m ds
 
 -- ---- bodies
-
--- the types of the locals that are declared
-abbrev pub declared_locals : List Group → List ValType
-declared_locals [] = []
-declared_locals (g ∷ gs) = replicate g.count g.ty ++ declared_locals gs
 
 abbrev pub body_context : Module → FuncType → Code → Context
 body_context m f c = record { functions = function_type m; locals = f.params ++ declared_locals c.locals; results = f.results }

@@ -1,13 +1,14 @@
 -- The type of code: the stack after an instruction, from the stack before (WebAssembly Core 2.0, section 3.3). Typed so far:
 -- unreachable, nop, call and i32.const.
-use Rattle.std.specs.Prelude.{ℕ, ◌+◌, max, Bool, List, [], ◌∷◌, length, map, nat_eq, slice_get, Option, Some, None, if◌then◌else◌}
+use Rattle.std.specs.Prelude.{ℕ, max, List, [], ◌∷◌, length, map, Option, Some, None, if◌then◌else◌}
 use Rattle.wasm_form.specs.declared.types.ValType.{ValType}
 use Rattle.wasm_form.specs.declared.types.ValType.TheVariants.{I32}
 use Rattle.wasm_form.specs.declared.types.FuncType.{FuncType}
 use Rattle.wasm_form.specs.declared.instr.Instr.{Instr, fold-Instr}
 use Rattle.wasm_form.specs.declared.instr.Instr.TheOpen as Open
-use Rattle.wasm_form.specs.declared.instr.Expr.{Expr}
-use Rattle.spec_validation.specs.Stacks.{◌>>=◌, Stack, holding, unreachable, take_off, put_on, ends_with}
+use Rattle.spec_binary.specs.Options.{◌>>=◌}
+use Rattle.spec_binary.specs.Opcodes.{PlainForm, Unreachable, Nop, OtherPlain, plain_form, IndexForm, Call, OtherIndex, index_form}
+use Rattle.spec_validation.specs.Stacks.{Stack, holding, unreachable, take_off, put_on, ends_with}
 
 -- what the code of a body may name: functions by their types; and the types of its locals and results
 pub record Context : Type 0 where
@@ -21,19 +22,6 @@ Labels = List (List ValType)
 
 abbrev pub from_to : List ValType → List ValType → FuncType
 from_to params results = record { params = params; results = results }
-
--- the opcodes without operands, and those with an index, by what they mean
-pub data PlainForm : Type 0 where
-  Unreachable Nop OtherPlain : PlainForm
-
-abbrev pub plain_form : ℕ → PlainForm
-plain_form op = if nat_eq op 0x00 then Unreachable else if nat_eq op 0x01 then Nop else OtherPlain
-
-pub data IndexForm : Type 0 where
-  Call OtherIndex : IndexForm
-
-abbrev pub index_form : ℕ → IndexForm
-index_form op = if nat_eq op 0x10 then Call else OtherIndex
 
 -- what an instruction without a block inside does: it takes and gives, or it takes and goes away
 pub data Shape : Type 0 where
