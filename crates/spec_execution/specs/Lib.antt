@@ -1,0 +1,6 @@
+pub mod Memories
+pub mod Tables
+pub mod Hosts
+pub mod Activations
+pub mod Runs
+pub mod OneModule
