@@ -1,0 +1,4 @@
+pub mod Texts
+pub mod Phases
+pub mod LoadedSet
+pub mod Merged
