@@ -1,0 +1,64 @@
+-- The module that is written for a set of one small module.
+use Rattle.std.specs.Prelude.{◌≡◌, ℕ, pos, ◌+◌, ◌≤◌, List, [], ◌∷◌, length, Some, None, codes}
+use Rattle.wasm_form.specs.declared.types.ValType.TheVariants.{FuncRef}
+use Rattle.wasm_form.specs.declared.instr.Instr.{I32Const}
+use Rattle.wasm_form.specs.declared.instr.Expr.{Expr}
+use Rattle.wasm_form.specs.declared.module.ExportDesc.TheVariants.{Func, Space}
+use Rattle.wasm_form.specs.declared.module.DataMode.TheVariants.{Active}
+use Rattle.wasm_form.specs.declared.module.Module.{Module}
+use Rattle.spec_binary.specs.SmallForm.{IsSmallFile}
+use Rattle.spec_linking.specs.Records.{empty_record}
+use Rattle.spec_linking.specs.Sets.{Member, ClosedSet, most_bytes}
+use Rattle.spec_linking.specs.Plans.{default_link}
+use Rattle.spec_linking.specs.Slots.{defined_functions, table_growth}
+use Rattle.spec_linking.specs.Links.{LinkedSet}
+use Rattle.spec_execution.specs.Hosts.{HostNames}
+use Rattle.spec_loading.specs.Texts.{error_texts}
+
+-- no host function is declared so far
+abbrev pub no_names : HostNames
+no_names = record { declared = [] }
+
+-- a module alone, found at a path
+abbrev pub main_member : List ℕ → List ℕ → ℕ → Module → Member
+main_member name path size wasm = record { name = name; path = path; size = size; dylink = empty_record; wasm = wasm; needed = [] }
+
+abbrev pub set_alone : List ℕ → List ℕ → ℕ → Module → ClosedSet
+set_alone name path size wasm = record { members = main_member name path size wasm ∷ []; startup = 0 ∷ [] }
+
+-- the set of this module alone, linked with the default options
+abbrev pub linked_alone : List ℕ → List ℕ → ℕ → Module → LinkedSet
+linked_alone name path size wasm = record { set = set_alone name path size wasm; options = default_link; names = no_names }
+
+-- some bytes of the small form spell the module, no more than a set may have
+pub record IsSmallInput (wasm : Module) : Type 0 where
+  pub bytes : List ℕ
+  pub file : IsSmallFile wasm bytes
+  pub few : length bytes ≤ most_bytes
+
+-- the address of the error texts, as a constant expression
+abbrev pub texts_offset : Expr
+texts_offset = record { list = I32Const (pos 66560) ∷ [] }
+
+-- the initial entries of the table: null, and a slot for each function that is defined under a name
+abbrev pub slots_of : Module → ℕ
+slots_of wasm = 1 + length (defined_functions wasm.exports)
+
+-- The merged module keeps the functions and their numbers. It has the planned table and memory, exports the entry as `_start` and the
+-- memory as `memory`, and begins with the error texts in place.
+abbrev pub merged_alone : Module → ℕ → Module
+merged_alone wasm entry = record {
+  types = wasm.types;
+  imports = [];
+  funcs = wasm.funcs;
+  tables = record { elem = FuncRef; limits = record { min = slots_of wasm; max = Some (slots_of wasm + table_growth) } } ∷ [];
+  memories = record { min = 2; max = Some 1024 } ∷ [];
+  globals = [];
+  exports = record { name = codes "_start"; desc = Func entry } ∷ record { name = codes "memory"; desc = Space 0 } ∷ [];
+  start = None;
+  elems = [];
+  data_count = None;
+  codes = wasm.codes;
+  datas = record { mode = Active 0 texts_offset; bytes = error_texts } ∷ [];
+  customs = [];
+}

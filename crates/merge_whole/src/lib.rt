@@ -1,0 +1,2 @@
+//! The merged module of a linked set.
+#![tactic(auto)]
