@@ -1,3 +1,7 @@
 pub mod Levels
 pub mod Small
 pub mod Valid
+pub mod Matching
+pub mod Opening
+pub mod Startup
+pub mod Headline
