@@ -5,9 +5,11 @@ mod instr;
 mod list;
 mod memory;
 mod module;
+mod name;
 mod runtime;
 mod text;
 mod types;
+mod unsigned;
 
 pub use instr::{BlockType, Expr, Instr};
 pub use list::List;
@@ -16,6 +18,8 @@ pub use module::{
     Code, Custom, Data, DataMode, Elem, ElemItems, ElemMode, Export, ExportDesc, GlobalDef, Group,
     Import, ImportDesc, Module,
 };
+pub use name::{put_name, read_name};
 pub use runtime::{LoaderCall, Ref, Trap};
 pub use text::Text;
 pub use types::{FuncType, GlobalType, Limits, TableType, ValType};
+pub use unsigned::{put_u32, read_u32};

@@ -1,0 +1,2 @@
+pub mod UnsignedSpelling
+pub mod NameSpelling
