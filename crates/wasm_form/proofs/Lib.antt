@@ -1,2 +1,4 @@
+pub mod Places
 pub mod UnsignedSpelling
+pub mod SignedSpelling
 pub mod NameSpelling

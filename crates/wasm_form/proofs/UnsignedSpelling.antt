@@ -1,7 +1,6 @@
 -- Unsigned numbers: one value and one rest for a text, and one shortest spelling of a value.
-use Rattle.std.proofs.Common.{◌≡◌, ℕ, suc, ◌+◌, ◌-◌, ◌*◌, ◌/◌, ◌%◌, ◌^◌, ◌<◌, ◌≤◌, List, [], ◌∷◌, ◌++◌, refl, sym, ap, ◌∙◌, subst, arith, inl, inr, length, drop, get_or, add-one, append_assoc}
+use Rattle.std.proofs.Common.{◌≡◌, ℕ, suc, ◌+◌, ◌-◌, ◌*◌, ◌/◌, ◌%◌, ◌^◌, ◌<◌, ◌≤◌, List, [], ◌∷◌, ◌++◌, refl, sym, ap, ◌∙◌, subst, arith, inl, inr, length, append_assoc}
 use Rattle.std.specs.Prelude.{◌⊎◌}
-use Rattle.std.proofs.Math.Seq.{drop-cons}
 use Rattle.std.proofs.lemmas.Nat.{pow-add}
 use Rattle.std.proofs.Math.Pow.{pow_mono}
 use Rattle.std.proofs.lemmas.Bool.{cases_lt}
@@ -49,10 +48,6 @@ unsigned_head b rest end (last {n} {b = d} h k) q =
 unsigned_head b rest end (more {n} {b = d} {v} {high} {w} h l k e s) q =
     let same : b ≡ d = cc in
     inr (omega arith, k, (high, e ∙ ap (λ t. 128 * high + (t - 128)) (sym same), (w, s, cc)))
-
--- the text from a place on begins with the byte there
-pub starts : (bytes : List ℕ) (at : ℕ) → at < length bytes → drop at bytes ≡ get_or bytes at 0 ∷ drop (at + 1) bytes
-starts bytes at h = rw (add-one) (drop-cons bytes at 0 h)
 
 -- the reader at the end of the text
 pub none_empty : (n : ℕ) (text : List ℕ) → text ≡ [] → (v : ℕ) (end : List ℕ) → Begins (SpellsUnsigned n v) text end → ⊥

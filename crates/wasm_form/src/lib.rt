@@ -7,6 +7,7 @@ mod memory;
 mod module;
 mod name;
 mod runtime;
+mod signed;
 mod text;
 mod types;
 mod unsigned;
@@ -20,6 +21,7 @@ pub use module::{
 };
 pub use name::{put_name, read_name};
 pub use runtime::{LoaderCall, Ref, Trap};
+pub use signed::{put_s32, put_s33, put_s64, read_s32, read_s33, read_s64};
 pub use text::Text;
 pub use types::{FuncType, GlobalType, Limits, TableType, ValType};
 pub use unsigned::{put_u32, read_u32};

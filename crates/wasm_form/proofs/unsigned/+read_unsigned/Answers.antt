@@ -1,7 +1,8 @@
 use Rattle.std.proofs.Common.{rules, ◌≡◌, ℕ, ◌+◌, ◌-◌, ◌*◌, ◌<◌, ◌≤◌, ◌^◌, List, length, drop, arith, get_or}
 use Rattle.std.proofs.Math.Pow.{pow_mono}
 use Rattle.std.proofs.Math.ListN.{drop_of_length-le}
-use Rattle.wasm_form.proofs.UnsignedSpelling.{starts, none_empty, last_byte, none_last, more_bytes, none_short, none_more, joined_small}
+use Rattle.wasm_form.proofs.Places.{starts}
+use Rattle.wasm_form.proofs.UnsignedSpelling.{none_empty, last_byte, none_last, more_bytes, none_short, none_more, joined_small}
 use Rattle.wasm_form.proofs.unsigned.+read_unsigned.Goals as goal
 
 pub returns-then-at-bytes-clause-none : goal.returns-then-at-bytes-clause-none

@@ -1,0 +1,10 @@
+use Rattle.std.proofs.Common.{arith, w64}
+use Rattle.std.proofs.lemmas.Int.{ints, to_z-of_z}
+use Rattle.std.proofs.lemmas.Result.{on_ok_weaker}
+use Rattle.wasm_form.proofs.SignedSpelling.{signed_64}
+use Rattle.wasm_form.proofs.signed.put_s64.Goals as goal
+
+pub returns-clause-ok : goal.returns-clause-ok
+returns-clause-ok c =
+    let written = rw (to_z-of_z w64 c.args.v c.ranges.v) at c.put_signed.ensures.ok in
+    on_ok_weaker c.put_signed.result (λ all. all 64 (signed_64 c.args.v c.ranges.v)) written
