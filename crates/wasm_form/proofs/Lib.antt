@@ -2,3 +2,4 @@ pub mod Places
 pub mod UnsignedSpelling
 pub mod SignedSpelling
 pub mod NameSpelling
+pub mod SequenceSpelling

@@ -1,10 +1,10 @@
 -- Names: one name and one rest for a text, and what the reader and the writer of a name need.
-use Rattle.std.proofs.Common.{◌≡◌, ℕ, ◌+◌, ◌-◌, ◌<◌, ◌≤◌, List, [], ◌∷◌, ◌++◌, IsUtf8, refl, sym, ap, ◌∙◌, subst, arith, length, take, drop, append_assoc, length-append, length-drop}
+use Rattle.std.proofs.Common.{◌≡◌, ℕ, ◌+◌, ◌-◌, ◌<◌, ◌≤◌, ◌^◌, List, [], ◌∷◌, ◌++◌, IsUtf8, refl, sym, ap, ◌∙◌, subst, arith, length, take, drop, append_assoc, length-append, length-drop}
 use Rattle.std.proofs.lemmas.List.{length-take, take-append-drop, drop-drop}
 use Rattle.std.proofs.Math.Seq.{take-append_seam}
 use Rattle.wasm_form.specs.Number.{SpellsUnsigned, Begins, IsShortest, Appends}
 use Rattle.wasm_form.specs.Name.{SpellsName, name}
-use Rattle.wasm_form.proofs.UnsignedSpelling.{one_unsigned}
+use Rattle.wasm_form.proofs.UnsignedSpelling.{one_unsigned, some_shortest_unsigned, one_shortest_unsigned}
 
 -- the number of a name's bytes comes first
 pub name_begins : (letters text rest : List ℕ) → Begins (SpellsName letters) text rest → Begins (SpellsUnsigned 32 (length letters)) text (letters ++ rest)
@@ -76,3 +76,30 @@ shortest_name letters count u s = record { spelled = name s.spelled u; least = �
 -- the writer, after the number and then the name
 pub appends_name : (old mid new letters : List ℕ) → IsUtf8 letters → Appends (IsShortest (SpellsUnsigned 32 (length letters))) old mid → new ≡ mid ++ letters → Appends (IsShortest (SpellsName letters)) old new
 appends_name old mid new letters u (count, s, q) e = (count ++ letters, shortest_name letters count u s, e ∙ ap (λ l. l ++ letters) q ∙ append_assoc old count letters)
+
+-- a text of fewer than 2 ^ 32 bytes has a shortest spelling as a name, and one alone
+pub some_shortest_name : (letters : List ℕ) → IsUtf8 letters → length letters < 2 ^ 32 → (word : List ℕ) × IsShortest (SpellsName letters) word
+some_shortest_name letters u h =
+    let count = some_shortest_unsigned 32 (length letters) (omega arith) h in
+    (count.0 ++ letters, shortest_name letters count.0 u count.1)
+
+count_shortest : (letters count word : List ℕ) → word ≡ count ++ letters → SpellsUnsigned 32 (length letters) count → IsUtf8 letters → IsShortest (SpellsName letters) word → IsShortest (SpellsUnsigned 32 (length letters)) count
+count_shortest letters count word e s u t = record {
+  spelled = s;
+  least = λ other p.
+      let le : length word ≤ length (other ++ letters) = t.least (other ++ letters) (name p u) in
+      let size : length word ≡ length (count ++ letters) = ap length e in
+      omega (arith, length-append count letters, length-append other letters);
+}
+
+name_count : {letters word : List ℕ} → SpellsName letters word → (count : List ℕ) × (word ≡ count ++ letters) × SpellsUnsigned 32 (length letters) count
+name_count (name {count} s u) = (count, refl, s)
+
+pub one_shortest_name : (letters word other : List ℕ) → IsShortest (SpellsName letters) word → IsShortest (SpellsName letters) other → word ≡ other
+one_shortest_name letters word other s t =
+    let left = name_count s.spelled in
+    let right = name_count t.spelled in
+    let utf8 = name_utf8 s.spelled in
+    let same : left.0 ≡ right.0 = one_shortest_unsigned 32 (length letters) left.0 right.0
+    (count_shortest letters left.0 word left.1 left.2 utf8 s) (count_shortest letters right.0 other right.1 right.2 utf8 t) in
+    left.1 ∙ ap (λ count. count ++ letters) same ∙ sym right.1

@@ -1,8 +1,7 @@
 -- Signed numbers: one value and one rest for a text, and one shortest spelling of a value.
-use Rattle.std.proofs.Common.{◌≡◌, ℕ, ℤ, pos, negsuc, suc, ◌+◌, ◌-◌, ◌*◌, ◌^◌, ◌<◌, ◌≤◌, ◌+ℤ◌, ◌-ℤ◌, ◌*ℤ◌, ◌<ℤ◌, ◌≤ℤ◌, nat_abs, List, [], ◌∷◌, ◌++◌, refl, sym, ap, ◌∙◌, subst, arith, inl, inr, length, append_assoc, FitsSigned, w32, w64}
+use Rattle.std.proofs.Common.{◌≡◌, ℕ, ℤ, pos, negsuc, zero, suc, ◌+◌, ◌-◌, ◌*◌, ◌/◌, ◌%◌, ◌^◌, ◌<◌, ◌≤◌, ◌+ℤ◌, ◌-ℤ◌, ◌*ℤ◌, ◌<ℤ◌, ◌≤ℤ◌, nat_abs, List, [], ◌∷◌, ◌++◌, refl, sym, ap, ◌∙◌, subst, arith, inl, inr, length, append_assoc, FitsSigned, w32, w64}
 use Rattle.std.specs.Prelude.{◌⊎◌}
-use Rattle.std.specs.Int.{int_div_euclid, int_rem_euclid}
-use Rattle.std.proofs.lemmas.Int.{ints}
+use Rattle.std.proofs.lemmas.Int.{ints, by_lt_z}
 use Rattle.std.proofs.lemmas.Nat.{pow-add}
 use Rattle.std.proofs.Math.Pow.{pow_mono}
 use Rattle.std.proofs.lemmas.Bool.{cases_lt}
@@ -113,11 +112,6 @@ one_signed_word x y (more {b = c} {high} {w} h l k q s) p e =
 pub one_signed : (n : ℕ) (v u : ℤ) (text rest end : List ℕ) → Begins (SpellsSigned n v) text rest → Begins (SpellsSigned n u) text end → (v ≡ u) × (rest ≡ end)
 one_signed n v u text rest end p q = one_signed_word rest end p.1 q.1 (sym p.2 ∙ q.2)
 
--- the low seven bits, and the number of the others
-pub euclid : (v : ℤ) → v ≡ pos 128 *ℤ int_div_euclid v (pos 128) +ℤ int_rem_euclid v (pos 128)
-euclid (pos a) = omega (arith, ints)
-euclid (negsuc a) = omega (arith, ints)
-
 -- v takes more than seven bits
 pub record IsWide (v : ℤ) : Type 0 where
   pub wide : ((v +ℤ pos 64) <ℤ pos 0) ⊎ (pos 64 ≤ℤ v)
@@ -189,3 +183,76 @@ shortest_more n v high low w h e wide r s = record {
 pub appends_more : (old mid new : List ℕ) (n : ℕ) (v high : ℤ) (low : ℕ) → low < 128 → v ≡ pos 128 *ℤ high +ℤ pos low → IsWide v → IsSigned n v → mid ≡ old ++ (low + 128) ∷ [] → Appends (IsShortest (SpellsSigned (n - 7) high)) mid new → Appends (IsShortest (SpellsSigned n v)) old new
 appends_more old mid new n v high low h e wide r m (w, s, q) =
     ((low + 128) ∷ w, shortest_more n v high low w h e wide r s, q ∙ ap (λ l. l ++ w) m ∙ append_assoc old ((low + 128) ∷ []) w)
+
+-- the low seven bits of a number, and the number of the others
+pub parts_of : (v : ℤ) → (high : ℤ) × (low : ℕ) × (low < 128) × (v ≡ pos 128 *ℤ high +ℤ pos low)
+parts_of (pos a) = (pos (a / 128), a % 128, omega arith, omega (arith, ints))
+parts_of (negsuc a) = (negsuc (a / 128), 127 - a % 128, omega arith, omega (arith, ints))
+
+-- a number of at most seven bits, or one that takes more
+narrow_or_wide : (v : ℤ) → ((pos 0 ≤ℤ (v +ℤ pos 64)) × (v <ℤ pos 64)) ⊎ IsWide v
+narrow_or_wide v =
+    by_lt_z (v +ℤ pos 64) (pos 0) (λ low. inr (record { wide = inl low }))
+    (λ least. by_lt_z v (pos 64) (λ below. inl (least, below)) (λ high. inr (record { wide = inr high })))
+
+-- each number of n bits has a shortest spelling, by recursion on a bound of n
+shortest_within : (bound n : ℕ) (v : ℤ) → n ≤ bound → 0 < n → IsSigned n v → (word : List ℕ) × IsShortest (SpellsSigned n v) word
+shortest_within zero n v l h r = absurd (omega arith)
+shortest_within (suc bound) n v l h r =
+    let parts = parts_of v in
+    elim (narrow_or_wide v) [
+      | inl narrow ↦ (parts.1 ∷ [], shortest_last n v parts.0 parts.1 parts.2 parts.3 narrow.0 narrow.1 r)
+      | inr wide ↦
+          let long : 7 < n = wider n v r wide in
+          let rest = shortest_within bound (n - 7) parts.0 (omega arith) (omega arith) (high_range n v parts.0 parts.1 parts.2 parts.3 wide r) in
+          ((parts.1 + 128) ∷ rest.0, shortest_more n v parts.0 parts.1 rest.0 parts.2 parts.3 wide r rest.1)
+    ]
+
+pub some_shortest_signed : (n : ℕ) (v : ℤ) → 0 < n → IsSigned n v → (word : List ℕ) × IsShortest (SpellsSigned n v) word
+some_shortest_signed n v h r = shortest_within n n v (omega arith) h r
+
+-- a spelling of a number of seven bits that is no longer than one byte
+one_byte : {n : ℕ} {v : ℤ} {w : List ℕ} (high : ℤ) (low : ℕ) → low < 128 → v ≡ pos 128 *ℤ high +ℤ pos low → length w ≤ 1 → SpellsSigned n v w → w ≡ low ∷ []
+one_byte high low h e short (last {b} j k) = let same : b ≡ low = omega (arith, ints) in ap (λ c. c ∷ []) same
+one_byte high low h e short (last_below {b} j l k) = let same : b ≡ low = omega (arith, ints) in ap (λ c. c ∷ []) same
+one_byte high low h e short (more {w} j l k q s) = let some : 0 < length w = signed_some s in absurd (omega arith)
+
+-- one shortest spelling, by recursion on one of them
+after_narrow : {n : ℕ} {v : ℤ} {a : List ℕ} (b : List ℕ) → pos 0 ≤ℤ (v +ℤ pos 64) → v <ℤ pos 64 → IsSigned n v → IsShortest (SpellsSigned n v) a → IsShortest (SpellsSigned n v) b → a ≡ b
+after_narrow {n} {v} {a} b least below r s t =
+    let parts = parts_of v in
+    let short = shortest_last n v parts.0 parts.1 parts.2 parts.3 least below r in
+    one_byte parts.0 parts.1 parts.2 parts.3 (s.least (parts.1 ∷ []) short.spelled) s.spelled
+    ∙ sym (one_byte parts.0 parts.1 parts.2 parts.3 (t.least (parts.1 ∷ []) short.spelled) t.spelled)
+
+-- what follows the first byte of a shortest spelling is a shortest spelling
+rest_shortest : (n : ℕ) (v high : ℤ) (low : ℕ) (word rest : List ℕ) → low < 128 → v ≡ pos 128 *ℤ high +ℤ pos low → 7 < n → word ≡ (low + 128) ∷ rest → SpellsSigned (n - 7) high rest → IsShortest (SpellsSigned n v) word → IsShortest (SpellsSigned (n - 7) high) rest
+rest_shortest n v high low word rest h e k q s t = record {
+  spelled = s;
+  least = λ other p.
+      let longer : SpellsSigned n v ((low + 128) ∷ other) = more (omega arith) (omega arith) k (omega (arith, ints)) p in
+      let le : length word ≤ suc (length other) = t.least ((low + 128) ∷ other) longer in
+      let size : length word ≡ suc (length rest) = ap length q in
+      omega arith;
+}
+
+one_within : (bound n : ℕ) (v : ℤ) (word other : List ℕ) → n ≤ bound → IsShortest (SpellsSigned n v) word → IsShortest (SpellsSigned n v) other → word ≡ other
+one_within zero n v word other l s t = elim (narrow_or_wide v) [
+  | inl narrow ↦ after_narrow other narrow.0 narrow.1 (signed_range s.spelled) s t
+  | inr wide ↦ let long : 7 < n = wider n v (signed_range s.spelled) wide in absurd (omega arith)
+]
+one_within (suc bound) n v word other l s t = elim (narrow_or_wide v) [
+  | inl narrow ↦ after_narrow other narrow.0 narrow.1 (signed_range s.spelled) s t
+  | inr wide ↦
+      let parts = parts_of v in
+      let long = wider n v (signed_range s.spelled) wide in
+      let left = signed_parts parts.0 parts.1 parts.2 parts.3 wide s.spelled in
+      let right = signed_parts parts.0 parts.1 parts.2 parts.3 wide t.spelled in
+      let rest = one_within bound (n - 7) parts.0 left.0 right.0 (omega arith)
+      (rest_shortest n v parts.0 parts.1 word left.0 parts.2 parts.3 long left.1 left.2 s)
+      (rest_shortest n v parts.0 parts.1 other right.0 parts.2 parts.3 long right.1 right.2 t) in
+      left.1 ∙ ap (λ w. (parts.1 + 128) ∷ w) rest ∙ sym right.1
+]
+
+pub one_shortest_signed : (n : ℕ) (v : ℤ) (word other : List ℕ) → IsShortest (SpellsSigned n v) word → IsShortest (SpellsSigned n v) other → word ≡ other
+one_shortest_signed n v word other s t = one_within n n v word other (omega arith) s t

@@ -1,5 +1,5 @@
 -- Unsigned numbers: one value and one rest for a text, and one shortest spelling of a value.
-use Rattle.std.proofs.Common.{◌≡◌, ℕ, suc, ◌+◌, ◌-◌, ◌*◌, ◌/◌, ◌%◌, ◌^◌, ◌<◌, ◌≤◌, List, [], ◌∷◌, ◌++◌, refl, sym, ap, ◌∙◌, subst, arith, inl, inr, length, append_assoc}
+use Rattle.std.proofs.Common.{◌≡◌, ℕ, zero, suc, ◌+◌, ◌-◌, ◌*◌, ◌/◌, ◌%◌, ◌^◌, ◌<◌, ◌≤◌, List, [], ◌∷◌, ◌++◌, refl, sym, ap, ◌∙◌, subst, arith, inl, inr, length, append_assoc}
 use Rattle.std.specs.Prelude.{◌⊎◌}
 use Rattle.std.proofs.lemmas.Nat.{pow-add}
 use Rattle.std.proofs.Math.Pow.{pow_mono}
@@ -116,3 +116,58 @@ appends_more old mid new b n v h k e m (w, s, q) =
 -- the high bits have seven fewer
 pub high_small : (n v : ℕ) → 128 ≤ v → v < 2 ^ n → v / 128 < 2 ^ (n - 7)
 high_small n v h k = omega (arith, split_pow n (wider n v k h))
+
+-- each number below 2 ^ n has a shortest spelling, by recursion on a bound of n
+shortest_below : (bound n v : ℕ) → n ≤ bound → 0 < n → v < 2 ^ n → (word : List ℕ) × IsShortest (SpellsUnsigned n v) word
+shortest_below zero n v l h k = absurd (omega arith)
+shortest_below (suc bound) n v l h k = elim (cases_lt v 128) [
+  | inl small ↦ (v ∷ [], shortest_last n v small k)
+  | inr large ↦
+      let wide : 7 < n = wider n v k large in
+      let rest = shortest_below bound (n - 7) (v / 128) (omega arith) (omega arith) (high_small n v large k) in
+      ((v % 128 + 128) ∷ rest.0, shortest_more n v rest.0 large k rest.1)
+]
+
+pub some_shortest_unsigned : (n v : ℕ) → 0 < n → v < 2 ^ n → (word : List ℕ) × IsShortest (SpellsUnsigned n v) word
+some_shortest_unsigned n v h k = shortest_below n n v (omega arith) h k
+
+-- a spelling of a number below 128 that is no longer than one byte
+one_byte : {n v : ℕ} {w : List ℕ} → v < 128 → length w ≤ 1 → SpellsUnsigned n v w → w ≡ v ∷ []
+one_byte small short (last h k) = refl
+one_byte small short (more {w} h l k e s) = let some : 0 < length w = unsigned_some s in absurd (omega arith)
+
+-- what follows the first byte of a shortest spelling is a shortest spelling
+rest_shortest : (n v : ℕ) (word rest : List ℕ) → 128 ≤ v → 7 < n → word ≡ (v % 128 + 128) ∷ rest → SpellsUnsigned (n - 7) (v / 128) rest → IsShortest (SpellsUnsigned n v) word → IsShortest (SpellsUnsigned (n - 7) (v / 128)) rest
+rest_shortest n v word rest h k q s t = record {
+  spelled = s;
+  least = λ other p.
+      let longer : SpellsUnsigned n v ((v % 128 + 128) ∷ other) = more (omega arith) (omega arith) k (omega arith) p in
+      let le : length word ≤ suc (length other) = t.least ((v % 128 + 128) ∷ other) longer in
+      let size : length word ≡ suc (length rest) = ap length q in
+      omega arith;
+}
+
+after_small : (n v : ℕ) (word other : List ℕ) → v < 128 → IsShortest (SpellsUnsigned n v) word → IsShortest (SpellsUnsigned n v) other → word ≡ other
+after_small n v word other small s t =
+    let short : SpellsUnsigned n v (v ∷ []) = last small (unsigned_small s.spelled) in
+    one_byte small (s.least (v ∷ []) short) s.spelled ∙ sym (one_byte small (t.least (v ∷ []) short) t.spelled)
+
+-- one shortest spelling, by recursion on a bound of n
+one_below : (bound n v : ℕ) (word other : List ℕ) → n ≤ bound → IsShortest (SpellsUnsigned n v) word → IsShortest (SpellsUnsigned n v) other → word ≡ other
+one_below zero n v word other l s t = elim (cases_lt v 128) [
+  | inl small ↦ after_small n v word other small s t
+  | inr large ↦ let long : 7 < n = wider n v (unsigned_small s.spelled) large in absurd (omega arith)
+]
+one_below (suc bound) n v word other l s t = elim (cases_lt v 128) [
+  | inl small ↦ after_small n v word other small s t
+  | inr large ↦
+      let left = unsigned_parts large s.spelled in
+      let right = unsigned_parts large t.spelled in
+      let rest = one_below bound (n - 7) (v / 128) left.0 right.0 (omega arith)
+      (rest_shortest n v word left.0 large left.2 left.1 left.3 s)
+      (rest_shortest n v other right.0 large right.2 right.1 right.3 t) in
+      left.1 ∙ ap (λ w. (v % 128 + 128) ∷ w) rest ∙ sym right.1
+]
+
+pub one_shortest_unsigned : (n v : ℕ) (word other : List ℕ) → IsShortest (SpellsUnsigned n v) word → IsShortest (SpellsUnsigned n v) other → word ≡ other
+one_shortest_unsigned n v word other s t = one_below n n v word other (omega arith) s t

@@ -2,17 +2,24 @@
 #![tactic(auto)]
 
 mod instr;
+mod laws;
 mod list;
 mod memory;
 mod module;
 mod name;
 mod runtime;
 mod signed;
+#[cfg(test)]
+mod tests;
 mod text;
 mod types;
 mod unsigned;
 
 pub use instr::{BlockType, Expr, Instr};
+pub use laws::{
+    no_name_begins_another, no_number_begins_another, numbers_are_spelled, numbers_within_length,
+    one_shortest_name, one_shortest_number,
+};
 pub use list::List;
 pub use memory::Memory;
 pub use module::{
