@@ -1,0 +1,11 @@
+pub mod Adapters
+pub mod Ambient
+pub mod Faults
+pub mod FileMap
+pub mod Files
+pub mod MemAmbient
+pub mod MemFiles
+pub mod MemSink
+pub mod MemSource
+pub mod Sink
+pub mod Source
