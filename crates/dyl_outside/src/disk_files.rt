@@ -66,6 +66,7 @@ impl<R: FileSystem> Files for DiskFiles<'_, R> {
         answer
     }
 
+    /// A path that can't be made or written, as in a folder that is missing, is Failed.
     fn store(&mut self, _alloc: Global, path: &str, bytes: &[u8]) -> Result<(), IoFault> {
         if let Ok(mut file) = fs::create(self.rt, path) {
             if write_whole(&mut file, bytes).is_ok() {

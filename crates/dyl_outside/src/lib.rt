@@ -18,6 +18,8 @@ mod sink;
 mod source;
 mod stream_sink;
 mod stream_source;
+#[cfg(test)]
+mod tests;
 
 pub use ambient::Ambient;
 pub use disk_files::DiskFiles;

@@ -14,9 +14,9 @@ use std::marker::Model;
 use wasm_form::Memory;
 
 /// Files in memory. It tells them, and fails exactly where it was told to.
-// The first entry of a path counts.
 #[derive(Drop)]
 pub struct MemFiles {
+    // The first entry of a path counts.
     entries: VecDeque<(Vec<u8>, Vec<u8>)>,
     calls: Calls,
     read_faults: u64,
