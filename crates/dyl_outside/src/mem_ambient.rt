@@ -10,8 +10,8 @@ use std::alloc::Global;
 use std::marker::Model;
 use wasm_form::Memory;
 
-/// A clock and random words in memory. It tells what is left of both, and fails exactly where it was
-/// told to or where nothing is left of the one that is asked for.
+/// A clock and random words in memory. It tells what is left of both, and fails exactly at the calls
+/// that `fail_at` was given, or where nothing is left of what a call asks for.
 #[derive(Drop)]
 pub struct MemAmbient {
     times: Vec<u64>,
@@ -37,7 +37,8 @@ impl Model for MemAmbient {
 }
 
 impl MemAmbient {
-    /// A clock that gives these times, and these random words, each from the first on.
+    /// A clock that gives these times, in nanoseconds, and these random words, each from the first on. No
+    /// call is to fail.
     pub fn new(alloc: Global, times: Vec<u64>, words: Vec<u64>) -> MemAmbient
         ensures { result ≡ record { times = times.items; words = words.items; failing = []; next_call = 0; faults = 0 } }
     {

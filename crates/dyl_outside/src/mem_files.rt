@@ -13,7 +13,7 @@ use std::collections::VecDeque;
 use std::marker::Model;
 use wasm_form::Memory;
 
-/// Files in memory. It tells them, and fails exactly where it was told to.
+/// Files in memory. It tells them, and fails exactly at the calls that `fail_at` was given.
 #[derive(Drop)]
 pub struct MemFiles {
     // The first entry of a path counts.
@@ -42,7 +42,7 @@ impl Model for MemFiles {
 }
 
 impl MemFiles {
-    /// No files, and no call that is to fail.
+    /// No files. No call is to fail.
     pub fn new(alloc: Global) -> MemFiles
         ensures { result ≡ record { files = empty; failing = []; next_call = 0; read_faults = 0; write_faults = 0; absents = 0 } }
     {

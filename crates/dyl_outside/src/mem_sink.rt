@@ -9,7 +9,7 @@ use std::alloc::Global;
 use std::marker::Model;
 use wasm_form::Memory;
 
-/// A sink in memory. It tells what it holds, and fails exactly where it was told to.
+/// A sink in memory. It tells what it holds, and fails exactly at the calls that `fail_at` was given.
 #[derive(Drop)]
 pub struct MemSink {
     bytes: Vec<u8>,
@@ -31,7 +31,7 @@ impl Model for MemSink {
 }
 
 impl MemSink {
-    /// A sink that holds nothing, and that no call fails on.
+    /// A sink that holds nothing. No call is to fail.
     pub fn new(alloc: Global) -> MemSink
         ensures { result ≡ record { held = []; failing = []; next_call = 0; faults = 0 } }
     {

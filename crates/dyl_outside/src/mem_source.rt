@@ -9,7 +9,8 @@ use std::alloc::Global;
 use std::marker::Model;
 use wasm_form::Memory;
 
-/// A source in memory. It is full, tells the bytes left, and fails exactly where it was told to.
+/// A source in memory. It is full, tells the bytes left, and fails exactly at the calls that `fail_at`
+/// was given.
 #[derive(Drop)]
 pub struct MemSource {
     bytes: Vec<u8>,
@@ -35,7 +36,7 @@ impl Model for MemSource {
 }
 
 impl MemSource {
-    /// A source with these bytes left, that no call fails on.
+    /// A source with these bytes left. No call is to fail.
     pub fn new(alloc: Global, bytes: Vec<u8>) -> MemSource
         ensures { result ≡ record { left = bytes.items; failing = []; next_call = 0; faults = 0 } }
     {

@@ -1,4 +1,4 @@
-use Rattle.std.proofs.Common.{arith, length, length-take-le, subst, sym}
+use Rattle.std.proofs.Common.{arith}
 use Rattle.dyl_outside.proofs.KnownBytes.{appends_more}
 use Rattle.dyl_outside.proofs.stream_sink.write_whole.Goals as goal
 use Rattle.dyl_outside.proofs.stream_sink.write_whole.Goals.{in-Ok, in-Err+else-ne}
