@@ -5,3 +5,4 @@ pub mod Matching
 pub mod Opening
 pub mod Startup
 pub mod Headline
+pub mod Seeing

@@ -1,1 +1,2 @@
 pub mod MergedModule
+pub mod Seen

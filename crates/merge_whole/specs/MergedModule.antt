@@ -5,6 +5,10 @@ use Rattle.wasm_form.specs.declared.instr.Instr.{I32Const}
 use Rattle.wasm_form.specs.declared.instr.Expr.{Expr}
 use Rattle.wasm_form.specs.declared.module.ExportDesc.TheVariants.{Func, Space}
 use Rattle.wasm_form.specs.declared.module.DataMode.TheVariants.{Active}
+use Rattle.wasm_form.specs.declared.types.Limits.{Limits}
+use Rattle.wasm_form.specs.declared.types.TableType.{TableType}
+use Rattle.wasm_form.specs.declared.module.Export.{Export}
+use Rattle.wasm_form.specs.declared.module.Data.{Data}
 use Rattle.wasm_form.specs.declared.module.Module.{Module}
 use Rattle.spec_binary.specs.SmallForm.{IsSmallFile}
 use Rattle.spec_linking.specs.Records.{empty_record}
@@ -44,21 +48,37 @@ texts_offset = record { list = I32Const (pos 66560) ∷ [] }
 abbrev pub slots_of : Module → ℕ
 slots_of wasm = 1 + length (defined_functions wasm.exports)
 
--- The merged module keeps the functions and their numbers. It has the planned table and memory, exports the entry as `_start` and the
--- memory as `memory`, and begins with the error texts in place.
+-- the table that has them
+abbrev pub slot_table : ℕ → TableType
+slot_table slots = record { elem = FuncRef; limits = record { min = slots; max = Some (slots + table_growth) } }
+
+-- the planned memory
+abbrev pub planned_memory : Limits
+planned_memory = record { min = 2; max = Some 1024 }
+
+-- the entry and the memory, by their names
+abbrev pub entry_exports : ℕ → List Export
+entry_exports entry = record { name = codes "_start"; desc = Func entry } ∷ record { name = codes "memory"; desc = Space 0 } ∷ []
+
+-- the error texts at their place
+abbrev pub texts_data : Data
+texts_data = record { mode = Active 0 texts_offset; bytes = error_texts }
+
+-- The merged module keeps the functions and their numbers. It has the planned table and memory, exports the entry and the memory, and
+-- begins with the error texts in place.
 abbrev pub merged_alone : Module → ℕ → Module
 merged_alone wasm entry = record {
   types = wasm.types;
   imports = [];
   funcs = wasm.funcs;
-  tables = record { elem = FuncRef; limits = record { min = slots_of wasm; max = Some (slots_of wasm + table_growth) } } ∷ [];
-  memories = record { min = 2; max = Some 1024 } ∷ [];
+  tables = slot_table (slots_of wasm) ∷ [];
+  memories = planned_memory ∷ [];
   globals = [];
-  exports = record { name = codes "_start"; desc = Func entry } ∷ record { name = codes "memory"; desc = Space 0 } ∷ [];
+  exports = entry_exports entry;
   start = None;
   elems = [];
   data_count = None;
   codes = wasm.codes;
-  datas = record { mode = Active 0 texts_offset; bytes = error_texts } ∷ [];
+  datas = texts_data ∷ [];
   customs = [];
 }

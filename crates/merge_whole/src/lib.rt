@@ -1,2 +1,5 @@
-//! The merged module of a linked set.
+//! Merges a linked set into one ordinary module.
 #![tactic(auto)]
+
+mod module;
+mod slots;
