@@ -9,7 +9,8 @@ use Rattle.spec_execution.specs.OneModule.{module_system}
 use Rattle.spec_linking.specs.Definitions.{entry_of}
 use Rattle.spec_loading.specs.LoadedSet.{set_system, set_opening}
 use Rattle.spec_loading.specs.Merged.{Merged}
-use Rattle.merge_whole.specs.MergedModule.{no_names, linked_alone, merged_alone}
+use Rattle.spec_execution.specs.Hosts.{no_names}
+use Rattle.merge_whole.specs.MergedModule.{linked_alone, merged_alone}
 use Rattle.merge_whole.proofs.Valid.{merged_valid}
 use Rattle.merge_whole.proofs.Matching.{Matches, one_step}
 use Rattle.merge_whole.proofs.Opening as one

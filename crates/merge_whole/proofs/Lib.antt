@@ -1,5 +1,5 @@
 pub mod Levels
-pub mod Small
+pub mod Entry
 pub mod Valid
 pub mod Matching
 pub mod Opening

@@ -21,7 +21,8 @@ use Rattle.spec_execution.specs.OneModule.{Starting, ModuleState, module_view, m
 use Rattle.spec_linking.specs.Links.{LinkedSet}
 use Rattle.spec_loading.specs.Phases.{LoaderFrame}
 use Rattle.spec_loading.specs.LoadedSet.{SetState, set_view, set_step, set_system}
-use Rattle.merge_whole.specs.MergedModule.{no_names, linked_alone, merged_alone}
+use Rattle.spec_execution.specs.Hosts.{no_names}
+use Rattle.merge_whole.specs.MergedModule.{linked_alone, merged_alone}
 
 -- ---- activations of unit 0 stay there
 

@@ -17,9 +17,11 @@ use Rattle.spec_linking.specs.Definitions.{entry_of}
 use Rattle.spec_linking.specs.Slots.{table_growth}
 use Rattle.spec_loading.specs.Texts.{error_texts}
 use Rattle.spec_loading.proofs.Rows.{texts_length}
-use Rattle.merge_whole.specs.MergedModule.{no_names, texts_offset, slots_of, merged_alone}
+use Rattle.spec_execution.specs.Hosts.{no_names}
+use Rattle.merge_whole.specs.MergedModule.{texts_offset, slots_of, merged_alone}
 use Rattle.merge_whole.proofs.Levels.{out-I32Const}
-use Rattle.merge_whole.proofs.Small.{small_type, small_function, entry_in_range}
+use Rattle.spec_validation.proofs.Small.{small_type, small_function}
+use Rattle.merge_whole.proofs.Entry.{entry_in_range}
 
 -- two pages of zeros, with the error texts
 abbrev pub text_memory : MemoryInstance

@@ -20,7 +20,7 @@ use Rattle.spec_linking.specs.Links.{LinkedSet}
 use Rattle.spec_loading.specs.Phases.{Phase, Place, Start, Relocate, Construct, Task, CallEntry, LoaderFrame, phase_function}
 use Rattle.spec_loading.specs.LoadedSet.{SetState, set_view, set_step, set_system, set_opening, slots_written, place_with, call_with, raised}
 use Rattle.merge_whole.specs.MergedModule.{set_alone, linked_alone, slots_of}
-use Rattle.merge_whole.proofs.Small.{no_relocations, no_constructors}
+use Rattle.spec_validation.proofs.Small.{no_relocations, no_constructors}
 use Rattle.merge_whole.proofs.Opening.{text_memory, entry_code, entry_function_is}
 
 -- functions can be written to slots that are within the table

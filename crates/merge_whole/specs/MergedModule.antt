@@ -16,12 +16,8 @@ use Rattle.spec_linking.specs.Sets.{Member, ClosedSet, most_bytes}
 use Rattle.spec_linking.specs.Plans.{default_link}
 use Rattle.spec_linking.specs.Slots.{defined_functions, table_growth}
 use Rattle.spec_linking.specs.Links.{LinkedSet}
-use Rattle.spec_execution.specs.Hosts.{HostNames}
+use Rattle.spec_execution.specs.Hosts.{no_names}
 use Rattle.spec_loading.specs.Texts.{error_texts}
-
--- no host function is declared so far
-abbrev pub no_names : HostNames
-no_names = record { declared = [] }
 
 -- a module alone, found at a path
 abbrev pub main_member : List ℕ → List ℕ → ℕ → Module → Member

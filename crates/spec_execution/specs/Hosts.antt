@@ -17,6 +17,10 @@ pub record HostName : Type 0 where
 pub record HostNames : Type 0 where
   pub declared : List HostName
 
+-- nothing is declared
+abbrev pub no_names : HostNames
+no_names = record { declared = [] }
+
 -- a call of a host function with these arguments
 pub record HostCall : Type 0 where
   pub host : HostName

@@ -1,3 +1,4 @@
 pub mod Stacks
 pub mod Typing
 pub mod Faults
+pub mod Laws

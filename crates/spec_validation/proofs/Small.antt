@@ -11,8 +11,7 @@ use Rattle.wasm_form.specs.declared.module.Code.{Code}
 use Rattle.wasm_form.specs.declared.module.Module.{Module}
 use Rattle.spec_binary.specs.Options.{◌>>=◌}
 use Rattle.spec_binary.specs.SmallForm.{nullary, IsSmallExport, ExportsFunction, IsSmall, relocations_name, constructors_name}
-use Rattle.spec_binary.specs.Indices.{function_type, function_with, function_at, nullary_at, exported_function, exported_as, own_function}
-use Rattle.spec_linking.specs.Definitions.{start_name, main_function_name, entry_function, entry_of}
+use Rattle.spec_binary.specs.Indices.{function_type, function_with, function_at, exported_function, exported_as, own_function}
 
 -- an element at a place within the list is there
 pub got : {A : Type 0} (xs : List A) (i : ℕ) → i < length xs → (x : A) × (slice_get xs i ≡ Some x)
@@ -84,26 +83,3 @@ exported_in_range n name (x ∷ es) f all e = go (bytes_eq name x.name) refl (ex
 -- the function of a name is in range
 pub own_in_range : (m : Module) → IsSmall m → (name : List ℕ) (f : ℕ) → own_function m name ≡ Some f → f < length m.funcs
 own_in_range m small name f e = exported_in_range (length m.funcs) name m.exports f small.exports e
-
-kept : (m : Module) (o : Option ℕ) (f : ℕ) → (o >>= λ x. if nullary_at (function_type m x) then Some x else None) ≡ Some f → o ≡ Some f
-kept m None f e = absurd cc
-kept m (Some x) f e = go (nullary_at (function_type m x)) refl
-  where
-    go : (b : Bool) → nullary_at (function_type m x) ≡ b → ◌≡◌ {A = Option ℕ} (Some x) (Some f)
-    go true holds = rw holds at e
-    go false fails = absurd (let none = rw fails at e in cc)
-
--- one name or the other gives the entry
-pub entry_is_own : (m : Module) (f : ℕ) → entry_of m ≡ Some f → (name : List ℕ) × (own_function m name ≡ Some f)
-entry_is_own m f e = go (own_function m start_name) refl
-  where
-    found : entry_function m ≡ Some f
-    found = kept m (entry_function m) f e
-
-    go : (o : Option ℕ) → own_function m start_name ≡ o → (name : List ℕ) × (own_function m name ≡ Some f)
-    go (Some g) named = (start_name, named ∙ (rw named at found))
-    go None named = (main_function_name, (rw named at found))
-
--- the entry is in range
-pub entry_in_range : (m : Module) → IsSmall m → (f : ℕ) → entry_of m ≡ Some f → f < length m.funcs
-entry_in_range m small f e = let own = entry_is_own m f e in own_in_range m small own.0 f own.1

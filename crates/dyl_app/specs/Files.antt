@@ -1,0 +1,32 @@
+-- What a call leaves of the files.
+use Rattle.std.specs.Prelude.{◌≡◌, ◌⊎◌, ℕ, List, Option, Some, IsSomeAnd}
+use Rattle.std.specs.FinMap.{get, insert}
+use Rattle.dyl_outside.specs.Faults.{Rose}
+use Rattle.dyl_outside.specs.FileMap.{FileMap, SameBut}
+use Rattle.spec_linking.specs.Sets.{ClosedSet}
+use Rattle.spec_linking.specs.Links.{Links}
+use Rattle.spec_loading.specs.Merged.{Merged}
+use Rattle.dyl_app.specs.declared.outcome.Outcome.{Outcome}
+use Rattle.dyl_app.specs.declared.outcome.Outcome.TheVariants.{Done, Usage, Set, Unbuilt, Link, WriteFault, Memory}
+use Rattle.dyl_app.specs.Orders.{Order}
+use Rattle.dyl_app.specs.Due.{GathersSmall, linked}
+
+-- The set of the main module is gathered and links, and the path of the output holds bytes that merge it. Every other path is as it was.
+pub record IsMerged (order : Order) (files after : FileMap) : Type 0 where
+  pub set : ClosedSet
+  pub gathered : GathersSmall (get files) order.main set
+  pub links : Links (linked set)
+  pub output : List ℕ
+  pub merged : Merged (linked set) output
+  pub written : after ≡ insert files order.out output
+
+-- What an outcome leaves of these files, where the write faults were `before` and are `now`. After a write fault the path of the output
+-- may hold anything.
+abbrev pub Leaves : Order → FileMap → Outcome → Option FileMap → ℕ → ℕ → Type 0
+Leaves order files Done after before now = IsSomeAnd after (IsMerged order files)
+Leaves order files WriteFault after before now = IsSomeAnd after (SameBut order.out files)
+Leaves order files Memory after before now = (after ≡ Some files) ⊎ (Rose before now × IsSomeAnd after (SameBut order.out files))
+Leaves order files (Usage kind) after before now = after ≡ Some files
+Leaves order files (Set fault) after before now = after ≡ Some files
+Leaves order files Unbuilt after before now = after ≡ Some files
+Leaves order files (Link fault) after before now = after ≡ Some files

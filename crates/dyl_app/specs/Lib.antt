@@ -1,0 +1,4 @@
+pub mod Status
+pub mod Orders
+pub mod Due
+pub mod Files

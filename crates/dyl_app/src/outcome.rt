@@ -1,0 +1,67 @@
+// What a call of the program comes to.
+ghost use Rattle.std.specs.Prelude.{◌≡◌};
+ghost use Rattle.dyl_app.specs.Status.{status_of};
+
+use wasm_form::Text;
+
+/// What is wrong with the words.
+#[derive(Clone, Copy, Debug, PartialEq, Eq)]
+pub enum UsageKind {
+    /// There is no command.
+    NoCommand,
+    /// There is no such command.
+    UnknownCommand,
+    /// The words after the command are none that it takes.
+    Words,
+}
+
+/// Why there is no closed set.
+#[derive(Drop)]
+pub enum SetFault {
+    /// No file is found for the member of this name.
+    Missing { name: Text },
+    /// The file at this path could not be read.
+    ReadFault { path: Text },
+    /// The files have more than 16,777,216 bytes.
+    SetSize,
+}
+
+/// Why a set does not link.
+#[derive(Clone, Copy, Debug, PartialEq, Eq)]
+pub enum LinkFault {
+    /// The main module has no entry.
+    NoEntry,
+}
+
+/// The answer of `serve`.
+#[derive(Drop)]
+pub enum Outcome {
+    /// The command is done.
+    Done,
+    /// The words are no order.
+    Usage(UsageKind),
+    /// The order's files are no closed set.
+    Set(SetFault),
+    /// The input has a form that is not built yet.
+    Unbuilt,
+    /// The set does not link.
+    Link(LinkFault),
+    /// The output could not be written.
+    WriteFault,
+    /// No memory could be had.
+    Memory,
+}
+
+/// The exit status of an outcome, by sysexits.h where that has one.
+pub fn status(outcome: &Outcome) -> u8
+    ensures { result ≡ status_of outcome.now }
+{
+    match outcome {
+        Outcome::Done => 0,
+        Outcome::Usage(_) => 64,
+        Outcome::Set(SetFault::ReadFault { .. }) => 66,
+        Outcome::Set(_) | Outcome::Unbuilt | Outcome::Link(_) => 65,
+        Outcome::Memory => 71,
+        Outcome::WriteFault => 74,
+    }
+}
