@@ -1,5 +1,5 @@
 -- Lists with their number before them: one list and one rest for a text, if that holds of the elements.
-use Rattle.std.proofs.Common.{◌≡◌, ℕ, suc, ◌+◌, List, [], ◌∷◌, ◌++◌, refl, sym, ap, ◌∙◌, arith, length, append_assoc}
+use Rattle.std.proofs.Common.{◌≡◌, ℕ, List, ◌++◌, refl, ◌∙◌, arith, length, append_assoc}
 use Rattle.wasm_form.specs.Number.{SpellsUnsigned, Begins}
 use Rattle.wasm_form.specs.Sequence.{SpellsEach, none, next, SpellsVec, vec}
 use Rattle.wasm_form.specs.Laws.{NoneBeginsAnother}

@@ -1,5 +1,5 @@
 -- What holds of a way to spell values by words.
-use Rattle.std.specs.Prelude.{◌≡◌, ℕ, ◌+◌, ◌*◌, ◌<◌, ◌≤◌, List, length}
+use Rattle.std.specs.Prelude.{◌≡◌, ℕ, ◌+◌, ◌*◌, ◌<◌, List, length}
 use Rattle.wasm_form.specs.Number.{Begins, IsShortest}
 
 -- no word begins another: a text that begins with a word has one value and one rest

@@ -1,4 +1,4 @@
-use Rattle.std.proofs.Common.{◌≡◌, ◌+◌, ◌-◌, ◌<◌, ◌≤◌, List, length, take, drop, IsUtf8, subst, arith, length-drop}
+use Rattle.std.proofs.Common.{drop, arith, length-drop}
 use Rattle.wasm_form.proofs.NameSpelling.{none_unnumbered, none_cut, none_utf8, name_found, size_of_range}
 use Rattle.wasm_form.proofs.name.read_name.Goals as goal
 

@@ -1,4 +1,4 @@
-use Rattle.std.proofs.Common.{rules, ◌≡◌, ℕ, ℤ, pos, ◌+◌, ◌-◌, ◌<◌, ◌≤◌, ◌+ℤ◌, ◌*ℤ◌, List, length, drop, arith, get_or, FitsSigned, w64}
+use Rattle.std.proofs.Common.{rules, arith, get_or, FitsSigned, w64}
 use Rattle.std.proofs.lemmas.Int.{to_z-of_z}
 use Rattle.wasm_form.proofs.Places.{starts}
 use Rattle.wasm_form.proofs.SignedSpelling.{last_byte, none_last, more_bytes, none_short, none_more}

@@ -1,4 +1,4 @@
-use Rattle.std.proofs.Common.{rules, ◌≡◌, ℤ, pos, negsuc, ◌-ℤ◌, arith, to_z, w64}
+use Rattle.std.proofs.Common.{rules, ◌≡◌, pos, negsuc, ◌-ℤ◌, arith, to_z, w64}
 use Rattle.std.proofs.lemmas.Int.{ints}
 use Rattle.wasm_form.proofs.SignedSpelling.{last_spells}
 use Rattle.wasm_form.proofs.signed.last_value.Goals as goal

@@ -1,4 +1,4 @@
-use Rattle.std.proofs.Common.{rules, ◌≡◌, ℕ, ◌+◌, ◌-◌, ◌*◌, ◌<◌, ◌≤◌, ◌^◌, List, length, drop, arith, get_or}
+use Rattle.std.proofs.Common.{rules, ◌≤◌, ◌^◌, arith, get_or}
 use Rattle.std.proofs.Math.Pow.{pow_mono}
 use Rattle.std.proofs.Math.ListN.{drop_of_length-le}
 use Rattle.wasm_form.proofs.Places.{starts}

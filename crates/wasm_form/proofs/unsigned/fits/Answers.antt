@@ -1,4 +1,4 @@
-use Rattle.std.proofs.Common.{◌≡◌, ℕ, ◌^◌, ◌<◌, ◌≤◌, arith, IsTrue}
+use Rattle.std.proofs.Common.{◌^◌, ◌≤◌, arith}
 use Rattle.std.proofs.Math.Pow.{pow_mono}
 use Rattle.wasm_form.proofs.unsigned.fits.Goals as goal
 
