@@ -41,7 +41,7 @@ pub fn put_u32(to: &mut Vec<u8>, v: u32) -> Result<(), Memory>
     ensures err { OnErr result (to.new.items ≡ to.old.items) }
 {
     let start = to.len();
-    match put_unsigned(to, u64::from(v)) {
+    match push_unsigned(to, u64::from(v)) {
         Ok(()) => Ok(()),
         Err(_) => {
             to.truncate(start);
@@ -87,7 +87,7 @@ fn fits(b: u8, bits: u32) -> bool
 }
 
 // Writes the low seven bits with the rest after them. At an error some bytes may have been written.
-fn put_unsigned(to: &mut Vec<u8>, v: u64) -> Result<(), AllocError>
+fn push_unsigned(to: &mut Vec<u8>, v: u64) -> Result<(), AllocError>
     ensures ok { OnOk result ((n : ℕ) → v < 2 ^ n → Appends (IsShortest (SpellsUnsigned n v)) to.old.items to.new.items) }
     ensures err { OnErr result (take (length to.old.items) to.new.items ≡ to.old.items) }
 {
@@ -96,5 +96,5 @@ fn put_unsigned(to: &mut Vec<u8>, v: u64) -> Result<(), AllocError>
         return Ok(());
     }
     to.push((v % 128) as u8 + 128)?;
-    put_unsigned(to, v / 128)
+    push_unsigned(to, v / 128)
 }
