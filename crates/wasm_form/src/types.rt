@@ -13,7 +13,7 @@ pub enum ValType {
 }
 
 /// The parameters and results of a function.
-#[derive(Drop)]
+#[derive(Drop, PartialEq, Eq)]
 pub struct FuncType {
     pub params: List<ValType>,
     pub results: List<ValType>,
