@@ -1,5 +1,5 @@
 -- The form of module that is written so far, and when a section of it is too long to be written.
-use Rattle.std.specs.Prelude.{◌≡◌, ℕ, ◌^◌, ◌<◌, ◌≤◌, List, [], length, All, None, nat_eq, if◌then◌else◌}
+use Rattle.std.specs.Prelude.{◌≡◌, ℕ, ◌^◌, ◌<◌, ◌≤◌, List, [], ◌++◌, length, All, Contains, None, nat_eq, if◌then◌else◌}
 use Rattle.wasm_form.specs.declared.types.ValType.{ValType}
 use Rattle.wasm_form.specs.declared.types.ValType.TheVariants.{I32, I64, F32, F64, FuncRef, ExternRef}
 use Rattle.wasm_form.specs.declared.types.FuncType.{FuncType}
@@ -16,8 +16,8 @@ use Rattle.wasm_form.specs.declared.module.Module.{Module}
 use Rattle.wasm_form.specs.Number.{SpellsUnsigned}
 use Rattle.wasm_form.specs.Sequence.{SpellsVec}
 use Rattle.spec_binary.specs.Types.{SpellsFuncType, SpellsLimits, SpellsTableType}
-use Rattle.spec_binary.specs.Instructions.{NoOperand, OneIndex, operands}
-use Rattle.spec_binary.specs.Parts.{SpellsExport, SpellsCode, SpellsData}
+use Rattle.spec_binary.specs.Instructions.{NoOperand, OneIndex, operands, SpellsExpr}
+use Rattle.spec_binary.specs.Parts.{most_nested, SpellsExport, SpellsGroup, SpellsCode, SpellsData}
 
 -- a list whose length is a number of 32 bits
 abbrev pub IsShort : {A : Type 0} → List A → Type 0
@@ -94,9 +94,20 @@ pub data IsContents (m : Module) : ℕ → List ℕ → Type 0 where
 abbrev pub rank_of : ℕ → ℕ
 rank_of id = if nat_eq id 12 then 10 else if nat_eq id 10 then 11 else if nat_eq id 11 then 12 else id
 
--- The section with this number takes 2 ^ 32 bytes or more, however it is spelled, and no section before it does.
+-- The locals and the body take 2 ^ 32 bytes or more together, however they are spelled, so their size is no number of 32 bits.
+pub record IsTooLongBody (c : Code) : Type 0 where
+  pub locals : List ℕ
+  pub body : List ℕ
+  pub spelled_locals : SpellsVec SpellsGroup c.locals locals
+  pub spelled_body : SpellsExpr most_nested c.body body
+  pub long : (w v : List ℕ) → SpellsVec SpellsGroup c.locals w → SpellsExpr most_nested c.body v → 2 ^ 32 ≤ length (w ++ v)
+
+-- The contents of the section with this number take 2 ^ 32 bytes or more, however they are spelled, or a body of the code section does.
+pub data IsTooLong (m : Module) : ℕ → Type 0 where
+  contents : {id : ℕ} {w : List ℕ} → IsContents m id w → ((v : List ℕ) → IsContents m id v → 2 ^ 32 ≤ length v) → IsTooLong m id
+  body : {c : Code} → Contains m.codes c → IsTooLongBody c → IsTooLong m 10
+
+-- The section with this number is too long, and each section before it can be spelled in fewer than 2 ^ 32 bytes.
 pub record IsFirstTooLong (m : Module) (id : ℕ) : Type 0 where
-  pub contents : List ℕ
-  pub spelled : IsContents m id contents
-  pub long : (w : List ℕ) → IsContents m id w → 2 ^ 32 ≤ length w
+  pub long : IsTooLong m id
   pub first : (other : ℕ) (w : List ℕ) → rank_of other < rank_of id → IsContents m other w → (v : List ℕ) × IsContents m other v × (length v < 2 ^ 32)
