@@ -1,12 +1,8 @@
 -- Chains of sections, and the module that they spell.
-use Rattle.std.proofs.Common.{◌≡◌, ℕ, zero, suc, ◌+◌, ◌<◌, ◌≤◌, List, [], ◌∷◌, ◌++◌, length, None, refl, sym, ap, ◌∙◌, subst, append_assoc, append-nil, arith}
+use Rattle.std.proofs.Common.{◌≡◌, ℕ, suc, List, [], ◌∷◌, ◌++◌, None, refl, sym, subst, append_assoc, append-nil, arith}
 use Rattle.wasm_form.specs.declared.module.Module.{Module}
-use Rattle.wasm_form.specs.Number.{SpellsUnsigned}
-use Rattle.wasm_form.specs.Sequence.{SpellsVec}
-use Rattle.spec_binary.specs.Types.{SpellsFuncType}
-use Rattle.spec_binary.specs.Parts.{SpellsExport, SpellsCode}
-use Rattle.spec_binary.specs.Sections.{Progress, at_start, empty_module, with_custom, with_types, with_funcs, with_exports, with_codes, Contents, IsSection, Chain, done, next, custom as custom_contents, types, funcs, exports, codes}
-use Rattle.spec_binary.specs.Modules.{header, SpellsModule}
+use Rattle.spec_binary.specs.Sections.{Progress, at_start, with_custom, with_types, with_funcs, with_exports, with_codes, Contents, IsSection, Chain, done, next, custom as custom_contents, types, funcs, exports, codes}
+use Rattle.spec_binary.specs.Modules.{SpellsModule}
 use Rattle.spec_binary.specs.SmallForm.{small_custom, SpellsCustom, custom, SpellsSection, section, IsSmall, IsSmallFile}
 
 -- what a small module's sections say
@@ -55,8 +51,8 @@ small_file_spells m bytes file =
       count = 5;
       end = s5;
       chain = next first.framed (custom_spelled at_start first.spelled) (next second.framed (types (omega arith) second.spelled)
-        (next third.framed (funcs (omega arith) third.spelled) (next fourth.framed (exports (omega arith) fourth.spelled)
-        (next fifth.framed (codes (omega arith) fifth.spelled) done))));
+          (next third.framed (funcs (omega arith) third.spelled) (next fourth.framed (exports (omega arith) fourth.spelled)
+          (next fifth.framed (codes (omega arith) fifth.spelled) done))));
       fields = small_fields m file.small;
-      bodies = file.small.bodies
+      bodies = file.small.bodies;
     }

@@ -1,1 +1,5 @@
 pub mod Chains
+pub mod Joined
+pub mod ShortestParts
+pub mod ShortestCode
+pub mod Fits

@@ -8,3 +8,4 @@ pub mod Modules
 pub mod Indices
 pub mod SmallForm
 pub mod WrittenForm
+pub mod Laws
