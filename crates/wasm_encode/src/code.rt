@@ -1,0 +1,92 @@
+// Instructions, expressions and bodies (sections 5.4 and 5.5.13).
+ghost use Rattle.std.specs.Prelude.{◌≡◌, ℕ, ℤ, List as Listing, All, OnOk, OnErr};
+ghost use Rattle.wasm_form.specs.Number.{IsShortest, Appends, SpellsSigned};
+ghost use Rattle.wasm_form.specs.Sequence.{SpellsEach};
+ghost use Rattle.spec_binary.specs.Instructions.{SpellsInstr, SpellsExpr};
+ghost use Rattle.spec_binary.specs.Parts.{SpellsGroup, SpellsCode};
+ghost use Rattle.spec_binary.specs.WrittenForm.{IsWrittenInstr, IsWrittenCode, IsTooLongBody};
+
+use std::alloc::Global;
+
+use wasm_form::{Code, Expr, Group, Instr, Memory, put_u32};
+
+use crate::fault::PartFault;
+use crate::part::{Part, put_sized, put_vec};
+
+fn put_s32(to: &mut Vec<u8>, v: i32) -> Result<(), Memory>
+    ensures ok { OnOk result (Appends (IsShortest (SpellsSigned 32 v)) to.old.items to.new.items) }
+    ensures err { OnErr result (to.new.items ≡ to.old.items) }
+{
+    Err(Memory)
+}
+
+/// Writes an instruction.
+fn put_instr(instr: &Instr, to: &mut Vec<u8>) -> Result<(), Memory>
+    requires { IsWrittenInstr instr.now }
+    ensures { OnOk result ((d : ℕ) → Appends (IsShortest (SpellsInstr d instr.now)) to.old.items to.new.items) }
+{
+    match instr {
+        Instr::Plain(op) => {
+            to.push(*op)?;
+            Ok(())
+        }
+        Instr::Index(op, number) => {
+            to.push(*op)?;
+            put_u32(to, *number)
+        }
+        Instr::I32Const(number) => {
+            to.push(0x41)?;
+            put_s32(to, *number)
+        }
+        _ => unreachable!(),
+    }
+}
+
+/// Writes instructions one after the other.
+fn put_instrs(instrs: &[Instr], to: &mut Vec<u8>) -> Result<(), Memory>
+    requires { All IsWrittenInstr instrs.now }
+    ensures { OnOk result ((d : ℕ) → Appends (IsShortest (SpellsEach (SpellsInstr d) instrs.now)) to.old.items to.new.items) }
+{
+    for instr in instrs {
+        put_instr(instr, to)?;
+    }
+    Ok(())
+}
+
+/// Writes instructions and the byte that ends them.
+pub(crate) fn put_expr(expr: &Expr, to: &mut Vec<u8>) -> Result<(), Memory>
+    requires { All IsWrittenInstr expr.now.list }
+    ensures { OnOk result ((d : ℕ) → Appends (IsShortest (SpellsExpr d expr.now)) to.old.items to.new.items) }
+{
+    put_instrs(expr.list.items(), to)?;
+    to.push(0x0B)?;
+    Ok(())
+}
+
+impl Part for Group {
+    ghost writable = { λ _. Unit {0} };
+
+    ghost spells = { SpellsGroup };
+
+    ghost too_long = { λ _. ⊥ };
+
+    fn put(&self, alloc: Global, to: &mut Vec<u8>) -> Result<(), PartFault> {
+        put_u32(to, self.count)?;
+        self.ty.put(alloc, to)
+    }
+}
+
+impl Part for Code {
+    ghost writable = { IsWrittenCode };
+
+    ghost spells = { SpellsCode };
+
+    ghost too_long = { IsTooLongBody };
+
+    fn put(&self, alloc: Global, to: &mut Vec<u8>) -> Result<(), PartFault> {
+        let mut contents = Vec::new(alloc);
+        put_vec(alloc, self.locals.items(), &mut contents)?;
+        put_expr(&self.body, &mut contents)?;
+        put_sized(&contents, to)
+    }
+}

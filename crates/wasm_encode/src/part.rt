@@ -1,0 +1,90 @@
+// What stands in the vectors of the format, and vectors of it (section 5.1.3).
+ghost use Rattle.std.specs.Prelude.{◌≡◌, ℕ, ◌^◌, ◌<◌, ◌≤◌, List as Listing, length, All, Contains, OnOk};
+ghost use Rattle.wasm_form.specs.Number.{IsShortest, Appends, SpellsUnsigned};
+ghost use Rattle.wasm_form.specs.Sequence.{SpellsEach, SpellsVec};
+ghost use Rattle.spec_binary.specs.Parts.{SpellsByte};
+ghost use Rattle.wasm_encode.specs.Sized.{IsSized};
+
+use std::alloc::Global;
+
+use wasm_form::put_u32;
+
+use crate::fault::PartFault;
+
+/// What stands in a vector of the format.
+pub(crate) trait Part {
+    /// Whether it can be written.
+    ghost writable: { Self → Type 0 };
+    /// Which bytes spell it.
+    ghost spells: { Self → Listing ℕ → Type 0 };
+    /// Whether its size takes more than 32 bits.
+    ghost too_long: { Self → Type 0 };
+
+    /// Writes its shortest spelling at the end.
+    fn put(&self, alloc: Global, to: &mut Vec<u8>) -> Result<(), PartFault>
+        requires { writable self.now }
+        ensures ok { OnOk result (Appends (IsShortest (spells self.now)) to.old.items to.new.items) }
+        ensures long { result ≡ Err PartFault.TooLong → too_long self.now };
+}
+
+impl Part for u8 {
+    ghost writable = { λ _. Unit {0} };
+
+    ghost spells = { SpellsByte };
+
+    ghost too_long = { λ _. ⊥ };
+
+    fn put(&self, _: Global, to: &mut Vec<u8>) -> Result<(), PartFault> {
+        to.push(*self)?;
+        Ok(())
+    }
+}
+
+impl Part for u32 {
+    ghost writable = { λ _. Unit {0} };
+
+    ghost spells = { SpellsUnsigned 32 };
+
+    ghost too_long = { λ _. ⊥ };
+
+    fn put(&self, _: Global, to: &mut Vec<u8>) -> Result<(), PartFault> {
+        put_u32(to, *self)?;
+        Ok(())
+    }
+}
+
+/// Writes each of a list, one after the other.
+fn put_each<T: Part>(alloc: Global, items: &[T], to: &mut Vec<u8>) -> Result<(), PartFault>
+    requires { All T.writable items.now }
+    ensures ok { OnOk result (Appends (IsShortest (SpellsEach T.spells items.now)) to.old.items to.new.items) }
+    ensures long { result ≡ Err PartFault.TooLong → (x : T) × Contains items.now x × T.too_long x }
+{
+    for item in items {
+        item.put(alloc, to)?;
+    }
+    Ok(())
+}
+
+/// Writes the length of a list and then each of it.
+pub(crate) fn put_vec<T: Part>(alloc: Global, items: &[T], to: &mut Vec<u8>) -> Result<(), PartFault>
+    requires short { length items.now < 2 ^ 32 }
+    requires writable { All T.writable items.now }
+    ensures ok { OnOk result (Appends (IsShortest (SpellsVec T.spells items.now)) to.old.items to.new.items) }
+    ensures long { result ≡ Err PartFault.TooLong → (x : T) × Contains items.now x × T.too_long x }
+{
+    put_u32(to, items.len() as u32)?;
+    put_each(alloc, items, to)
+}
+
+/// Writes the size of contents and then the contents.
+pub(crate) fn put_sized(contents: &[u8], to: &mut Vec<u8>) -> Result<(), PartFault>
+    ensures ok { OnOk result (Appends (IsSized contents.now) to.old.items to.new.items) }
+    ensures long { result ≡ Err PartFault.TooLong → 2 ^ 32 ≤ length contents.now }
+{
+    if contents.len() > u32::MAX as usize {
+        return Err(PartFault::TooLong);
+    }
+    put_u32(to, contents.len() as u32)?;
+    to.extend_from_slice(contents)?;
+    Ok(())
+}

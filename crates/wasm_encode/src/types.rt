@@ -1,0 +1,97 @@
+// Types (section 5.3).
+ghost use Rattle.std.specs.Prelude.{◌≡◌, List as Listing, [], ◌∷◌, OnOk};
+ghost use Rattle.wasm_form.specs.Number.{IsShortest, Appends};
+ghost use Rattle.spec_binary.specs.Types.{SpellsValType, SpellsRefType, SpellsFuncType, SpellsLimits, SpellsTableType};
+ghost use Rattle.spec_binary.specs.WrittenForm.{IsReferenceType, IsWrittenType, IsWrittenTable};
+
+use std::alloc::Global;
+
+use wasm_form::{FuncType, Limits, TableType, ValType, put_u32};
+
+use crate::fault::PartFault;
+use crate::part::{Part, put_vec};
+
+/// The byte of a type.
+fn type_byte(ty: ValType) -> u8
+    ensures { SpellsValType ty (result ∷ []) }
+{
+    match ty {
+        ValType::I32 => 0x7F,
+        ValType::I64 => 0x7E,
+        ValType::F32 => 0x7D,
+        ValType::F64 => 0x7C,
+        ValType::FuncRef => 0x70,
+        ValType::ExternRef => 0x6F,
+    }
+}
+
+impl Part for ValType {
+    ghost writable = { λ _. Unit {0} };
+
+    ghost spells = { SpellsValType };
+
+    ghost too_long = { λ _. ⊥ };
+
+    fn put(&self, _: Global, to: &mut Vec<u8>) -> Result<(), PartFault> {
+        to.push(type_byte(*self))?;
+        Ok(())
+    }
+}
+
+impl Part for FuncType {
+    ghost writable = { IsWrittenType };
+
+    ghost spells = { SpellsFuncType };
+
+    ghost too_long = { λ _. ⊥ };
+
+    fn put(&self, alloc: Global, to: &mut Vec<u8>) -> Result<(), PartFault> {
+        to.push(0x60)?;
+        put_vec(alloc, self.params.items(), to)?;
+        put_vec(alloc, self.results.items(), to)
+    }
+}
+
+/// Writes a size range.
+fn put_limits(limits: &Limits, to: &mut Vec<u8>) -> Result<(), PartFault>
+    ensures ok { OnOk result (Appends (IsShortest (SpellsLimits limits.now)) to.old.items to.new.items) }
+    ensures long { result ≡ Err PartFault.TooLong → ⊥ }
+{
+    match limits.max {
+        None => {
+            to.push(0x00)?;
+            put_u32(to, limits.min)?;
+        }
+        Some(max) => {
+            to.push(0x01)?;
+            put_u32(to, limits.min)?;
+            put_u32(to, max)?;
+        }
+    }
+    Ok(())
+}
+
+impl Part for Limits {
+    ghost writable = { λ _. Unit {0} };
+
+    ghost spells = { SpellsLimits };
+
+    ghost too_long = { λ _. ⊥ };
+
+    fn put(&self, _: Global, to: &mut Vec<u8>) -> Result<(), PartFault> {
+        put_limits(self, to)
+    }
+}
+
+impl Part for TableType {
+    ghost writable = { IsWrittenTable };
+
+    ghost spells = { SpellsTableType };
+
+    ghost too_long = { λ _. ⊥ };
+
+    fn put(&self, _: Global, to: &mut Vec<u8>) -> Result<(), PartFault> {
+        to.push(type_byte(self.elem))?;
+        put_limits(&self.limits, to)
+    }
+}
