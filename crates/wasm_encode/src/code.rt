@@ -1,6 +1,6 @@
 // Instructions, expressions and bodies (sections 5.4 and 5.5.13).
-ghost use Rattle.std.specs.Prelude.{◌≡◌, ℕ, ℤ, List as Listing, All, OnOk, OnErr};
-ghost use Rattle.wasm_form.specs.Number.{IsShortest, Appends, SpellsSigned};
+ghost use Rattle.std.specs.Prelude.{ℕ, All, OnOk};
+ghost use Rattle.wasm_form.specs.Number.{IsShortest, Appends};
 ghost use Rattle.wasm_form.specs.Sequence.{SpellsEach};
 ghost use Rattle.spec_binary.specs.Instructions.{SpellsInstr, SpellsExpr};
 ghost use Rattle.spec_binary.specs.Parts.{SpellsGroup, SpellsCode};
@@ -8,17 +8,10 @@ ghost use Rattle.spec_binary.specs.WrittenForm.{IsWrittenInstr, IsWrittenCode, I
 
 use std::alloc::Global;
 
-use wasm_form::{Code, Expr, Group, Instr, Memory, put_u32};
+use wasm_form::{Code, Expr, Group, Instr, Memory, put_s32, put_u32};
 
 use crate::fault::PartFault;
-use crate::part::{Part, put_sized, put_vec};
-
-fn put_s32(to: &mut Vec<u8>, v: i32) -> Result<(), Memory>
-    ensures ok { OnOk result (Appends (IsShortest (SpellsSigned 32 v)) to.old.items to.new.items) }
-    ensures err { OnErr result (to.new.items ≡ to.old.items) }
-{
-    Err(Memory)
-}
+use crate::part::{Part, put_numbered, put_sized, put_vec};
 
 /// Writes an instruction.
 fn put_instr(instr: &Instr, to: &mut Vec<u8>) -> Result<(), Memory>
@@ -30,10 +23,7 @@ fn put_instr(instr: &Instr, to: &mut Vec<u8>) -> Result<(), Memory>
             to.push(*op)?;
             Ok(())
         }
-        Instr::Index(op, number) => {
-            to.push(*op)?;
-            put_u32(to, *number)
-        }
+        Instr::Index(op, number) => put_numbered(*op, *number, to),
         Instr::I32Const(number) => {
             to.push(0x41)?;
             put_s32(to, *number)

@@ -6,25 +6,21 @@ ghost use Rattle.spec_binary.specs.WrittenForm.{IsWrittenExport};
 
 use std::alloc::Global;
 
-use wasm_form::{Export, ExportDesc, put_name, put_u32};
+use wasm_form::{Export, ExportDesc, Memory, put_name};
 
 use crate::fault::PartFault;
-use crate::part::Part;
+use crate::part::{Part, put_numbered};
 
 /// Writes the kind of what is exported, and its number.
-fn put_desc(desc: ExportDesc, to: &mut Vec<u8>) -> Result<(), PartFault>
-    ensures ok { OnOk result (Appends (IsShortest (SpellsExportDesc desc)) to.old.items to.new.items) }
-    ensures long { result ≡ Err PartFault.TooLong → ⊥ }
+fn put_desc(desc: ExportDesc, to: &mut Vec<u8>) -> Result<(), Memory>
+    ensures { OnOk result (Appends (IsShortest (SpellsExportDesc desc)) to.old.items to.new.items) }
 {
-    let (kind, number) = match desc {
-        ExportDesc::Func(number) => (0x00, number),
-        ExportDesc::Table(number) => (0x01, number),
-        ExportDesc::Space(number) => (0x02, number),
-        ExportDesc::Global(number) => (0x03, number),
-    };
-    to.push(kind)?;
-    put_u32(to, number)?;
-    Ok(())
+    match desc {
+        ExportDesc::Func(number) => put_numbered(0x00, number, to),
+        ExportDesc::Table(number) => put_numbered(0x01, number, to),
+        ExportDesc::Space(number) => put_numbered(0x02, number, to),
+        ExportDesc::Global(number) => put_numbered(0x03, number, to),
+    }
 }
 
 impl Part for Export {
@@ -36,6 +32,7 @@ impl Part for Export {
 
     fn put(&self, _: Global, to: &mut Vec<u8>) -> Result<(), PartFault> {
         put_name(to, self.name.as_str())?;
-        put_desc(self.desc, to)
+        put_desc(self.desc, to)?;
+        Ok(())
     }
 }

@@ -1,5 +1,6 @@
 // Why something isn't written.
 ghost use Rattle.std.specs.Prelude.{◌≡◌};
+ghost use Rattle.wasm_encode.specs.declared.fault.EncodeFault.TheVariants as encode;
 ghost use Rattle.wasm_encode.specs.declared.fault.PartFault.TheVariants as part;
 
 use std::alloc::{AllocError, AllocFailed};
@@ -19,12 +20,16 @@ pub enum EncodeFault {
 }
 
 impl From<AllocError> for EncodeFault {
+    ghost from_gives = { λ _ fault. fault ≡ encode.Memory };
+
     fn from(_: AllocError) -> EncodeFault {
         EncodeFault::Memory
     }
 }
 
 impl<T: Drop> From<AllocFailed<T>> for EncodeFault {
+    ghost from_gives = { λ _ fault. fault ≡ encode.Memory };
+
     fn from(_: AllocFailed<T>) -> EncodeFault {
         EncodeFault::Memory
     }

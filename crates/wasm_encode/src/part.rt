@@ -3,11 +3,11 @@ ghost use Rattle.std.specs.Prelude.{◌≡◌, ℕ, ◌^◌, ◌<◌, ◌≤◌,
 ghost use Rattle.wasm_form.specs.Number.{IsShortest, Appends, SpellsUnsigned};
 ghost use Rattle.wasm_form.specs.Sequence.{SpellsEach, SpellsVec};
 ghost use Rattle.spec_binary.specs.Parts.{SpellsByte};
-ghost use Rattle.wasm_encode.specs.Sized.{IsSized};
+ghost use Rattle.wasm_encode.specs.Sized.{IsNumbered, IsSized};
 
 use std::alloc::Global;
 
-use wasm_form::put_u32;
+use wasm_form::{Memory, put_u32};
 
 use crate::fault::PartFault;
 
@@ -51,6 +51,14 @@ impl Part for u32 {
         put_u32(to, *self)?;
         Ok(())
     }
+}
+
+/// Writes a byte and a number after it.
+pub(crate) fn put_numbered(byte: u8, number: u32, to: &mut Vec<u8>) -> Result<(), Memory>
+    ensures { OnOk result (Appends (IsNumbered byte number) to.old.items to.new.items) }
+{
+    to.push(byte)?;
+    put_u32(to, number)
 }
 
 /// Writes each of a list, one after the other.

@@ -6,10 +6,10 @@ ghost use Rattle.spec_binary.specs.WrittenForm.{IsReferenceType, IsWrittenType, 
 
 use std::alloc::Global;
 
-use wasm_form::{FuncType, Limits, TableType, ValType, put_u32};
+use wasm_form::{FuncType, Limits, Memory, TableType, ValType, put_u32};
 
 use crate::fault::PartFault;
-use crate::part::{Part, put_vec};
+use crate::part::{Part, put_numbered, put_vec};
 
 /// The byte of a type.
 fn type_byte(ty: ValType) -> u8
@@ -53,22 +53,16 @@ impl Part for FuncType {
 }
 
 /// Writes a size range.
-fn put_limits(limits: &Limits, to: &mut Vec<u8>) -> Result<(), PartFault>
-    ensures ok { OnOk result (Appends (IsShortest (SpellsLimits limits.now)) to.old.items to.new.items) }
-    ensures long { result ≡ Err PartFault.TooLong → ⊥ }
+fn put_limits(limits: &Limits, to: &mut Vec<u8>) -> Result<(), Memory>
+    ensures { OnOk result (Appends (IsShortest (SpellsLimits limits.now)) to.old.items to.new.items) }
 {
     match limits.max {
-        None => {
-            to.push(0x00)?;
-            put_u32(to, limits.min)?;
-        }
+        None => put_numbered(0x00, limits.min, to),
         Some(max) => {
-            to.push(0x01)?;
-            put_u32(to, limits.min)?;
-            put_u32(to, max)?;
+            put_numbered(0x01, limits.min, to)?;
+            put_u32(to, max)
         }
     }
-    Ok(())
 }
 
 impl Part for Limits {
@@ -79,7 +73,8 @@ impl Part for Limits {
     ghost too_long = { λ _. ⊥ };
 
     fn put(&self, _: Global, to: &mut Vec<u8>) -> Result<(), PartFault> {
-        put_limits(self, to)
+        put_limits(self, to)?;
+        Ok(())
     }
 }
 
@@ -92,6 +87,7 @@ impl Part for TableType {
 
     fn put(&self, _: Global, to: &mut Vec<u8>) -> Result<(), PartFault> {
         to.push(type_byte(self.elem))?;
-        put_limits(&self.limits, to)
+        put_limits(&self.limits, to)?;
+        Ok(())
     }
 }

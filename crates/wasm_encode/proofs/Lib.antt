@@ -1,0 +1,5 @@
+pub mod Parts
+pub mod Wholes
+pub mod Sections
+pub mod Begun
+pub mod TooLong

@@ -1,0 +1,9 @@
+use Rattle.wasm_encode.proofs.Parts.{each_next, each_started}
+use Rattle.wasm_encode.proofs.part.put_each.Goals as goal
+
+pub loop-item-init : goal.loop-item-init
+loop-item-init g c = each_started c.args.to.now.items
+
+pub loop-item-preserved : goal.loop-item-preserved
+loop-item-preserved g c =
+    each_next c.args.items.now c.item-item.result c.loop-item.item-index _ _ _ c.loop-item-test.true c.item-item.is c.loop-item.invariant c.in_ok-put.ensures.ok

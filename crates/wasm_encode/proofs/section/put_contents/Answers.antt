@@ -1,0 +1,12 @@
+use Rattle.std.proofs.Common.{rules}
+use Rattle.wasm_encode.proofs.Sections.{long_part, long_whole}
+use Rattle.wasm_encode.proofs.section.put_contents.Goals as goal
+
+pub returns-in_err-put_vec-clause-long : goal.returns-in_err-put_vec-clause-long
+returns-in_err-put_vec-clause-long g c = λ e. long_part c.args.items.now (search rules)
+
+pub returns-clause-long : goal.returns-clause-long
+returns-clause-long g c = λ e.
+    let contents = rw c.new-contents.ensures.items at c.in_ok-put_vec.ensures.ok in
+    let long = rw c.deref.ensures.value at (c.put_sized.ensures.long e) in
+    long_whole c.args.items.now c.put_vec.new.to.items contents long
