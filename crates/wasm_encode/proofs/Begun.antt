@@ -1,17 +1,11 @@
 -- The bytes of a module so far.
-use Rattle.std.proofs.Common.{◌≡◌, ℕ, suc, ◌+◌, ◌^◌, ◌<◌, ◌≤◌, List, [], ◌∷◌, ◌++◌, length, None, refl, sym, ap, ◌∙◌, subst, arith, append_assoc, append-nil}
-use Rattle.wasm_form.specs.declared.types.FuncType.{FuncType}
-use Rattle.wasm_form.specs.declared.types.Limits.{Limits}
-use Rattle.wasm_form.specs.declared.types.TableType.{TableType}
-use Rattle.wasm_form.specs.declared.module.Export.{Export}
-use Rattle.wasm_form.specs.declared.module.Code.{Code}
-use Rattle.wasm_form.specs.declared.module.Data.{Data}
+use Rattle.std.proofs.Common.{◌≡◌, ℕ, suc, ◌<◌, ◌≤◌, List, [], ◌++◌, None, refl, sym, ap, ◌∙◌, arith, append_assoc, append-nil}
 use Rattle.wasm_form.specs.declared.module.Module.{Module}
 use Rattle.wasm_form.specs.Number.{SpellsUnsigned}
 use Rattle.wasm_form.specs.Sequence.{SpellsVec}
 use Rattle.spec_binary.specs.Types.{SpellsFuncType, SpellsLimits, SpellsTableType}
 use Rattle.spec_binary.specs.Parts.{SpellsExport, SpellsCode, SpellsData}
-use Rattle.spec_binary.specs.Sections.{Progress, at_start, empty_module, with_types, with_funcs, with_tables, with_memories, with_exports, with_codes, with_datas, Contents, IsSection, Chain, done, types, funcs, tables, memories, exports, codes, datas}
+use Rattle.spec_binary.specs.Sections.{Progress, at_start, empty_module, with_types, with_funcs, with_tables, with_memories, with_exports, with_codes, with_datas, Contents, Chain, done, types, funcs, tables, memories, exports, codes, datas}
 use Rattle.spec_binary.specs.Modules.{header, SpellsModule}
 use Rattle.spec_binary.specs.WrittenForm.{IsWritten}
 use Rattle.spec_binary.proofs.Chains.{chain_next}
@@ -44,7 +38,7 @@ module _ {A : Type 0} (Spells : A → List ℕ → Type 0) (id rank : ℕ) (put 
         end = b.end;
         chain = b.chain;
         written = b.written ∙ sym (unchanged f) ∙ ap (put f) list;
-        below = omega (arith, b.below)
+        below = omega (arith, b.below);
       }
   begun_next f before xs h none b (section {contents = w} {word} spelled framed joined) =
       record {
@@ -54,7 +48,7 @@ module _ {A : Type 0} (Spells : A → List ℕ → Type 0) (id rank : ℕ) (put 
         end = after b.end xs;
         chain = chain_next b.chain framed (contents b.end xs w (omega (arith, b.below)) spelled);
         written = puts b.end xs ∙ ap (λ g. put g xs) b.written;
-        below = omega (arith, ends b.end xs)
+        below = omega (arith, ends b.end xs);
       }
 
 written_fields : (m : Module) → IsWritten m →

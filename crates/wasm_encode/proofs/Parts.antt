@@ -1,6 +1,6 @@
 -- What the writers of parts do, over plain lists.
 use denote.Hole.Carrier.{out}
-use Rattle.std.proofs.Common.{◌≡◌, ℕ, ℤ, suc, ◌+◌, ◌^◌, ◌<◌, ◌≤◌, List, [], ◌∷◌, ◌++◌, length, take, get_or, Result, Ok, Err, Some, None, refl, sym, ap, ◌∙◌, subst, arith, append_assoc, append-nil, add-one}
+use Rattle.std.proofs.Common.{◌≡◌, ℕ, ℤ, ◌+◌, ◌<◌, ◌≤◌, List, [], ◌∷◌, ◌++◌, length, take, get_or, Result, Ok, Err, Some, None, refl, sym, ap, ◌∙◌, subst, append-nil, add-one}
 use Rattle.std.proofs.Math.Seq.{take-suc}
 use Rattle.std.proofs.lemmas.List.{take_all}
 use Rattle.std.specs.Prelude.{OnOk}
@@ -17,7 +17,7 @@ use Rattle.spec_binary.specs.Parts.{SpellsExportDesc}
 use Rattle.wasm_form.specs.Sequence.{SpellsEach}
 use Rattle.spec_binary.proofs.Joined.{appends_byte, appends_after, appends_joined, appends_mapped, shortest_none, shortest_next}
 use Rattle.spec_binary.proofs.ShortestParts.{shortest_open, shortest_bounded, shortest_desc, number_of}
-use Rattle.wasm_encode.specs.Sized.{IsNumbered, IsSized}
+use Rattle.wasm_encode.specs.Sized.{IsNumbered}
 
 pub on_ok : {A E P Q : Type 0} (r : Result A E) → (P → Q) → OnOk r P → OnOk r Q
 on_ok (Ok x) f h = f h
@@ -78,7 +78,7 @@ pub const_written : (i : Instr) (n m : ℤ) (old middle new : List ℕ) → i �
     → Appends (IsShortest (SpellsInstr d i)) old new
 const_written i n m old middle new is same e number d =
     subst (λ j. Appends (IsShortest (SpellsInstr d j)) old new) (sym is)
-      (appends_after old middle new 0x41 (λ w p. shortest_const d n w (subst (λ z. IsShortest (SpellsSigned 32 z) w) same p)) e number)
+    (appends_after old middle new 0x41 (λ w p. shortest_const d n w (subst (λ z. IsShortest (SpellsSigned 32 z) w) same p)) e number)
 
 pub expr_written : (e : Expr) (old middle new : List ℕ) → ((d : ℕ) → Appends (IsShortest (SpellsEach (SpellsInstr d) e.list)) old middle) → new ≡ middle ++ 0x0B ∷ [] → (d : ℕ)
     → Appends (IsShortest (SpellsExpr d e)) old new

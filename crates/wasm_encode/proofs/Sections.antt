@@ -1,9 +1,8 @@
 -- What the writer of a section does, over plain lists.
-use Rattle.std.proofs.Common.{◌≡◌, ℕ, ◌+◌, ◌^◌, ◌<◌, ◌≤◌, Bool, true, List, [], ◌∷◌, ◌++◌, length, Contains, refl, sym, ap, ◌∙◌, subst, arith, append_assoc, eqb, eqb-true}
-use Rattle.wasm_form.specs.Number.{SpellsUnsigned, IsShortest, Appends}
+use Rattle.std.proofs.Common.{◌≡◌, ℕ, ◌^◌, ◌≤◌, List, [], ◌∷◌, ◌++◌, length, Contains, refl, sym, ap, ◌∙◌, subst, arith, append_assoc}
+use Rattle.wasm_form.specs.Number.{IsShortest, Appends}
 use Rattle.wasm_form.specs.Sequence.{SpellsVec}
-use Rattle.wasm_form.proofs.UnsignedSpelling.{unsigned_small}
-use Rattle.spec_binary.specs.Sections.{IsSection, section as one_section}
+use Rattle.spec_binary.specs.Sections.{section as one_section}
 use Rattle.wasm_encode.specs.Sized.{IsSized, HoldsSized}
 use Rattle.wasm_encode.specs.Written.{AddsSection, nothing, section, IsLongList, whole, part}
 
@@ -29,4 +28,4 @@ module _ {A : Type 0} {Spells : A → List ℕ → Type 0} where
   section_added id xs old middle new e (u, holds, f) =
       let word = id ∷ (holds.sized.size ++ holds.contents) in
       section {contents = holds.contents} {word = word} holds.spelled (one_section holds.sized.shortest.spelled)
-        (f ∙ ap (λ t. t ++ u) e ∙ append_assoc old (id ∷ []) u ∙ ap (λ t. old ++ (id ∷ t)) holds.sized.parts)
+      (f ∙ ap (λ t. t ++ u) e ∙ append_assoc old (id ∷ []) u ∙ ap (λ t. old ++ (id ∷ t)) holds.sized.parts)

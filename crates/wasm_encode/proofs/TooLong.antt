@@ -1,10 +1,8 @@
 -- When a section is the first that is too long.
-use Rattle.std.proofs.Common.{◌≡◌, ℕ, ◌+◌, ◌^◌, ◌<◌, ◌≤◌, List, [], ◌∷◌, ◌++◌, length, refl, sym, ap, ◌∙◌, subst, arith, Contains}
-use Rattle.wasm_form.specs.declared.types.FuncType.{FuncType}
-use Rattle.wasm_form.specs.declared.module.Code.{Code}
+use Rattle.std.proofs.Common.{ℕ, ◌^◌, ◌<◌, List, [], ◌∷◌, length, sym, subst, arith, Contains}
 use Rattle.wasm_form.specs.declared.module.Module.{Module}
 use Rattle.wasm_form.specs.Number.{SpellsUnsigned, last}
-use Rattle.wasm_form.specs.Sequence.{SpellsVec, SpellsEach, none, vec}
+use Rattle.wasm_form.specs.Sequence.{SpellsVec, none, vec}
 use Rattle.wasm_form.proofs.UnsignedSpelling.{unsigned_small}
 use Rattle.spec_binary.specs.Types.{SpellsFuncType, SpellsLimits, SpellsTableType}
 use Rattle.spec_binary.specs.Parts.{SpellsExport, SpellsCode, SpellsData}
@@ -69,42 +67,42 @@ module _ (m : Module) where
 
 pub types_too_long : (m : Module) → IsLongList SpellsFuncType (λ _. ⊥) m.types → IsFirstTooLong m 1
 types_too_long m long = record {
-      long = list_too_long m 1 (λ w s. types s) (types_of m) (λ x has never. absurd never) long;
-      first = λ other w below s. fits_below m 1 (λ h. absurd (omega arith)) (λ h. absurd (omega arith)) (λ h. absurd (omega arith)) (λ h. absurd (omega arith)) (λ h. absurd (omega arith)) (λ h. absurd (omega arith)) (λ h. absurd (omega arith)) s below
-    }
+  long = list_too_long m 1 (λ w s. types s) (types_of m) (λ x has never. absurd never) long;
+  first = λ other w below s. fits_below m 1 (λ h. absurd (omega arith)) (λ h. absurd (omega arith)) (λ h. absurd (omega arith)) (λ h. absurd (omega arith)) (λ h. absurd (omega arith)) (λ h. absurd (omega arith)) (λ h. absurd (omega arith)) s below;
+}
 
 pub funcs_too_long : (m : Module) {b0 b1 : List ℕ} → AddsSection SpellsFuncType 1 m.types b0 b1 → IsLongList (SpellsUnsigned 32) (λ _. ⊥) m.funcs → IsFirstTooLong m 3
 funcs_too_long m a0 long = record {
-      long = list_too_long m 3 (λ w s. funcs s) (funcs_of m) (λ x has never. absurd never) long;
-      first = λ other w below s. fits_below m 3 (λ _. fit m 1 (λ w s. types s) a0) (λ h. absurd (omega arith)) (λ h. absurd (omega arith)) (λ h. absurd (omega arith)) (λ h. absurd (omega arith)) (λ h. absurd (omega arith)) (λ h. absurd (omega arith)) s below
-    }
+  long = list_too_long m 3 (λ w s. funcs s) (funcs_of m) (λ x has never. absurd never) long;
+  first = λ other w below s. fits_below m 3 (λ _. fit m 1 (λ w s. types s) a0) (λ h. absurd (omega arith)) (λ h. absurd (omega arith)) (λ h. absurd (omega arith)) (λ h. absurd (omega arith)) (λ h. absurd (omega arith)) (λ h. absurd (omega arith)) s below;
+}
 
 pub tables_too_long : (m : Module) {b0 b1 b2 : List ℕ} → AddsSection SpellsFuncType 1 m.types b0 b1 → AddsSection (SpellsUnsigned 32) 3 m.funcs b1 b2 → IsLongList SpellsTableType (λ _. ⊥) m.tables → IsFirstTooLong m 4
 tables_too_long m a0 a1 long = record {
-      long = list_too_long m 4 (λ w s. tables s) (tables_of m) (λ x has never. absurd never) long;
-      first = λ other w below s. fits_below m 4 (λ _. fit m 1 (λ w s. types s) a0) (λ _. fit m 3 (λ w s. funcs s) a1) (λ h. absurd (omega arith)) (λ h. absurd (omega arith)) (λ h. absurd (omega arith)) (λ h. absurd (omega arith)) (λ h. absurd (omega arith)) s below
-    }
+  long = list_too_long m 4 (λ w s. tables s) (tables_of m) (λ x has never. absurd never) long;
+  first = λ other w below s. fits_below m 4 (λ _. fit m 1 (λ w s. types s) a0) (λ _. fit m 3 (λ w s. funcs s) a1) (λ h. absurd (omega arith)) (λ h. absurd (omega arith)) (λ h. absurd (omega arith)) (λ h. absurd (omega arith)) (λ h. absurd (omega arith)) s below;
+}
 
 pub memories_too_long : (m : Module) {b0 b1 b2 b3 : List ℕ} → AddsSection SpellsFuncType 1 m.types b0 b1 → AddsSection (SpellsUnsigned 32) 3 m.funcs b1 b2 → AddsSection SpellsTableType 4 m.tables b2 b3 → IsLongList SpellsLimits (λ _. ⊥) m.memories → IsFirstTooLong m 5
 memories_too_long m a0 a1 a2 long = record {
-      long = list_too_long m 5 (λ w s. memories s) (memories_of m) (λ x has never. absurd never) long;
-      first = λ other w below s. fits_below m 5 (λ _. fit m 1 (λ w s. types s) a0) (λ _. fit m 3 (λ w s. funcs s) a1) (λ _. fit m 4 (λ w s. tables s) a2) (λ h. absurd (omega arith)) (λ h. absurd (omega arith)) (λ h. absurd (omega arith)) (λ h. absurd (omega arith)) s below
-    }
+  long = list_too_long m 5 (λ w s. memories s) (memories_of m) (λ x has never. absurd never) long;
+  first = λ other w below s. fits_below m 5 (λ _. fit m 1 (λ w s. types s) a0) (λ _. fit m 3 (λ w s. funcs s) a1) (λ _. fit m 4 (λ w s. tables s) a2) (λ h. absurd (omega arith)) (λ h. absurd (omega arith)) (λ h. absurd (omega arith)) (λ h. absurd (omega arith)) s below;
+}
 
 pub exports_too_long : (m : Module) {b0 b1 b2 b3 b4 : List ℕ} → AddsSection SpellsFuncType 1 m.types b0 b1 → AddsSection (SpellsUnsigned 32) 3 m.funcs b1 b2 → AddsSection SpellsTableType 4 m.tables b2 b3 → AddsSection SpellsLimits 5 m.memories b3 b4 → IsLongList SpellsExport (λ _. ⊥) m.exports → IsFirstTooLong m 7
 exports_too_long m a0 a1 a2 a3 long = record {
-      long = list_too_long m 7 (λ w s. exports s) (exports_of m) (λ x has never. absurd never) long;
-      first = λ other w below s. fits_below m 7 (λ _. fit m 1 (λ w s. types s) a0) (λ _. fit m 3 (λ w s. funcs s) a1) (λ _. fit m 4 (λ w s. tables s) a2) (λ _. fit m 5 (λ w s. memories s) a3) (λ h. absurd (omega arith)) (λ h. absurd (omega arith)) (λ h. absurd (omega arith)) s below
-    }
+  long = list_too_long m 7 (λ w s. exports s) (exports_of m) (λ x has never. absurd never) long;
+  first = λ other w below s. fits_below m 7 (λ _. fit m 1 (λ w s. types s) a0) (λ _. fit m 3 (λ w s. funcs s) a1) (λ _. fit m 4 (λ w s. tables s) a2) (λ _. fit m 5 (λ w s. memories s) a3) (λ h. absurd (omega arith)) (λ h. absurd (omega arith)) (λ h. absurd (omega arith)) s below;
+}
 
 pub codes_too_long : (m : Module) {b0 b1 b2 b3 b4 b5 : List ℕ} → AddsSection SpellsFuncType 1 m.types b0 b1 → AddsSection (SpellsUnsigned 32) 3 m.funcs b1 b2 → AddsSection SpellsTableType 4 m.tables b2 b3 → AddsSection SpellsLimits 5 m.memories b3 b4 → AddsSection SpellsExport 7 m.exports b4 b5 → IsLongList SpellsCode IsTooLongBody m.codes → IsFirstTooLong m 10
 codes_too_long m a0 a1 a2 a3 a4 long = record {
-      long = list_too_long m 10 (λ w s. codes s) (codes_of m) (λ c has long. body has long) long;
-      first = λ other w below s. fits_below m 11 (λ _. fit m 1 (λ w s. types s) a0) (λ _. fit m 3 (λ w s. funcs s) a1) (λ _. fit m 4 (λ w s. tables s) a2) (λ _. fit m 5 (λ w s. memories s) a3) (λ _. fit m 7 (λ w s. exports s) a4) (λ h. absurd (omega arith)) (λ h. absurd (omega arith)) s below
-    }
+  long = list_too_long m 10 (λ w s. codes s) (codes_of m) (λ c has long. body has long) long;
+  first = λ other w below s. fits_below m 11 (λ _. fit m 1 (λ w s. types s) a0) (λ _. fit m 3 (λ w s. funcs s) a1) (λ _. fit m 4 (λ w s. tables s) a2) (λ _. fit m 5 (λ w s. memories s) a3) (λ _. fit m 7 (λ w s. exports s) a4) (λ h. absurd (omega arith)) (λ h. absurd (omega arith)) s below;
+}
 
 pub datas_too_long : (m : Module) {b0 b1 b2 b3 b4 b5 b6 : List ℕ} → AddsSection SpellsFuncType 1 m.types b0 b1 → AddsSection (SpellsUnsigned 32) 3 m.funcs b1 b2 → AddsSection SpellsTableType 4 m.tables b2 b3 → AddsSection SpellsLimits 5 m.memories b3 b4 → AddsSection SpellsExport 7 m.exports b4 b5 → AddsSection SpellsCode 10 m.codes b5 b6 → IsLongList SpellsData (λ _. ⊥) m.datas → IsFirstTooLong m 11
 datas_too_long m a0 a1 a2 a3 a4 a5 long = record {
-      long = list_too_long m 11 (λ w s. datas s) (datas_of m) (λ x has never. absurd never) long;
-      first = λ other w below s. fits_below m 12 (λ _. fit m 1 (λ w s. types s) a0) (λ _. fit m 3 (λ w s. funcs s) a1) (λ _. fit m 4 (λ w s. tables s) a2) (λ _. fit m 5 (λ w s. memories s) a3) (λ _. fit m 7 (λ w s. exports s) a4) (λ _. fit m 10 (λ w s. codes s) a5) (λ h. absurd (omega arith)) s below
-    }
+  long = list_too_long m 11 (λ w s. datas s) (datas_of m) (λ x has never. absurd never) long;
+  first = λ other w below s. fits_below m 12 (λ _. fit m 1 (λ w s. types s) a0) (λ _. fit m 3 (λ w s. funcs s) a1) (λ _. fit m 4 (λ w s. tables s) a2) (λ _. fit m 5 (λ w s. memories s) a3) (λ _. fit m 7 (λ w s. exports s) a4) (λ _. fit m 10 (λ w s. codes s) a5) (λ h. absurd (omega arith)) s below;
+}

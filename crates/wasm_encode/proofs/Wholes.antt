@@ -1,5 +1,5 @@
 -- What the writers of whole types, exports, bodies and segments do, over plain lists.
-use Rattle.std.proofs.Common.{◌≡◌, ℕ, ◌+◌, ◌^◌, ◌<◌, ◌≤◌, List, [], ◌∷◌, ◌++◌, length, refl, sym, ap, ◌∙◌, subst, arith}
+use Rattle.std.proofs.Common.{◌≡◌, ℕ, ◌^◌, ◌≤◌, List, [], ◌∷◌, ◌++◌, length, refl, sym, ap, ◌∙◌, subst}
 use Rattle.wasm_form.specs.declared.types.FuncType.{FuncType}
 use Rattle.wasm_form.specs.declared.types.TableType.{TableType}
 use Rattle.wasm_form.specs.declared.instr.Expr.{Expr}
@@ -11,7 +11,7 @@ use Rattle.wasm_form.specs.declared.module.Data.{Data}
 use Rattle.wasm_form.specs.Number.{SpellsUnsigned, IsShortest, Appends}
 use Rattle.wasm_form.specs.Name.{SpellsName}
 use Rattle.wasm_form.specs.Sequence.{SpellsEach, SpellsVec}
-use Rattle.spec_binary.specs.Types.{SpellsValType, SpellsRefType, SpellsFuncType, SpellsLimits, SpellsTableType}
+use Rattle.spec_binary.specs.Types.{SpellsValType, SpellsFuncType, SpellsLimits, SpellsTableType}
 use Rattle.spec_binary.specs.Instructions.{SpellsExpr}
 use Rattle.spec_binary.specs.Parts.{SpellsByte, SpellsExportDesc, SpellsExport, SpellsGroup, SpellsCode, most_nested, SpellsData}
 use Rattle.spec_binary.specs.WrittenForm.{IsReferenceType, IsWrittenMode, IsTooLongBody}
@@ -72,5 +72,5 @@ data_written segment memory offset old start middle new mode written flags expr 
     let Q : List ℕ → Type 0 = IsShortest (SpellsVec SpellsByte segment.bytes) in
     let Rest : List ℕ → Type 0 = λ u. (w : List ℕ) × (v : List ℕ) × P w × Q v × (u ≡ w ++ v) in
     appends_joined {Q = Rest} old start new
-      (λ f u p (w, v, q, r, e). subst (λ l. IsShortest (SpellsData segment) (f ++ l)) (sym e) (shortest_data segment offset f w v active p q r))
-      flags (appends_joined {R = Rest} start middle new (λ w v p q. (w, v, p, q, refl)) (expr 0) bytes)
+    (λ f u p (w, v, q, r, e). subst (λ l. IsShortest (SpellsData segment) (f ++ l)) (sym e) (shortest_data segment offset f w v active p q r))
+    flags (appends_joined {R = Rest} start middle new (λ w v p q. (w, v, p, q, refl)) (expr 0) bytes)

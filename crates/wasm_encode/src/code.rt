@@ -6,12 +6,10 @@ ghost use Rattle.spec_binary.specs.Instructions.{SpellsInstr, SpellsExpr};
 ghost use Rattle.spec_binary.specs.Parts.{SpellsGroup, SpellsCode};
 ghost use Rattle.spec_binary.specs.WrittenForm.{IsWrittenInstr, IsWrittenCode, IsTooLongBody};
 
-use std::alloc::Global;
-
-use wasm_form::{Code, Expr, Group, Instr, Memory, put_s32, put_u32};
-
 use crate::fault::PartFault;
 use crate::part::{Part, put_numbered, put_sized, put_vec};
+use std::alloc::Global;
+use wasm_form::{Code, Expr, Group, Instr, Memory, put_s32, put_u32};
 
 /// Writes an instruction.
 fn put_instr(instr: &Instr, to: &mut Vec<u8>) -> Result<(), Memory>

@@ -4,12 +4,10 @@ ghost use Rattle.wasm_form.specs.Number.{IsShortest, Appends};
 ghost use Rattle.spec_binary.specs.Parts.{SpellsExportDesc, SpellsExport};
 ghost use Rattle.spec_binary.specs.WrittenForm.{IsWrittenExport};
 
-use std::alloc::Global;
-
-use wasm_form::{Export, ExportDesc, Memory, put_name};
-
 use crate::fault::PartFault;
 use crate::part::{Part, put_numbered};
+use std::alloc::Global;
+use wasm_form::{Export, ExportDesc, Memory, put_name};
 
 /// Writes the kind of what is exported, and its number.
 fn put_desc(desc: ExportDesc, to: &mut Vec<u8>) -> Result<(), Memory>

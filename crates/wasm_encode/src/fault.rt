@@ -4,7 +4,6 @@ ghost use Rattle.wasm_encode.specs.declared.fault.EncodeFault.TheVariants as enc
 ghost use Rattle.wasm_encode.specs.declared.fault.PartFault.TheVariants as part;
 
 use std::alloc::{AllocError, AllocFailed};
-
 use thiserror::Error;
 use wasm_form::Memory;
 

@@ -3,12 +3,10 @@ ghost use Rattle.std.specs.Prelude.{◌≡◌, ℕ, IfOk};
 ghost use Rattle.spec_binary.specs.Modules.{SpellsModule};
 ghost use Rattle.spec_binary.specs.WrittenForm.{IsWritten, IsFirstTooLong};
 
-use std::alloc::Global;
-
-use wasm_form::Module;
-
 use crate::fault::EncodeFault;
 use crate::section::put_section;
+use std::alloc::Global;
+use wasm_form::Module;
 
 /// The magic bytes and version 1.
 const HEADER: [u8; 8] = [0x00, 0x61, 0x73, 0x6D, 0x01, 0x00, 0x00, 0x00];

@@ -5,11 +5,9 @@ ghost use Rattle.wasm_form.specs.Sequence.{SpellsEach, SpellsVec};
 ghost use Rattle.spec_binary.specs.Parts.{SpellsByte};
 ghost use Rattle.wasm_encode.specs.Sized.{IsNumbered, IsSized};
 
-use std::alloc::Global;
-
-use wasm_form::{Memory, put_u32};
-
 use crate::fault::PartFault;
+use std::alloc::Global;
+use wasm_form::{Memory, put_u32};
 
 /// What stands in a vector of the format.
 pub(crate) trait Part {
@@ -74,7 +72,11 @@ fn put_each<T: Part>(alloc: Global, items: &[T], to: &mut Vec<u8>) -> Result<(),
 }
 
 /// Writes the length of a list and then each of it.
-pub(crate) fn put_vec<T: Part>(alloc: Global, items: &[T], to: &mut Vec<u8>) -> Result<(), PartFault>
+pub(crate) fn put_vec<T: Part>(
+    alloc: Global,
+    items: &[T],
+    to: &mut Vec<u8>,
+) -> Result<(), PartFault>
     requires short { length items.now < 2 ^ 32 }
     requires writable { All T.writable items.now }
     ensures ok { OnOk result (Appends (IsShortest (SpellsVec T.spells items.now)) to.old.items to.new.items) }

@@ -5,10 +5,9 @@ ghost use Rattle.wasm_form.specs.Sequence.{SpellsVec};
 ghost use Rattle.wasm_encode.specs.Sized.{HoldsSized};
 ghost use Rattle.wasm_encode.specs.Written.{AddsSection, IsLongList};
 
-use std::alloc::Global;
-
 use crate::fault::{EncodeFault, PartFault};
 use crate::part::{Part, put_sized, put_vec};
+use std::alloc::Global;
 
 /// Writes the size and the contents of a section.
 fn put_contents<T: Part>(alloc: Global, items: &[T], to: &mut Vec<u8>) -> Result<(), PartFault>
@@ -23,7 +22,12 @@ fn put_contents<T: Part>(alloc: Global, items: &[T], to: &mut Vec<u8>) -> Result
 }
 
 /// Writes the section with this number, or nothing where it would be empty.
-pub(crate) fn put_section<T: Part>(alloc: Global, id: u8, items: &[T], to: &mut Vec<u8>) -> Result<(), EncodeFault>
+pub(crate) fn put_section<T: Part>(
+    alloc: Global,
+    id: u8,
+    items: &[T],
+    to: &mut Vec<u8>,
+) -> Result<(), EncodeFault>
     requires short { length items.now < 2 ^ 32 }
     requires writable { All T.writable items.now }
     ensures ok { OnOk result (AddsSection T.spells id items.now to.old.items to.new.items) }

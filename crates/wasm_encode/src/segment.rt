@@ -2,13 +2,11 @@
 ghost use Rattle.spec_binary.specs.Parts.{SpellsData};
 ghost use Rattle.spec_binary.specs.WrittenForm.{IsWrittenData};
 
-use std::alloc::Global;
-
-use wasm_form::{Data, DataMode, put_u32};
-
 use crate::code::put_expr;
 use crate::fault::PartFault;
 use crate::part::{Part, put_vec};
+use std::alloc::Global;
+use wasm_form::{Data, DataMode, put_u32};
 
 impl Part for Data {
     ghost writable = { IsWrittenData };

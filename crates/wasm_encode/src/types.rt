@@ -4,12 +4,10 @@ ghost use Rattle.wasm_form.specs.Number.{IsShortest, Appends};
 ghost use Rattle.spec_binary.specs.Types.{SpellsValType, SpellsRefType, SpellsFuncType, SpellsLimits, SpellsTableType};
 ghost use Rattle.spec_binary.specs.WrittenForm.{IsReferenceType, IsWrittenType, IsWrittenTable};
 
-use std::alloc::Global;
-
-use wasm_form::{FuncType, Limits, Memory, TableType, ValType, put_u32};
-
 use crate::fault::PartFault;
 use crate::part::{Part, put_numbered, put_vec};
+use std::alloc::Global;
+use wasm_form::{FuncType, Limits, Memory, TableType, ValType, put_u32};
 
 /// The byte of a type.
 fn type_byte(ty: ValType) -> u8

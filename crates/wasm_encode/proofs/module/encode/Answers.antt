@@ -18,7 +18,7 @@ returns-clause-spelled c =
     let a6 = rw c.items-6.ensures at c.in_ok-put_section-6.ensures.ok in
     let a7 = rw c.items-7.ensures at c.in_ok-put_section-7.ensures.ok in
     module_written c.args.m.now c.in_ok-bytes.bytes.items c.put_section.new.to.items c.put_section-2.new.to.items c.put_section-3.new.to.items c.put_section-4.new.to.items c.put_section-5.new.to.items
-      c.put_section-6.new.to.items c.put_section-7.new.to.items c.requires c.in_ok-bytes.ensures.items a1 a2 a3 a4 a5 a6 a7
+    c.put_section-6.new.to.items c.put_section-7.new.to.items c.requires c.in_ok-bytes.ensures.items a1 a2 a3 a4 a5 a6 a7
 
 pub returns-in_err-put_section-clause-too_long : goal.returns-in_err-put_section-clause-too_long
 returns-in_err-put_section-clause-too_long c = λ id e.

@@ -1,4 +1,4 @@
-use Rattle.std.proofs.Common.{rules, ◌≡◌, length, eqb-true, ◌∙◌, sym}
+use Rattle.std.proofs.Common.{length, eqb-true, ◌∙◌, sym}
 use Rattle.wasm_encode.proofs.Sections.{nothing_added, section_added}
 use Rattle.wasm_encode.proofs.section.put_section.Goals as goal
 

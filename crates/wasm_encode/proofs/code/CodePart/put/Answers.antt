@@ -1,4 +1,3 @@
-use Rattle.std.proofs.Common.{sym, ◌≤◌, ◌^◌, length, subst}
 use Rattle.wasm_encode.proofs.Parts.{on_ok}
 use Rattle.wasm_encode.proofs.Wholes.{code_written, code_too_long}
 use Rattle.wasm_encode.proofs.code.CodePart.put.Goals as goal
