@@ -1,0 +1,8 @@
+pub mod Steps
+pub mod Numbers
+pub mod Sequences
+pub mod Parts
+pub mod Instructions
+pub mod Sections
+pub mod File
+pub mod Loops
