@@ -4,5 +4,5 @@ pub mod Sequences
 pub mod Parts
 pub mod Instructions
 pub mod Sections
-pub mod File
+pub mod SmallFile
 pub mod Loops

@@ -110,11 +110,9 @@ name_sound text x rest e =
 slice_end : (bytes : List ℕ) (end : ℕ) → take (length bytes - end) (drop end bytes) ≡ drop end bytes
 slice_end bytes end = rw (sym (length-drop end bytes)) (take-length (drop end bytes))
 
-pub number_read : (bytes : List ℕ) (n end : ℕ) → Begins (SpellsUnsigned 32 n) bytes (drop end bytes) → number_at 32 bytes ≡ Some (n, take (length bytes - end) (drop end bytes))
-number_read bytes n end h = begun (SpellsUnsigned 32) (number_at 32) (number_complete 32) bytes n (drop end bytes) h ∙ ap (λ (l : List ℕ). Some (n, l)) (sym (slice_end bytes end))
-
-pub no_number : (bytes : List ℕ) → ((n : ℕ) (rest : List ℕ) → Begins (SpellsUnsigned 32 n) bytes rest → ⊥) → number_at 32 bytes ≡ None
-no_number bytes h = not_begun (SpellsUnsigned 32) (number_at 32) (number_sound 32) bytes h
+module _ {A : Type 0} (Spells : A → List ℕ → Type 0) (read : List ℕ → Read A) where
+  pub slice_read : IsComplete Spells read → (bytes : List ℕ) (n : A) (end : ℕ) → Begins (Spells n) bytes (drop end bytes) → read bytes ≡ Some (n, take (length bytes - end) (drop end bytes))
+  slice_read complete bytes n end h = begun Spells read complete bytes n (drop end bytes) h ∙ ap (λ (l : List ℕ). Some (n, l)) (sym (slice_end bytes end))
 
 pub name_read : (bytes text rest : List ℕ) → cut_at bytes ≡ Some (text, rest) → IsUtf8 text → name_at bytes ≡ Some (text, rest)
 unfolding name_at

@@ -1,9 +1,9 @@
 //! The decoder of the WebAssembly binary format, for the form of module that is built so far.
 #![tactic(auto)]
 
-
+mod code;
 mod fault;
-
+mod file;
 mod number;
 mod part;
 mod sequence;

@@ -1,11 +1,11 @@
 // Numbers and names (WebAssembly Core 2.0, section 5.2). Each reader takes what stands at the front of the bytes,
 // and gives with it the bytes that follow.
 ghost use Rattle.std.specs.Prelude.{◌≡◌, ℕ, ◌≤◌, length, IfOk, string_bytes};
-ghost use Rattle.wasm_decode.specs.Reading.{Gives, number_at, cut_at, name_at};
+ghost use Rattle.wasm_decode.specs.Reading.{Gives, number_at, signed_at, cut_at, name_at};
 
 use std::alloc::Global;
 
-use wasm_form::{Text, read_u32};
+use wasm_form::{Text, read_s32, read_u32};
 
 use crate::fault::DecodeFault;
 
@@ -15,6 +15,17 @@ pub(crate) fn u32_of(bytes: &[u8]) -> Result<(u32, &[u8]), DecodeFault>
     ensures shorter { IfOk result (λ x. length x.1.now ≤ length bytes.now) }
 {
     match read_u32(bytes, 0) {
+        Some((n, end)) => Ok((n, &bytes[end..])),
+        None => Err(DecodeFault::Unbuilt),
+    }
+}
+
+// A signed number of 32 bits.
+pub(crate) fn s32_of(bytes: &[u8]) -> Result<(i32, &[u8]), DecodeFault>
+    ensures reads { Gives (λ x. (x.0, x.1.now)) result (signed_at 32 bytes.now) }
+    ensures shorter { IfOk result (λ x. length x.1.now ≤ length bytes.now) }
+{
+    match read_s32(bytes, 0) {
         Some((n, end)) => Ok((n, &bytes[end..])),
         None => Err(DecodeFault::Unbuilt),
     }

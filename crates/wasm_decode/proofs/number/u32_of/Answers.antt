@@ -1,8 +1,11 @@
-use Rattle.wasm_decode.proofs.Numbers.{number_read, no_number}
+use Rattle.wasm_form.specs.Number.{SpellsUnsigned}
+use Rattle.wasm_decode.specs.Reading.{number_at}
+use Rattle.wasm_decode.proofs.Steps.{not_begun}
+use Rattle.wasm_decode.proofs.Numbers.{number_complete, number_sound, slice_read}
 use Rattle.wasm_decode.proofs.number.u32_of.Goals as goal
 
 pub returns-in-Some-clause-reads : goal.returns-in-Some-clause-reads
-returns-in-Some-clause-reads c = number_read c.args.bytes.now c.in-Some.n c.in-Some.end c.in-Some.ensures.found
+returns-in-Some-clause-reads c = slice_read (SpellsUnsigned 32) (number_at 32) (number_complete 32) c.args.bytes.now c.in-Some.n c.in-Some.end c.in-Some.ensures.found
 
 pub returns-in-None-clause-reads : goal.returns-in-None-clause-reads
-returns-in-None-clause-reads c = no_number c.args.bytes.now c.in-None.ensures.none
+returns-in-None-clause-reads c = not_begun (SpellsUnsigned 32) (number_at 32) (number_sound 32) c.args.bytes.now c.in-None.ensures.none
