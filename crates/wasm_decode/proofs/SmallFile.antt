@@ -12,7 +12,9 @@ use Rattle.spec_binary.specs.Types.{SpellsFuncType}
 use Rattle.spec_binary.specs.Parts.{SpellsExport, SpellsCode}
 use Rattle.spec_binary.specs.Modules.{header}
 use Rattle.spec_binary.specs.SmallForm.{SpellsCustom, SpellsSection, section, small_custom, IsSmall, IsSmallFile}
-use Rattle.wasm_decode.specs.Reading.{◌>>=◌, Read, whole, number_at, vec_at}
+use Rattle.wasm_decode.specs.declared.fault.DecodeFault.{DecodeFault}
+use Rattle.wasm_decode.specs.declared.fault.DecodeFault.TheVariants.{Unbuilt, Memory}
+use Rattle.wasm_decode.specs.Reading.{◌>>=◌, Read, Fails, whole, number_at, vec_at}
 use Rattle.wasm_decode.specs.Parts.{func_type_at, export_at, code_at, custom_at, section_at}
 use Rattle.wasm_decode.specs.File.{module_of, sections_at}
 use Rattle.wasm_decode.proofs.Steps.{bind_some, some_is, Takes, IsComplete, IsSound}
@@ -134,3 +136,18 @@ file_found m text bytes e h small =
       code_section = subst (λ xs. SpellsSection (SpellsVec SpellsCode) 10 xs s.code_word) codes s.codes_spelled;
       small = small
     }
+
+-- what reading says of a text after the header
+module _ (text bytes : List ℕ) (parts : bytes ≡ header ++ text) where
+  pub unread : whole (sections_at text) ≡ None → (m : Module) → IsSmallFile m bytes → ⊥
+  unread e m f = let r = file_read m text bytes f parts in cc
+
+  pub read_alone : (m : Module) → whole (sections_at text) ≡ Some m → (n : Module) → IsSmallFile n bytes → m ≡ n
+  read_alone m e n f = some_is m n (sym e ∙ file_read n text bytes f parts)
+
+  pub failed_alone : (e : DecodeFault) → Fails e (whole (sections_at text)) → (m : Module) → IsSmallFile m bytes → e ≡ Memory
+  failed_alone Memory h m f = refl
+  failed_alone Unbuilt h m f = absurd (unread h m f)
+
+  pub read_not_small : (m : Module) → whole (sections_at text) ≡ Some m → (IsSmall m → ⊥) → (n : Module) → IsSmallFile n bytes → ⊥
+  read_not_small m e h n f = h (subst IsSmall (sym (read_alone m e n f)) f.small)

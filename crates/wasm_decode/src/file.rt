@@ -1,6 +1,8 @@
 // Files of the form of module that is built so far.
-ghost use Rattle.std.specs.Prelude.{◌≡◌, ℕ, ◌++◌, List as Listing, IfOk, IfErr, IfSome, IfNone};
+ghost use Rattle.std.specs.Prelude.{◌≡◌, ℕ, ◌++◌, List as Listing, IfOk, IfErr, IfSome, IfNone, ◌⊎◌};
+ghost use Rattle.wasm_form.specs.declared.module.Module.{Module};
 ghost use Rattle.spec_binary.specs.Modules.{header};
+ghost use Rattle.spec_binary.specs.SmallForm.{IsSmallFile};
 ghost use Rattle.wasm_decode.specs.Reading.{Gives, whole};
 ghost use Rattle.wasm_decode.specs.Parts.{section_at};
 ghost use Rattle.wasm_decode.specs.File.{module_of, sections_at};
@@ -12,6 +14,7 @@ use wasm_form::{Code, Custom, Export, FuncType, List, Module};
 use crate::fault::DecodeFault;
 use crate::number::contents_of;
 use crate::sequence::{Item, whole_of};
+use crate::small::is_small;
 
 // The magic bytes and version 1 (WebAssembly Core 2.0, section 5.5.16).
 const HEADER: [u8; 8] = [0x00, 0x61, 0x73, 0x6D, 0x01, 0x00, 0x00, 0x00];
@@ -87,4 +90,18 @@ impl Item for Module {
     fn read(alloc: Global, bytes: &[u8]) -> Result<(Module, &[u8]), DecodeFault> {
         sections_of(alloc, bytes)
     }
+}
+
+/// The module that the bytes spell, where they are a file of the form that is built so far: `Unbuilt` where they are
+/// no such file, `Memory` where no memory could be had (WebAssembly Core 2.0, chapter 5).
+pub fn decode(alloc: Global, bytes: &[u8]) -> Result<Module, DecodeFault>
+    ensures found { IfOk result (λ m. IsSmallFile m bytes.now) }
+    ensures only { (m : Module) → IsSmallFile m bytes.now → (result ≡ Ok m) ⊎ (result ≡ Err DecodeFault.Memory) }
+    ensures unbuilt { result ≡ Err DecodeFault.Unbuilt → (m : Module) → IsSmallFile m bytes.now → ⊥ }
+{
+    let Some(rest) = after_header(bytes) else {
+        return Err(DecodeFault::Unbuilt);
+    };
+    let m: Module = whole_of(alloc, rest)?;
+    if is_small(alloc, &m)? { Ok(m) } else { Err(DecodeFault::Unbuilt) }
 }

@@ -7,5 +7,7 @@ mod file;
 mod number;
 mod part;
 mod sequence;
+mod small;
 
 pub use fault::DecodeFault;
+pub use file::decode;
