@@ -6,3 +6,4 @@ pub mod Opening
 pub mod Startup
 pub mod Headline
 pub mod Seeing
+pub mod Written

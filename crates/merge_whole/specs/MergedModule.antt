@@ -78,3 +78,10 @@ merged_alone wasm entry = record {
   datas = texts_data ∷ [];
   customs = [];
 }
+
+-- the merged module of some input
+pub record IsMergedInput (m : Module) : Type 0 where
+  pub wasm : Module
+  pub entry : ℕ
+  pub input : IsSmallInput wasm
+  pub merged : m ≡ merged_alone wasm entry

@@ -1,5 +1,8 @@
 //! Merges a linked set into one ordinary module.
 #![tactic(auto)]
 
-mod module;
+mod parts;
 mod slots;
+mod whole;
+
+pub use whole::merge;
