@@ -4,19 +4,16 @@ use Rattle.std.specs.Prelude.{◌≡◌, ◌≢◌, ℕ, ◌<◌, ◌≤◌, Lis
 use Rattle.std.specs.declared.alloc.Global.{Global}
 use Rattle.wasm_form.specs.declared.module.Module.{Module}
 use Rattle.spec_binary.specs.SmallForm.{IsSmallFile}
-use Rattle.spec_execution.specs.Hosts.{HostNames}
+use Rattle.spec_execution.specs.Hosts.{no_names}
 use Rattle.spec_linking.specs.Sets.{Files, ClosedSet, Member, default_options, main_name, most_bytes, Gathers}
 use Rattle.spec_linking.specs.Plans.{default_link}
 use Rattle.spec_linking.specs.Links.{LinkedSet, NoEntry, link_fault, Links}
 use Rattle.dyl_app.specs.declared.outcome.SetFault.TheVariants.{Missing, ReadFault, SetSize}
 use Rattle.dyl_app.specs.declared.outcome.LinkFault.TheVariants as link
+use Rattle.dyl_app.specs.declared.outcome.UsageKind.{UsageKind}
 use Rattle.dyl_app.specs.declared.outcome.Outcome.{Outcome}
 use Rattle.dyl_app.specs.declared.outcome.Outcome.TheVariants.{Done, Usage, Set, Unbuilt, Link, WriteFault, Memory}
 use Rattle.dyl_app.specs.Orders.{Order, order_of}
-
--- no host function is declared so far
-abbrev pub no_names : HostNames
-no_names = record { declared = Rattle.std.specs.Prelude.[] }
 
 -- a set, linked with the default options
 abbrev pub linked : ClosedSet → LinkedSet
@@ -71,10 +68,10 @@ DueAt files path WriteFault = ⊥
 DueAt files path Memory = ⊥
 
 -- The answer is the outcome that is due, or it yields to a fault of the outside or to want of memory. A write fault takes the place of
--- Done alone.
+-- Done alone, and a read fault not that of Usage.
 abbrev pub Yields : Outcome → Outcome → Type 0
 Yields due Memory = Unit {0}
-Yields due (Set (ReadFault at)) = Unit {0}
+Yields due (Set (ReadFault at)) = (kind : UsageKind) → due ≢ Usage kind
 Yields due WriteFault = due ≡ Done
 Yields due Done = due ≡ Done
 Yields due (Usage kind) = due ≡ Usage kind
@@ -94,3 +91,12 @@ Tells files path (Set (Missing name)) = IsMissing files path × (name ≡ main_n
 Tells files path (Set SetSize) = IsTooLong files path
 Tells files path Unbuilt = IsUnbuilt files path
 Tells files path (Link link.NoEntry) = HasNoEntry files path
+
+-- the same for words, which are an order or none
+abbrev pub DueFor : Result Order UsageKind → Files → Outcome → Type 0
+DueFor (Err kind) files due = due ≡ Usage kind
+DueFor (Ok order) files due = DueAt files order.main due
+
+abbrev pub TellsFor : Result Order UsageKind → Files → Outcome → Type 0
+TellsFor (Err kind) files answer = answer ≡ Usage kind
+TellsFor (Ok order) files answer = Tells files order.main answer

@@ -1,11 +1,12 @@
 -- What a call leaves of the files.
-use Rattle.std.specs.Prelude.{◌≡◌, ◌⊎◌, ℕ, List, Option, Some, IsSomeAnd}
+use Rattle.std.specs.Prelude.{◌≡◌, ◌⊎◌, ℕ, List, Option, Some, Result, Ok, Err, IsSomeAnd}
 use Rattle.std.specs.FinMap.{get, insert}
 use Rattle.dyl_outside.specs.Faults.{Rose}
 use Rattle.dyl_outside.specs.FileMap.{FileMap, SameBut}
 use Rattle.spec_linking.specs.Sets.{ClosedSet}
 use Rattle.spec_linking.specs.Links.{Links}
 use Rattle.spec_loading.specs.Merged.{Merged}
+use Rattle.dyl_app.specs.declared.outcome.UsageKind.{UsageKind}
 use Rattle.dyl_app.specs.declared.outcome.Outcome.{Outcome}
 use Rattle.dyl_app.specs.declared.outcome.Outcome.TheVariants.{Done, Usage, Set, Unbuilt, Link, WriteFault, Memory}
 use Rattle.dyl_app.specs.Orders.{Order}
@@ -30,3 +31,8 @@ Leaves order files (Usage kind) after before now = after ≡ Some files
 Leaves order files (Set fault) after before now = after ≡ Some files
 Leaves order files Unbuilt after before now = after ≡ Some files
 Leaves order files (Link fault) after before now = after ≡ Some files
+
+-- words that are no order leave the files as they were
+abbrev pub LeavesFor : Result Order UsageKind → FileMap → Outcome → Option FileMap → ℕ → ℕ → Type 0
+LeavesFor (Err kind) files answer after before now = after ≡ Some files
+LeavesFor (Ok order) files answer after before now = Leaves order files answer after before now

@@ -1,5 +1,6 @@
 -- What the words ask for.
 use Rattle.std.specs.Prelude.{◌≡◌, ℕ, List, [], ◌∷◌, Bool, true, false, ◌&&◌, ◌||◌, nat_eq, not, Result, Ok, Err, String, string_bytes, codes, bytes_eq, if◌then◌else◌}
+use Rattle.std.specs.List.{list_any}
 use Rattle.std.specs.declared.alloc.Global.{Global}
 use Rattle.dyl_app.specs.declared.outcome.UsageKind.{UsageKind}
 use Rattle.dyl_app.specs.declared.outcome.UsageKind.TheVariants.{NoCommand, UnknownCommand, Words}
@@ -14,8 +15,7 @@ starts_with_hyphen [] = false
 starts_with_hyphen (b ∷ bs) = nat_eq b 0x2D
 
 abbrev pub has_zero : List ℕ → Bool
-has_zero [] = false
-has_zero (b ∷ bs) = nat_eq b 0x00 || has_zero bs
+has_zero word = list_any (λ b. nat_eq b 0x00) word
 
 -- a word that is no option and has no zero character
 abbrev pub is_plain : List ℕ → Bool
@@ -31,3 +31,8 @@ abbrev pub order_of : List (String Global) → Result Order UsageKind
 order_of [] = Err NoCommand
 order_of (program ∷ []) = Err NoCommand
 order_of (program ∷ command ∷ words) = if bytes_eq (string_bytes command) (codes "merge") then merge_order words else Err UnknownCommand
+
+-- these were read from the words, or this is what is wrong with them
+abbrev pub Reads : {W : Type 0} → (W → Order) → Result W UsageKind → Result Order UsageKind → Type 0
+Reads view (Ok read) order = order ≡ Ok (view read)
+Reads view (Err kind) order = order ≡ Err kind

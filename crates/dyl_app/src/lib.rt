@@ -2,6 +2,7 @@
 #![tactic(auto)]
 
 mod gather;
+mod link;
 mod outcome;
 mod service;
 mod words;
