@@ -1,1 +1,5 @@
 pub mod Slashes
+pub mod Gathering
+pub mod Entries
+pub mod Dues
+pub mod Ends

@@ -1,0 +1,134 @@
+-- What an input comes to.
+use Rattle.std.proofs.Common.{◌≡◌, ◌≢◌, ℕ, ◌<◌, ◌≤◌, List, [], ◌∷◌, length, Option, Some, None, Result, Ok, Err, refl, sym, ap, ◌∙◌, subst, arith, inl, inr}
+use Rattle.std.specs.Prelude.{IsSomeAnd, ◌⊎◌}
+use Rattle.std.specs.FinMap.{get}
+use Rattle.wasm_form.specs.declared.module.Module.{Module}
+use Rattle.wasm_form.specs.Number.{SpellsUnsigned, last}
+use Rattle.dyl_outside.specs.FileMap.{FileMap}
+use Rattle.spec_binary.specs.SmallForm.{IsSmall, IsSmallFile, small_custom}
+use Rattle.spec_binary.proofs.Chains.{small_file_spells}
+use Rattle.spec_validation.proofs.Valid.{small_valid}
+use Rattle.spec_linking.specs.Records.{empty_record, memory_information, done, next, HasRecord}
+use Rattle.spec_linking.specs.Sets.{Files, ClosedSet, main_name}
+use Rattle.spec_linking.specs.Definitions.{entry_of}
+use Rattle.spec_linking.specs.Links.{fault_without}
+use Rattle.merge_whole.specs.MergedModule.{main_member, set_alone}
+use Rattle.dyl_app.specs.declared.outcome.LinkFault.TheVariants as link
+use Rattle.dyl_app.specs.declared.outcome.UsageKind.{UsageKind}
+use Rattle.dyl_app.specs.declared.outcome.Outcome.{Outcome}
+use Rattle.dyl_app.specs.declared.outcome.Outcome.TheVariants.{Done, Usage, Set, Unbuilt, Link, WriteFault, Memory}
+use Rattle.dyl_app.specs.Orders.{Order}
+use Rattle.dyl_app.specs.Due.{linked, GathersSmall, HasNoEntry, LinksAt, DueAt, Yields, Tells}
+use Rattle.dyl_app.specs.Gathered.{IsInput}
+use Rattle.dyl_app.specs.Finish.{HoldsMerged, LeavesWritten, ByEntry}
+use Rattle.dyl_app.specs.Files.{IsMerged, Leaves}
+use Rattle.dyl_app.proofs.Dues.{verdict, due_input}
+
+zero_byte : SpellsUnsigned 32 0 (0 ∷ [])
+zero_byte = last (omega arith) (omega arith)
+
+-- a small module says of itself that it has no regions and needs nothing
+small_record : (wasm : Module) → IsSmall wasm → HasRecord wasm empty_record
+small_record wasm small = record {
+  section = small_custom;
+  others = [];
+  first = small.customs;
+  rank = refl;
+  name = refl;
+  contents = next {code = 1} {size = 4 ∷ []} {contents = 0 ∷ 0 ∷ 0 ∷ 0 ∷ []} {rest = []} (last (omega arith) (omega arith)) (memory_information (omega arith) (omega arith) zero_byte zero_byte zero_byte zero_byte) done;
+}
+
+module _ (files : Files) (path : List ℕ) (wasm : Module) (input : IsInput files path wasm) where
+  abbrev set : ClosedSet
+  set = set_alone (main_name path) path (length input.bytes) wasm
+
+  gathers : GathersSmall files path set
+  gathers = record {
+    gathered = record {
+      main = main_member (main_name path) path (length input.bytes) wasm;
+      members = refl;
+      startup = refl;
+      name = refl;
+      path = refl;
+      found = record { bytes = input.bytes; found = input.file; size = refl; spelled = small_file_spells wasm input.bytes input.small; valid = small_valid wasm input.small.small; dylink = small_record wasm input.small.small };
+      few_bytes = input.few;
+      needs_none = refl;
+      needed = refl;
+    };
+    bytes = input.bytes;
+    file = input.file;
+    small = input.small;
+  }
+
+  links : (o : Option ℕ) → entry_of wasm ≡ o → (answer : Outcome) → ByEntry o answer → Tells files path answer
+  links (Some entry) e Done h = record { set = set; gathered = gathers; links = ap fault_without e }
+  links (Some entry) e WriteFault h = record { set = set; gathered = gathers; links = ap fault_without e }
+  links None e (Link link.NoEntry) h = record { set = set; gathered = gathers; fault = ap fault_without e }
+  links o e Memory h = tt
+  links None e Done h = absurd h
+  links None e WriteFault h = absurd h
+  links (Some entry) e (Link fault) h = absurd h
+  links o e (Usage kind) h = absurd h
+  links o e (Set fault) h = absurd h
+  links o e Unbuilt h = absurd h
+
+  pub input_tells : (answer : Outcome) → ByEntry (entry_of wasm) answer → Tells files path answer
+  input_tells answer h = links (entry_of wasm) refl answer h
+
+  yields : (o : Option ℕ) (answer due : Outcome) → ByEntry o answer → due ≡ verdict o → Yields due answer
+  yields (Some entry) Done due h e = e
+  yields (Some entry) WriteFault due h e = e
+  yields None (Link link.NoEntry) due h e = e
+  yields o Memory due h e = tt
+  yields None Done due h e = absurd h
+  yields None WriteFault due h e = absurd h
+  yields (Some entry) (Link fault) due h e = absurd h
+  yields o (Usage kind) due h e = absurd h
+  yields o (Set fault) due h e = absurd h
+  yields o Unbuilt due h e = absurd h
+
+  pub input_due : (answer : Outcome) → ByEntry (entry_of wasm) answer → (due : Outcome) → DueAt files path due → Yields due answer
+  input_due answer h due d = yields (entry_of wasm) answer due h (due_input files path wasm input due d)
+
+-- what is done has an entry
+has_entry : (o : Option ℕ) → ByEntry o Done → fault_without o ≡ None
+has_entry None h = absurd h
+has_entry (Some entry) h = refl
+
+-- what is written is merged
+pub input_leaves : (told : FileMap) (order : Order) (wasm : Module) → IsInput (get told) order.main wasm → (answer : Outcome) (after : Option FileMap) (before now : ℕ)
+    → ByEntry (entry_of wasm) answer → LeavesWritten wasm order.out told answer after → Leaves order told answer after before now
+input_leaves told order wasm input Done after before now h leaves = holds after leaves
+  where
+    holds : (a : Option FileMap) → IsSomeAnd a (HoldsMerged wasm order.out told) → IsSomeAnd a (IsMerged order told)
+    holds None l = l
+    holds (Some new) l =
+        record {
+          set = set_alone (main_name order.main) order.main (length input.bytes) wasm;
+          gathered = gathers (get told) order.main wasm input;
+          links = has_entry (entry_of wasm) h;
+          output = l.output;
+          merged = l.merged (main_name order.main) order.main (length input.bytes);
+          written = l.written;
+        }
+input_leaves told order wasm input WriteFault after before now h leaves = leaves
+input_leaves told order wasm input Memory after before now h leaves = inl leaves
+input_leaves told order wasm input (Usage kind) after before now h leaves = absurd leaves
+input_leaves told order wasm input (Set fault) after before now h leaves = absurd leaves
+input_leaves told order wasm input Unbuilt after before now h leaves = absurd leaves
+input_leaves told order wasm input (Link fault) after before now h leaves = leaves
+
+-- where the set links, a module that is gathered is merged, unless a write failed or memory was wanted
+pub input_complete : (files : Files) (path : List ℕ) (wasm : Module) → IsInput files path wasm → (answer : Outcome) → ByEntry (entry_of wasm) answer → LinksAt files path
+    → (answer ≡ WriteFault → ⊥) → (answer ≡ Done) ⊎ (answer ≡ Memory)
+input_complete files path wasm input answer h links written = go (entry_of wasm) refl answer h written
+  where
+    go : (o : Option ℕ) → entry_of wasm ≡ o → (a : Outcome) → ByEntry o a → (a ≡ WriteFault → ⊥) → (a ≡ Done) ⊎ (a ≡ Memory)
+    go (Some entry) e Done h w = inl refl
+    go (Some entry) e WriteFault h w = absurd (w refl)
+    go o e Memory h w = inr refl
+    go None e a h w = absurd (let done = due_input files path wasm input Done links in let e' = done ∙ ap verdict e in cc)
+    go (Some entry) e (Link fault) h w = absurd h
+    go o e (Usage kind) h w = absurd h
+    go o e (Set fault) h w = absurd h
+    go o e Unbuilt h w = absurd h
