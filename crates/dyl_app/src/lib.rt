@@ -9,3 +9,6 @@ mod words;
 
 pub use outcome::{LinkFault, Outcome, SetFault, UsageKind, status};
 pub use service::serve;
+
+#[cfg(test)]
+mod tests;
