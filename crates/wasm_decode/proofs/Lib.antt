@@ -6,5 +6,5 @@ pub mod Instructions
 pub mod Sections
 pub mod SmallFile
 pub mod Loops
-pub mod Tests
+pub mod CustomTest
 pub mod Distinct

@@ -8,6 +8,8 @@ mod number;
 mod part;
 mod sequence;
 mod small;
+#[cfg(test)]
+mod tests;
 
 pub use fault::DecodeFault;
 pub use file::decode;

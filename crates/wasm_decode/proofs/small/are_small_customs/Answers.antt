@@ -1,5 +1,5 @@
 use Rattle.std.proofs.Common.{arith}
-use Rattle.wasm_decode.proofs.Tests.{customs_tell}
+use Rattle.wasm_decode.proofs.CustomTest.{customs_tell}
 use Rattle.wasm_decode.proofs.small.are_small_customs.Goals as goal
 
 pub returns-in-len1 : goal.returns-in-len1

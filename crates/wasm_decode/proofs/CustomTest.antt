@@ -1,4 +1,4 @@
--- What the tests of the small form tell.
+-- What the test of custom sections tells.
 use Rattle.std.proofs.Common.{◌≡◌, ℕ, ◌≤◌, ◌<◌, List, [], ◌∷◌, length, get_or, refl, sym, ap, ◌∙◌, arith}
 use Rattle.std.specs.Prelude.{◌↔◌}
 use Rattle.wasm_form.specs.declared.module.Custom.{Custom}
