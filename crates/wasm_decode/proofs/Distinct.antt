@@ -1,5 +1,5 @@
 -- Names that are told once.
-use Rattle.std.proofs.Common.{◌≡◌, ◌≢◌, ℕ, ◌+◌, ◌<◌, Bool, true, false, cond, List, [], ◌∷◌, ◌++◌, length, get_or, take, drop, map, refl, sym, ap, subst, ◌∙◌, inl, inr, arith, add-one}
+use Rattle.std.proofs.Common.{◌≡◌, ◌≢◌, ℕ, ◌+◌, ◌<◌, Bool, true, false, cond, List, [], ◌∷◌, ◌++◌, length, get_or, take, drop, map, refl, sym, ap, subst, ◌∙◌, inl, inr, add-one}
 use Rattle.std.specs.Prelude.{◌⊎◌, ◌||◌, All, not}
 use Rattle.std.specs.List.{list_any}
 use Rattle.std.specs.Str.{bytes_eq}
@@ -81,7 +81,7 @@ module _ (exports : List Export) (i : ℕ) (e : Export) (key : List ℕ) (inside
   pub name_told_again : list_any (bytes_eq key) (map name_of (take i exports)) ≡ true → AllDistinct (map name_of exports) → ⊥
   name_told_again h d =
       told_again (map name_of (take i exports)) (map name_of (drop (i + 1) exports)) key h
-        (subst AllDistinct (names_parts exports i e inside is ∙ ap (λ n. map name_of (take i exports) ++ n ∷ map name_of (drop (i + 1) exports)) (sym named)) d)
+      (subst AllDistinct (names_parts exports i e inside is ∙ ap (λ n. map name_of (take i exports) ++ n ∷ map name_of (drop (i + 1) exports)) (sym named)) d)
 
   seen : map name_of (take i exports) ++ key ∷ [] ≡ map name_of (take (i + 1) exports)
   seen = ap (λ n. map name_of (take i exports) ++ n ∷ []) named ∙ sym (names_more exports i e inside is)

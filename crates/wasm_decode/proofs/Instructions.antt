@@ -1,17 +1,15 @@
 -- Instructions, expressions and functions are read as they are spelled.
-use Rattle.std.proofs.Common.{◌≡◌, ℕ, zero, suc, ◌<◌, ◌≤◌, Bool, true, false, eqb, List, [], ◌∷◌, ◌++◌, length, Option, Some, None, refl, sym, ap, subst, ◌∙◌, append_assoc, arith, inl, inr, length-append}
-use Rattle.std.specs.Prelude.{◌⊎◌}
+use Rattle.std.proofs.Common.{◌≡◌, ℕ, zero, suc, ◌<◌, Bool, true, false, eqb, List, [], ◌∷◌, ◌++◌, length, Some, refl, sym, ap, subst, ◌∙◌, append_assoc, arith, inl, inr, length-append}
 use Rattle.std.proofs.lemmas.Bool.{eqb-true}
 use Rattle.wasm_form.specs.declared.instr.Instr.{Instr, Plain, Index, I32Const}
-use Rattle.wasm_form.specs.declared.instr.Expr.{Expr}
 use Rattle.wasm_form.specs.declared.module.Code.{Code}
 use Rattle.wasm_form.specs.Number.{SpellsUnsigned}
 use Rattle.wasm_form.specs.Sequence.{SpellsVec}
 use Rattle.spec_binary.specs.Instructions.{Operands, NoOperand, OneIndex, OneI32, NoOpcode, operands, SpellsInstr, plain, index, i32_const, SpellsInstrs, done, next, SpellsExpr, expr}
 use Rattle.spec_binary.specs.Parts.{SpellsGroup, most_nested, SpellsCode, code}
-use Rattle.wasm_decode.specs.Reading.{◌>>=◌, Read, number_at, signed_at, vec_at, sized_at}
-use Rattle.wasm_decode.specs.Parts.{operands_at, instr_at, instrs_with, instrs_at, expr_at, group_at, func_at, code_at}
-use Rattle.wasm_decode.proofs.Steps.{bind_some, chosen, some_is, Takes, IsComplete, IsSound, given}
+use Rattle.wasm_decode.specs.Reading.{number_at, signed_at, vec_at}
+use Rattle.wasm_decode.specs.Parts.{operands_at, instr_at, instrs_at, expr_at, group_at, func_at, code_at}
+use Rattle.wasm_decode.proofs.Steps.{bind_some, chosen, Takes, IsComplete, IsSound, given}
 use Rattle.wasm_decode.proofs.Numbers.{number_complete, number_sound, signed_complete, signed_sound}
 use Rattle.wasm_decode.proofs.Sequences.{vec_complete, vec_sound, whole_complete, whole_sound, sized_again, sized_sound}
 use Rattle.wasm_decode.proofs.Parts.{group_complete, group_sound}
@@ -92,15 +90,15 @@ instrs_sound d (suc k) [] is rest e = absurd cc
 instrs_sound d (suc k) (b ∷ bs) is rest e = elim (chosen (eqb b 0x0B) _ _ _ e) [
   | inl p ↦ given (IsEnded d) (b ∷ bs) [] is bs rest p.1 (record { word = 0x0B ∷ []; spelled = ended done; parts = ap (λ b. b ∷ bs) (eqb-true b 0x0B p.0) })
   | inr p ↦
-    let a = bind_some (instr_at b bs) _ (is, rest) p.1 in
-    let l = bind_some (instrs_at k a.0.1) _ (is, rest) a.2 in
-    let i = instr_sound d b bs a.0.0 a.0.1 a.1 in
-    let s = instrs_sound d k a.0.1 l.0.0 l.0.1 l.1 in
-    given (IsEnded d) (b ∷ bs) (a.0.0 ∷ l.0.0) is l.0.1 rest l.2
+      let a = bind_some (instr_at b bs) _ (is, rest) p.1 in
+      let l = bind_some (instrs_at k a.0.1) _ (is, rest) a.2 in
+      let i = instr_sound d b bs a.0.0 a.0.1 a.1 in
+      let s = instrs_sound d k a.0.1 l.0.0 l.0.1 l.1 in
+      given (IsEnded d) (b ∷ bs) (a.0.0 ∷ l.0.0) is l.0.1 rest l.2
       (record {
         word = i.word ++ s.word;
         spelled = one_more d a.0.0 l.0.0 i.word s.word i.spelled s.spelled;
-        parts = i.parts ∙ ap (λ x. i.word ++ x) s.parts ∙ sym (append_assoc i.word s.word l.0.1)
+        parts = i.parts ∙ ap (λ x. i.word ++ x) s.parts ∙ sym (append_assoc i.word s.word l.0.1);
       })
 ]
 
@@ -130,11 +128,11 @@ func_sound text x rest e =
     let locals = vec_sound SpellsGroup group_at group_sound text l.0.0 l.0.1 l.1 in
     let body = expr_sound most_nested l.0.1 b.0.0 b.0.1 b.1 in
     given SpellsFunc text (record { locals = l.0.0; body = b.0.0 }) x b.0.1 rest b.2
-      (record {
-        word = locals.word ++ body.word;
-        spelled = func locals.spelled body.spelled;
-        parts = locals.parts ∙ ap (λ l. locals.word ++ l) body.parts ∙ sym (append_assoc locals.word body.word b.0.1)
-      })
+    (record {
+      word = locals.word ++ body.word;
+      spelled = func locals.spelled body.spelled;
+      parts = locals.parts ∙ ap (λ l. locals.word ++ l) body.parts ∙ sym (append_assoc locals.word body.word b.0.1);
+    })
 
 pub code_complete : IsComplete SpellsCode code_at
 unfolding code_at

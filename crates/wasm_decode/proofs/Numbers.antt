@@ -1,6 +1,5 @@
 -- Numbers and names are read as they are spelled.
-use Rattle.std.proofs.Common.{◌≡◌, ℕ, ℤ, pos, ◌+◌, ◌-◌, ◌*◌, ◌^◌, ◌+ℤ◌, ◌-ℤ◌, ◌*ℤ◌, ◌<◌, ◌≤◌, Bool, true, false, cond, ltb, List, [], ◌∷◌, ◌++◌, length, take, drop, Option, Some, None, refl, sym, ap, subst, ◌∙◌, append_assoc, arith, inl, inr, length-append}
-use Rattle.std.specs.Prelude.{◌⊎◌}
+use Rattle.std.proofs.Common.{◌≡◌, ℕ, ℤ, pos, ◌+◌, ◌-◌, ◌*◌, ◌^◌, ◌+ℤ◌, ◌-ℤ◌, ◌*ℤ◌, ◌≤◌, true, false, ltb, List, [], ◌∷◌, ◌++◌, length, take, drop, Some, None, refl, sym, ap, subst, ◌∙◌, append_assoc, arith, inl, inr, length-append}
 use Rattle.std.specs.Str.{is_utf8, IsUtf8}
 use Rattle.std.proofs.Math.Seq.{take-length}
 use Rattle.std.proofs.lemmas.Str.{IsUtf8-from_is_utf8, is_utf8-from_IsUtf8}
@@ -8,8 +7,8 @@ use Rattle.std.proofs.lemmas.List.{take_at, drop_at, take-append-drop, length-ta
 use Rattle.std.proofs.lemmas.Bool.{ltb-false, le-ltb, lt-ltb, ltb-true}
 use Rattle.wasm_form.specs.Number.{SpellsUnsigned, SpellsSigned, Begins, last, last_below, more}
 use Rattle.wasm_form.specs.Name.{SpellsName, name}
-use Rattle.wasm_decode.specs.Reading.{◌>>=◌, Read, number_at, signed_at, cut_at, name_at}
-use Rattle.wasm_decode.proofs.Steps.{bind_some, chosen, chosen_first, chosen_second, some_is, Takes, IsComplete, IsSound, given, begun, not_begun}
+use Rattle.wasm_decode.specs.Reading.{Read, number_at, signed_at, cut_at, name_at}
+use Rattle.wasm_decode.proofs.Steps.{bind_some, chosen, chosen_first, chosen_second, some_is, IsComplete, IsSound, given, begun}
 
 number_again : {n v : ℕ} {w : List ℕ} → SpellsUnsigned n v w → (rest : List ℕ) → number_at n (w ++ rest) ≡ Some (v, rest)
 unfolding number_at
@@ -24,14 +23,14 @@ unfolding number_at
 number_sound n [] v rest e = absurd cc
 number_sound n (b ∷ bs) v rest e = elim (chosen (ltb b 128) _ _ _ e) [
   | inl p ↦
-    let q = chosen_first (ltb b (2 ^ n)) _ _ p.1 in
-    given (SpellsUnsigned n) (b ∷ bs) b v bs rest q.1 (record { word = b ∷ []; spelled = last (ltb-true _ _ p.0) (ltb-true _ _ q.0); parts = refl })
+      let q = chosen_first (ltb b (2 ^ n)) _ _ p.1 in
+      given (SpellsUnsigned n) (b ∷ bs) b v bs rest q.1 (record { word = b ∷ []; spelled = last (ltb-true _ _ p.0) (ltb-true _ _ q.0); parts = refl })
   | inr p ↦
-    let l = chosen_first (ltb b 256) _ _ p.1 in
-    let q = chosen_first (ltb 7 n) _ _ l.1 in
-    let r = bind_some (number_at (n - 7) bs) _ (v, rest) q.1 in
-    let t = number_sound (n - 7) bs r.0.0 r.0.1 r.1 in
-    given (SpellsUnsigned n) (b ∷ bs) (128 * r.0.0 + (b - 128)) v r.0.1 rest r.2
+      let l = chosen_first (ltb b 256) _ _ p.1 in
+      let q = chosen_first (ltb 7 n) _ _ l.1 in
+      let r = bind_some (number_at (n - 7) bs) _ (v, rest) q.1 in
+      let t = number_sound (n - 7) bs r.0.0 r.0.1 r.1 in
+      given (SpellsUnsigned n) (b ∷ bs) (128 * r.0.0 + (b - 128)) v r.0.1 rest r.2
       (record { word = b ∷ t.word; spelled = more (ltb-false _ _ p.0) (ltb-true _ _ l.0) (ltb-true _ _ q.0) refl t.spelled; parts = ap (λ l. b ∷ l) t.parts })
 ]
 
@@ -51,19 +50,19 @@ unfolding signed_at
 signed_sound n [] v rest e = absurd cc
 signed_sound n (b ∷ bs) v rest e = elim (chosen (ltb b 64) _ _ _ e) [
   | inl p ↦
-    let q = chosen_first (ltb b (2 ^ (n - 1))) _ _ p.1 in
-    given (SpellsSigned n) (b ∷ bs) (pos b) v bs rest q.1 (record { word = b ∷ []; spelled = last (ltb-true _ _ p.0) (ltb-true _ _ q.0); parts = refl })
+      let q = chosen_first (ltb b (2 ^ (n - 1))) _ _ p.1 in
+      given (SpellsSigned n) (b ∷ bs) (pos b) v bs rest q.1 (record { word = b ∷ []; spelled = last (ltb-true _ _ p.0) (ltb-true _ _ q.0); parts = refl })
   | inr p ↦ elim (chosen (ltb b 128) _ _ _ p.1) [
     | inl l ↦
-      let q = chosen_second (ltb (b + 2 ^ (n - 1)) 128) _ _ l.1 in
-      given (SpellsSigned n) (b ∷ bs) (pos b -ℤ pos 128) v bs rest q.1
+        let q = chosen_second (ltb (b + 2 ^ (n - 1)) 128) _ _ l.1 in
+        given (SpellsSigned n) (b ∷ bs) (pos b -ℤ pos 128) v bs rest q.1
         (record { word = b ∷ []; spelled = last_below (ltb-false _ _ p.0) (ltb-true _ _ l.0) (ltb-false _ _ q.0); parts = refl })
     | inr l ↦
-      let m = chosen_first (ltb b 256) _ _ l.1 in
-      let q = chosen_first (ltb 7 n) _ _ m.1 in
-      let r = bind_some (signed_at (n - 7) bs) _ (v, rest) q.1 in
-      let t = signed_sound (n - 7) bs r.0.0 r.0.1 r.1 in
-      given (SpellsSigned n) (b ∷ bs) (pos 128 *ℤ r.0.0 +ℤ pos (b - 128)) v r.0.1 rest r.2
+        let m = chosen_first (ltb b 256) _ _ l.1 in
+        let q = chosen_first (ltb 7 n) _ _ m.1 in
+        let r = bind_some (signed_at (n - 7) bs) _ (v, rest) q.1 in
+        let t = signed_sound (n - 7) bs r.0.0 r.0.1 r.1 in
+        given (SpellsSigned n) (b ∷ bs) (pos 128 *ℤ r.0.0 +ℤ pos (b - 128)) v r.0.1 rest r.2
         (record { word = b ∷ t.word; spelled = more (ltb-false _ _ l.0) (ltb-true _ _ m.0) (ltb-true _ _ q.0) refl t.spelled; parts = ap (λ l. b ∷ l) t.parts })
   ]
 ]
@@ -88,7 +87,7 @@ cut_sound text contents rest e =
     let t = number_sound 32 text n.0.0 n.0.1 n.1 in
     let size : length (take n.0.0 n.0.1) ≡ n.0.0 = length-take-le n.0.0 n.0.1 (ltb-false _ _ l.0) in
     subst (λ (p : List ℕ × List ℕ). Cuts text p.0 p.1) (some_is (take n.0.0 n.0.1, drop n.0.0 n.0.1) (contents, rest) l.1)
-      (record { size = t.word; count = rw size t.spelled; parts = t.parts ∙ ap (λ l. t.word ++ l) (sym (take-append-drop n.0.0 n.0.1)) })
+    (record { size = t.word; count = rw size t.spelled; parts = t.parts ∙ ap (λ l. t.word ++ l) (sym (take-append-drop n.0.0 n.0.1)) })
 
 name_again : {text w : List ℕ} → SpellsName text w → (rest : List ℕ) → name_at (w ++ rest) ≡ Some (text, rest)
 unfolding name_at
@@ -104,7 +103,7 @@ name_sound text x rest e =
     let u = chosen_first (is_utf8 c.0.0) _ _ c.2 in
     let cuts = cut_sound text c.0.0 c.0.1 c.1 in
     given SpellsName text c.0.0 x c.0.1 rest u.1
-      (record { word = cuts.size ++ c.0.0; spelled = name cuts.count (IsUtf8-from_is_utf8 _ u.0); parts = cuts.parts ∙ sym (append_assoc cuts.size c.0.0 c.0.1) })
+    (record { word = cuts.size ++ c.0.0; spelled = name cuts.count (IsUtf8-from_is_utf8 _ u.0); parts = cuts.parts ∙ sym (append_assoc cuts.size c.0.0 c.0.1) })
 
 -- the bytes from a place on, as a slice gives them
 slice_end : (bytes : List ℕ) (end : ℕ) → take (length bytes - end) (drop end bytes) ≡ drop end bytes

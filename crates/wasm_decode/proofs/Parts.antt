@@ -1,22 +1,16 @@
 -- Types, exports and groups of locals are read as they are spelled.
-use Rattle.std.proofs.Common.{◌≡◌, ℕ, Bool, true, false, eqb, List, [], ◌∷◌, ◌++◌, Option, Some, None, refl, sym, ap, subst, ◌∙◌, append_assoc, inl, inr}
-use Rattle.std.specs.Prelude.{◌⊎◌}
+use Rattle.std.proofs.Common.{◌≡◌, ℕ, true, eqb, List, [], ◌∷◌, ◌++◌, Option, Some, refl, sym, ap, subst, ◌∙◌, append_assoc, inl, inr}
 use Rattle.std.proofs.lemmas.Bool.{eqb-true}
 use Rattle.wasm_form.specs.declared.types.ValType.{ValType}
 use Rattle.wasm_form.specs.declared.types.ValType.TheVariants.{I32, I64, F32, F64, FuncRef, ExternRef}
-use Rattle.wasm_form.specs.declared.types.FuncType.{FuncType}
 use Rattle.wasm_form.specs.declared.module.ExportDesc.{ExportDesc}
 use Rattle.wasm_form.specs.declared.module.ExportDesc.TheVariants as desc
-use Rattle.wasm_form.specs.declared.module.Export.{Export}
-use Rattle.wasm_form.specs.declared.module.Group.{Group}
 use Rattle.wasm_form.specs.Number.{SpellsUnsigned}
-use Rattle.wasm_form.specs.Name.{SpellsName}
-use Rattle.wasm_form.specs.Sequence.{SpellsVec}
-use Rattle.spec_binary.specs.Types.{SpellsRefType, func_ref, extern_ref, SpellsValType, i32, i64, f32, f64, reference, SpellsFuncType, function as func_type}
+use Rattle.spec_binary.specs.Types.{func_ref, extern_ref, SpellsValType, i32, i64, f32, f64, reference, SpellsFuncType, function as func_type}
 use Rattle.spec_binary.specs.Parts.{SpellsExportDesc, function, table, memory, global, SpellsExport, export, SpellsGroup, group}
-use Rattle.wasm_decode.specs.Reading.{◌>>=◌, Read, number_at, name_at, vec_at}
-use Rattle.wasm_decode.specs.Parts.{val_type_of, val_type_at, signature_at, func_type_at, desc_of, described_at, export_desc_at, export_at, group_at}
-use Rattle.wasm_decode.proofs.Steps.{bind_some, chosen, chosen_first, some_is, Takes, IsComplete, IsSound, given}
+use Rattle.wasm_decode.specs.Reading.{number_at, name_at, vec_at}
+use Rattle.wasm_decode.specs.Parts.{val_type_of, val_type_at, func_type_at, desc_of, export_desc_at, export_at, group_at}
+use Rattle.wasm_decode.proofs.Steps.{bind_some, chosen, chosen_first, some_is, IsComplete, IsSound, given}
 use Rattle.wasm_decode.proofs.Numbers.{number_complete, number_sound, name_complete, name_sound}
 use Rattle.wasm_decode.proofs.Sequences.{vec_complete, vec_sound}
 
@@ -73,11 +67,11 @@ func_type_sound (b ∷ bs) t rest e =
     let params = vec_sound SpellsValType val_type_at val_type_sound bs p.0.0 p.0.1 p.1 in
     let results = vec_sound SpellsValType val_type_at val_type_sound p.0.1 q.0.0 q.0.1 q.1 in
     given SpellsFuncType (b ∷ bs) (record { params = p.0.0; results = q.0.0 }) t q.0.1 rest q.2
-      (record {
-        word = 0x60 ∷ (params.word ++ results.word);
-        spelled = func_type params.spelled results.spelled;
-        parts = ap (λ b. b ∷ bs) (eqb-true b 0x60 h.0) ∙ ap (λ l. 0x60 ∷ l) (params.parts ∙ ap (λ l. params.word ++ l) results.parts ∙ sym (append_assoc params.word results.word q.0.1))
-      })
+    (record {
+      word = 0x60 ∷ (params.word ++ results.word);
+      spelled = func_type params.spelled results.spelled;
+      parts = ap (λ b. b ∷ bs) (eqb-true b 0x60 h.0) ∙ ap (λ l. 0x60 ∷ l) (params.parts ∙ ap (λ l. params.word ++ l) results.parts ∙ sym (append_assoc params.word results.word q.0.1));
+    })
 
 pub export_desc_complete : IsComplete SpellsExportDesc export_desc_at
 unfolding export_desc_at
@@ -123,11 +117,11 @@ export_sound text x rest e =
     let name = name_sound text n.0.0 n.0.1 n.1 in
     let kind = export_desc_sound n.0.1 d.0.0 d.0.1 d.1 in
     given SpellsExport text (record { name = n.0.0; desc = d.0.0 }) x d.0.1 rest d.2
-      (record {
-        word = name.word ++ kind.word;
-        spelled = export name.spelled kind.spelled;
-        parts = name.parts ∙ ap (λ l. name.word ++ l) kind.parts ∙ sym (append_assoc name.word kind.word d.0.1)
-      })
+    (record {
+      word = name.word ++ kind.word;
+      spelled = export name.spelled kind.spelled;
+      parts = name.parts ∙ ap (λ l. name.word ++ l) kind.parts ∙ sym (append_assoc name.word kind.word d.0.1);
+    })
 
 pub group_complete : IsComplete SpellsGroup group_at
 unfolding group_at
@@ -141,8 +135,8 @@ group_sound text x rest e =
     let count = number_sound 32 text n.0.0 n.0.1 n.1 in
     let kind = val_type_sound n.0.1 t.0.0 t.0.1 t.1 in
     given SpellsGroup text (record { count = n.0.0; ty = t.0.0 }) x t.0.1 rest t.2
-      (record {
-        word = count.word ++ kind.word;
-        spelled = group count.spelled kind.spelled;
-        parts = count.parts ∙ ap (λ l. count.word ++ l) kind.parts ∙ sym (append_assoc count.word kind.word t.0.1)
-      })
+    (record {
+      word = count.word ++ kind.word;
+      spelled = group count.spelled kind.spelled;
+      parts = count.parts ∙ ap (λ l. count.word ++ l) kind.parts ∙ sym (append_assoc count.word kind.word t.0.1);
+    })

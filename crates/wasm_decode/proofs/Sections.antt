@@ -1,17 +1,15 @@
 -- Sections are read as they are spelled.
-use Rattle.std.proofs.Common.{◌≡◌, ℕ, Bool, true, false, eqb, List, [], ◌∷◌, ◌++◌, length, Option, Some, None, refl, sym, ap, subst, ◌∙◌, append_assoc}
+use Rattle.std.proofs.Common.{◌≡◌, ℕ, eqb, List, [], ◌∷◌, ◌++◌, Option, Some, refl, sym, ap, subst, ◌∙◌, append_assoc}
 use Rattle.std.proofs.lemmas.Bool.{eqb-true, eq-eqb}
-use Rattle.std.proofs.lemmas.List.{append-nil}
 use Rattle.wasm_form.specs.declared.module.Custom.{Custom}
-use Rattle.wasm_form.specs.Number.{SpellsUnsigned}
 use Rattle.wasm_form.specs.Name.{SpellsName}
-use Rattle.spec_binary.specs.Sections.{IsSection, section as section_word}
+use Rattle.spec_binary.specs.Sections.{section as section_word}
 use Rattle.spec_binary.specs.SmallForm.{SpellsCustom, custom, SpellsSection, section}
-use Rattle.wasm_decode.specs.Reading.{◌>>=◌, Read, whole, number_at, name_at, vec_at, sized_at}
+use Rattle.wasm_decode.specs.Reading.{◌>>=◌, Read, whole, name_at}
 use Rattle.wasm_decode.specs.Parts.{custom_at, section_at}
-use Rattle.wasm_decode.proofs.Steps.{bind_some, chosen_first, some_is, Takes, IsComplete, IsSound, IsWholeComplete, IsWholeSound, given}
-use Rattle.wasm_decode.proofs.Numbers.{number_complete, number_sound, name_complete, name_sound}
-use Rattle.wasm_decode.proofs.Sequences.{vec_complete, vec_sound, whole_complete, whole_sound, whole_parts, sized_again, sized_sound}
+use Rattle.wasm_decode.proofs.Steps.{bind_some, chosen_first, some_is, IsComplete, IsSound, IsWholeComplete, IsWholeSound}
+use Rattle.wasm_decode.proofs.Numbers.{name_complete, name_sound}
+use Rattle.wasm_decode.proofs.Sequences.{whole_parts, sized_again, sized_sound}
 
 -- the contents of a custom section that stands before each section that isn't empty
 pub record SpellsFirst (c : Custom) (w : List ℕ) : Type 0 where
@@ -54,6 +52,7 @@ module _ {A : Type 0} (Spells : A → List ℕ → Type 0) (read : List ℕ → 
       let h = chosen_first (eqb b id) _ _ e in
       let s = sized_sound Spells read sound bs x rest h.1 in
       record {
-        word = id ∷ (s.size ++ s.contents); spelled = section (section_word s.count) s.spelled;
-        parts = ap (λ b. b ∷ bs) (eqb-true b id h.0) ∙ ap (λ l. id ∷ l) (s.parts ∙ sym (append_assoc s.size s.contents rest))
+        word = id ∷ (s.size ++ s.contents);
+        spelled = section (section_word s.count) s.spelled;
+        parts = ap (λ b. b ∷ bs) (eqb-true b id h.0) ∙ ap (λ l. id ∷ l) (s.parts ∙ sym (append_assoc s.size s.contents rest));
       }

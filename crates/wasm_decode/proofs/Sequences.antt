@@ -1,11 +1,11 @@
 -- Things one after the other, with their number, and what takes a number of bytes, are read as they are spelled.
-use Rattle.std.proofs.Common.{◌≡◌, ℕ, zero, suc, List, [], ◌∷◌, ◌++◌, length, Option, Some, None, refl, sym, ap, subst, ◌∙◌, append_assoc}
+use Rattle.std.proofs.Common.{◌≡◌, ℕ, zero, suc, List, [], ◌∷◌, ◌++◌, length, Some, None, refl, sym, ap, subst, ◌∙◌, append_assoc}
 use Rattle.std.proofs.lemmas.List.{append-nil}
 use Rattle.wasm_form.specs.Number.{SpellsUnsigned}
 use Rattle.wasm_form.specs.Sequence.{SpellsEach, none, next, SpellsVec, vec}
-use Rattle.wasm_decode.specs.Reading.{◌>>=◌, Read, whole, number_at, items_at, vec_at, cut_at, sized_at}
+use Rattle.wasm_decode.specs.Reading.{Read, whole, number_at, items_at, vec_at, cut_at, sized_at}
 use Rattle.wasm_decode.proofs.Steps.{bind_some, some_is, Takes, IsComplete, IsSound, IsWholeComplete, IsWholeSound, given}
-use Rattle.wasm_decode.proofs.Numbers.{number_complete, number_sound, Cuts, cut_again, cut_sound}
+use Rattle.wasm_decode.proofs.Numbers.{number_complete, number_sound, cut_again, cut_sound}
 
 -- the number of the contents' bytes, and the contents
 pub record Sized {A : Type 0} (Spells : A → List ℕ → Type 0) (text : List ℕ) (x : A) (rest : List ℕ) : Type 0 where
@@ -48,10 +48,11 @@ module _ {A : Type 0} (Spells : A → List ℕ → Type 0) (read : List ℕ → 
       let a = bind_some (read text) _ (xs, rest) e in
       let b = bind_some (items_at read k a.0.1) _ (xs, rest) a.2 in
       let x = sound text a.0.0 a.0.1 a.1 in
-      let y = items_sound k a.0.1 b.0.0 b.0.1 b.1 in
-      (given (SpellsEach Spells) text (a.0.0 ∷ b.0.0) xs b.0.1 rest b.2
-         (record { word = x.word ++ y.0.word; spelled = next x.spelled y.0.spelled; parts = x.parts ∙ ap (λ l. x.word ++ l) y.0.parts ∙ sym (append_assoc x.word y.0.word b.0.1) }),
-       sym (ap (λ (p : List A × List ℕ). length p.0) (some_is _ _ b.2)) ∙ ap suc y.1)
+      let y = items_sound k a.0.1 b.0.0 b.0.1 b.1 in (
+        given (SpellsEach Spells) text (a.0.0 ∷ b.0.0) xs b.0.1 rest b.2
+            (record { word = x.word ++ y.0.word; spelled = next x.spelled y.0.spelled; parts = x.parts ∙ ap (λ l. x.word ++ l) y.0.parts ∙ sym (append_assoc x.word y.0.word b.0.1) }),
+        sym (ap (λ (p : List A × List ℕ). length p.0) (some_is _ _ b.2)) ∙ ap suc y.1,
+      )
 
   pub vec_sound : IsSound (SpellsVec Spells) (vec_at read)
   unfolding vec_at
@@ -75,7 +76,9 @@ module _ {A : Type 0} (Spells : A → List ℕ → Type 0) (read : List ℕ → 
       let cuts = cut_sound text c.0.0 c.0.1 c.1 in
       let moved = some_is (r.0, c.0.1) (x, rest) r.2 in
       record {
-        size = cuts.size; contents = c.0.0; count = cuts.count;
+        size = cuts.size;
+        contents = c.0.0;
+        count = cuts.count;
         spelled = subst (λ (p : A × List ℕ). Spells p.0 c.0.0) moved (sound c.0.0 r.0 r.1);
-        parts = cuts.parts ∙ ap (λ (p : A × List ℕ). cuts.size ++ (c.0.0 ++ p.1)) moved
+        parts = cuts.parts ∙ ap (λ (p : A × List ℕ). cuts.size ++ (c.0.0 ++ p.1)) moved;
       }

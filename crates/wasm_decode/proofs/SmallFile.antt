@@ -1,5 +1,5 @@
 -- The sections of a file of the small form are read as they are spelled.
-use Rattle.std.proofs.Common.{◌≡◌, ℕ, List, [], ◌∷◌, ◌++◌, length, Option, Some, None, refl, sym, ap, subst, ◌∙◌, append_assoc}
+use Rattle.std.proofs.Common.{◌≡◌, ℕ, List, [], ◌∷◌, ◌++◌, Some, None, refl, sym, ap, subst, ◌∙◌}
 use Rattle.std.proofs.lemmas.List.{append-nil}
 use Rattle.wasm_form.specs.declared.types.FuncType.{FuncType}
 use Rattle.wasm_form.specs.declared.module.Export.{Export}
@@ -14,10 +14,10 @@ use Rattle.spec_binary.specs.Modules.{header}
 use Rattle.spec_binary.specs.SmallForm.{SpellsCustom, SpellsSection, section, small_custom, IsSmall, IsSmallFile}
 use Rattle.wasm_decode.specs.declared.fault.DecodeFault.{DecodeFault}
 use Rattle.wasm_decode.specs.declared.fault.DecodeFault.TheVariants.{Unbuilt, Memory}
-use Rattle.wasm_decode.specs.Reading.{◌>>=◌, Read, Fails, whole, number_at, vec_at}
+use Rattle.wasm_decode.specs.Reading.{Read, Fails, whole, number_at, vec_at}
 use Rattle.wasm_decode.specs.Parts.{func_type_at, export_at, code_at, custom_at, section_at}
 use Rattle.wasm_decode.specs.File.{module_of, sections_at}
-use Rattle.wasm_decode.proofs.Steps.{bind_some, some_is, Takes, IsComplete, IsSound}
+use Rattle.wasm_decode.proofs.Steps.{bind_some, some_is, IsComplete, IsSound}
 use Rattle.wasm_decode.proofs.Numbers.{number_complete, number_sound}
 use Rattle.wasm_decode.proofs.Sequences.{vec_complete, vec_sound, whole_complete, whole_sound, whole_parts}
 use Rattle.wasm_decode.proofs.Parts.{func_type_complete, func_type_sound, export_complete, export_sound}
@@ -67,6 +67,10 @@ sections_again m text rest s =
     let codes = vec_section_complete SpellsCode code_at code_complete 10 s.codes s.code_word s.codes_spelled rest in
     rw (s.parts, custom, types, funcs, exports, codes) (ap (λ m. Some (m, rest)) s.is)
 
+-- five words, and what follows each of them
+joined : (a b c d e text p q r s t rest : List ℕ) → text ≡ a ++ p → p ≡ b ++ q → q ≡ c ++ r → r ≡ d ++ s → s ≡ e ++ t → t ≡ rest → text ≡ a ++ (b ++ (c ++ (d ++ (e ++ rest))))
+joined a b c d e text p q r s t rest i j k l m n = rw (i, j, k, l, m, n) refl
+
 pub sections_sound : (m : Module) (text rest : List ℕ) → sections_at text ≡ Some (m, rest) → Sections m text rest
 unfolding sections_at
 sections_sound m text rest e =
@@ -80,14 +84,25 @@ sections_sound m text rest e =
     let funcs = vec_section_sound (SpellsUnsigned 32) (number_at 32) (number_sound 32) 3 t.0.1 f.0.0 f.0.1 f.1 in
     let exports = vec_section_sound SpellsExport export_at export_sound 7 f.0.1 x.0.0 x.0.1 x.1 in
     let codes = vec_section_sound SpellsCode code_at code_sound 10 x.0.1 b.0.0 b.0.1 b.1 in
-    let end = some_is _ (m, rest) b.2 in
+    let end = some_is (module_of c.0.0 t.0.0 f.0.0 x.0.0 b.0.0, b.0.1) (m, rest) b.2 in
     record {
-      custom = c.0.0; types = t.0.0; funcs = f.0.0; exports = x.0.0; codes = b.0.0;
-      custom_word = custom.word; type_word = types.word; function_word = funcs.word; export_word = exports.word; code_word = codes.word;
-      parts = custom.parts ∙ ap (λ l. custom.word ++ l) (types.parts ∙ ap (λ l. types.word ++ l) (funcs.parts ∙ ap (λ l. funcs.word ++ l) (exports.parts ∙ ap (λ l. exports.word ++ l)
-        (codes.parts ∙ ap (λ (p : Module × List ℕ). codes.word ++ p.1) end))));
-      custom_spelled = custom.spelled; types_spelled = types.spelled; funcs_spelled = funcs.spelled; exports_spelled = exports.spelled; codes_spelled = codes.spelled;
-      is = ap (λ (p : Module × List ℕ). p.0) end
+      custom = c.0.0;
+      types = t.0.0;
+      funcs = f.0.0;
+      exports = x.0.0;
+      codes = b.0.0;
+      custom_word = custom.word;
+      type_word = types.word;
+      function_word = funcs.word;
+      export_word = exports.word;
+      code_word = codes.word;
+      parts = joined custom.word types.word funcs.word exports.word codes.word text c.0.1 t.0.1 f.0.1 x.0.1 b.0.1 rest custom.parts types.parts funcs.parts exports.parts codes.parts (ap (λ (p : Module × List ℕ). p.1) end);
+      custom_spelled = custom.spelled;
+      types_spelled = types.spelled;
+      funcs_spelled = funcs.spelled;
+      exports_spelled = exports.spelled;
+      codes_spelled = codes.spelled;
+      is = ap (λ (p : Module × List ℕ). p.0) end;
     }
 
 -- a small module has five parts alone
@@ -108,11 +123,23 @@ pub file_read : (m : Module) (text bytes : List ℕ) → IsSmallFile m bytes →
 file_read m text bytes f e =
     let same : text ≡ f.dylink_word ++ (f.type_word ++ (f.function_word ++ (f.export_word ++ f.code_word))) = let p = f.parts in cc in
     let sections : Sections m text [] = record {
-      custom = small_custom; types = m.types; funcs = m.funcs; exports = m.exports; codes = m.codes;
-      custom_word = f.dylink_word; type_word = f.type_word; function_word = f.function_word; export_word = f.export_word; code_word = f.code_word;
+      custom = small_custom;
+      types = m.types;
+      funcs = m.funcs;
+      exports = m.exports;
+      codes = m.codes;
+      custom_word = f.dylink_word;
+      type_word = f.type_word;
+      function_word = f.function_word;
+      export_word = f.export_word;
+      code_word = f.code_word;
       parts = same ∙ ap (λ l. f.dylink_word ++ (f.type_word ++ (f.function_word ++ (f.export_word ++ l)))) (sym (append-nil f.code_word));
-      custom_spelled = first_section refl f.dylink_section; types_spelled = f.type_section; funcs_spelled = f.function_section; exports_spelled = f.export_section; codes_spelled = f.code_section;
-      is = small_is m f.small
+      custom_spelled = first_section refl f.dylink_section;
+      types_spelled = f.type_section;
+      funcs_spelled = f.function_section;
+      exports_spelled = f.export_section;
+      codes_spelled = f.code_section;
+      is = small_is m f.small;
     } in
     ap whole (sections_again m text [] sections)
 
@@ -127,14 +154,18 @@ file_found m text bytes e h small =
     let customs : s.custom ∷ [] ≡ small_custom ∷ [] = ap (λ (m : Module). m.customs) s.is ∙ small.customs in
     let custom : s.custom ≡ small_custom = cc in
     record {
-      dylink_word = s.custom_word; type_word = s.type_word; function_word = s.function_word; export_word = s.export_word; code_word = s.code_word;
+      dylink_word = s.custom_word;
+      type_word = s.type_word;
+      function_word = s.function_word;
+      export_word = s.export_word;
+      code_word = s.code_word;
       parts = h ∙ ap (λ l. header ++ l) (s.parts ∙ ap (λ l. s.custom_word ++ (s.type_word ++ (s.function_word ++ (s.export_word ++ l)))) (append-nil s.code_word));
       dylink_section = subst (λ c. SpellsSection SpellsCustom 0 c s.custom_word) custom (custom_section s.custom_spelled);
       type_section = subst (λ xs. SpellsSection (SpellsVec SpellsFuncType) 1 xs s.type_word) types s.types_spelled;
       function_section = subst (λ xs. SpellsSection (SpellsVec (SpellsUnsigned 32)) 3 xs s.function_word) funcs s.funcs_spelled;
       export_section = subst (λ xs. SpellsSection (SpellsVec SpellsExport) 7 xs s.export_word) exports s.exports_spelled;
       code_section = subst (λ xs. SpellsSection (SpellsVec SpellsCode) 10 xs s.code_word) codes s.codes_spelled;
-      small = small
+      small = small;
     }
 
 -- what reading says of a text after the header

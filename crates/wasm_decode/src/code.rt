@@ -3,13 +3,11 @@ ghost use Rattle.std.specs.Prelude.{◌≡◌, ℕ, ◌<◌, ◌≤◌, length, 
 ghost use Rattle.wasm_decode.specs.Reading.{Gives, whole};
 ghost use Rattle.wasm_decode.specs.Parts.{instr_at, instrs_at, expr_at, func_at, code_at};
 
-use std::alloc::Global;
-
-use wasm_form::{Code, Expr, Group, Instr, List};
-
 use crate::fault::DecodeFault;
 use crate::number::{contents_of, s32_of, u32_of};
 use crate::sequence::Item;
+use std::alloc::Global;
+use wasm_form::{Code, Expr, Group, Instr, List};
 
 // The instruction with this opcode, whose operands are at the front of the bytes.
 #[tactic(auto, unfolding(crate::specs::Parts::instr_at))]
@@ -53,7 +51,12 @@ fn expr_of(alloc: Global, bytes: &[u8]) -> Result<(Expr, &[u8]), DecodeFault>
     ensures { Gives (λ x. (x.0, x.1.now)) result (expr_at bytes.now) }
 {
     let (instrs, rest) = instrs_of(alloc, bytes)?;
-    Ok((Expr { list: List::of(instrs) }, rest))
+    Ok((
+        Expr {
+            list: List::of(instrs),
+        },
+        rest,
+    ))
 }
 
 // The locals and the body of a function, which take all of the bytes.
@@ -63,7 +66,11 @@ fn func_of(alloc: Global, bytes: &[u8]) -> Result<Code, DecodeFault>
 {
     let (locals, rest) = List::<Group>::read(alloc, bytes)?;
     let (body, rest) = expr_of(alloc, rest)?;
-    if rest.is_empty() { Ok(Code { locals, body }) } else { Err(DecodeFault::Unbuilt) }
+    if rest.is_empty() {
+        Ok(Code { locals, body })
+    } else {
+        Err(DecodeFault::Unbuilt)
+    }
 }
 
 // The size of a function, and the function.

@@ -7,14 +7,12 @@ ghost use Rattle.wasm_decode.specs.Reading.{Gives, whole};
 ghost use Rattle.wasm_decode.specs.Parts.{section_at};
 ghost use Rattle.wasm_decode.specs.File.{module_of, sections_at};
 
-use std::alloc::Global;
-
-use wasm_form::{Code, Custom, Export, FuncType, List, Module};
-
 use crate::fault::DecodeFault;
 use crate::number::contents_of;
 use crate::sequence::{Item, whole_of};
 use crate::small::is_small;
+use std::alloc::Global;
+use wasm_form::{Code, Custom, Export, FuncType, List, Module};
 
 // The magic bytes and version 1 (WebAssembly Core 2.0, section 5.5.16).
 const HEADER: [u8; 8] = [0x00, 0x61, 0x73, 0x6D, 0x01, 0x00, 0x00, 0x00];
@@ -81,7 +79,10 @@ fn sections_of(alloc: Global, bytes: &[u8]) -> Result<(Module, &[u8]), DecodeFau
     let (funcs, rest) = section_of::<List<u32>>(alloc, 3, rest)?;
     let (exports, rest) = section_of::<List<Export>>(alloc, 7, rest)?;
     let (codes, rest) = section_of::<List<Code>>(alloc, 10, rest)?;
-    Ok((module_with(alloc, custom, types, funcs, exports, codes)?, rest))
+    Ok((
+        module_with(alloc, custom, types, funcs, exports, codes)?,
+        rest,
+    ))
 }
 
 impl Item for Module {
@@ -103,5 +104,9 @@ pub fn decode(alloc: Global, bytes: &[u8]) -> Result<Module, DecodeFault>
         return Err(DecodeFault::Unbuilt);
     };
     let m: Module = whole_of(alloc, rest)?;
-    if is_small(alloc, &m)? { Ok(m) } else { Err(DecodeFault::Unbuilt) }
+    if is_small(alloc, &m)? {
+        Ok(m)
+    } else {
+        Err(DecodeFault::Unbuilt)
+    }
 }

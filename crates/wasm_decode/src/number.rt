@@ -3,11 +3,9 @@
 ghost use Rattle.std.specs.Prelude.{◌≡◌, ℕ, ◌≤◌, length, IfOk, string_bytes};
 ghost use Rattle.wasm_decode.specs.Reading.{Gives, number_at, signed_at, cut_at, name_at};
 
-use std::alloc::Global;
-
-use wasm_form::{Text, read_s32, read_u32};
-
 use crate::fault::DecodeFault;
+use std::alloc::Global;
+use wasm_form::{Text, read_s32, read_u32};
 
 // An unsigned number of 32 bits.
 pub(crate) fn u32_of(bytes: &[u8]) -> Result<(u32, &[u8]), DecodeFault>

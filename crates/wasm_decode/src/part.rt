@@ -3,13 +3,11 @@ ghost use Rattle.std.specs.Prelude.{◌≡◌, ℕ};
 ghost use Rattle.wasm_decode.specs.Reading.{Gives};
 ghost use Rattle.wasm_decode.specs.Parts.{val_type_at, func_type_at, export_desc_at, export_at, group_at, custom_at};
 
-use std::alloc::Global;
-
-use wasm_form::{Custom, Export, ExportDesc, FuncType, Group, List, ValType};
-
 use crate::fault::DecodeFault;
 use crate::number::{name_of, u32_of};
 use crate::sequence::Item;
+use std::alloc::Global;
+use wasm_form::{Custom, Export, ExportDesc, FuncType, Group, List, ValType};
 
 #[tactic(auto, unfolding(crate::specs::Parts::val_type_at))]
 fn val_type_of(bytes: &[u8]) -> Result<(ValType, &[u8]), DecodeFault>
@@ -118,7 +116,14 @@ fn custom_of(alloc: Global, bytes: &[u8]) -> Result<(Custom, &[u8]), DecodeFault
 {
     let (name, rest) = name_of(alloc, bytes)?;
     let bytes = List::of(rest.to_vec(alloc)?);
-    Ok((Custom { rank: 0, name, bytes }, &[]))
+    Ok((
+        Custom {
+            rank: 0,
+            name,
+            bytes,
+        },
+        &[],
+    ))
 }
 
 impl Item for Custom {

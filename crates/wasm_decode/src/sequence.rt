@@ -2,12 +2,10 @@
 ghost use Rattle.std.specs.Prelude.{◌≡◌, ℕ, List as Listing};
 ghost use Rattle.wasm_decode.specs.Reading.{Read, Gives, whole, number_at, items_at, vec_at};
 
-use std::alloc::Global;
-
-use wasm_form::List;
-
 use crate::fault::DecodeFault;
 use crate::number::u32_of;
+use std::alloc::Global;
+use wasm_form::List;
 
 // What a vector or a section holds.
 pub(crate) trait Item: Drop {
@@ -36,7 +34,11 @@ impl<T: Item> Item for List<T> {
 }
 
 // So many things.
-fn items_of<T: Item>(alloc: Global, count: u32, bytes: &[u8]) -> Result<(Vec<T>, &[u8]), DecodeFault>
+fn items_of<T: Item>(
+    alloc: Global,
+    count: u32,
+    bytes: &[u8],
+) -> Result<(Vec<T>, &[u8]), DecodeFault>
     ensures { Gives (λ x. (x.0.items, x.1.now)) result (items_at T.at count bytes.now) }
 {
     let mut items = Vec::new(alloc);
@@ -64,5 +66,9 @@ pub(crate) fn whole_of<T: Item>(alloc: Global, bytes: &[u8]) -> Result<T, Decode
     ensures { Gives (λ x. x) result (whole (T.at bytes.now)) }
 {
     let (x, rest) = T::read(alloc, bytes)?;
-    if rest.is_empty() { Ok(x) } else { Err(DecodeFault::Unbuilt) }
+    if rest.is_empty() {
+        Ok(x)
+    } else {
+        Err(DecodeFault::Unbuilt)
+    }
 }

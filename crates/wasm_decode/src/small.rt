@@ -1,18 +1,26 @@
 // The tests that make a module one of the form that is built so far.
 ghost use Rattle.std.specs.Prelude.{◌≡◌, ℕ, ◌≤◌, ◌↔◌, ◌∷◌, [], length, map, All, IsTrue, IfOk, IfErr, None};
 ghost use Rattle.spec_binary.specs.SmallForm.{
-    nullary, small_custom, dylink_name, no_memory_info, relocations_name, constructors_name, name_of, most_exports, AllDistinct, IsSmallInstr,
-    IsSmallCode, IsSmallExport, IsSmall,
+  nullary,
+  small_custom,
+  dylink_name,
+  no_memory_info,
+  relocations_name,
+  constructors_name,
+  name_of,
+  most_exports,
+  AllDistinct,
+  IsSmallInstr,
+  IsSmallCode,
+  IsSmallExport,
+  IsSmall,
 };
-
 ghost use Rattle.wasm_decode.specs.File.{HasNoMore, HasSmallParts};
 
+use crate::fault::DecodeFault;
 use std::alloc::Global;
 use std::collections::BTreeSet;
-
 use wasm_form::{Code, Custom, Export, ExportDesc, FuncType, Instr, Module};
-
-use crate::fault::DecodeFault;
 
 // The most exports.
 const MOST_EXPORTS: usize = 65_536;
@@ -69,7 +77,12 @@ fn is_small_code(code: &Code, count: usize) -> bool
     ensures { IsTrue result ↔ IsSmallCode count code.now }
 {
     code.locals.items().is_empty()
-        && code.body.list.items().iter().all(|instr| is_small_instr(instr, count))
+        && code
+            .body
+            .list
+            .items()
+            .iter()
+            .all(|instr| is_small_instr(instr, count))
 }
 
 fn are_small_codes(codes: &[Code], count: usize) -> bool

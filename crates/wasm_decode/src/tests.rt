@@ -1,8 +1,9 @@
 // Files of the form that is built so far, and files that differ from one in one place.
 use super::{DecodeFault, decode};
 use std::alloc::{AllocError, Global};
+use std::process::Abort;
 use std::test::Fail;
-use wasm_form::ExportDesc;
+use wasm_form::{ExportDesc, Module};
 
 // The header and the five sections of the smallest main, which exports one function with an empty body.
 const SMALLEST: [&str; 6] = [
@@ -79,6 +80,12 @@ fn push_hex(bytes: &mut Vec<u8>, hex: &str) -> Result<(), AllocError> {
     Ok(())
 }
 
+// How many functions the file has, where it is of the form.
+fn functions_of(alloc: Global, bytes: &[u8]) -> Result<usize, DecodeFault> {
+    let m = decode(alloc, bytes)?;
+    Ok(m.funcs.items().len())
+}
+
 #[test]
 fn decodes_files(rt: HostRuntime) -> Result<(), Fail> {
     let mut rows = 0u32;
@@ -86,18 +93,34 @@ fn decodes_files(rt: HostRuntime) -> Result<(), Fail> {
         let (parts, count) = line.split_once("= ").expect(&rt, "an answer");
         let (_, parts) = parts.split_once(": ").expect(&rt, "a name");
         let bytes = file_of(rt.alloc(), parts)?;
-        let found = match decode(rt.alloc(), &bytes) {
-            Ok(m) => Some(m.funcs.items().len()),
-            Err(fault) => {
-                assert_eq!(rt; fault, DecodeFault::Unbuilt, "{line}");
-                None
-            }
-        };
-        assert_eq!(rt; found, count.parse::<usize>().ok(), "{line}");
+        let found = functions_of(rt.alloc(), &bytes);
+        let want = count.parse::<usize>().map_err(|_| DecodeFault::Unbuilt);
+        assert_eq!(rt; found, want, "{line}");
         rows = rows.saturating_add(1);
     }
     assert_eq!(rt; rows, 38);
     Ok(())
+}
+
+// Asserts that these are the parts of the smallest main.
+fn is_smallest(rt: &impl Abort, m: &Module) {
+    if let [ty] = m.types.items() {
+        assert!(rt; ty.params.items().is_empty() && ty.results.items().is_empty());
+    }
+    if let [export] = m.exports.items() {
+        assert_eq!(rt; export.name.as_str(), "_start");
+        assert_eq!(rt; export.desc, ExportDesc::Func(0));
+    }
+    if let [code] = m.codes.items() {
+        assert!(rt; code.locals.items().is_empty() && code.body.list.items().is_empty());
+    }
+    if let [custom] = m.customs.items() {
+        assert_eq!(rt; custom.name.as_str(), "dylink.0");
+        assert_eq!(rt; custom.bytes.items(), [1, 4, 0, 0, 0, 0].as_slice());
+    }
+    assert_eq!(rt; m.funcs.items(), [0].as_slice());
+    assert!(rt; m.types.items().len() == 1 && m.exports.items().len() == 1);
+    assert!(rt; m.codes.items().len() == 1 && m.customs.items().len() == 1);
 }
 
 #[test]
@@ -105,33 +128,17 @@ fn decodes_the_smallest_main(rt: HostRuntime) -> Result<(), Fail> {
     let bytes = file_of(rt.alloc(), ". / . / . / . / . / .")?;
     assert_eq!(rt; bytes.len(), 53);
     let m = decode(rt.alloc(), &bytes)?;
-    let [ty] = m.types.items() else {
-        return Err(Fail::from("one type"));
-    };
-    assert!(rt; ty.params.items().is_empty() && ty.results.items().is_empty());
-    assert_eq!(rt; m.funcs.items(), [0].as_slice());
-    let [export] = m.exports.items() else {
-        return Err(Fail::from("one export"));
-    };
-    assert_eq!(rt; export.name.as_str(), "_start");
-    assert_eq!(rt; export.desc, ExportDesc::Func(0));
-    let [code] = m.codes.items() else {
-        return Err(Fail::from("one body"));
-    };
-    assert!(rt; code.locals.items().is_empty() && code.body.list.items().is_empty());
-    let [custom] = m.customs.items() else {
-        return Err(Fail::from("one custom section"));
-    };
-    assert_eq!(rt; custom.rank, 0);
-    assert_eq!(rt; custom.name.as_str(), "dylink.0");
-    assert_eq!(rt; custom.bytes.items(), [1, 4, 0, 0, 0, 0].as_slice());
+    is_smallest(&rt, &m);
     Ok(())
 }
 
 #[test]
 fn says_its_faults(rt: HostRuntime) -> Result<(), Fail> {
     let unbuilt = format!(in rt.alloc(); "{}", DecodeFault::Unbuilt)?;
-    assert_eq!(rt; unbuilt.as_str(), "not a module of the form that is built so far");
+    assert_eq!(rt;
+        unbuilt.as_str(),
+        "not a module of the form that is built so far"
+    );
     let memory = format!(in rt.alloc(); "{}", DecodeFault::Memory)?;
     assert_eq!(rt; memory.as_str(), "out of memory");
     Ok(())

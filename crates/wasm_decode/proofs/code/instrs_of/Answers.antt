@@ -1,4 +1,4 @@
-use Rattle.std.proofs.Common.{◌≡◌, ap, arith, get_or, length}
+use Rattle.std.proofs.Common.{arith, get_or}
 use Rattle.std.proofs.lemmas.Bool.{eq-eqb, ne_eqb}
 use Rattle.std.proofs.lemmas.List.{nil_from_length}
 use Rattle.std.proofs.lemmas.Result.{err_from_is_err_and}
@@ -23,8 +23,8 @@ pub loop-rest-preserved : goal.loop-rest-preserved
 loop-rest-preserved c =
     let rest = c.loop-rest.rest.now in
     rw c.in_ok-push.ensures.items
-      (instrs_go_on c.loop-rest.instrs.items (get_or rest 0 0) rest _ c.in_ok-instr.next.now c.args.bytes.now c.in_ok-instr.instr (first_and_others rest c.in-len1-up.len_at_least) (ne_eqb _ _ c.if-opcode-eq11.false)
-        c.in_ok-instr.ensures.shorter c.in_ok-instr.ensures.reads c.loop-rest.invariant)
+    (instrs_go_on c.loop-rest.instrs.items (get_or rest 0 0) rest _ c.in_ok-instr.next.now c.args.bytes.now c.in_ok-instr.instr (first_and_others rest c.in-len1-up.len_at_least) (ne_eqb _ _ c.if-opcode-eq11.false)
+    c.in_ok-instr.ensures.shorter c.in_ok-instr.ensures.reads c.loop-rest.invariant)
 
 pub returns : goal.returns
 returns c = instrs_stop c.loop-rest.instrs.items c.loop-rest.rest.now c.args.bytes.now (nil_from_length _ (omega arith)) c.loop-rest.invariant

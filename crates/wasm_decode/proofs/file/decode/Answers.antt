@@ -1,4 +1,4 @@
-use Rattle.std.proofs.Common.{◌≡◌, ap, refl, inl, inr}
+use Rattle.std.proofs.Common.{refl, inl, inr}
 use Rattle.std.proofs.lemmas.Result.{err_from_is_err_and}
 use Rattle.wasm_decode.proofs.SmallFile.{file_found, read_alone, failed_alone, read_not_small}
 use Rattle.wasm_decode.proofs.file.decode.Goals as goal

@@ -1,4 +1,3 @@
-use Rattle.std.proofs.Common.{◌≡◌, ◌++◌, ◌∷◌, [], arith}
 use Rattle.std.proofs.lemmas.Result.{err_from_is_err_and}
 use Rattle.wasm_decode.specs.Reading.{items_at}
 use Rattle.wasm_decode.proofs.Loops.{items_begin, items_go_on, items_fail, items_end}

@@ -1,12 +1,12 @@
-use Rattle.std.proofs.Common.{◌≡◌, true, false, Bool}
 use Rattle.wasm_decode.proofs.Distinct.{name_told_again, name_told_once, name_added, not_true, not_false}
 use Rattle.wasm_decode.proofs.small.are_distinct.Goals as goal
 
 pub returns-then-not-branch-clause-ok : goal.returns-then-not-branch-clause-ok
 returns-then-not-branch-clause-ok c =
-    let told = not_false _ _ c.in_ok-insert.ensures.added c.if-not-branch.true (c.loop-export.invariant.has c.as_str.result) in
-    (λ f. absurd (let h = f in cc),
-     λ d. absurd (name_told_again c.args.exports.now c.loop-export.export-index c.export-item.result c.as_str.result.now c.loop-export-test.true c.export-item.is c.as_str.ensures told d))
+    let told = not_false _ _ c.in_ok-insert.ensures.added c.if-not-branch.true (c.loop-export.invariant.has c.as_str.result) in (
+      λ f. absurd (let h = f in cc),
+      λ d. absurd (name_told_again c.args.exports.now c.loop-export.export-index c.export-item.result c.as_str.result.now c.loop-export-test.true c.export-item.is c.as_str.ensures told d),
+    )
 
 pub loop-export-preserved : goal.loop-export-preserved
 loop-export-preserved c =
