@@ -154,8 +154,5 @@ pub(crate) fn is_small(alloc: Global, m: &Module) -> Result<bool, DecodeFault>
     ensures ok { IfOk result (λ small. IsTrue small ↔ IsSmall m.now) }
     ensures err { IfErr result (λ e. e ≡ DecodeFault.Memory) }
 {
-    if !has_no_more(m) || !has_small_parts(m) {
-        return Ok(false);
-    }
-    are_distinct(alloc, m.exports.items())
+    Ok(has_no_more(m) && has_small_parts(m) && are_distinct(alloc, m.exports.items())?)
 }
