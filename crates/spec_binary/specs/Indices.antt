@@ -1,6 +1,6 @@
 -- What the numbers of a module name (WebAssembly Core 2.0, section 2.5.1). No module with imports is read so far, so functions
 -- are numbered from the first that the module defines.
-use Rattle.std.specs.Prelude.{ℕ, List, [], ◌∷◌, ◌++◌, length, map, replicate, slice_get, Option, Some, None, bytes_eq, nat_eq, ◌&&◌, Bool, false, if◌then◌else◌}
+use Rattle.std.specs.Prelude.{ℕ, List, [], ◌∷◌, ◌++◌, length, replicate, slice_get, Option, Some, None, bytes_eq, nat_eq, ◌&&◌, Bool, false, if◌then◌else◌}
 use Rattle.wasm_form.specs.declared.types.ValType.{ValType}
 use Rattle.wasm_form.specs.declared.types.FuncType.{FuncType}
 use Rattle.wasm_form.specs.declared.instr.Instr.{Instr}

@@ -1,5 +1,5 @@
 -- The type of an instruction, by the view of one level of it.
-use Rattle.std.proofs.Common.{◌≡◌, ℕ, ℤ, List, [], ◌∷◌, Option, Some, sym, ap, ◌∙◌}
+use Rattle.std.proofs.Common.{◌≡◌, ℕ, ℤ, [], ◌∷◌, Some, sym, ap, ◌∙◌}
 use Rattle.wasm_form.specs.declared.types.ValType.TheVariants.{I32}
 use Rattle.wasm_form.specs.declared.instr.Instr.{Instr, fold-roll-Instr, roll-Instr, out-Instr, roll-out-Instr}
 use Rattle.wasm_form.specs.declared.instr.Instr.TheOpen as Open

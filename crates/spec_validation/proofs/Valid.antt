@@ -1,8 +1,8 @@
 -- A small module is valid.
-use Rattle.std.proofs.Common.{◌≡◌, ◌≢◌, ℕ, zero, suc, ◌+◌, ◌<◌, ◌≤◌, List, [], ◌∷◌, ◌++◌, length, map, max, Option, Some, None, Bool, true, false, if◌then◌else◌, refl, sym, ap, ◌∙◌, subst, arith, slice_get, bytes_eq, ◌&&◌, is_some, nat_lt, nat_le, pos, length-append}
+use Rattle.std.proofs.Common.{◌≡◌, ◌≢◌, ℕ, zero, suc, ◌+◌, ◌<◌, ◌≤◌, List, [], ◌∷◌, length, map, max, Option, Some, None, Bool, true, false, refl, ◌∙◌, arith, ◌&&◌, is_some}
 use Rattle.std.specs.List.{All}
 use Rattle.std.proofs.lemmas.List.Elements.{All-head, All-tail}
-use Rattle.std.proofs.lemmas.Bool.{lt-ltb, le-leb}
+use Rattle.std.proofs.lemmas.Bool.{lt-ltb}
 use Rattle.wasm_form.specs.declared.types.ValType.{ValType}
 use Rattle.wasm_form.specs.declared.types.FuncType.{FuncType}
 use Rattle.wasm_form.specs.declared.instr.Instr.{Instr, out-Instr}
@@ -13,13 +13,12 @@ use Rattle.wasm_form.specs.declared.module.ExportDesc.TheVariants as desc
 use Rattle.wasm_form.specs.declared.module.Export.{Export}
 use Rattle.wasm_form.specs.declared.module.Code.{Code}
 use Rattle.wasm_form.specs.declared.module.Module.{Module}
-use Rattle.spec_binary.specs.Options.{◌>>=◌}
 use Rattle.spec_binary.specs.Opcodes.{index_form}
 use Rattle.spec_binary.specs.SmallForm.{nullary, IsSmallStep, IsSmallInstr, IsSmallCode, IsSmallExport, ExportsFunction, AllDistinct, name_of, IsSmall}
 use Rattle.spec_binary.specs.Indices.{function_type, declared_locals}
 use Rattle.spec_validation.specs.Stacks.{Stack, holding, unreachable}
-use Rattle.spec_validation.specs.Typing.{Context, Labels, Reach, index_shape, plainly, in_order, after, afters, body_reach, height}
-use Rattle.spec_validation.specs.Faults.{Fault, Finding, ◌or_else◌, first_in, unless, function_supported, table_supported, body_supported, all_typed, contains_name, names_distinct, is_there, all_there, is_i32_constant, most_entries, body_context, body_typed, fault}
+use Rattle.spec_validation.specs.Typing.{Context, Labels, Reach, index_shape, plainly, after, afters, height}
+use Rattle.spec_validation.specs.Faults.{Fault, Finding, ◌or_else◌, first_in, unless, function_supported, body_supported, all_typed, contains_name, names_distinct, is_there, all_there, body_typed, fault}
 use Rattle.spec_validation.proofs.Levels.{after_plain, after_index}
 use Rattle.spec_validation.proofs.Small.{small_type, bytes_differ}
 
