@@ -107,8 +107,11 @@ input_leaves told order wasm input Done after before now h leaves = holds after 
           set = set_alone (main_name order.main) order.main (length input.bytes) wasm;
           gathered = gathers (get told) order.main wasm input;
           links = has_entry (entry_of wasm) h;
+          entry = l.entry;
+          entered = l.entered;
           output = l.output;
-          merged = l.merged (main_name order.main) order.main (length input.bytes);
+          merged = (l.merged (main_name order.main) order.main (length input.bytes)).merged;
+          shape = (l.merged (main_name order.main) order.main (length input.bytes)).shape;
           written = l.written;
         }
 input_leaves told order wasm input WriteFault after before now h leaves = leaves

@@ -4,21 +4,27 @@ use Rattle.std.specs.FinMap.{get, insert}
 use Rattle.dyl_outside.specs.Faults.{Rose}
 use Rattle.dyl_outside.specs.FileMap.{FileMap, SameBut}
 use Rattle.spec_linking.specs.Sets.{ClosedSet}
+use Rattle.spec_linking.specs.Definitions.{entry_of}
 use Rattle.spec_linking.specs.Links.{Links}
 use Rattle.spec_loading.specs.Merged.{Merged}
+use Rattle.merge_whole.specs.MergedModule.{merged_alone}
 use Rattle.dyl_app.specs.declared.outcome.UsageKind.{UsageKind}
 use Rattle.dyl_app.specs.declared.outcome.Outcome.{Outcome}
 use Rattle.dyl_app.specs.declared.outcome.Outcome.TheVariants.{Done, Usage, Set, Unbuilt, Link, WriteFault, Memory}
 use Rattle.dyl_app.specs.Orders.{Order}
 use Rattle.dyl_app.specs.Due.{GathersSmall, linked}
 
--- The set of the main module is gathered and links, and the path of the output holds bytes that merge it. Every other path is as it was.
+-- The set of the main module is gathered and links, and the path of the output holds bytes that merge it. The module that they spell keeps
+-- main's functions and has the planned memory and table, two exports, and the error texts. Every other path is as it was.
 pub record IsMerged (order : Order) (files after : FileMap) : Type 0 where
   pub set : ClosedSet
   pub gathered : GathersSmall (get files) order.main set
   pub links : Links (linked set)
+  pub entry : ℕ
+  pub entered : entry_of gathered.gathered.main.wasm ≡ Some entry
   pub output : List ℕ
   pub merged : Merged (linked set) output
+  pub shape : merged.wasm ≡ merged_alone gathered.gathered.main.wasm entry
   pub written : after ≡ insert files order.out output
 
 -- What an outcome leaves of these files, where the write faults were `before` and are `now`. After a write fault the path of the output

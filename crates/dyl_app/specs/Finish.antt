@@ -4,8 +4,7 @@ use Rattle.std.specs.FinMap.{insert}
 use Rattle.wasm_form.specs.declared.module.Module.{Module}
 use Rattle.dyl_outside.specs.FileMap.{FileMap, SameBut}
 use Rattle.spec_linking.specs.Definitions.{entry_of}
-use Rattle.spec_loading.specs.Merged.{Merged}
-use Rattle.merge_whole.specs.MergedModule.{linked_alone}
+use Rattle.merge_whole.specs.MergedModule.{linked_alone, merged_alone, MergedAs}
 use Rattle.dyl_app.specs.declared.outcome.LinkFault.TheVariants as link
 use Rattle.dyl_app.specs.declared.outcome.Outcome.{Outcome}
 use Rattle.dyl_app.specs.declared.outcome.Outcome.TheVariants.{Done, Usage, Set, Unbuilt, Link, WriteFault, Memory}
@@ -13,7 +12,9 @@ use Rattle.dyl_app.specs.declared.outcome.Outcome.TheVariants.{Done, Usage, Set,
 -- the path of the output holds bytes that merge the set of this module, and every other path is as it was
 pub record HoldsMerged (wasm : Module) (out : List ℕ) (files after : FileMap) : Type 0 where
   pub output : List ℕ
-  pub merged : (name path : List ℕ) (size : ℕ) → Merged (linked_alone name path size wasm) output
+  pub entry : ℕ
+  pub entered : entry_of wasm ≡ Some entry
+  pub merged : (name path : List ℕ) (size : ℕ) → MergedAs (merged_alone wasm entry) (linked_alone name path size wasm) output
   pub written : after ≡ insert files out output
 
 -- what writing the merged module leaves of the files

@@ -2,7 +2,7 @@ use crate::{LinkFault, Outcome, SetFault, UsageKind, serve, status};
 use dyl_outside::{Files, MemFiles};
 use std::alloc::Global;
 use std::test::Fail;
-use wasm_form::{put_name, put_u32};
+use wasm_form::put_u32;
 
 /// The smallest main module: one function without parameters and results, which is `_start` and does nothing.
 const SMALLEST: &[u8] =
@@ -165,6 +165,19 @@ fn put_section(to: &mut Vec<u8>, id: u8, contents: &[u8]) -> Result<(), Fail> {
     Ok(())
 }
 
+/// An export name for each number: `_start` for 0, and else an `f` and five letters.
+fn put_export_name(to: &mut Vec<u8>, i: u32) -> Result<(), Fail> {
+    if i == 0 {
+        to.extend_from_slice(b"\x06_start")?;
+        return Ok(());
+    }
+    to.extend_from_slice(b"\x06f")?;
+    for unit in [65_536, 4_096, 256, 16, 1] {
+        to.push(b'a' + (i / unit % 16) as u8)?;
+    }
+    Ok(())
+}
+
 /// As many functions as exports, each a call of function 0.
 fn many(alloc: Global, count: u32) -> Result<Vec<u8>, Fail> {
     let mut functions = Vec::new(alloc);
@@ -175,12 +188,7 @@ fn many(alloc: Global, count: u32) -> Result<Vec<u8>, Fail> {
     put_u32(&mut codes, count)?;
     for i in 0..count {
         functions.push(0)?;
-        let name = if i == 0 {
-            String::from_str(alloc, "_start")?
-        } else {
-            format!(in alloc; "f{i}")?
-        };
-        put_name(&mut exports, name.as_str())?;
+        put_export_name(&mut exports, i)?;
         exports.push(0)?;
         put_u32(&mut exports, i)?;
         codes.extend_from_slice(b"\x04\0\x10\0\x0b")?;

@@ -8,9 +8,8 @@ use Rattle.spec_binary.specs.Modules.{SpellsModule}
 use Rattle.spec_execution.specs.OneModule.{module_system}
 use Rattle.spec_linking.specs.Definitions.{entry_of}
 use Rattle.spec_loading.specs.LoadedSet.{set_system, set_opening}
-use Rattle.spec_loading.specs.Merged.{Merged}
 use Rattle.spec_execution.specs.Hosts.{no_names}
-use Rattle.merge_whole.specs.MergedModule.{linked_alone, merged_alone}
+use Rattle.merge_whole.specs.MergedModule.{linked_alone, merged_alone, MergedAs}
 use Rattle.merge_whole.proofs.Valid.{merged_valid}
 use Rattle.merge_whole.proofs.Matching.{Matches, one_step}
 use Rattle.merge_whole.proofs.Opening as one
@@ -29,12 +28,15 @@ module _ (name path : List ℕ) (size : ℕ) (wasm : Module) (entry : ℕ) (smal
       (agree_after S T s (one.opened wasm entry small is) t 1 refl (t, refl, one.begins wasm entry small is, refl) once_begun)
 
   -- whatever bytes spell it
-  pub merges : (bytes : List ℕ) → SpellsModule (merged_alone wasm entry) bytes → Merged (linked_alone name path size wasm) bytes
+  pub merges : (bytes : List ℕ) → SpellsModule (merged_alone wasm entry) bytes → MergedAs (merged_alone wasm entry) (linked_alone name path size wasm) bytes
   merges bytes spelled = record {
-    wasm = merged_alone wasm entry;
-    spelled = spelled;
-    valid = merged_valid wasm entry small is;
-    opening = one.opened wasm entry small is;
-    opens = one.opens wasm entry small is;
-    agrees = agrees;
+    merged = record {
+      wasm = merged_alone wasm entry;
+      spelled = spelled;
+      valid = merged_valid wasm entry small is;
+      opening = one.opened wasm entry small is;
+      opens = one.opens wasm entry small is;
+      agrees = agrees;
+    };
+    shape = refl;
   }

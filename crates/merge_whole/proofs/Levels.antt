@@ -1,6 +1,6 @@
 -- An instruction that is built is seen as what it was built from.
-use Rattle.std.proofs.Common.{◌≡◌, ℕ, ℤ, sym, ap, ◌∙◌}
-use Rattle.wasm_form.specs.declared.instr.Instr.{Plain, Index, I32Const, out-Instr, out-roll-Instr}
+use Rattle.std.proofs.Common.{◌≡◌, ℤ, sym, ap, ◌∙◌}
+use Rattle.wasm_form.specs.declared.instr.Instr.{I32Const, out-Instr, out-roll-Instr}
 use Rattle.wasm_form.specs.declared.instr.Instr.TheOpen as Open
 use Rattle.wasm_form.specs.declared.instr.Instr.TheVariants.{rolls-I32Const}
 

@@ -1,18 +1,16 @@
 -- A loaded set of one small module and its merged module make the same steps, once both have begun.
-use Rattle.std.proofs.Common.{◌≡◌, ℕ, zero, suc, List, [], ◌∷◌, ◌++◌, length, reverse, map, Option, Some, None, Bool, true, false, if◌then◌else◌, refl, sym, ap, ◌∙◌, subst, nat_eq}
+use Rattle.std.proofs.Common.{◌≡◌, ℕ, List, [], ◌∷◌, ◌++◌, length, reverse, map, Option, Some, None, Bool, true, false, if◌then◌else◌, refl, sym, ap, ◌∙◌, subst, nat_eq}
 use Rattle.wasm_form.specs.declared.types.FuncType.{FuncType}
 use Rattle.wasm_form.specs.declared.instr.Instr.{Instr, out-Instr}
 use Rattle.wasm_form.specs.declared.instr.Instr.TheOpen as Open
 use Rattle.wasm_form.specs.declared.instr.Expr.{Expr}
 use Rattle.wasm_form.specs.declared.module.Module.{Module}
-use Rattle.wasm_form.specs.declared.runtime.Ref.{Ref}
 use Rattle.wasm_form.specs.declared.runtime.Ref.TheVariants.{Own}
-use Rattle.spec_runs.specs.Systems.{Moving, Waits}
-use Rattle.spec_runs.specs.Agreement.{Silent, StepLaw}
+use Rattle.spec_runs.specs.Systems.{Moving}
+use Rattle.spec_runs.specs.Agreement.{StepLaw}
 use Rattle.spec_binary.specs.Options.{◌>>=◌}
 use Rattle.spec_binary.specs.Opcodes.{PlainForm, Unreachable, Nop, OtherPlain, plain_form, IndexForm, Call, OtherIndex, index_form}
 use Rattle.spec_binary.specs.Indices.{Function, function_type, function_at}
-use Rattle.spec_execution.specs.Memories.{MemoryInstance}
 use Rattle.spec_execution.specs.Hosts.{Answer, Reply, Exit}
 use Rattle.spec_execution.specs.Activations.{Value, Num, Level, Activation, Move, On, Calls, Leaves, Fails, Stuck, take_values, plain_move, index_move, instr_move, end_move, code_move, move}
 use Rattle.spec_execution.specs.Runs.{Frame, View, State, stands, left_with, entered, enter, call, calling, carried_out, all_written, answered}

@@ -1,18 +1,17 @@
 -- How the merged module opens, and its first step.
-use Rattle.std.proofs.Common.{◌≡◌, ℕ, ◌+◌, List, [], ◌∷◌, length, Option, Some, None, Result, Ok, Bool, true, if◌then◌else◌, refl, sym, ap, ◌∙◌, subst, arith, nat_le, pos}
+use Rattle.std.proofs.Common.{◌≡◌, ℕ, ◌+◌, [], ◌∷◌, length, Some, None, Ok, true, if◌then◌else◌, refl, ap, ◌∙◌, nat_le, pos}
 use Rattle.std.proofs.lemmas.List.{length-replicate}
 use Rattle.wasm_form.specs.declared.types.ValType.TheVariants.{FuncRef}
-use Rattle.wasm_form.specs.declared.instr.Instr.{I32Const}
 use Rattle.wasm_form.specs.declared.module.Code.{Code}
 use Rattle.wasm_form.specs.declared.module.Module.{Module}
 use Rattle.spec_runs.specs.Systems.{Moving}
 use Rattle.spec_binary.specs.Options.{◌>>=◌}
 use Rattle.spec_binary.specs.SmallForm.{nullary, IsSmall}
-use Rattle.spec_binary.specs.Indices.{Function, function_with, function_type, function_at, nullary_at}
+use Rattle.spec_binary.specs.Indices.{function_with, function_at, nullary_at}
 use Rattle.spec_execution.specs.Memories.{MemoryInstance, zeros, new_memory, overwritten, written}
 use Rattle.spec_execution.specs.Runs.{State, enter, entered}
 use Rattle.spec_execution.specs.Runs as frames
-use Rattle.spec_execution.specs.OneModule.{ModuleState, module_view, module_step, constant_i32, i32_value, all_applied, opened_memory, opened_table, opened_with, OpeningFault, module_entry, module_opening}
+use Rattle.spec_execution.specs.OneModule.{ModuleState, module_view, module_step, constant_i32, i32_value, all_applied, opened_memory, opened_table, opened_with, module_entry, module_opening}
 use Rattle.spec_linking.specs.Definitions.{entry_of}
 use Rattle.spec_linking.specs.Slots.{table_growth}
 use Rattle.spec_loading.specs.Texts.{error_texts}

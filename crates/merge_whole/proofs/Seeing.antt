@@ -1,6 +1,6 @@
 -- Flags of a list of functions, as it grows.
-use Rattle.std.proofs.Common.{◌≡◌, ◌≢◌, ℕ, ◌+◌, ◌<◌, List, [], ◌∷◌, ◌++◌, length, Bool, true, false, refl, sym, ap, ◌∙◌, arith, nat_eq, get_or, get_or-set_same, get_or-set_other}
-use Rattle.std.specs.Prelude.{◌||◌, slice_set, ◌⊎◌}
+use Rattle.std.proofs.Common.{◌≡◌, ◌≢◌, ℕ, ◌<◌, List, [], ◌∷◌, ◌++◌, length, Bool, true, false, refl, sym, ap, ◌∙◌, arith, nat_eq, get_or, get_or-set_same, get_or-set_other}
+use Rattle.std.specs.Prelude.{◌||◌, slice_set}
 use Rattle.std.proofs.Common.{inl, inr}
 use Rattle.std.proofs.lemmas.Bool.Decides.{eqb_tells}
 use Rattle.std.proofs.lemmas.List.{length-set}

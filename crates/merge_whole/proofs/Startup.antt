@@ -1,5 +1,5 @@
 -- The loaded set of one small module makes five silent steps: four tasks, and the call of the entry.
-use Rattle.std.proofs.Common.{◌≡◌, ℕ, zero, suc, ◌+◌, ◌<◌, ◌≤◌, List, [], ◌∷◌, length, map, Option, Some, None, Bool, true, false, if◌then◌else◌, refl, sym, ap, ◌∙◌, subst, arith, nat_lt, is_some, slice_set}
+use Rattle.std.proofs.Common.{◌≡◌, ℕ, ◌+◌, ◌≤◌, List, [], ◌∷◌, length, map, Option, Some, None, Bool, true, false, if◌then◌else◌, refl, ap, ◌∙◌, arith, nat_lt, slice_set}
 use Rattle.std.proofs.lemmas.Bool.{lt-ltb}
 use Rattle.std.proofs.lemmas.List.{length-replicate, length-map, length-set, length-append}
 use Rattle.wasm_form.specs.declared.module.Module.{Module}
@@ -10,14 +10,14 @@ use Rattle.spec_runs.specs.Agreement.{Silent}
 use Rattle.spec_binary.specs.Options.{◌>>=◌}
 use Rattle.spec_binary.specs.SmallForm.{nullary, IsSmall, constructors_name}
 use Rattle.spec_binary.specs.Indices.{function_with, own_function}
-use Rattle.spec_execution.specs.Tables.{TableInstance, nulls, new_table, entry_set}
+use Rattle.spec_execution.specs.Tables.{TableInstance, nulls, new_table}
 use Rattle.spec_execution.specs.Runs.{Frame, enter, entered, call}
 use Rattle.spec_execution.specs.Runs as frames
 use Rattle.spec_linking.specs.Definitions.{entry_of, enters_at_start}
 use Rattle.spec_linking.specs.Plans.{default_link}
 use Rattle.spec_linking.specs.Slots.{defined_functions, table_growth, table_entries}
 use Rattle.spec_linking.specs.Links.{LinkedSet}
-use Rattle.spec_loading.specs.Phases.{Phase, Place, Start, Relocate, Construct, Task, CallEntry, LoaderFrame, phase_function}
+use Rattle.spec_loading.specs.Phases.{Phase, Start, Relocate, Construct, Task, CallEntry, LoaderFrame, phase_function}
 use Rattle.spec_loading.specs.LoadedSet.{SetState, set_view, set_step, set_system, set_opening, slots_written, place_with, call_with, raised}
 use Rattle.merge_whole.specs.MergedModule.{set_alone, linked_alone, slots_of}
 use Rattle.spec_validation.proofs.Small.{no_relocations, no_constructors}

@@ -1,24 +1,23 @@
 -- The merged module can be written.
-use Rattle.std.proofs.Common.{◌≡◌, ℕ, zero, suc, ◌+◌, ◌<◌, ◌≤◌, ◌^◌, List, [], ◌∷◌, length, pos, refl, sym, subst, arith}
+use Rattle.std.proofs.Common.{◌≡◌, ℕ, zero, suc, ◌<◌, ◌^◌, List, [], ◌∷◌, length, pos, refl, sym, subst, arith}
 use Rattle.std.specs.List.{All}
-use Rattle.std.proofs.lemmas.List.Elements.{All-head, All-tail, All-nil, All-cons, All-weaker}
+use Rattle.std.proofs.lemmas.List.Elements.{All-nil, All-cons, All-weaker}
 use Rattle.wasm_form.specs.declared.instr.Instr.{Instr, I32Const, out-Instr}
 use Rattle.wasm_form.specs.declared.instr.Instr.TheOpen as Open
 use Rattle.wasm_form.specs.declared.instr.Expr.{Expr}
 use Rattle.wasm_form.specs.declared.module.Code.{Code}
 use Rattle.wasm_form.specs.declared.module.Module.{Module}
-use Rattle.spec_binary.specs.Instructions.{operands, NoOperand, OneIndex}
-use Rattle.spec_binary.specs.SmallForm.{nullary, IsSmallStep, IsSmallInstr, IsSmallCode, IsSmall}
+use Rattle.spec_binary.specs.Instructions.{operands, OneIndex}
+use Rattle.spec_binary.specs.SmallForm.{nullary, IsSmallStep, IsSmallInstr, IsSmallCode}
 use Rattle.spec_binary.specs.WrittenForm.{IsWrittenStep, IsWrittenInstr, IsWrittenCode, IsWrittenType, IsWrittenTable, IsWrittenExport, IsWrittenData, IsWritten, IsFirstTooLong}
 use Rattle.wasm_form.specs.Sequence.{SpellsVec, vec}
 use Rattle.wasm_form.specs.declared.module.Export.{Export}
 use Rattle.wasm_form.specs.declared.module.ExportDesc.TheVariants.{Func, Space}
 use Rattle.wasm_form.proofs.UnsignedSpelling.{unsigned_small}
 use Rattle.std.specs.Prelude.{codes}
-use Rattle.spec_binary.proofs.Fits.{IsSmallMerged, file_parts, written_fits}
-use Rattle.spec_loading.specs.Texts.{error_texts}
+use Rattle.spec_binary.proofs.Fits.{file_parts, written_fits}
 use Rattle.spec_loading.proofs.Rows.{texts_length}
-use Rattle.merge_whole.specs.MergedModule.{IsSmallInput, IsMergedInput, slot_table, planned_memory, entry_exports, texts_data, texts_offset, merged_alone, slots_of}
+use Rattle.merge_whole.specs.MergedModule.{IsSmallInput, IsMergedInput, slot_table, planned_memory, texts_data, texts_offset, merged_alone, slots_of}
 use Rattle.merge_whole.proofs.Levels.{out-I32Const}
 
 -- small instructions are written

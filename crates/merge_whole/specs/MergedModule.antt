@@ -18,6 +18,7 @@ use Rattle.spec_linking.specs.Slots.{defined_functions, table_growth}
 use Rattle.spec_linking.specs.Links.{LinkedSet}
 use Rattle.spec_execution.specs.Hosts.{no_names}
 use Rattle.spec_loading.specs.Texts.{error_texts}
+use Rattle.spec_loading.specs.Merged.{Merged}
 
 -- a module alone, found at a path
 abbrev pub main_member : List ℕ → List ℕ → ℕ → Module → Member
@@ -85,3 +86,8 @@ pub record IsMergedInput (m : Module) : Type 0 where
   pub entry : ℕ
   pub input : IsSmallInput wasm
   pub merged : m ≡ merged_alone wasm entry
+
+-- the bytes merge the set, and the module that they spell for it is this one
+pub record MergedAs (wasm : Module) (L : LinkedSet) (bytes : List ℕ) : Type 0 where
+  pub merged : Merged L bytes
+  pub shape : merged.wasm ≡ wasm

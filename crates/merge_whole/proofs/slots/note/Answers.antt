@@ -1,4 +1,3 @@
-use Rattle.std.proofs.Common.{◌≡◌}
 use Rattle.merge_whole.proofs.Seeing.{sees_more}
 use Rattle.merge_whole.proofs.slots.note.Goals as goal
 
