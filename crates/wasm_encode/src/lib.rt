@@ -10,5 +10,8 @@ mod section;
 mod segment;
 mod types;
 
+#[cfg(test)]
+mod tests;
+
 pub use fault::EncodeFault;
 pub use module::encode;
