@@ -8,10 +8,9 @@ mod module;
 mod part;
 mod section;
 mod segment;
-mod types;
-
 #[cfg(test)]
 mod tests;
+mod types;
 
 pub use fault::EncodeFault;
 pub use module::encode;

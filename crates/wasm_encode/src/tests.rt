@@ -94,44 +94,20 @@ fn export(alloc: Global, name: &str, desc: ExportDesc) -> Result<Export, AllocEr
     })
 }
 
-// What a module of the written form is made of.
-#[derive(Drop)]
-struct Sections {
-    types: List<FuncType>,
-    funcs: List<u32>,
-    tables: List<TableType>,
-    memories: List<Limits>,
-    exports: List<Export>,
-    codes: List<Code>,
-    datas: List<Data>,
-}
-
-fn module(alloc: Global, of: Sections) -> Module
-    requires types { (length of.types < 2 ^ 32) × All IsWrittenType of.types }
-    requires funcs { length of.funcs < 2 ^ 32 }
-    requires tables { (length of.tables < 2 ^ 32) × All IsWrittenTable of.tables }
-    requires memories { length of.memories < 2 ^ 32 }
-    requires exports { (length of.exports < 2 ^ 32) × All IsWrittenExport of.exports }
-    requires bodies { length of.codes ≡ length of.funcs }
-    requires codes { (length of.codes < 2 ^ 32) × All IsWrittenCode of.codes }
-    requires datas { (length of.datas < 2 ^ 32) × All IsWrittenData of.datas }
-    ensures { IsWritten result }
+fn exports(
+    alloc: Global,
+    names: (&str, &str),
+    first: ExportDesc,
+    second: ExportDesc,
+) -> Result<List<Export>, AllocError>
+    requires first { length names.0.now < 2 ^ 32 }
+    requires second { length names.1.now < 2 ^ 32 }
+    ensures short { IfOk result (λ xs. length xs < 2 ^ 32) }
+    ensures writable { IfOk result (All IsWrittenExport) }
 {
-    Module {
-        types: of.types,
-        imports: none(alloc),
-        funcs: of.funcs,
-        tables: of.tables,
-        memories: of.memories,
-        globals: none(alloc),
-        exports: of.exports,
-        start: None,
-        elems: none(alloc),
-        data_count: None,
-        codes: of.codes,
-        datas: of.datas,
-        customs: none(alloc),
-    }
+    let first = export(alloc, names.0, first)?;
+    let second = export(alloc, names.1, second)?;
+    two(alloc, first, second)
 }
 
 fn func_type(params: List<ValType>, results: List<ValType>) -> FuncType
@@ -142,44 +118,105 @@ fn func_type(params: List<ValType>, results: List<ValType>) -> FuncType
     FuncType { params, results }
 }
 
+// Two parameters and one result.
+fn ternary(
+    alloc: Global,
+    first: ValType,
+    second: ValType,
+    third: ValType,
+) -> Result<FuncType, AllocError>
+    ensures { IfOk result (λ ty. IsWrittenType ty) }
+{
+    let params = two(alloc, first, second)?;
+    let results = one(alloc, third)?;
+    Ok(func_type(params, results))
+}
+
+// A module with one function, table, memory and segment.
+fn module(
+    alloc: Global,
+    types: List<FuncType>,
+    tables: List<TableType>,
+    memories: List<Limits>,
+    exports: List<Export>,
+    codes: List<Code>,
+    datas: List<Data>,
+) -> Result<Module, AllocError>
+    requires types { (length types < 2 ^ 32) × All IsWrittenType types }
+    requires tables { (length tables < 2 ^ 32) × All IsWrittenTable tables }
+    requires memories { length memories < 2 ^ 32 }
+    requires exports { (length exports < 2 ^ 32) × All IsWrittenExport exports }
+    requires bodies { length codes ≡ 1 }
+    requires codes { All IsWrittenCode codes }
+    requires datas { (length datas < 2 ^ 32) × All IsWrittenData datas }
+    ensures { IfOk result IsWritten }
+{
+    let funcs = one(alloc, 0)?;
+    Ok(Module {
+        types,
+        imports: none(alloc),
+        funcs,
+        tables,
+        memories,
+        globals: none(alloc),
+        exports,
+        start: None,
+        elems: none(alloc),
+        data_count: None,
+        codes,
+        datas,
+        customs: none(alloc),
+    })
+}
+
+fn bodies(alloc: Global, locals: List<Group>, nops: u32) -> Result<List<Code>, AllocError>
+    requires { length locals < 2 ^ 32 }
+    ensures count { IfOk result (λ xs. length xs ≡ 1) }
+    ensures writable { IfOk result (All IsWrittenCode) }
+{
+    let code = body(alloc, locals, nops)?;
+    one(alloc, code)
+}
+
+fn segments(alloc: Global, place: i32, count: u32) -> Result<List<Data>, AllocError>
+    ensures short { IfOk result (λ xs. length xs < 2 ^ 32) }
+    ensures writable { IfOk result (All IsWrittenData) }
+{
+    let data = segment(alloc, place, count)?;
+    one(alloc, data)
+}
+
 // What is merged from the smallest program: a table and a memory with a maximum, two exports, and 101 bytes of data.
 fn merged(alloc: Global) -> Result<Module, AllocError>
     ensures { IfOk result IsWritten }
 {
-    let start = export(alloc, "_start", ExportDesc::Func(0))?;
-    let memory = export(alloc, "memory", ExportDesc::Space(0))?;
-    let code = body(alloc, none(alloc), 0)?;
-    let data = segment(alloc, 66560, 101)?;
-    let table = TableType {
-        elem: ValType::FuncRef,
-        limits: Limits {
-            min: 1,
-            max: Some(65537),
-        },
-    };
     let limits = Limits {
+        min: 1,
+        max: Some(65537),
+    };
+    let pages = Limits {
         min: 2,
         max: Some(1024),
     };
-    let of = Sections {
-        types: one(alloc, func_type(none(alloc), none(alloc)))?,
-        funcs: one(alloc, 0)?,
-        tables: one(alloc, table)?,
-        memories: one(alloc, limits)?,
-        exports: two(alloc, start, memory)?,
-        codes: one(alloc, code)?,
-        datas: one(alloc, data)?,
+    let table = TableType {
+        elem: ValType::FuncRef,
+        limits,
     };
-    Ok(module(alloc, of))
+    let names = ("_start", "memory");
+    module(
+        alloc,
+        one(alloc, func_type(none(alloc), none(alloc)))?,
+        one(alloc, table)?,
+        one(alloc, pages)?,
+        exports(alloc, names, ExportDesc::Func(0), ExportDesc::Space(0))?,
+        bodies(alloc, none(alloc), 0)?,
+        segments(alloc, 66560, 101)?,
+    )
 }
 
-// Every value type, a table of external references and a memory without a maximum, exports of a table and a global, and a
-// body whose size takes two bytes.
-fn varied(alloc: Global) -> Result<Module, AllocError>
-    ensures { IfOk result IsWritten }
+fn groups(alloc: Global) -> Result<List<Group>, AllocError>
+    ensures { IfOk result (λ xs. length xs < 2 ^ 32) }
 {
-    let table = export(alloc, "é", ExportDesc::Table(0))?;
-    let global = export(alloc, "", ExportDesc::Global(300))?;
     let longs = Group {
         count: 128,
         ty: ValType::I64,
@@ -188,31 +225,42 @@ fn varied(alloc: Global) -> Result<Module, AllocError>
         count: 1,
         ty: ValType::ExternRef,
     };
-    let code = body(alloc, two(alloc, longs, reference)?, 200)?;
-    let first = func_type(two(alloc, ValType::I32, ValType::I64)?, one(alloc, ValType::F32)?);
-    let second = func_type(two(alloc, ValType::F64, ValType::FuncRef)?, one(alloc, ValType::ExternRef)?);
-    let references = TableType {
+    two(alloc, longs, reference)
+}
+
+fn types(alloc: Global) -> Result<List<FuncType>, AllocError>
+    ensures short { IfOk result (λ xs. length xs < 2 ^ 32) }
+    ensures writable { IfOk result (All IsWrittenType) }
+{
+    let first = ternary(alloc, ValType::I32, ValType::I64, ValType::F32)?;
+    let second = ternary(alloc, ValType::F64, ValType::FuncRef, ValType::ExternRef)?;
+    two(alloc, first, second)
+}
+
+// Every value type, a table and a memory without a maximum, exports of a table and a global, a body whose size takes two
+// bytes, and an offset below 0.
+fn varied(alloc: Global) -> Result<Module, AllocError>
+    ensures { IfOk result IsWritten }
+{
+    let limits = Limits {
+        min: 128,
+        max: None,
+    };
+    let table = TableType {
         elem: ValType::ExternRef,
-        limits: Limits {
-            min: 128,
-            max: None,
-        },
+        limits,
     };
-    let below = segment(alloc, -1, 0)?;
-    let above = segment(alloc, 64, 1)?;
-    let of = Sections {
-        types: two(alloc, first, second)?,
-        funcs: one(alloc, 1)?,
-        tables: one(alloc, references)?,
-        memories: one(alloc, Limits {
-            min: 0,
-            max: None,
-        })?,
-        exports: two(alloc, table, global)?,
-        codes: one(alloc, code)?,
-        datas: two(alloc, below, above)?,
-    };
-    Ok(module(alloc, of))
+    let names = ("é", "");
+    let locals = groups(alloc)?;
+    module(
+        alloc,
+        types(alloc)?,
+        one(alloc, table)?,
+        one(alloc, limits)?,
+        exports(alloc, names, ExportDesc::Table(0), ExportDesc::Global(300))?,
+        bodies(alloc, locals, 200)?,
+        segments(alloc, -65, 1)?,
+    )
 }
 
 // The bytes of a text of hexadecimal numbers, with 3x01 for three times 01.
@@ -238,12 +286,12 @@ const MERGED: &str = "00 61 73 6d 01 00 00 00 \
 
 const VARIED: &str = "00 61 73 6d 01 00 00 00 \
     01 0d 02 60 02 7f 7e 01 7d 60 02 7c 70 01 6f \
-    03 02 01 01 \
+    03 02 01 00 \
     04 05 01 6f 00 80 01 \
-    05 03 01 00 00 \
+    05 04 01 00 80 01 \
     07 0a 02 02 c3 a9 01 00 00 03 ac 02 \
     0a d4 01 01 d1 01 02 80 01 7e 01 6f 10 00 200x01 0b \
-    0b 0d 02 00 41 7f 0b 00 00 41 c0 00 0b 01 ab";
+    0b 08 01 00 41 bf 7f 0b 01 ab";
 
 #[test]
 fn writes_modules(rt: HostRuntime) -> Result<(), Fail> {
@@ -253,7 +301,11 @@ fn writes_modules(rt: HostRuntime) -> Result<(), Fail> {
         (encode(alloc, &varied(alloc)?)?, VARIED),
     ];
     for (bytes, want) in rows {
-        assert_eq!(rt; bytes.as_slice(), bytes_of(alloc, want)?.as_slice(), "{want}");
+        assert_eq!(rt;
+            bytes.as_slice(),
+            bytes_of(alloc, want)?.as_slice(),
+            "{want}"
+        );
     }
     Ok(())
 }
