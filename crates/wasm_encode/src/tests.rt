@@ -294,18 +294,19 @@ const VARIED: &str = "00 61 73 6d 01 00 00 00 \
     0b 08 01 00 41 bf 7f 0b 01 ab";
 
 #[test]
-fn writes_modules(rt: HostRuntime) -> Result<(), Fail> {
-    let alloc = rt.alloc();
-    let rows = [
-        (encode(alloc, &merged(alloc)?)?, MERGED),
-        (encode(alloc, &varied(alloc)?)?, VARIED),
-    ];
-    for (bytes, want) in rows {
-        assert_eq!(rt;
-            bytes.as_slice(),
-            bytes_of(alloc, want)?.as_slice(),
-            "{want}"
-        );
-    }
+fn writes_what_is_merged(rt: HostRuntime) -> Result<(), Fail> {
+    let m = merged(rt.alloc())?;
+    let bytes = encode(rt.alloc(), &m)?;
+    let want = bytes_of(rt.alloc(), MERGED)?;
+    assert_eq!(rt; bytes.as_slice(), want.as_slice());
+    Ok(())
+}
+
+#[test]
+fn writes_what_else_there_is(rt: HostRuntime) -> Result<(), Fail> {
+    let m = varied(rt.alloc())?;
+    let bytes = encode(rt.alloc(), &m)?;
+    let want = bytes_of(rt.alloc(), VARIED)?;
+    assert_eq!(rt; bytes.as_slice(), want.as_slice());
     Ok(())
 }
