@@ -1,0 +1,30 @@
+# make        builds bin/wdyl
+# make demo   builds it, merges the examples and runs what was merged
+# make bench  builds it and measures it
+# make test   proves, builds and tests everything
+
+SOURCES := crates.txt $(shell find crates -name out -prune -o -type f \( -name '*.rt' -o -name '*.antt' \) -print)
+
+.PHONY: all demo bench test clean
+
+all: bin/wdyl
+
+# `rt run` proves the program, builds it and runs it without words; it ends with the status of that run, which is 64.
+bin/wdyl: $(SOURCES)
+	cd crates/wdyl && { rt run >../../build.log 2>&1; test $$? -eq 64 || { cat ../../build.log; exit 1; }; }
+	mkdir -p bin
+	cp crates/wdyl/out/wdyl bin/wdyl
+
+demo: bin/wdyl
+	sh examples/demo.sh bin/wdyl
+
+bench: bin/wdyl
+	python3 bench/merge.py bin/wdyl
+	@if command -v node >/dev/null; then node bench/recursion.mjs bin/wdyl; \
+	else echo "node is missing: the merged module that recurses for ever isn't run"; fi
+
+test:
+	rt ci
+
+clean:
+	rm -rf bin build.log
