@@ -1,5 +1,5 @@
-// Merges a module whose entry calls itself for ever, and shows that the merged module still does: an engine has a limit of
-// depth, and ends it with a stack overflow.
+// Merges a module whose entry calls itself for ever, and shows that the merged module still does: an engine has a limit
+// of depth, and ends it with a stack overflow.
 //
 //     node bench/recursion.mjs bin/wdyl
 

@@ -43,7 +43,7 @@ def section(number, contents):
 
 
 def parts(bodies, exports):
-    """The parts of a module: `bodies` holds the code of each function, `exports` pairs of a name and a function number."""
+    """The parts of a module: `bodies` are the code of its functions, `exports` pairs of a name and a function number."""
     count = len(bodies)
     entries = b"".join(name(text) + b"\x00" + unsigned(function) for text, function in exports)
     return [
