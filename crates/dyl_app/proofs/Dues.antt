@@ -1,16 +1,15 @@
 -- At most one outcome is due.
-use Rattle.std.proofs.Common.{◌≡◌, ◌≢◌, ℕ, ◌<◌, ◌≤◌, List, [], ◌∷◌, length, Option, Some, None, Result, Ok, Err, refl, sym, ap, ◌∙◌, subst, arith}
+use Rattle.std.proofs.Common.{◌≡◌, ℕ, ◌≤◌, List, length, Option, Some, None, refl, sym, ap, ◌∙◌, subst, arith}
 use Rattle.wasm_form.specs.declared.module.Module.{Module}
 use Rattle.spec_binary.specs.SmallForm.{IsSmallFile}
-use Rattle.spec_linking.specs.Sets.{Files, Member, ClosedSet, main_name, most_bytes, Gathers, default_options}
+use Rattle.spec_linking.specs.Sets.{Files, ClosedSet, main_name, most_bytes}
 use Rattle.spec_linking.specs.Definitions.{entry_of}
-use Rattle.spec_linking.specs.Links.{LinkFault, NoEntry, set_entry, fault_without, link_fault}
+use Rattle.spec_linking.specs.Links.{NoEntry, set_entry, fault_without, link_fault}
 use Rattle.dyl_app.specs.declared.outcome.SetFault.TheVariants.{Missing, ReadFault, SetSize}
 use Rattle.dyl_app.specs.declared.outcome.LinkFault.TheVariants as link
-use Rattle.dyl_app.specs.declared.outcome.UsageKind.{UsageKind}
 use Rattle.dyl_app.specs.declared.outcome.Outcome.{Outcome}
 use Rattle.dyl_app.specs.declared.outcome.Outcome.TheVariants.{Done, Usage, Set, Unbuilt, Link, WriteFault, Memory}
-use Rattle.dyl_app.specs.Due.{linked, GathersSmall, IsMissing, IsTooLong, IsUnbuilt, HasNoEntry, LinksAt, DueAt}
+use Rattle.dyl_app.specs.Due.{linked, GathersSmall, IsMissing, IsTooLong, IsUnbuilt, DueAt}
 use Rattle.dyl_app.specs.Gathered.{IsInput}
 
 -- the outcome by the entry

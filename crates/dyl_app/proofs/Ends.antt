@@ -1,11 +1,11 @@
 -- What an input comes to.
-use Rattle.std.proofs.Common.{◌≡◌, ◌≢◌, ℕ, ◌<◌, ◌≤◌, List, [], ◌∷◌, length, Option, Some, None, Result, Ok, Err, refl, sym, ap, ◌∙◌, subst, arith, inl, inr}
+use Rattle.std.proofs.Common.{◌≡◌, ℕ, List, [], ◌∷◌, length, Option, Some, None, refl, ap, ◌∙◌, arith, inl, inr}
 use Rattle.std.specs.Prelude.{IsSomeAnd, ◌⊎◌}
 use Rattle.std.specs.FinMap.{get}
 use Rattle.wasm_form.specs.declared.module.Module.{Module}
 use Rattle.wasm_form.specs.Number.{SpellsUnsigned, last}
 use Rattle.dyl_outside.specs.FileMap.{FileMap}
-use Rattle.spec_binary.specs.SmallForm.{IsSmall, IsSmallFile, small_custom}
+use Rattle.spec_binary.specs.SmallForm.{IsSmall, small_custom}
 use Rattle.spec_binary.proofs.Chains.{small_file_spells}
 use Rattle.spec_validation.proofs.Valid.{small_valid}
 use Rattle.spec_linking.specs.Records.{empty_record, memory_information, done, next, HasRecord}
@@ -14,11 +14,10 @@ use Rattle.spec_linking.specs.Definitions.{entry_of}
 use Rattle.spec_linking.specs.Links.{fault_without}
 use Rattle.merge_whole.specs.MergedModule.{main_member, set_alone}
 use Rattle.dyl_app.specs.declared.outcome.LinkFault.TheVariants as link
-use Rattle.dyl_app.specs.declared.outcome.UsageKind.{UsageKind}
 use Rattle.dyl_app.specs.declared.outcome.Outcome.{Outcome}
 use Rattle.dyl_app.specs.declared.outcome.Outcome.TheVariants.{Done, Usage, Set, Unbuilt, Link, WriteFault, Memory}
 use Rattle.dyl_app.specs.Orders.{Order}
-use Rattle.dyl_app.specs.Due.{linked, GathersSmall, HasNoEntry, LinksAt, DueAt, Yields, Tells}
+use Rattle.dyl_app.specs.Due.{GathersSmall, LinksAt, DueAt, Yields, Tells}
 use Rattle.dyl_app.specs.Gathered.{IsInput}
 use Rattle.dyl_app.specs.Finish.{HoldsMerged, LeavesWritten, ByEntry}
 use Rattle.dyl_app.specs.Files.{IsMerged, Leaves}
@@ -42,7 +41,7 @@ module _ (files : Files) (path : List ℕ) (wasm : Module) (input : IsInput file
   abbrev set : ClosedSet
   set = set_alone (main_name path) path (length input.bytes) wasm
 
-  gathers : GathersSmall files path set
+  abbrev gathers : GathersSmall files path set
   gathers = record {
     gathered = record {
       main = main_member (main_name path) path (length input.bytes) wasm;

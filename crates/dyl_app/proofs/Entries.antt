@@ -1,11 +1,11 @@
 -- The entry of a small module, by the names that are looked at.
-use Rattle.std.proofs.Common.{◌≡◌, ℕ, ◌<◌, List, length, Option, Some, None, Bool, true, false, if◌then◌else◌, refl, sym, ap, ◌∙◌}
+use Rattle.std.proofs.Common.{◌≡◌, ℕ, List, Option, Some, None, if◌then◌else◌, refl, sym, ap}
 use Rattle.wasm_form.specs.declared.module.Module.{Module}
 use Rattle.spec_binary.specs.Options.{◌>>=◌}
 use Rattle.spec_binary.specs.SmallForm.{IsSmall}
 use Rattle.spec_binary.specs.Indices.{function_type, nullary_at, own_function}
 use Rattle.spec_validation.proofs.Small.{small_type, own_in_range}
-use Rattle.spec_linking.specs.Definitions.{start_name, main_function_name, entry_function, entry_of}
+use Rattle.spec_linking.specs.Definitions.{start_name, main_function_name, entry_of}
 
 -- a function of a small module has no parameters and results
 entered : (m : Module) → IsSmall m → (name : List ℕ) (o : Option ℕ) → own_function m name ≡ o → (o >>= λ f. if nullary_at (function_type m f) then Some f else None) ≡ o

@@ -1,13 +1,11 @@
 -- What a fetched file comes to.
-use Rattle.std.proofs.Common.{◌≡◌, ℕ, ◌≤◌, List, length, Option, Some, None, Result, Ok, Err}
+use Rattle.std.proofs.Common.{◌≡◌, ℕ, ◌≤◌, List, length, Some, Result, Ok, Err}
 use Rattle.wasm_form.specs.declared.module.Module.{Module}
-use Rattle.spec_binary.specs.SmallForm.{IsSmallFile}
 use Rattle.spec_linking.specs.Sets.{Files, most_bytes}
 use Rattle.merge_whole.specs.MergedModule.{IsSmallInput}
-use Rattle.dyl_app.specs.declared.outcome.SetFault.TheVariants.{Missing, ReadFault, SetSize}
 use Rattle.dyl_app.specs.declared.gather.InputFault.{InputFault}
 use Rattle.dyl_app.specs.declared.gather.InputFault.TheVariants.{Set, Unbuilt, Memory}
-use Rattle.dyl_app.specs.Gathered.{IsInput, Gathered, IsDecoded}
+use Rattle.dyl_app.specs.Gathered.{Gathered, IsDecoded}
 
 pub gathered : (files : Files) (path bytes : List ℕ) (r : Result Module InputFault) → files path ≡ Some bytes → length bytes ≤ most_bytes → IsDecoded bytes r → Gathered files path r
 gathered files path bytes (Ok wasm) file few d = record { bytes = bytes; file = file; few = few; small = d.0; only = d.1 }

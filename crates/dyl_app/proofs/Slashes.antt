@@ -1,6 +1,6 @@
 -- What stands after the last slash, as a path is gone through.
-use Rattle.std.proofs.Common.{◌≡◌, ◌≢◌, ℕ, suc, subst, inl, inr, ◌+◌, ◌-◌, ◌<◌, ◌≤◌, List, [], ◌∷◌, ◌++◌, length, take, drop, reverse, Bool, true, false, cond, refl, sym, ap, ◌∙◌, arith, get_or, nat_eq, not}
-use Rattle.std.specs.List.{prefix_len, suffix_len, after_last}
+use Rattle.std.proofs.Common.{◌≡◌, ◌≢◌, ℕ, subst, inl, inr, ◌+◌, ◌<◌, List, [], ◌∷◌, ◌++◌, length, take, drop, Bool, false, cond, sym, ap, ◌∙◌, arith, get_or, nat_eq, not}
+use Rattle.std.specs.List.{prefix_len, suffix_len}
 use Rattle.std.proofs.lemmas.List.{reverse-append, take_all, take_more}
 use Rattle.std.proofs.lemmas.Bool.Decides.{eqb_tells}
 use Rattle.std.proofs.lemmas.Str.{IsCharBoundary-after_ascii}

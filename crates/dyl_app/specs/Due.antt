@@ -1,11 +1,10 @@
 -- The outcome that is due for an order over some files, if nothing outside fails and there is memory; and what an answer may be in
 -- its place.
-use Rattle.std.specs.Prelude.{◌≡◌, ◌≢◌, ℕ, ◌<◌, ◌≤◌, List, length, Option, Some, None, Result, Ok, Err, String}
-use Rattle.std.specs.declared.alloc.Global.{Global}
+use Rattle.std.specs.Prelude.{◌≡◌, ◌≢◌, ℕ, ◌<◌, ◌≤◌, List, length, Some, None, Result, Ok, Err}
 use Rattle.wasm_form.specs.declared.module.Module.{Module}
 use Rattle.spec_binary.specs.SmallForm.{IsSmallFile}
 use Rattle.spec_execution.specs.Hosts.{no_names}
-use Rattle.spec_linking.specs.Sets.{Files, ClosedSet, Member, default_options, main_name, most_bytes, Gathers}
+use Rattle.spec_linking.specs.Sets.{Files, ClosedSet, default_options, main_name, most_bytes, Gathers}
 use Rattle.spec_linking.specs.Plans.{default_link}
 use Rattle.spec_linking.specs.Links.{LinkedSet, NoEntry, link_fault, Links}
 use Rattle.dyl_app.specs.declared.outcome.SetFault.TheVariants.{Missing, ReadFault, SetSize}
@@ -13,7 +12,7 @@ use Rattle.dyl_app.specs.declared.outcome.LinkFault.TheVariants as link
 use Rattle.dyl_app.specs.declared.outcome.UsageKind.{UsageKind}
 use Rattle.dyl_app.specs.declared.outcome.Outcome.{Outcome}
 use Rattle.dyl_app.specs.declared.outcome.Outcome.TheVariants.{Done, Usage, Set, Unbuilt, Link, WriteFault, Memory}
-use Rattle.dyl_app.specs.Orders.{Order, order_of}
+use Rattle.dyl_app.specs.Orders.{Order}
 
 -- a set, linked with the default options
 abbrev pub linked : ClosedSet → LinkedSet

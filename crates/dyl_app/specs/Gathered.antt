@@ -1,5 +1,5 @@
 -- What gathering the closed set of a main module alone answers.
-use Rattle.std.specs.Prelude.{◌≡◌, ◌≤◌, ℕ, List, length, Option, Some, None, Result, Ok, Err}
+use Rattle.std.specs.Prelude.{◌≡◌, ◌≤◌, ℕ, List, length, Some, Result, Ok, Err}
 use Rattle.wasm_form.specs.declared.module.Module.{Module}
 use Rattle.spec_binary.specs.SmallForm.{IsSmallFile}
 use Rattle.spec_linking.specs.Sets.{Files, main_name, most_bytes}

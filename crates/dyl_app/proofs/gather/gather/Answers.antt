@@ -1,4 +1,3 @@
-use Rattle.std.proofs.Common.{◌≡◌, ap, sym, subst, length, ◌≤◌}
 use Rattle.dyl_app.proofs.Gathering.{gathered}
 use Rattle.dyl_app.proofs.gather.gather.Goals as goal
 

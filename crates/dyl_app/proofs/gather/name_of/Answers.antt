@@ -1,6 +1,6 @@
-use Rattle.std.proofs.Common.{◌≡◌, ◌<◌, ℕ, length, get_or, ap, sym, ◌∙◌, arith, refl, subst}
+use Rattle.std.proofs.Common.{◌≡◌, ◌<◌, length, get_or, ap, sym, ◌∙◌, arith, refl}
 use Rattle.std.proofs.lemmas.Str.{IsCharBoundary-start}
-use Rattle.dyl_app.proofs.Slashes.{after_slash, after_other, name_is}
+use Rattle.dyl_app.proofs.Slashes.{after_slash, after_other}
 use Rattle.dyl_app.proofs.gather.name_of.Goals as goal
 use Rattle.dyl_app.proofs.gather.name_of.Goals.{then-b-eq47, else-b-eq47}
 

@@ -1,4 +1,4 @@
-use Rattle.std.proofs.Common.{◌≡◌, ap, sym, ◌∙◌}
+use Rattle.std.proofs.Common.{ap, sym, ◌∙◌}
 use Rattle.dyl_app.specs.Entry.{function_named}
 use Rattle.spec_linking.specs.Definitions.{start_name, main_function_name}
 use Rattle.dyl_app.proofs.Entries.{entry_at_start, entry_at_main}

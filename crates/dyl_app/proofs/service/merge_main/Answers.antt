@@ -1,4 +1,4 @@
-use Rattle.std.proofs.Common.{◌≡◌, inl, inr, refl, ◌∙◌}
+use Rattle.std.proofs.Common.{◌∙◌}
 use Rattle.dyl_app.specs.declared.outcome.Outcome.TheVariants.{Done}
 use Rattle.dyl_app.proofs.Dues.{due_unbuilt}
 use Rattle.dyl_app.proofs.Ends.{input_due, input_tells, input_leaves, input_complete}
