@@ -7,3 +7,4 @@ pub mod Startup
 pub mod Headline
 pub mod Seeing
 pub mod Written
+pub mod Rows
