@@ -4,3 +4,4 @@ pub mod Hosts
 pub mod Activations
 pub mod Runs
 pub mod OneModule
+pub mod Numerics

@@ -1,0 +1,18 @@
+-- How the functions of this crate answer, and what an operand must be.
+use Rattle.std.specs.Prelude.{ℕ, ◌<◌, ◌^◌, Result, Ok, Err, ⊤}
+use Rattle.wasm_form.specs.declared.runtime.Trap.{Trap}
+use Rattle.spec_execution.specs.Numerics.{Outcome, Whole, Traps, Width, bits, Compare, Eqz}
+
+-- a number, or the trap
+abbrev pub answer : Outcome → Result ℕ Trap
+answer (Whole n) = Ok n
+answer (Traps t) = Err t
+
+-- a number of this width
+abbrev pub FitsWidth : Width → ℕ → Type 0
+FitsWidth w x = x < 2 ^ bits w
+
+-- the second operand is a number of the width, if it is looked at
+abbrev pub SecondFits : Width → Compare → ℕ → Type 0
+SecondFits w Eqz b = ⊤
+SecondFits w other b = FitsWidth w b

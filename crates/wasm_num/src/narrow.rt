@@ -1,0 +1,137 @@
+// The operators of i32, by their opcodes.
+ghost use Rattle.std.specs.Prelude.{◌≡◌, ◌<◌, ◌^◌};
+ghost use Rattle.spec_execution.specs.Numerics.{
+  W32,
+  iclz,
+  ictz,
+  ipopcnt,
+  idiv_u,
+  idiv_s,
+  irem_u,
+  irem_s,
+  ishr_s,
+  irotl,
+  irotr,
+  unary_at,
+  unary as unary_result,
+  binary_at,
+  binary as binary_outcome,
+  compare_at,
+  compare as compare_result,
+};
+ghost use Rattle.wasm_num.specs.Answers.{answer};
+
+use wasm_form::Trap;
+
+#[tactic(auto, using(crate::proofs::Counts::counts))]
+pub fn unary(op: u8, a: u32) -> u32
+    ensures { result ≡ unary_result W32 (unary_at op) a }
+{
+    match op {
+        0x67 => a.leading_zeros(),
+        0x68 => a.trailing_zeros(),
+        _ => a.count_ones(),
+    }
+}
+
+pub fn binary(op: u8, a: u32, b: u32) -> Result<u32, Trap>
+    ensures { result ≡ answer (binary_outcome W32 (binary_at op) a b) }
+{
+    match op {
+        0x6A => Ok(a.wrapping_add(b)),
+        0x6B => Ok(a.wrapping_sub(b)),
+        0x6C => Ok(a.wrapping_mul(b)),
+        0x6D => divide_signed(a, b),
+        0x6E => divide(a, b),
+        0x6F => remainder_signed(a, b),
+        0x70 => remainder(a, b),
+        0x71 => Ok(a & b),
+        0x72 => Ok(a | b),
+        0x73 => Ok(a ^ b),
+        0x74 => Ok(a << (b % 32)),
+        0x75 => Ok(shift_right_signed(a, b)),
+        0x76 => Ok(a >> (b % 32)),
+        0x77 => Ok(rotate_left(a, b)),
+        _ => Ok(rotate_right(a, b)),
+    }
+}
+
+// The operand that isn't looked at is left out.
+pub fn compare(op: u8, a: u32, b: u32) -> bool
+    ensures { result ≡ compare_result W32 (compare_at op) a b }
+{
+    match op {
+        0x45 => a == 0,
+        0x46 => a == b,
+        0x47 => a != b,
+        0x48 => a.cast_signed() < b.cast_signed(),
+        0x49 => a < b,
+        0x4A => a.cast_signed() > b.cast_signed(),
+        0x4B => a > b,
+        0x4C => a.cast_signed() <= b.cast_signed(),
+        0x4D => a <= b,
+        0x4E => a.cast_signed() >= b.cast_signed(),
+        _ => a >= b,
+    }
+}
+
+fn divide(a: u32, b: u32) -> Result<u32, Trap>
+    ensures { result ≡ answer (idiv_u a b) }
+{
+    if b == 0 {
+        return Err(Trap::DivideByZero);
+    }
+    Ok(a / b)
+}
+
+fn remainder(a: u32, b: u32) -> Result<u32, Trap>
+    ensures { result ≡ answer (irem_u a b) }
+{
+    if b == 0 {
+        return Err(Trap::DivideByZero);
+    }
+    Ok(a % b)
+}
+
+fn divide_signed(a: u32, b: u32) -> Result<u32, Trap>
+    ensures { result ≡ answer (idiv_s 32 a b) }
+{
+    if b == 0 {
+        return Err(Trap::DivideByZero);
+    }
+    match a.cast_signed().checked_div(b.cast_signed()) {
+        Some(q) => Ok(q.cast_unsigned()),
+        None => Err(Trap::Overflow),
+    }
+}
+
+fn remainder_signed(a: u32, b: u32) -> Result<u32, Trap>
+    ensures { result ≡ answer (irem_s 32 a b) }
+{
+    if b == 0 {
+        return Err(Trap::DivideByZero);
+    }
+    Ok(
+        a.cast_signed()
+            .wrapping_rem(b.cast_signed())
+            .cast_unsigned(),
+    )
+}
+
+fn shift_right_signed(a: u32, b: u32) -> u32
+    ensures { result ≡ ishr_s 32 a b }
+{
+    (a.cast_signed() >> (b % 32)).cast_unsigned()
+}
+
+fn rotate_left(a: u32, b: u32) -> u32
+    ensures { result ≡ irotl 32 a b }
+{
+    a.rotate_left(b)
+}
+
+fn rotate_right(a: u32, b: u32) -> u32
+    ensures { result ≡ irotr 32 a b }
+{
+    a.rotate_right(b)
+}
