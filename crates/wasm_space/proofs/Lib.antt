@@ -1,0 +1,3 @@
+mod Overwriting
+mod Changes
+mod Growth
