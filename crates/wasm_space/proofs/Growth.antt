@@ -1,34 +1,58 @@
--- A new memory, and one that grew.
-use Rattle.std.proofs.Common.{◌≡◌, refl, ◌∙◌, ap, sym, subst, ℕ, ◌+◌, ◌-◌, ◌*◌, ◌/◌, ◌≤◌, ◌<◌, List, ◌++◌, length, take, drop, replicate, arith, Ok, Option, Some}
+-- A new memory or table, and one that grew.
+use Rattle.std.proofs.Common.{◌≡◌, refl, ◌∙◌, sym, subst, ℕ, ◌+◌, ◌-◌, ◌*◌, ◌/◌, ◌≤◌, List, ◌++◌, length, take, replicate, arith, Ok, Option, Some, None, []}
 use Rattle.std.proofs.lemmas.Bool.{le-leb}
 use Rattle.std.proofs.lemmas.List.{take_all}
-use Rattle.std.proofs.Math.Nat.{mul-div_cancel}
+use Rattle.std.proofs.Math.Seq.{take-nil}
+use Rattle.wasm_form.specs.declared.runtime.Ref.{Ref}
 use Rattle.spec_execution.specs.Memories.{MemoryInstance, zeros, new_memory, pages, grown}
-use Rattle.wasm_space.specs.Access.{GrowthAnswers}
+use Rattle.spec_execution.specs.Tables.{TableInstance, nulls, new_table, entries_grown}
+use Rattle.wasm_space.specs.Access.{GrowsOrStays}
 
-pub new_is : (bytes : List ℕ) (pages max : ℕ) → bytes ≡ replicate (pages * 65536) 0 → record { bytes = bytes; max = max } ≡ new_memory pages max
+pub new_memory_is : (bytes : List ℕ) (pages max : ℕ) → bytes ≡ replicate (pages * 65536) 0 → record { bytes = bytes; max = max } ≡ new_memory pages max
 unfolding zeros
-new_is bytes pages max is = rw is refl
+new_memory_is bytes pages max is = rw is refl
 
-pages_are : (bytes : List ℕ) (size : ℕ) → length bytes ≡ size * 65536 → length bytes / 65536 ≡ size
+pub pages_are : (bytes : List ℕ) (size : ℕ) → length bytes ≡ size * 65536 → length bytes / 65536 ≡ size
 pages_are bytes size whole = rw whole (omega arith)
 
-grown_within : (bytes : List ℕ) (size max delta : ℕ) → length bytes ≡ size * 65536 → size + delta ≤ max
-    → grown (record { bytes = bytes; max = max }) delta ≡ Some (record { bytes = bytes ++ zeros (delta * 65536); max = max })
-grown_within bytes size max delta whole within =
-    rw (pages_are bytes size whole, le-leb _ _ within) refl
+grows : {I : Type 0} (old new : I) (wanted : Option I) (size answer : ℕ) → wanted ≡ Some new → answer ≡ size → GrowsOrStays old wanted size (Ok answer) new
+grows {I} old new wanted size answer e same = let P : Option I → Type 0 = λ w. GrowsOrStays old w size (Ok answer) new in subst P (sym e) (same, refl)
 
-resized : (bytes after : List ℕ) (size delta len : ℕ) → length bytes ≡ size * 65536 → len ≡ length bytes
-    → after ≡ take ((size + delta) * 65536) bytes ++ replicate ((size + delta) * 65536 - len) 0
-    → after ≡ bytes ++ zeros (delta * 65536)
+-- after `resize`
+resized : {X : Type 0} (xs after : List X) (x : X) (to delta len : ℕ) → len ≡ length xs → to ≡ length xs + delta → after ≡ take to xs ++ replicate (to - len) x → after ≡ xs ++ replicate delta x
+resized xs after x to delta len same sum is =
+    let fits : length xs ≤ to = omega arith in
+    let more : to - len ≡ delta = omega arith in
+    is ∙ rw (take_all _ xs fits, more) refl
+
+memory_grown : (bytes after : List ℕ) (size max delta : ℕ) → length bytes ≡ size * 65536 → size + delta ≤ max → after ≡ bytes ++ replicate (delta * 65536) 0
+    → grown (record { bytes = bytes; max = max }) delta ≡ Some (record { bytes = after; max = max })
 unfolding zeros
-resized bytes after size delta len whole same is =
-    let fits : length bytes ≤ (size + delta) * 65536 = omega arith in
-    let more : (size + delta) * 65536 - len ≡ delta * 65536 = omega arith in
-    is ∙ rw (take_all _ bytes fits, more) refl
+memory_grown bytes after size max delta whole within is = rw (pages_are bytes size whole, le-leb _ _ within, is) refl
 
-pub grown_all : (old : MemoryInstance) (bytes after : List ℕ) (size max delta len : ℕ) → record { bytes = bytes; max = max } ≡ old → length bytes ≡ size * 65536 → size + delta ≤ max → len ≡ length bytes
+pub memory_grows : (old : MemoryInstance) (bytes after : List ℕ) (size max delta len : ℕ) → record { bytes = bytes; max = max } ≡ old → length bytes ≡ size * 65536 → size + delta ≤ max → len ≡ length bytes
     → after ≡ take ((size + delta) * 65536) bytes ++ replicate ((size + delta) * 65536 - len) 0
-    → GrowthAnswers old delta (Ok size) (record { bytes = after; max = max })
-grown_all old bytes after size max delta len view whole within same is =
-    rw (← view, grown_within bytes size max delta whole within) (sym (pages_are bytes size whole), rw (resized bytes after size delta len whole same is) refl)
+    → GrowsOrStays old (grown old delta) (pages old) (Ok size) (record { bytes = after; max = max })
+memory_grows old bytes after size max delta len view whole within same is =
+    let P : MemoryInstance → Type 0 = λ m. GrowsOrStays m (grown m delta) (pages m) (Ok size) (record { bytes = after; max = max }) in
+    let more = resized bytes after 0 ((size + delta) * 65536) (delta * 65536) len same (omega arith) is in
+    subst P view (grows _ _ _ _ size (memory_grown bytes after size max delta whole within more) (sym (pages_are bytes size whole)))
+
+-- an empty `Vec` after `resize`
+pub new_table_is : (entries : List (Option Ref)) (n max : ℕ) (old : List (Option Ref)) (len : ℕ) → old ≡ [] → len ≡ 0 → entries ≡ take n old ++ replicate (n - len) None → record { entries = entries; max = max } ≡ new_table n max
+unfolding nulls
+new_table_is entries n max old len empty none is =
+    let all : n - len ≡ n = omega arith in
+    rw (is, empty, all, take-nil) refl
+
+table_grown : (entries after : List (Option Ref)) (value : Option Ref) (max delta : ℕ) → length entries + delta ≤ max → after ≡ entries ++ replicate delta value
+    → entries_grown (record { entries = entries; max = max }) delta value ≡ Some (record { entries = after; max = max })
+table_grown entries after value max delta within is = rw (le-leb _ _ within, is) refl
+
+pub table_grows : (old : TableInstance) (entries after : List (Option Ref)) (value : Option Ref) (size max delta : ℕ) → record { entries = entries; max = max } ≡ old → size ≡ length entries → size + delta ≤ max
+    → after ≡ take (size + delta) entries ++ replicate (size + delta - size) value
+    → GrowsOrStays old (entries_grown old delta value) (length old.entries) (Ok size) (record { entries = after; max = max })
+table_grows old entries after value size max delta view same within is =
+    let P : TableInstance → Type 0 = λ t. GrowsOrStays t (entries_grown t delta value) (length t.entries) (Ok size) (record { entries = after; max = max }) in
+    let more = resized entries after value (size + delta) delta size same (omega arith) is in
+    subst P view (grows _ _ _ _ size (table_grown entries after value max delta (omega arith) more) same)

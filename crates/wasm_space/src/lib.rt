@@ -2,6 +2,8 @@
 #![tactic(auto)]
 
 mod little;
+mod slots;
 mod space;
 
+pub use slots::Slots;
 pub use space::Space;

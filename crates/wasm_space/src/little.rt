@@ -1,12 +1,13 @@
 // Numbers as bytes, the lowest first (WebAssembly Core 2.0, section 4.3.1).
-ghost use Rattle.std.specs.Prelude.{◌≡◌, length};
+ghost use Rattle.std.specs.Prelude.{◌≡◌, ◌<◌, ◌*◌, ◌^◌, length};
 ghost use Rattle.spec_execution.specs.Memories.{little, little_value};
 ghost use Rattle.wasm_space.specs.Access.{IsAccessLength};
 
 /// The number that one, two, four or eight bytes stand for.
 pub fn read_little(bytes: &[u8]) -> u64
     requires { IsAccessLength (length bytes.now) }
-    ensures { result ≡ little_value bytes.now }
+    ensures value { result ≡ little_value bytes.now }
+    ensures range { result < 2 ^ (8 * length bytes.now) }
 {
     match bytes.len() {
         1 => bytes[0] as u64,

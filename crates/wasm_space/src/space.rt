@@ -1,7 +1,8 @@
 // A memory (WebAssembly Core 2.0, sections 4.2.8 and 4.4.7).
-ghost use Rattle.std.specs.Prelude.{◌≡◌, ◌≤◌, ◌*◌, length, IfOk};
+ghost use Rattle.std.specs.Prelude.{◌≡◌, ◌≤◌, ◌<◌, ◌*◌, ◌^◌, length, IfOk};
+ghost use Rattle.std.specs.Option.{ok_or};
 ghost use Rattle.spec_execution.specs.Memories.{page_size, new_memory, loaded, stored, copied, filled, initialized, pages, grown};
-ghost use Rattle.wasm_space.specs.Access.{IsAccessLength, LoadAnswers, ChangeAnswers, GrowthAnswers};
+ghost use Rattle.wasm_space.specs.Access.{IsAccessLength, ChangesOrTraps, GrowsOrStays};
 
 use std::alloc::Global;
 use std::marker::Model;
@@ -56,7 +57,7 @@ impl Space {
     /// size would pass the maximum (section 4.4.7, memory.grow). Without memory for them `Memory`, and the memory
     /// stays as it was.
     pub fn grow(&mut self, delta: u32) -> Result<u32, Memory>
-        ensures { GrowthAnswers self.old delta result self.new }
+        ensures { GrowsOrStays self.old (grown self.old delta) (pages self.old) result self.new }
     {
         let old = self.pages;
         if delta > self.max - old {
@@ -71,7 +72,8 @@ impl Space {
     /// pass the end (section 4.4.7, t.load).
     pub fn load(&self, base: u32, offset: u32, len: u8) -> Result<u64, Trap>
         requires { IsAccessLength len }
-        ensures { LoadAnswers (loaded self.now base offset len) result }
+        ensures value { result ≡ ok_or (loaded self.now base offset len) Trap.MemoryBounds }
+        ensures range { IfOk result (λ value. value < 2 ^ (8 * len)) }
     {
         let at = base as usize + offset as usize;
         let end = at + len as usize;
@@ -85,7 +87,7 @@ impl Space {
     /// is written (section 4.4.7, t.store).
     pub fn store(&mut self, base: u32, offset: u32, len: u8, value: u64) -> Result<(), Trap>
         requires { IsAccessLength len }
-        ensures { ChangeAnswers self.old (stored self.old base offset len value) result self.new }
+        ensures { ChangesOrTraps Trap.MemoryBounds self.old (stored self.old base offset len value) result self.new }
     {
         let at = base as usize + offset as usize;
         let end = at + len as usize;
@@ -99,7 +101,7 @@ impl Space {
     /// Copies `n` bytes from `from` to `to`, as if all were read before the first is written; `MemoryBounds` where either range
     /// passes the end, and nothing is written (section 4.4.7, memory.copy).
     pub fn copy(&mut self, to: u32, from: u32, n: u32) -> Result<(), Trap>
-        ensures { ChangeAnswers self.old (copied self.old to from n) result self.new }
+        ensures { ChangesOrTraps Trap.MemoryBounds self.old (copied self.old to from n) result self.new }
     {
         let (to, from, n) = (to as usize, from as usize, n as usize);
         let size = self.bytes.len();
@@ -113,7 +115,7 @@ impl Space {
     /// Sets `n` bytes from `to` on; `MemoryBounds` where they pass the end, and nothing is written (section 4.4.7,
     /// memory.fill).
     pub fn fill(&mut self, to: u32, byte: u8, n: u32) -> Result<(), Trap>
-        ensures { ChangeAnswers self.old (filled self.old to byte n) result self.new }
+        ensures { ChangesOrTraps Trap.MemoryBounds self.old (filled self.old to byte n) result self.new }
     {
         let (to, n) = (to as usize, n as usize);
         if to + n > self.bytes.len() {
@@ -126,7 +128,7 @@ impl Space {
     /// Writes `n` of these bytes, from place `from` of them on, at `to`; `MemoryBounds` where they pass the end of the bytes or
     /// of the memory, and nothing is written (section 4.4.7, memory.init).
     pub fn init(&mut self, to: u32, bytes: &[u8], from: u32, n: u32) -> Result<(), Trap>
-        ensures { ChangeAnswers self.old (initialized self.old to bytes.now from n) result self.new }
+        ensures { ChangesOrTraps Trap.MemoryBounds self.old (initialized self.old to bytes.now from n) result self.new }
     {
         let (to, from, n) = (to as usize, from as usize, n as usize);
         if from + n > bytes.len() || to + n > self.bytes.len() {

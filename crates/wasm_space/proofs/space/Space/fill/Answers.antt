@@ -1,6 +1,8 @@
 use Rattle.std.proofs.Common.{◌∙◌, ◌≡◌, ap, ◌+◌, ◌≤◌, length, replicate, arith}
 use Rattle.std.proofs.lemmas.List.{length-replicate}
-use Rattle.wasm_space.proofs.Changes.{written_all}
+use Rattle.wasm_form.specs.declared.runtime.Trap.TheVariants.{MemoryBounds}
+use Rattle.spec_execution.specs.Memories.{written}
+use Rattle.wasm_space.proofs.Changes.{memory_writes, written_all}
 use Rattle.wasm_space.proofs.Overwriting.{refilled, part_length}
 use Rattle.wasm_space.proofs.space.Space.fill.Goals as goal
 
@@ -14,4 +16,4 @@ returns c =
     let fits : to + n ≤ length old = omega (arith, s.bytes.ok.0) in
     let filled = c.fill.ensures.after (λ y e. e) ∙ ap (λ k. replicate k c.args.byte) (part_length _ to n (rw d fits)) in
     let size = length-replicate n c.args.byte in
-    written_all c.args.self.now old (replicate n c.args.byte) _ s.max to n c.self.view_is size fits (rw filled (refilled old _ (replicate n c.args.byte) s.bytes.len to n s.bytes.ok.0 d size fits))
+    written_all (λ bytes. record { bytes = bytes; max = s.max }) written (memory_writes s.max) MemoryBounds c.args.self.now old (replicate n c.args.byte) _ to n c.self.view_is size fits (rw filled (refilled old _ (replicate n c.args.byte) s.bytes.len to n s.bytes.ok.0 d size fits))

@@ -1,5 +1,7 @@
 use Rattle.std.proofs.Common.{◌∙◌, ◌≡◌, ap, ◌+◌, ◌-◌, ◌≤◌, length, take, drop, arith}
-use Rattle.wasm_space.proofs.Changes.{initialized_all, length_part}
+use Rattle.wasm_form.specs.declared.runtime.Trap.TheVariants.{MemoryBounds}
+use Rattle.spec_execution.specs.Memories.{written}
+use Rattle.wasm_space.proofs.Changes.{memory_writes, initialized_all, length_part}
 use Rattle.wasm_space.proofs.Overwriting.{refilled, part_is}
 use Rattle.wasm_space.proofs.space.Space.init.Goals as goal
 
@@ -17,4 +19,4 @@ returns c =
     let new = take n (drop from items) in
     let put = c.copy_from_slice.ensures.after ∙ part_is items from n in
     let size = length_part items from n given in
-    initialized_all c.args.self.now old items _ s.max to from n c.self.view_is given fits (rw put (refilled old _ new s.bytes.len to n s.bytes.ok.0 d size fits))
+    initialized_all (λ bytes. record { bytes = bytes; max = s.max }) written (memory_writes s.max) MemoryBounds c.args.self.now old items _ to from n c.self.view_is given fits (rw put (refilled old _ new s.bytes.len to n s.bytes.ok.0 d size fits))

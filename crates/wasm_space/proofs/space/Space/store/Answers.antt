@@ -1,6 +1,8 @@
 use Rattle.std.proofs.Common.{◌∙◌, ◌≡◌, ap, ◌+◌, ◌≤◌, length, arith}
 use Rattle.spec_execution.specs.Memories.{little}
-use Rattle.wasm_space.proofs.Changes.{written_all, length-little}
+use Rattle.wasm_form.specs.declared.runtime.Trap.TheVariants.{MemoryBounds}
+use Rattle.spec_execution.specs.Memories.{written}
+use Rattle.wasm_space.proofs.Changes.{memory_writes, written_all, length-little}
 use Rattle.wasm_space.proofs.Overwriting.{refilled, part_length}
 use Rattle.wasm_space.proofs.space.Space.store.Goals as goal
 
@@ -15,4 +17,4 @@ returns c =
     let fits : at + n ≤ length old = omega (arith, s.bytes.ok.0) in
     let put = c.write_little.ensures ∙ ap (λ k. little k c.args.value) (part_length _ at n (rw d fits)) in
     let size = length-little n c.args.value in
-    written_all c.args.self.now old new _ s.max at n c.self.view_is size fits (rw put (refilled old _ new s.bytes.len at n s.bytes.ok.0 d size fits))
+    written_all (λ bytes. record { bytes = bytes; max = s.max }) written (memory_writes s.max) MemoryBounds c.args.self.now old new _ at n c.self.view_is size fits (rw put (refilled old _ new s.bytes.len at n s.bytes.ok.0 d size fits))
