@@ -3,7 +3,6 @@ use Rattle.std.proofs.Common.{◌≡◌, refl, ap, sym, subst, ℕ, zero, suc, �
 use Rattle.std.proofs.lemmas.Bool.{le-leb}
 use Rattle.std.proofs.lemmas.List.{length-take-le, length-drop}
 use Rattle.wasm_form.specs.declared.runtime.Trap.{Trap}
-use Rattle.wasm_form.specs.declared.runtime.Ref.{Ref}
 use Rattle.spec_binary.specs.Options.{◌>>=◌}
 use Rattle.spec_execution.specs.Memories.{MemoryInstance, overwritten, written, little}
 use Rattle.spec_execution.specs.Tables.{TableInstance, entries_overwritten, entries_written}

@@ -4,11 +4,10 @@ ghost use Rattle.std.specs.Option.{ok_or};
 ghost use Rattle.spec_execution.specs.Memories.{page_size, new_memory, loaded, stored, copied, filled, initialized, pages, grown};
 ghost use Rattle.wasm_space.specs.Access.{IsAccessLength, ChangesOrTraps, GrowsOrStays};
 
+use crate::little::{read_little, write_little};
 use std::alloc::Global;
 use std::marker::Model;
 use wasm_form::{Memory, Trap};
-
-use crate::little::{read_little, write_little};
 
 /// The bytes of a page (section 4.2.8).
 const PAGE: usize = 65_536;

@@ -1,4 +1,4 @@
-use Rattle.std.proofs.Common.{◌∙◌, ◌≡◌, ◌+◌, ◌≤◌, length, arith, subst, refl, Ok}
+use Rattle.std.proofs.Common.{◌∙◌, ◌+◌, ◌≤◌, length, arith, subst, refl, Ok}
 use Rattle.wasm_form.specs.declared.runtime.Trap.TheVariants.{TableBounds}
 use Rattle.spec_execution.specs.Tables.{TableInstance, entries_copied, entries_written}
 use Rattle.wasm_space.proofs.Changes.{table_writes, initialized_all}

@@ -1,4 +1,4 @@
-use Rattle.std.proofs.Common.{◌∙◌, ◌≡◌, ◌+◌, ◌≤◌, length, arith, subst, refl, Ok}
+use Rattle.std.proofs.Common.{◌∙◌, ◌+◌, ◌≤◌, length, arith, subst, refl, Ok}
 use Rattle.wasm_form.specs.declared.runtime.Trap.TheVariants.{MemoryBounds}
 use Rattle.spec_execution.specs.Memories.{MemoryInstance, copied, written}
 use Rattle.wasm_space.proofs.Changes.{memory_writes, initialized_all}

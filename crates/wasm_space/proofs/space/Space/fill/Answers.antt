@@ -1,4 +1,4 @@
-use Rattle.std.proofs.Common.{◌∙◌, ◌≡◌, ap, ◌+◌, ◌≤◌, length, replicate, arith}
+use Rattle.std.proofs.Common.{◌∙◌, ap, ◌+◌, ◌≤◌, length, replicate, arith}
 use Rattle.std.proofs.lemmas.List.{length-replicate}
 use Rattle.wasm_form.specs.declared.runtime.Trap.TheVariants.{MemoryBounds}
 use Rattle.spec_execution.specs.Memories.{written}

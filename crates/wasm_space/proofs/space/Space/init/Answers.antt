@@ -1,4 +1,4 @@
-use Rattle.std.proofs.Common.{◌∙◌, ◌≡◌, ap, ◌+◌, ◌-◌, ◌≤◌, length, take, drop, arith}
+use Rattle.std.proofs.Common.{◌∙◌, ◌+◌, ◌≤◌, length, take, drop, arith}
 use Rattle.wasm_form.specs.declared.runtime.Trap.TheVariants.{MemoryBounds}
 use Rattle.spec_execution.specs.Memories.{written}
 use Rattle.wasm_space.proofs.Changes.{memory_writes, initialized_all, length_part}

@@ -1,4 +1,4 @@
-use Rattle.std.proofs.Common.{◌∙◌, ◌≡◌, ap, ◌+◌, ◌≤◌, length, arith}
+use Rattle.std.proofs.Common.{◌∙◌, ap, ◌+◌, ◌≤◌, length, arith}
 use Rattle.spec_execution.specs.Memories.{little}
 use Rattle.wasm_form.specs.declared.runtime.Trap.TheVariants.{MemoryBounds}
 use Rattle.spec_execution.specs.Memories.{written}
