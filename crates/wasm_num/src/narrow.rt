@@ -1,10 +1,7 @@
-// The operators of i32, by their opcodes.
+// The operators of i32, by their opcodes. An opcode of none of a group's is taken for the last one of it.
 ghost use Rattle.std.specs.Prelude.{◌≡◌, ◌<◌, ◌^◌};
 ghost use Rattle.spec_execution.specs.Numerics.{
   W32,
-  iclz,
-  ictz,
-  ipopcnt,
   idiv_u,
   idiv_s,
   irem_u,
@@ -56,7 +53,6 @@ pub fn binary(op: u8, a: u32, b: u32) -> Result<u32, Trap>
     }
 }
 
-// The operand that isn't looked at is left out.
 pub fn compare(op: u8, a: u32, b: u32) -> bool
     ensures { result ≡ compare_result W32 (compare_at op) a b }
 {

@@ -1,10 +1,8 @@
-// The operators of i64, by the opcodes of the same operators of i32.
+// The operators of i64, by the opcodes of the same operators of i32. An opcode of none of a group's is taken for the
+// last one of it.
 ghost use Rattle.std.specs.Prelude.{◌≡◌, ◌<◌, ◌^◌};
 ghost use Rattle.spec_execution.specs.Numerics.{
   W64,
-  iclz,
-  ictz,
-  ipopcnt,
   idiv_u,
   idiv_s,
   irem_u,
@@ -56,7 +54,6 @@ pub fn binary(op: u8, a: u64, b: u64) -> Result<u64, Trap>
     }
 }
 
-// The operand that isn't looked at is left out.
 pub fn compare(op: u8, a: u64, b: u64) -> bool
     ensures { result ≡ compare_result W64 (compare_at op) a b }
 {
