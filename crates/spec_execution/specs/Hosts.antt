@@ -1,25 +1,11 @@
 -- What a run asks of its host, and what the host answers.
 use Rattle.std.specs.Prelude.{ℕ, ◌+◌, ◌^◌, List, [], ◌∷◌, length, nat_lt, nat_le, Bool, true, false, ◌&&◌}
+pub use Rattle.spec_execution.specs.Names.{HostName, HostNames, no_names}
 use Rattle.spec_runs.specs.Systems.{Outside}
 use Rattle.wasm_form.specs.declared.types.ValType.{ValType}
 use Rattle.wasm_form.specs.declared.types.ValType.TheVariants.{I32, I64, F32, F64, FuncRef, ExternRef}
-use Rattle.wasm_form.specs.declared.types.FuncType.{FuncType}
 use Rattle.wasm_form.specs.declared.runtime.Trap.{Trap}
 use Rattle.spec_execution.specs.Memories.{MemoryInstance}
-
--- a host function that is declared: its module, its name and its type
-pub record HostName : Type 0 where
-  pub module_name : List ℕ
-  pub name : List ℕ
-  pub ty : FuncType
-
--- the host functions that are declared, in order
-pub record HostNames : Type 0 where
-  pub declared : List HostName
-
--- nothing is declared
-abbrev pub no_names : HostNames
-no_names = record { declared = [] }
 
 -- a call of a host function with these arguments
 pub record HostCall : Type 0 where

@@ -1,5 +1,6 @@
 pub mod Memories
 pub mod Tables
+pub mod Names
 pub mod Hosts
 pub mod Activations
 pub mod Runs

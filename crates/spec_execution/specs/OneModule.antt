@@ -17,7 +17,8 @@ use Rattle.spec_binary.specs.Options.{◌>>=◌}
 use Rattle.spec_binary.specs.Indices.{function_type, function_at, nullary_at, own_function}
 use Rattle.spec_execution.specs.Memories.{MemoryInstance, new_memory, written}
 use Rattle.spec_execution.specs.Tables.{TableInstance, new_table}
-use Rattle.spec_execution.specs.Hosts.{HostNames, Answer, hosts}
+use Rattle.spec_execution.specs.Names.{HostNames, named_functions}
+use Rattle.spec_execution.specs.Hosts.{Answer, hosts}
 use Rattle.spec_execution.specs.Activations.{move}
 use Rattle.spec_execution.specs.Runs.{View, Frame, State, call, carried_out, answered}
 use Rattle.spec_execution.specs.Runs as frames
@@ -39,7 +40,7 @@ module_view m names = record {
   Mark = Starting;
   target = λ unit f. function_type m f >>= λ ty. Some (Own 0 f);
   code = λ unit f. function_at m f;
-  host = slice_get names.declared;
+  host = slice_get (named_functions names);
 }
 
 abbrev pub ModuleState : Module → HostNames → Type 0

@@ -9,6 +9,7 @@ use Rattle.spec_binary.specs.Options.{◌>>=◌}
 use Rattle.spec_binary.specs.Indices.{function_type, function_at}
 use Rattle.spec_execution.specs.Memories.{MemoryInstance, new_memory, overwritten}
 use Rattle.spec_execution.specs.Tables.{TableInstance, new_table, entry_set}
+use Rattle.spec_execution.specs.Names.{named_functions}
 use Rattle.spec_execution.specs.Hosts.{Answer, hosts}
 use Rattle.spec_execution.specs.Activations.{move}
 use Rattle.spec_execution.specs.Runs.{View, Frame, State, stands, call, carried_out, answered}
@@ -35,7 +36,7 @@ set_view L = record {
   Mark = LoaderFrame;
   target = λ m f. wasm_of L m >>= λ wasm. function_type wasm f >>= λ ty. Some (Own m f);
   code = λ m f. wasm_of L m >>= λ wasm. function_at wasm f;
-  host = slice_get L.names.declared;
+  host = slice_get (named_functions L.names);
 }
 
 abbrev pub SetState : LinkedSet → Type 0

@@ -1,0 +1,125 @@
+-- Entries of a map by text keys, as the meanings see them.
+use Rattle.std.proofs.Common.{◌≡◌, ℕ, Bool, true, false, List, [], ◌∷◌, ◌++◌, refl, ap, sym, ◌∙◌, cond, Option, Some, None, OnOk, OnErr, Result, Ok, Err, string_bytes, is_some, unwrap_or, ◌||◌, true≢false}
+use Rattle.std.specs.Prelude.{String}
+use Rattle.std.specs.Str.{bytes_eq}
+use Rattle.std.specs.String.{string_eq}
+use Rattle.std.specs.Map.{lookup, set_value}
+use Rattle.indexmap.specs.IndexMap.{insert_entry}
+use Rattle.wasm_form.specs.declared.types.FuncType.{FuncType}
+use Rattle.std.proofs.lemmas.Map.Steps.{set_value_same}
+use Rattle.spec_execution.specs.Names.{HostModule, HostNames, empty_module, declares, with_function, change_module}
+use Rattle.host_table.specs.Names.{by_text}
+
+module _ {Z X : Type 0} where
+  -- a text is looked up by its bytes
+  pub lookup_by_text : (name : List ℕ) (es : List (String Z × X)) → lookup (bytes_eq name) (by_text es) ≡ lookup (λ k. bytes_eq name (string_bytes k)) es
+  lookup_by_text name [] = refl
+  lookup_by_text name (e ∷ es) = ap (λ r. cond (bytes_eq name (string_bytes e.0)) (Some e.1) r) (lookup_by_text name es)
+
+  -- a new key goes last
+  pub by_text_insert : (eq : String Z → String Z → Bool) (same : (x y : String Z) → eq x y ≡ bytes_eq (string_bytes x) (string_bytes y)) (es : List (String Z × X)) (k : String Z) (v : X)
+      → is_some (lookup (bytes_eq (string_bytes k)) (by_text es)) ≡ false → by_text (insert_entry eq es k v) ≡ by_text es ++ (string_bytes k, v) ∷ []
+  by_text_insert eq same [] k v none = refl
+  by_text_insert eq same (e ∷ es) k v none = by (bytes_eq (string_bytes k) (string_bytes e.0)) refl (by_text_insert eq same es k v)
+    where
+      by : (b : Bool) → bytes_eq (string_bytes k) (string_bytes e.0) ≡ b → (is_some (lookup (bytes_eq (string_bytes k)) (by_text es)) ≡ false → by_text (insert_entry eq es k v) ≡ by_text es ++ (string_bytes k, v) ∷ []) → by_text (insert_entry eq (e ∷ es) k v) ≡ by_text (e ∷ es) ++ (string_bytes k, v) ∷ []
+      by true p rest = absurd (true≢false (ap (λ b. is_some (cond b (Some e.1) (lookup (bytes_eq (string_bytes k)) (by_text es)))) (sym p) ∙ none))
+      by false p rest = ap (λ b. by_text (cond b ((e.0, v) ∷ es) (e ∷ insert_entry eq es k v))) (same k e.0 ∙ p)
+          ∙ ap (λ r. (string_bytes e.0, e.1) ∷ r) (rest (ap (λ b. is_some (cond b (Some e.1) (lookup (bytes_eq (string_bytes k)) (by_text es)))) (sym p) ∙ none))
+
+-- a module that is new goes last
+pub change_new : (change : HostModule → HostModule) (name : List ℕ) (ms : List (List ℕ × HostModule)) → lookup (bytes_eq name) ms ≡ None → ms ++ (name, change empty_module) ∷ [] ≡ change_module change name ms
+change_new change name [] none = refl
+change_new change name (m ∷ ms) none = by (bytes_eq name m.0) refl (change_new change name ms)
+  where
+    by : (b : Bool) → bytes_eq name m.0 ≡ b → (lookup (bytes_eq name) ms ≡ None → ms ++ (name, change empty_module) ∷ [] ≡ change_module change name ms) → (m ∷ ms) ++ (name, change empty_module) ∷ [] ≡ change_module change name (m ∷ ms)
+    by true p rest = absurd (true≢false (ap is_some (ap (λ b. cond b (Some m.1) (lookup (bytes_eq name) ms)) (sym p) ∙ none)))
+    by false p rest = ap (λ r. m ∷ r) (rest (ap (λ b. cond b (Some m.1) (lookup (bytes_eq name) ms)) (sym p) ∙ none))
+        ∙ ap (λ b. cond b ((m.0, change m.1) ∷ ms) (m ∷ change_module change name ms)) (sym p)
+
+module _ {Z : Type 0} where
+  -- a module that is there is changed in its place
+  pub change_there : (change : HostModule → HostModule) (name : List ℕ) (es : List (String Z × HostModule)) (w v : HostModule) → lookup (λ k. bytes_eq name (string_bytes k)) es ≡ Some v → w ≡ change v
+      → by_text (set_value (λ k. bytes_eq name (string_bytes k)) es w) ≡ change_module change name (by_text es)
+  change_there change name [] w v found is = absurd (true≢false (ap is_some (sym found)))
+  change_there change name (e ∷ es) w v found is = by (bytes_eq name (string_bytes e.0)) refl (change_there change name es w v)
+    where
+      by : (b : Bool) → bytes_eq name (string_bytes e.0) ≡ b
+          → (lookup (λ k. bytes_eq name (string_bytes k)) es ≡ Some v → w ≡ change v → by_text (set_value (λ k. bytes_eq name (string_bytes k)) es w) ≡ change_module change name (by_text es))
+          → by_text (set_value (λ k. bytes_eq name (string_bytes k)) (e ∷ es) w) ≡ change_module change name (by_text (e ∷ es))
+      by true p rest =
+          let same : e.1 ≡ v = ap (λ r. unwrap_or r e.1) (ap (λ b. cond b (Some e.1) (lookup (λ k. bytes_eq name (string_bytes k)) es)) (sym p) ∙ found) in
+          ap (λ b. by_text (cond b ((e.0, w) ∷ es) (e ∷ set_value (λ k. bytes_eq name (string_bytes k)) es w))) p
+          ∙ ap (λ x. (string_bytes e.0, x) ∷ by_text es) (is ∙ ap change (sym same))
+          ∙ ap (λ b. cond b ((string_bytes e.0, change e.1) ∷ by_text es) ((string_bytes e.0, e.1) ∷ change_module change name (by_text es))) (sym p)
+      by false p rest =
+          ap (λ b. by_text (cond b ((e.0, w) ∷ es) (e ∷ set_value (λ k. bytes_eq name (string_bytes k)) es w))) p
+          ∙ ap (λ r. (string_bytes e.0, e.1) ∷ r) (rest (ap (λ b. cond b (Some e.1) (lookup (λ k. bytes_eq name (string_bytes k)) es)) (sym p) ∙ found) is)
+          ∙ ap (λ b. cond b ((string_bytes e.0, change e.1) ∷ by_text es) ((string_bytes e.0, e.1) ∷ change_module change name (by_text es))) (sym p)
+
+-- what holds at Ok gives what follows from it there, and so at Err
+pub on_ok : {T E : Type 0} {P Q : Type 0} (r : Result T E) → (P → Q) → OnOk r P → OnOk r Q
+on_ok (Ok x) f p = f p
+on_ok (Err e) f p = p
+
+pub on_err : {T E : Type 0} {P Q : Type 0} (r : Result T E) → (P → Q) → OnErr r P → OnErr r Q
+on_err (Ok x) f p = p
+on_err (Err e) f p = f p
+
+second_false : (a b : Bool) → (a || b) ≡ false → b ≡ false
+second_false true b p = absurd (true≢false p)
+second_false false b p = p
+
+added_last : (name : List ℕ) (ty : FuncType) (m : HostModule) → declares name m ≡ false → record m { functions = m.functions ++ (name, ty) ∷ [] } ≡ with_function name ty m
+added_last name ty m none = ap (λ b. cond b m (record m { functions = m.functions ++ (name, ty) ∷ [] })) (sym none)
+
+module _ {Z : Type 0} where
+  -- a module with these entries
+  abbrev module_of : List (String Z × FuncType) → Bool → HostModule
+  module_of es rest = record { functions = by_text es; rest = rest }
+
+  -- host names with these entries
+  abbrev names_of : List (String Z × HostModule) → HostNames
+  names_of es = record { modules = by_text es }
+
+  -- a function that isn't declared is added
+  pub function_added : (es new : List (String Z × FuncType)) (rest : Bool) (k : String Z) (ty : FuncType) (name : List ℕ) (old : HostModule)
+      → module_of es rest ≡ old → new ≡ insert_entry string_eq es k ty → string_bytes k ≡ name → declares name old ≡ false
+      → module_of new rest ≡ with_function name ty old
+  function_added es new rest k ty name old view inserted named none =
+      let undeclared : declares (string_bytes k) (module_of es rest) ≡ false = ap (λ n. declares n (module_of es rest)) named ∙ ap (declares name) view ∙ none in
+      let m : HostModule = module_of es rest in
+      ap (λ x. module_of x rest) inserted
+      ∙ ap (λ (fs : List (List ℕ × FuncType)). record m { functions = fs }) (by_text_insert string_eq (λ x y. refl) es k ty (second_false rest (is_some (lookup (bytes_eq (string_bytes k)) (by_text es))) undeclared))
+      ∙ added_last (string_bytes k) ty m undeclared
+      ∙ ap (λ n. with_function n ty m) named
+      ∙ ap (with_function name ty) view
+
+  -- a module that is there was changed
+  pub module_changed : (change : HostModule → HostModule) (from : List ℕ) (es new : List (String Z × HostModule)) (w v : HostModule) (old : HostNames)
+      → names_of es ≡ old → new ≡ set_value (λ k. bytes_eq from (string_bytes k)) es w → lookup (λ k. bytes_eq from (string_bytes k)) es ≡ Some v → w ≡ change v
+      → names_of new ≡ record { modules = change_module change from old.modules }
+  module_changed change from es new w v old view written found changed =
+      ap names_of written
+      ∙ ap (λ (ms : List (List ℕ × HostModule)). record old { modules = ms }) (change_there change from es w v found changed)
+      ∙ ap (λ (n : HostNames). record old { modules = change_module change from n.modules }) view
+
+  -- a module that is there wasn't changed
+  pub module_unchanged : (from : List ℕ) (es new : List (String Z × HostModule)) (w v : HostModule) (old : HostNames)
+      → names_of es ≡ old → new ≡ set_value (λ k. bytes_eq from (string_bytes k)) es w → lookup (λ k. bytes_eq from (string_bytes k)) es ≡ Some v → w ≡ v
+      → names_of new ≡ old
+  module_unchanged from es new w v old view written found same =
+      ap names_of (written ∙ set_value_same (λ k. bytes_eq from (string_bytes k)) es w (found ∙ ap Some (sym same))) ∙ view
+
+  -- a new module was added
+  pub module_added : (change : HostModule → HostModule) (from : List ℕ) (es new : List (String Z × HostModule)) (k : String Z) (w : HostModule) (old : HostNames)
+      → names_of es ≡ old → new ≡ insert_entry string_eq es k w → string_bytes k ≡ from → lookup (bytes_eq from) old.modules ≡ None → w ≡ change empty_module
+      → names_of new ≡ record { modules = change_module change from old.modules }
+  module_added change from es new k w old view inserted named none changed =
+      let absent : lookup (bytes_eq (string_bytes k)) (by_text es) ≡ None = ap (λ n. lookup (bytes_eq n) (by_text es)) named ∙ ap (λ (n : HostNames). lookup (bytes_eq from) n.modules) view ∙ none in
+      ap names_of inserted
+      ∙ ap (λ (ms : List (List ℕ × HostModule)). record old { modules = ms }) (by_text_insert string_eq (λ x y. refl) es k w (ap is_some absent)
+      ∙ ap (λ x. by_text es ++ (string_bytes k, x) ∷ []) changed
+      ∙ change_new change (string_bytes k) (by_text es) absent
+      ∙ ap (λ n. change_module change n (by_text es)) named
+      ∙ ap (λ (n : HostNames). change_module change from n.modules) view)

@@ -1,0 +1,27 @@
+-- What host names hold, as the meanings see it.
+use Rattle.std.specs.Prelude.{ℕ, List, map, String, string_bytes, Bool, ◌&&◌, if◌then◌else◌}
+use Rattle.std.specs.Str.{bytes_eq}
+use Rattle.spec_execution.specs.Names as names
+use Rattle.host_table.specs.declared.host.HostName.{HostName}
+use Rattle.host_table.specs.declared.module.HostMatch.{HostMatch}
+use Rattle.host_table.specs.declared.module.HostMatch.TheVariants.{Unknown, Fits, OtherType}
+
+-- entries with the bytes of their texts
+abbrev pub by_text : {Z X : Type 0} → List (String Z × X) → List (List ℕ × X)
+by_text es = map (λ e. (string_bytes e.0, e.1)) es
+
+abbrev pub match_of : HostMatch → names.HostMatch
+match_of Unknown = names.Unknown
+match_of Fits = names.Fits
+match_of OtherType = names.OtherType
+
+-- a host function, by its module, its name and its type
+abbrev pub host_name_of : HostName → names.HostName
+host_name_of h = record { module_name = h.module; name = h.name; ty = h.ty }
+
+abbrev pub fits_where : Bool → names.HostMatch
+fits_where covered = if covered then names.Fits else names.OtherType
+
+-- whether a host function is that of a module and a name
+abbrev pub is_called : List ℕ → List ℕ → names.HostName → Bool
+is_called from name h = bytes_eq h.module_name from && bytes_eq h.name name

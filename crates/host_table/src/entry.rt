@@ -1,0 +1,72 @@
+// The entries of a host table.
+ghost use Rattle.std.specs.Prelude.{◌≡◌, ◌≤◌, length, OnOk};
+ghost use Rattle.spec_execution.specs.Names.{with_name};
+ghost use Rattle.host_table.specs.Names.{host_name_of, is_called};
+ghost use Rattle.host_table.specs.Answers.{Keeps, FitAll, ReplyFits, AnswersAt};
+
+use crate::copies::copied_type;
+use crate::{Callback, HostName, HostNames, Reply};
+use std::alloc::Global;
+use wasm_form::Memory;
+
+// A host function with its callback, whose answers fit.
+#[derive(Drop)]
+pub struct Entry {
+    pub host: HostName,
+    pub call: Callback,
+    ghost keeps: { Keeps (Callback.pre call) (Callback.post call) host.ty },
+}
+
+impl Entry {
+    // Whether it is that of a module and a name.
+    pub fn is_called(&self, from: &str, name: &str) -> bool
+        ensures { result ≡ is_called from.now name.now (host_name_of self.now.host) }
+    {
+        self.host.module.as_str() == from && self.host.name.as_str() == name
+    }
+
+    // Calls it.
+    pub fn ask(&self, args: &[u64], size: u64) -> Reply
+        requires fit { FitAll self.now.host.ty.params args.now }
+        requires memory { size ≤ 4294967296 }
+        ensures answers { AnswersAt (Callback.post self.now.call) args.now size result }
+        ensures fits { ReplyFits self.now.host.ty size result }
+    {
+        (self.call)(args, size)
+    }
+
+    // Declares it.
+    pub fn declare(&self, alloc: Global, names: &mut HostNames) -> Result<(), Memory>
+        ensures { OnOk result (names.new ≡ with_name names.old (host_name_of self.now.host)) }
+    {
+        let ty = copied_type(alloc, &self.host.ty)?;
+        names.declare(
+            alloc,
+            self.host.module.as_str(),
+            self.host.name.as_str(),
+            ty,
+        )
+    }
+}
+
+/// Why a host function wasn't added.
+#[derive(Clone, Copy, Debug, PartialEq, Eq)]
+pub enum AddFault {
+    SameName,
+    Memory,
+}
+
+/// A refusal to add a host function, with its callback.
+#[derive(Drop)]
+pub struct AddRefused {
+    pub fault: AddFault,
+    pub call: Callback,
+}
+
+/// Host functions with their callbacks, each beside the fact that its answers fit its type and the memory. No two have the same
+/// module and name.
+#[derive(Drop)]
+pub struct HostTable {
+    pub(crate) entries: Vec<Entry>,
+    ghost room: { length entries.items ≤ 4294967295 },
+}

@@ -1,0 +1,28 @@
+// What a host function is given, and what it answers.
+use wasm_form::{FuncType, Text};
+
+/// Bytes that a host function writes into memory: the `len` low bytes of a number, the lowest first, from an address on.
+#[derive(Clone, Copy, Debug, PartialEq, Eq)]
+pub struct Put {
+    pub at: u32,
+    pub bytes: u64,
+    pub len: u8,
+}
+
+/// What a host function answers: its result, which is 0 where its type has none, and what it writes.
+#[derive(Clone, Copy, Debug, PartialEq, Eq)]
+pub struct Reply {
+    pub result: u64,
+    pub put: Option<Put>,
+}
+
+/// A host function: its module, its name and its type.
+#[derive(Drop)]
+pub struct HostName {
+    pub module: Text,
+    pub name: Text,
+    pub ty: FuncType,
+}
+
+/// A host function as the embedder wrote it. It is given the arguments and the size of the memory in bytes.
+pub type Callback = Box<dyn Fn(&[u64], u64) -> Reply>;
