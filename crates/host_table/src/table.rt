@@ -1,5 +1,5 @@
 // Host functions with their callbacks.
-ghost use Rattle.std.specs.Prelude.{◌≡◌, ◌<◌, ◌≤◌, length, [], OnOk, OnErr, IfErr, IfOk, is_some, false, IsTrue};
+ghost use Rattle.std.specs.Prelude.{◌≡◌, ◌<◌, ◌≤◌, ◌+◌, length, [], OnOk, OnErr, IfErr, IfOk, is_some, false, IsTrue};
 ghost use Rattle.spec_execution.specs.Names.{has_integers, with_names};
 ghost use Rattle.host_table.specs.Names.{host_name_of};
 ghost use Rattle.host_table.specs.Answers.{Keeps};
@@ -14,7 +14,8 @@ use wasm_form::{FuncType, Memory, Text};
 impl HostTable {
     /// A table without entries.
     pub fn new(alloc: Global) -> HostTable
-        ensures { functions_of result ≡ [] }
+        ensures none { functions_of result ≡ [] }
+        ensures count { entry_count result ≡ 0 }
     {
         HostTable {
             entries: Vec::new(alloc),
@@ -56,6 +57,7 @@ impl HostTable {
         ensures same { IfErr result (λ e. is_same_name e.fault ≡ is_some (entry_number self.old from.now name.now)) }
         ensures back { IfErr result (λ e. e.call ≡ call) }
         ensures unchanged { OnErr result (IsUnchanged self.old self.new) }
+        ensures count { entry_count self.new ≤ entry_count self.old + 1 }
     {
         if self.find(from, name).is_some() {
             return Err(AddRefused {
@@ -80,6 +82,7 @@ impl HostTable {
         ensures fault { IfErr result (λ e. is_same_name e.fault ≡ false) }
         ensures back { IfErr result (λ e. e.call ≡ call) }
         ensures unchanged { OnErr result (IsUnchanged self.old self.new) }
+        ensures count { entry_count self.new ≤ entry_count self.old + 1 }
     {
         match self.entries.push(Entry { host, call }) {
             Ok(()) => Ok(()),

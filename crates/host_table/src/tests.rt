@@ -58,6 +58,27 @@ fn added_and_called(rt: HostRuntime) {
                 len: 4
             })
     );
+    let names = table
+        .names(alloc, HostNames::new(alloc))
+        .expect(&rt, "memory");
+    let ty = type_of(alloc, &[ValType::I32], &[ValType::I32]).expect(&rt, "memory");
+    assert!(rt; names.find("env", "first", &ty) == HostMatch::Fits);
+}
+
+#[test]
+fn same_name_refused(rt: HostRuntime) {
+    let alloc = rt.alloc();
+    let mut table = HostTable::new(alloc);
+    let ty = type_of(alloc, &[], &[]).expect(&rt, "memory");
+    let call: Callback = Box::new(
+        alloc,
+        |_args: &[u64], _size: u64| Reply {
+            result: 0,
+            put: None,
+        },
+    )
+    .expect(&rt, "memory");
+    assert!(rt; table.add(alloc, "env", "first", ty, call).is_ok());
     let ty = type_of(alloc, &[], &[]).expect(&rt, "memory");
     let again: Callback = Box::new(
         alloc,
@@ -75,11 +96,6 @@ fn added_and_called(rt: HostRuntime) {
             assert!(rt; reply.result == 0);
         }
     }
-    let names = table
-        .names(alloc, HostNames::new(alloc))
-        .expect(&rt, "memory");
-    let ty = type_of(alloc, &[ValType::I32], &[ValType::I32]).expect(&rt, "memory");
-    assert!(rt; names.find("env", "first", &ty) == HostMatch::Fits);
 }
 
 #[test]
