@@ -1,5 +1,5 @@
 -- Entries of a map by text keys, as the meanings see them.
-use Rattle.std.proofs.Common.{◌≡◌, ℕ, Bool, true, false, List, [], ◌∷◌, ◌++◌, refl, ap, sym, ◌∙◌, cond, Option, Some, None, OnOk, OnErr, Result, Ok, Err, string_bytes, is_some, unwrap_or, ◌||◌, true≢false}
+use Rattle.std.proofs.Common.{◌≡◌, ℕ, Bool, true, false, List, [], ◌∷◌, ◌++◌, refl, ap, sym, ◌∙◌, cond, Some, None, OnOk, OnErr, Result, Ok, Err, string_bytes, is_some, unwrap_or, ◌||◌, true≢false}
 use Rattle.std.specs.Prelude.{String}
 use Rattle.std.specs.Str.{bytes_eq}
 use Rattle.std.specs.String.{string_eq}
