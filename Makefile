@@ -1,11 +1,12 @@
 # make        builds bin/wdyl
 # make demo   builds it, merges the examples and runs what was merged
 # make bench  builds it and measures it
+# make inner  measures the memories and integer operators of a run beside C
 # make test   proves, builds and tests everything
 
 SOURCES := crates.txt $(shell find crates -name out -prune -o -type f \( -name '*.rt' -o -name '*.antt' \) -print)
 
-.PHONY: all demo bench test clean
+.PHONY: all demo bench inner test clean
 
 all: bin/wdyl
 
@@ -22,6 +23,9 @@ bench: bin/wdyl
 	python3 bench/merge.py bin/wdyl
 	@if command -v node >/dev/null; then node bench/recursion.mjs bin/wdyl; \
 	else echo "node is missing: the merged module that recurses for ever isn't run"; fi
+
+inner:
+	python3 bench/inner.py
 
 test:
 	rt ci
