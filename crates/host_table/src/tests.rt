@@ -125,4 +125,49 @@ fn first_declaration_counts(rt: HostRuntime) {
     assert!(rt; names.find("other", "a", &none) == HostMatch::Unknown);
     assert!(rt; names.typed("env", "a").is_some());
     assert!(rt; names.typed("env", "b").is_none());
+    let after = type_of(alloc, &[], &[]).expect(&rt, "memory");
+    names.declare_rest(alloc, "late").expect(&rt, "memory");
+    names
+        .declare(alloc, "late", "a", after)
+        .expect(&rt, "memory");
+    assert!(rt; names.find("late", "a", &long) == HostMatch::Fits);
+    assert!(rt; names.find("late", "a", &none) == HostMatch::OtherType);
+    assert!(rt; names.typed("late", "a").is_none());
+}
+
+#[test]
+fn names_in_order(rt: HostRuntime) {
+    let alloc = rt.alloc();
+    let none = type_of(alloc, &[], &[]).expect(&rt, "memory");
+    let long = type_of(alloc, &[ValType::I64], &[ValType::I32]).expect(&rt, "memory");
+    let mut first = HostNames::new(alloc);
+    let ty = type_of(alloc, &[], &[]).expect(&rt, "memory");
+    first.declare(alloc, "env", "a", ty).expect(&rt, "memory");
+    let mut table = HostTable::new(alloc);
+    let ty = type_of(alloc, &[ValType::I64], &[ValType::I32]).expect(&rt, "memory");
+    let call: Callback = Box::new(
+        alloc,
+        |_args: &[u64], _size: u64| Reply {
+            result: 0,
+            put: None,
+        },
+    )
+    .expect(&rt, "memory");
+    assert!(rt; table.add(alloc, "env", "a", ty, call).is_ok());
+    let ty = type_of(alloc, &[], &[]).expect(&rt, "memory");
+    let other: Callback = Box::new(
+        alloc,
+        |_args: &[u64], _size: u64| Reply {
+            result: 0,
+            put: None,
+        },
+    )
+    .expect(&rt, "memory");
+    assert!(rt; table.add(alloc, "other", "b", ty, other).is_ok());
+    assert!(rt; table.find("env", "a") == Some(0));
+    assert!(rt; table.find("other", "b") == Some(1));
+    let names = table.names(alloc, first).expect(&rt, "memory");
+    assert!(rt; names.find("env", "a", &none) == HostMatch::Fits);
+    assert!(rt; names.find("env", "a", &long) == HostMatch::OtherType);
+    assert!(rt; names.find("other", "b", &none) == HostMatch::Fits);
 }
