@@ -1,12 +1,15 @@
 -- Entries of a map by text keys, as the meanings see them.
 use Rattle.std.proofs.Common.{◌≡◌, ℕ, Bool, true, false, List, [], ◌∷◌, ◌++◌, refl, ap, sym, ◌∙◌, cond, Some, None, OnOk, OnErr, Result, Ok, Err, string_bytes, is_some, unwrap_or, ◌||◌, true≢false}
 use Rattle.std.specs.Prelude.{String}
+use Rattle.std.specs.List.{All}
 use Rattle.std.specs.Str.{bytes_eq}
 use Rattle.std.specs.String.{string_eq}
 use Rattle.std.specs.Map.{lookup, set_value}
 use Rattle.indexmap.specs.IndexMap.{insert_entry}
 use Rattle.wasm_form.specs.declared.types.FuncType.{FuncType}
 use Rattle.std.proofs.lemmas.Map.Steps.{set_value_same}
+use Rattle.std.proofs.lemmas.Bool.{cond_both}
+use Rattle.std.proofs.lemmas.List.Elements.{All-cons, All-head, All-tail}
 use Rattle.spec_execution.specs.Names.{HostModule, HostNames, empty_module, declares, with_function, change_module}
 use Rattle.host_table.specs.Names.{by_text}
 
@@ -26,6 +29,14 @@ module _ {Z X : Type 0} where
       by true p rest = absurd (true≢false (ap (λ b. is_some (cond b (Some e.1) (lookup (bytes_eq (string_bytes k)) (by_text es)))) (sym p) ∙ none))
       by false p rest = ap (λ b. by_text (cond b ((e.0, v) ∷ es) (e ∷ insert_entry eq es k v))) (same k e.0 ∙ p)
           ∙ ap (λ r. (string_bytes e.0, e.1) ∷ r) (rest (ap (λ b. is_some (cond b (Some e.1) (lookup (bytes_eq (string_bytes k)) (by_text es)))) (sym p) ∙ none))
+
+module _ {K X : Type 0} (P : X → Type 0) where
+  -- what holds of each value and of one more holds of each once that one is inserted
+  pub All-inserted : (eq : K → K → Bool) (es : List (K × X)) (k : K) (v : X) → All (λ e. P e.1) es → P v → All (λ e. P e.1) (insert_entry eq es k v)
+  All-inserted eq [] k v all this = All-cons (λ e. P e.1) (k, v) [] this all
+  All-inserted eq (e ∷ es) k v all this = cond_both (eq k e.0) ((e.0, v) ∷ es) (e ∷ insert_entry eq es k v) (All (λ e. P e.1))
+      (λ _. All-cons (λ e. P e.1) (e.0, v) es this (All-tail (λ e. P e.1) e es all))
+      (λ _. All-cons (λ e. P e.1) e (insert_entry eq es k v) (All-head (λ e. P e.1) e es all) (All-inserted eq es k v (All-tail (λ e. P e.1) e es all) this))
 
 -- a module that is new goes last
 pub change_new : (change : HostModule → HostModule) (name : List ℕ) (ms : List (List ℕ × HostModule)) → lookup (bytes_eq name) ms ≡ None → ms ++ (name, change empty_module) ∷ [] ≡ change_module change name ms

@@ -1,6 +1,8 @@
 -- What host names hold, as the meanings see it.
-use Rattle.std.specs.Prelude.{ℕ, List, map, String, string_bytes, Bool, ◌&&◌, if◌then◌else◌}
+use Rattle.std.specs.Prelude.{ℕ, List, map, String, string_bytes, Bool, IsTrue, ◌&&◌, if◌then◌else◌}
+use Rattle.std.specs.List.{All}
 use Rattle.std.specs.Str.{bytes_eq}
+use Rattle.wasm_form.specs.declared.types.FuncType.{FuncType}
 use Rattle.spec_execution.specs.Names as names
 use Rattle.host_table.specs.declared.host.HostName.{HostName}
 use Rattle.host_table.specs.declared.module.HostMatch.{HostMatch}
@@ -9,6 +11,10 @@ use Rattle.host_table.specs.declared.module.HostMatch.TheVariants.{Unknown, Fits
 -- entries with the bytes of their texts
 abbrev pub by_text : {Z X : Type 0} → List (String Z × X) → List (List ℕ × X)
 by_text es = map (λ e. (string_bytes e.0, e.1)) es
+
+-- the type of each entry has integers alone
+abbrev pub HaveIntegers : {Z : Type 0} → List (String Z × FuncType) → Type 0
+HaveIntegers es = All (λ e. IsTrue (names.has_integers e.1)) es
 
 abbrev pub match_of : HostMatch → names.HostMatch
 match_of Unknown = names.Unknown

@@ -1,6 +1,6 @@
 // The entries of a host table.
-ghost use Rattle.std.specs.Prelude.{◌≡◌, ◌≤◌, length, OnOk};
-ghost use Rattle.spec_execution.specs.Names.{with_name};
+ghost use Rattle.std.specs.Prelude.{◌≡◌, ◌≤◌, length, OnOk, IsTrue};
+ghost use Rattle.spec_execution.specs.Names.{with_name, has_integers};
 ghost use Rattle.host_table.specs.Names.{host_name_of, is_called};
 ghost use Rattle.host_table.specs.Answers.{Keeps, FitAll, ReplyFits, AnswersAt};
 
@@ -9,12 +9,13 @@ use crate::{Callback, HostName, HostNames, Reply};
 use std::alloc::Global;
 use wasm_form::Memory;
 
-// A host function with its callback, whose answers fit.
+// A host function of integers alone with its callback, whose answers fit.
 #[derive(Drop)]
 pub struct Entry {
     pub host: HostName,
     pub call: Callback,
     ghost keeps: { Keeps (Callback.pre call) (Callback.post call) host.ty },
+    ghost integers: { IsTrue (has_integers host.ty) },
 }
 
 impl Entry {

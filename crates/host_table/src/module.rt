@@ -1,9 +1,9 @@
 // What is declared of one module.
-ghost use Rattle.std.specs.Prelude.{◌≡◌, false, OnOk, OnErr};
+ghost use Rattle.std.specs.Prelude.{◌≡◌, false, OnOk, OnErr, IfSome, IsTrue};
 ghost use Rattle.std.specs.Map.{lookup};
 ghost use Rattle.std.specs.Str.{bytes_eq};
 ghost use Rattle.std.specs.Option.{option_copied};
-ghost use Rattle.spec_execution.specs.Names.{empty_module, declares, with_function, with_every_name, module_match};
+ghost use Rattle.spec_execution.specs.Names.{empty_module, declares, with_function, with_every_name, module_match, has_integers};
 ghost use Rattle.host_table.specs.Names.{match_of, fits_where};
 
 use crate::copies::owned;
@@ -21,7 +21,7 @@ pub enum HostMatch {
     OtherType,
 }
 
-// Functions by their names and types, in first-seen order, and whether every other name is declared too.
+// Functions by their names and integer types, in first-seen order, and whether every other name is declared too.
 #[derive(Drop)]
 pub struct ModuleNames {
     functions: IndexMap<String, FuncType>,
@@ -30,11 +30,13 @@ pub struct ModuleNames {
 
 impl Model for ModuleNames {
     ghost use Rattle.spec_execution.specs.Names.{HostModule};
-    ghost use Rattle.host_table.specs.Names.{by_text};
+    ghost use Rattle.host_table.specs.Names.{by_text, HaveIntegers};
 
     ghost Value = { HostModule };
 
     ghost view = { λ m. record { functions = by_text m.functions.entries; rest = m.rest } };
+
+    ghost invariant = { λ m. HaveIntegers m.functions.entries };
 }
 
 impl ModuleNames {
@@ -50,6 +52,7 @@ impl ModuleNames {
 
     // Declares a name with its type, unless the name is declared already.
     pub fn declare(&mut self, alloc: Global, name: &str, ty: FuncType) -> Result<(), Memory>
+        requires integers { IsTrue (has_integers ty) }
         ensures ok { OnOk result (self.new ≡ with_function name.now ty self.old) }
         ensures err { OnErr result (self.new ≡ self.old) }
     {
@@ -68,7 +71,8 @@ impl ModuleNames {
 
     // Adds a function that isn't declared.
     fn add_function(&mut self, alloc: Global, name: &str, ty: FuncType) -> Result<(), Memory>
-        requires { declares name.now self.old ≡ false }
+        requires undeclared { declares name.now self.old ≡ false }
+        requires integers { IsTrue (has_integers ty) }
         ensures ok { OnOk result (self.new ≡ with_function name.now ty self.old) }
         ensures err { OnErr result (self.new ≡ self.old) }
     {
@@ -84,9 +88,10 @@ impl ModuleNames {
         self.rest = true;
     }
 
-    // The type of a name that was declared with its type.
+    // The type of a name that was declared with its type, which has integers alone.
     pub fn typed(&self, name: &str) -> Option<&FuncType>
-        ensures { option_copied result ≡ lookup (bytes_eq name.now) self.now.functions }
+        ensures value { option_copied result ≡ lookup (bytes_eq name.now) self.now.functions }
+        ensures integers { IfSome (option_copied result) (λ t. IsTrue (has_integers t)) }
     {
         self.functions.get(name)
     }

@@ -1,9 +1,9 @@
 // The names under which host functions are declared.
-ghost use Rattle.std.specs.Prelude.{◌≡◌, OnOk, OnErr, None, unwrap_or};
+ghost use Rattle.std.specs.Prelude.{◌≡◌, OnOk, OnErr, None, unwrap_or, IfSome, IsTrue};
 ghost use Rattle.std.specs.Map.{lookup};
 ghost use Rattle.std.specs.Str.{bytes_eq};
 ghost use Rattle.std.specs.Option.{option_copied};
-ghost use Rattle.spec_execution.specs.Names.{HostModule, no_names, empty_module, host_module, change_module, with_name, with_rest, host_match, host_typed};
+ghost use Rattle.spec_execution.specs.Names.{HostModule, no_names, empty_module, host_module, change_module, with_name, with_rest, host_match, host_typed, has_integers};
 ghost use Rattle.host_table.specs.Names.{match_of};
 
 use crate::copies::owned;
@@ -38,7 +38,7 @@ impl HostNames {
         }
     }
 
-    /// Declares a host function by its module, its name and its type. Where the name is declared already, the earlier
+    /// Declares a host function of integers alone by its module, its name and its type. Where the name is declared already, the earlier
     /// declaration stays the one that counts. At want of memory nothing is changed.
     pub fn declare(
         &mut self,
@@ -47,6 +47,7 @@ impl HostNames {
         name: &str,
         ty: FuncType,
     ) -> Result<(), Memory>
+        requires integers { IsTrue (has_integers ty) }
         ensures ok { OnOk result (self.new ≡ with_name self.old (record { module_name = from.now; name = name.now; ty = ty })) }
         ensures err { OnErr result (self.new ≡ self.old) }
     {
@@ -90,9 +91,10 @@ impl HostNames {
         }
     }
 
-    /// The type of a name whose declaration that counts was made with a type by `declare`, else None.
+    /// The type of a name whose declaration that counts was made with a type by `declare`, else None. It has integers alone.
     pub fn typed(&self, from: &str, name: &str) -> Option<&FuncType>
-        ensures { option_copied result ≡ host_typed self.now from.now name.now }
+        ensures value { option_copied result ≡ host_typed self.now from.now name.now }
+        ensures integers { IfSome (option_copied result) (λ t. IsTrue (has_integers t)) }
     {
         match self.module(from) {
             Some(names) => names.typed(name),

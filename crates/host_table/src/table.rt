@@ -77,6 +77,7 @@ impl HostTable {
     // Adds an entry at the end.
     fn push(&mut self, host: HostName, call: Callback) -> Result<(), AddRefused>
         requires room { entry_count self.old < 4294967295 }
+        requires integers { IsTrue (has_integers host.ty) }
         requires keeps { Keeps (Callback.pre call) (Callback.post call) host.ty }
         ensures added { OnOk result (Adds self.old (host_name_of host) call self.new) }
         ensures fault { IfErr result (λ e. is_same_name e.fault ≡ false) }
