@@ -1,5 +1,5 @@
 -- The form of input that is built so far: one module of functions without parameters and results, which call each other.
-use Rattle.std.specs.Prelude.{◌≡◌, ◌≢◌, ℕ, ◌<◌, ◌≤◌, List, [], ◌∷◌, ◌++◌, length, map, All, None, codes as text_codes}
+use Rattle.std.specs.Prelude.{◌≡◌, ◌≢◌, ℕ, ◌<◌, ◌≤◌, List, [], ◌∷◌, length, map, All, None, codes as text_codes}
 use Rattle.wasm_form.specs.declared.types.FuncType.{FuncType}
 use Rattle.wasm_form.specs.declared.instr.Instr.{Instr, out-Instr}
 use Rattle.wasm_form.specs.declared.instr.Instr.TheOpen as Open
@@ -10,13 +10,6 @@ use Rattle.wasm_form.specs.declared.module.Export.{Export}
 use Rattle.wasm_form.specs.declared.module.Code.{Code}
 use Rattle.wasm_form.specs.declared.module.Custom.{Custom}
 use Rattle.wasm_form.specs.declared.module.Module.{Module}
-use Rattle.wasm_form.specs.Number.{SpellsUnsigned}
-use Rattle.wasm_form.specs.Name.{SpellsName}
-use Rattle.wasm_form.specs.Sequence.{SpellsVec}
-use Rattle.spec_binary.specs.Types.{SpellsFuncType}
-use Rattle.spec_binary.specs.Parts.{SpellsExport, SpellsCode}
-use Rattle.spec_binary.specs.Sections.{IsSection}
-use Rattle.spec_binary.specs.Modules.{header}
 
 -- the function type without parameters and results
 abbrev pub nullary : FuncType
@@ -77,9 +70,10 @@ abbrev pub most_exports : ℕ
 most_exports = 65536
 
 pub record IsSmall (m : Module) : Type 0 where
-  pub types : m.types ≡ nullary ∷ []
+  pub types : All (λ t. t ≡ nullary) m.types
+  pub few_types : length m.types ≤ 1
   pub imports : m.imports ≡ []
-  pub funcs : All (λ t. t ≡ 0) m.funcs
+  pub funcs : All (λ t. t < length m.types) m.funcs
   pub tables : m.tables ≡ []
   pub memories : m.memories ≡ []
   pub globals : m.globals ≡ []
@@ -93,26 +87,3 @@ pub record IsSmall (m : Module) : Type 0 where
   pub codes : All (IsSmallCode (length m.funcs)) m.codes
   pub datas : m.datas ≡ []
   pub customs : m.customs ≡ small_custom ∷ []
-
--- a name, and bytes
-pub data SpellsCustom : Custom → List ℕ → Type 0 where
-  custom : {c : Custom} {w : List ℕ} → SpellsName c.name w → SpellsCustom c (w ++ c.bytes)
-
--- a section of this number, whose contents spell this
-pub data SpellsSection {A : Type 0} (Spells : A → List ℕ → Type 0) : ℕ → A → List ℕ → Type 0 where
-  section : {id : ℕ} {x : A} {contents w : List ℕ} → IsSection id contents w → Spells x contents → SpellsSection Spells id x w
-
--- The file is of the small form: it is the header and then these five sections, in this order, of a small module.
-pub record IsSmallFile (m : Module) (bytes : List ℕ) : Type 0 where
-  pub dylink_word : List ℕ
-  pub type_word : List ℕ
-  pub function_word : List ℕ
-  pub export_word : List ℕ
-  pub code_word : List ℕ
-  pub parts : bytes ≡ header ++ (dylink_word ++ (type_word ++ (function_word ++ (export_word ++ code_word))))
-  pub dylink_section : SpellsSection SpellsCustom 0 small_custom dylink_word
-  pub type_section : SpellsSection (SpellsVec SpellsFuncType) 1 m.types type_word
-  pub function_section : SpellsSection (SpellsVec (SpellsUnsigned 32)) 3 m.funcs function_word
-  pub export_section : SpellsSection (SpellsVec SpellsExport) 7 m.exports export_word
-  pub code_section : SpellsSection (SpellsVec SpellsCode) 10 m.codes code_word
-  pub small : IsSmall m

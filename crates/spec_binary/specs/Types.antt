@@ -1,10 +1,11 @@
 -- Types (WebAssembly Core 2.0, section 5.3).
-use Rattle.std.specs.Prelude.{◌≡◌, ℕ, List, [], ◌∷◌, ◌++◌, Some, None}
+use Rattle.std.specs.Prelude.{◌≡◌, ℕ, Bool, true, false, List, [], ◌∷◌, ◌++◌, Some, None}
 use Rattle.wasm_form.specs.declared.types.ValType.{ValType}
 use Rattle.wasm_form.specs.declared.types.ValType.TheVariants.{I32, I64, F32, F64, FuncRef, ExternRef}
 use Rattle.wasm_form.specs.declared.types.FuncType.{FuncType}
 use Rattle.wasm_form.specs.declared.types.Limits.{Limits}
 use Rattle.wasm_form.specs.declared.types.TableType.{TableType}
+use Rattle.wasm_form.specs.declared.types.GlobalType.{GlobalType}
 use Rattle.wasm_form.specs.Number.{SpellsUnsigned}
 use Rattle.wasm_form.specs.Sequence.{SpellsVec}
 
@@ -31,3 +32,11 @@ pub data SpellsLimits : Limits → List ℕ → Type 0 where
 
 pub data SpellsTableType : TableType → List ℕ → Type 0 where
   table : {ty : TableType} {w v : List ℕ} → SpellsRefType ty.elem w → SpellsLimits ty.limits v → SpellsTableType ty (w ++ v)
+
+-- whether a global can be set
+pub data SpellsMutability : Bool → List ℕ → Type 0 where
+  constant : SpellsMutability false (0x00 ∷ [])
+  variable : SpellsMutability true (0x01 ∷ [])
+
+pub data SpellsGlobalType : GlobalType → List ℕ → Type 0 where
+  global : {ty : GlobalType} {w v : List ℕ} → SpellsValType ty.value w → SpellsMutability ty.mutable v → SpellsGlobalType ty (w ++ v)

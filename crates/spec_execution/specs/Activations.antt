@@ -10,7 +10,12 @@ use Rattle.wasm_form.specs.declared.runtime.Ref.{Ref}
 use Rattle.wasm_form.specs.declared.runtime.Trap.{Trap}
 use Rattle.wasm_form.specs.declared.runtime.Trap.TheVariants as trap
 use Rattle.spec_binary.specs.Options.{◌>>=◌}
-use Rattle.spec_binary.specs.Opcodes.{PlainForm, Unreachable, Nop, OtherPlain, plain_form, IndexForm, Call, OtherIndex, index_form}
+use Rattle.wasm_opcode.specs.declared.plain.PlainForm.{PlainForm}
+use Rattle.wasm_opcode.specs.declared.plain.PlainForm.TheVariants.{Unreachable, Nop}
+use Rattle.wasm_opcode.specs.declared.index.IndexForm.{IndexForm}
+use Rattle.wasm_opcode.specs.declared.index.IndexForm.TheVariants.{Call}
+use Rattle.wasm_opcode.specs.Plain.{plain_form}
+use Rattle.wasm_opcode.specs.Index.{index_form}
 
 -- a number, as the whole number that its bits are; or a function or null
 pub data Value : Type 0 where
@@ -44,14 +49,14 @@ pub data Move : Type 0 where
   Fails : Trap → Move
   Stuck : Move
 
-abbrev pub plain_move : PlainForm → Activation → Move
-plain_move Unreachable a = Fails trap.Unreachable
-plain_move Nop a = On a
-plain_move OtherPlain a = Stuck
+abbrev pub plain_move : Option PlainForm → Activation → Move
+plain_move (Some Unreachable) a = Fails trap.Unreachable
+plain_move (Some Nop) a = On a
+plain_move _ a = Stuck
 
-abbrev pub index_move : ℕ → IndexForm → Activation → Move
-index_move n Call a = Calls n a
-index_move n OtherIndex a = Stuck
+abbrev pub index_move : ℕ → Option IndexForm → Activation → Move
+index_move n (Some Call) a = Calls n a
+index_move n _ a = Stuck
 
 abbrev pub instr_move : Open.Instr-F Instr Expr → Activation → Move
 instr_move (Open.Plain op) a = plain_move (plain_form op) a

@@ -30,11 +30,11 @@ number_fits F64 n = false
 number_fits FuncRef n = false
 number_fits ExternRef n = false
 
-abbrev pub results_fit : List ValType → List ℕ → Bool
-results_fit [] [] = true
-results_fit [] (n ∷ ns) = false
-results_fit (t ∷ ts) [] = false
-results_fit (t ∷ ts) (n ∷ ns) = number_fits t n && results_fit ts ns
+abbrev pub numbers_fit : List ValType → List ℕ → Bool
+numbers_fit [] [] = true
+numbers_fit [] (n ∷ ns) = false
+numbers_fit (t ∷ ts) [] = false
+numbers_fit (t ∷ ts) (n ∷ ns) = number_fits t n && numbers_fit ts ns
 
 abbrev pub writes_fit : List Write → MemoryInstance → Bool
 writes_fit [] memory = true
@@ -42,7 +42,7 @@ writes_fit (w ∷ ws) memory = nat_le (w.at + length w.bytes) (length memory.byt
 
 -- An answer fits where its results have the declared types and its writes lie inside the memory. An exit always fits.
 abbrev pub answer_fits : HostCall → MemoryInstance → Answer → Bool
-answer_fits call memory (Reply results writes) = results_fit call.host.ty.results results && writes_fit writes memory
+answer_fits call memory (Reply results writes) = numbers_fit call.host.ty.results results && writes_fit writes memory
 answer_fits call memory (Exit code) = true
 
 abbrev pub hosts : Outside

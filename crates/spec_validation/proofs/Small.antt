@@ -25,13 +25,14 @@ holds_at P [] i x all e = absurd cc
 holds_at P (y ∷ ys) zero x all e = let same : y ≡ x = cc in subst P same (All-head P y ys all)
 holds_at P (y ∷ ys) (suc i) x all e = holds_at P ys i x (All-tail P y ys all) e
 
--- all types are the one without parameters and results
-type_of : (types : List FuncType) (funcs : List ℕ) (f : ℕ) → types ≡ nullary ∷ [] → All (λ t. t ≡ 0) funcs → f < length funcs
+-- a function has the type without parameters and results
+type_of : (types : List FuncType) (funcs : List ℕ) (f : ℕ) → All (λ t. t ≡ nullary) types → All (λ t. t < length types) funcs → f < length funcs
     → (slice_get funcs f >>= λ t. slice_get types t) ≡ Some nullary
-type_of types funcs f one zeros lt =
+type_of types funcs f same there lt =
     let g = got funcs f lt in
-    let z : g.0 ≡ 0 = holds_at (λ t. t ≡ 0) funcs f g.0 zeros g.1 in
-    rw (g.1, z, one) refl
+    let h = got types g.0 (holds_at (λ t. t < length types) funcs f g.0 there g.1) in
+    let is : h.0 ≡ nullary = holds_at (λ t. t ≡ nullary) types g.0 h.0 same h.1 in
+    rw (g.1, h.1, is) refl
 
 pub small_type : (m : Module) → IsSmall m → (f : ℕ) → f < length m.funcs → function_type m f ≡ Some nullary
 small_type m small f lt = type_of m.types m.funcs f small.types small.funcs lt

@@ -1,4 +1,5 @@
 pub mod Stacks
+pub mod Context
 pub mod Typing
 pub mod Faults
 pub mod Laws

@@ -1,0 +1,5 @@
+pub mod Ranges
+pub mod Plain
+pub mod Index
+pub mod Access
+pub mod Second

@@ -1,0 +1,5 @@
+-- Opcodes that stand together.
+use Rattle.std.specs.Prelude.{ℕ, Bool, ◌&&◌, nat_le}
+
+abbrev pub within : ℕ → ℕ → ℕ → Bool
+within low high op = nat_le low op && nat_le op high
