@@ -2,4 +2,3 @@ pub mod Places
 pub mod UnsignedSpelling
 pub mod SignedSpelling
 pub mod NameSpelling
-pub mod SequenceSpelling

@@ -1,5 +1,5 @@
 -- Signed numbers: one value and one rest for a text, and one shortest spelling of a value.
-use Rattle.std.proofs.Common.{◌≡◌, ℕ, ℤ, pos, negsuc, zero, suc, ◌+◌, ◌-◌, ◌*◌, ◌/◌, ◌%◌, ◌^◌, ◌<◌, ◌≤◌, ◌+ℤ◌, ◌-ℤ◌, ◌*ℤ◌, ◌<ℤ◌, ◌≤ℤ◌, nat_abs, List, [], ◌∷◌, ◌++◌, refl, sym, ap, ◌∙◌, subst, arith, inl, inr, length, append_assoc, FitsSigned, w32, w64}
+use Rattle.std.proofs.Common.{◌≡◌, ℕ, ℤ, pos, negsuc, zero, suc, ◌+◌, ◌-◌, ◌*◌, ◌/◌, ◌%◌, ◌^◌, ◌<◌, ◌≤◌, ◌+ℤ◌, ◌-ℤ◌, ◌*ℤ◌, ◌<ℤ◌, ◌≤ℤ◌, List, [], ◌∷◌, ◌++◌, refl, sym, ap, ◌∙◌, subst, arith, inl, inr, length, append_assoc, FitsSigned, w32, w64}
 use Rattle.std.specs.Prelude.{◌⊎◌}
 use Rattle.std.proofs.lemmas.Int.{ints, by_lt_z}
 use Rattle.std.proofs.lemmas.Nat.{pow-add}
@@ -126,13 +126,6 @@ wider n v r h = elim (cases_lt 7 n) [
       let below = r.below in
       absurd (elim h.wide [ inl a ↦ omega (arith, ints) | inr b ↦ omega (arith, ints) ])
 ]
-
--- the number of the high bits is nearer to 0
-pub nearer : (v high : ℤ) (low : ℕ) → low < 128 → v ≡ pos 128 *ℤ high +ℤ pos low → IsWide v → nat_abs high < nat_abs v
-nearer (pos a) (pos q) low h e w = elim w.wide [ inl l ↦ omega (arith, ints) | inr r ↦ omega (arith, ints) ]
-nearer (pos a) (negsuc q) low h e w = absurd (omega (arith, ints))
-nearer (negsuc a) (pos q) low h e w = absurd (omega (arith, ints))
-nearer (negsuc a) (negsuc q) low h e w = elim w.wide [ inl l ↦ omega (arith, ints) | inr r ↦ omega (arith, ints) ]
 
 pub high_range : (n : ℕ) (v high : ℤ) (low : ℕ) → low < 128 → v ≡ pos 128 *ℤ high +ℤ pos low → IsWide v → IsSigned n v → IsSigned (n - 7) high
 high_range n v high low h e w r =
