@@ -1,0 +1,20 @@
+-- What reading from left to right finds is what the definition of spelling says.
+use Rattle.std.specs.Prelude.{◌≡◌, ℕ, List, All, Result}
+use Rattle.wasm_form.specs.declared.module.Module.{Module}
+use Rattle.spec_binary.specs.BodyLimits.{IsWithinLimits}
+use Rattle.spec_binary.specs.Modules.{SpellsModule}
+use Rattle.spec_binary.specs.WellFormed.{CountsAgree, IsWellFormed}
+use Rattle.spec_binary.specs.Answers.{Fault, Answers}
+use Rattle.spec_reading.specs.Sections.{answer_of}
+
+-- there is one answer for bytes, and reading gives it
+abbrev pub ReadingAnswers : Type 0
+ReadingAnswers = (bytes : List ℕ) → Answers bytes (answer_of bytes) × ((answer : Result Module Fault) → Answers bytes answer → answer ≡ answer_of bytes)
+
+-- bytes spell at most one module
+abbrev pub OneModule : Type 0
+OneModule = (one other : Module) (bytes : List ℕ) → SpellsModule one bytes → SpellsModule other bytes → one ≡ other
+
+-- a module that bytes spell is well formed where its bodies keep the limits and its numbers agree
+abbrev pub SpelledIsFormed : Type 0
+SpelledIsFormed = (m : Module) (bytes : List ℕ) → SpellsModule m bytes → All IsWithinLimits m.codes → CountsAgree m → IsWellFormed m
