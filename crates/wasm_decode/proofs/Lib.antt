@@ -1,10 +1,5 @@
-pub mod Steps
-pub mod Numbers
-pub mod Sequences
-pub mod Parts
-pub mod Instructions
-pub mod Sections
-pub mod SmallFile
-pub mod Loops
-pub mod CustomTest
-pub mod Distinct
+pub mod Bodies
+pub mod Chain
+pub mod Answered
+pub mod DataNames
+pub mod Headers

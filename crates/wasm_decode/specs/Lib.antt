@@ -1,3 +1,4 @@
-pub mod Reading
-pub mod Parts
-pub mod File
+pub mod Given
+pub mod Sections
+pub mod Counts
+pub mod Decoded

@@ -1,13 +1,11 @@
-//! The decoder of the WebAssembly binary format, for the form of module that is built so far.
+//! The decoder of the WebAssembly binary format.
 #![tactic(auto)]
 
-mod code;
+mod body;
+mod counts;
 mod fault;
 mod file;
-mod number;
-mod part;
-mod sequence;
-mod small;
+mod section;
 #[cfg(test)]
 mod tests;
 

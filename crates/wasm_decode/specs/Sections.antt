@@ -1,0 +1,6 @@
+-- What the sections so far say, as the definition of spelling has it.
+use Rattle.spec_binary.specs.Sections as said
+use Rattle.wasm_decode.specs.declared.section.Progress.{Progress}
+
+abbrev pub progress_of : Progress → said.Progress
+progress_of p = record { fields = record p.fields { customs = p.customs.items }; last = p.last; rank = p.rank }

@@ -1,0 +1,4 @@
+pub mod Fronts
+pub mod Loops
+pub mod Bits
+pub mod Instructions

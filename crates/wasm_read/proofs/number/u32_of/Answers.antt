@@ -1,0 +1,11 @@
+use Rattle.wasm_form.specs.Number.{SpellsUnsigned}
+use Rattle.spec_reading.specs.Values.{number_at}
+use Rattle.spec_reading.proofs.Values.{number_complete, number_sound, number_plain}
+use Rattle.wasm_read.proofs.Fronts.{slice_read, not_begun}
+use Rattle.wasm_read.proofs.number.u32_of.Goals as goal
+
+pub returns-in-Some-clause-reads : goal.returns-in-Some-clause-reads
+returns-in-Some-clause-reads c = slice_read (SpellsUnsigned 32) (number_at 32) (number_complete 32) c.args.bytes.now c.in-Some.n c.in-Some.end c.in-Some.ensures.found
+
+pub returns-in-None-clause-reads : goal.returns-in-None-clause-reads
+returns-in-None-clause-reads c = not_begun (SpellsUnsigned 32) (number_at 32) (number_sound 32) (number_plain 32) c.args.bytes.now c.in-None.ensures.none
