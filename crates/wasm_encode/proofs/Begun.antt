@@ -1,78 +1,208 @@
--- The bytes of a module so far.
-use Rattle.std.proofs.Common.{◌≡◌, ℕ, suc, ◌<◌, ◌≤◌, List, [], ◌++◌, None, refl, sym, ap, ◌∙◌, arith, append_assoc, append-nil}
+-- The bytes of a module so far: the header, one more section, and custom sections.
+use Rattle.std.proofs.Common.{◌≡◌, ◌≢◌, ℕ, ◌+◌, ◌^◌, ◌<◌, ◌≤◌, List, [], ◌∷◌, ◌++◌, length, length-append, All, Contains, refl, sym, ap, ◌∙◌, subst, arith, append_assoc, append-nil, inl, inr, ◌⊎◌}
+use Rattle.std.specs.Prelude.{suc}
+use Rattle.std.proofs.lemmas.List.Elements.{All-head, All-tail, All-nil, All-cons, All-contains, Contains-append_cases}
+use Rattle.wasm_form.specs.declared.module.Custom.{Custom}
 use Rattle.wasm_form.specs.declared.module.Module.{Module}
-use Rattle.wasm_form.specs.Number.{SpellsUnsigned}
-use Rattle.wasm_form.specs.Sequence.{SpellsVec}
-use Rattle.spec_binary.specs.Types.{SpellsFuncType, SpellsLimits, SpellsTableType}
-use Rattle.spec_binary.specs.Parts.{SpellsExport, SpellsCode, SpellsData}
-use Rattle.spec_binary.specs.Sections.{Progress, at_start, empty_module, with_types, with_funcs, with_tables, with_memories, with_exports, with_codes, with_datas, Contents, Chain, done, types, funcs, tables, memories, exports, codes, datas}
-use Rattle.spec_binary.specs.Modules.{header, SpellsModule}
-use Rattle.spec_binary.specs.WrittenForm.{IsWritten}
-use Rattle.spec_binary.proofs.Chains.{chain_next}
-use Rattle.wasm_encode.specs.Written.{AddsSection, nothing, section}
+use Rattle.wasm_form.specs.Sequence.{SpellsEach, none, next}
+use Rattle.wasm_form.proofs.UnsignedSpelling.{unsigned_small}
+use Rattle.spec_binary.specs.Sections.{Progress, at_start, with_custom, custom as custom_contents, IsSection, section as one_section, Chain, done}
+use Rattle.spec_binary.specs.Modules.{header}
+use Rattle.spec_binary.specs.WellFormed as formed
+use Rattle.spec_binary.specs.WellFormed.{IsShort, HasRank, ArePlaced, none as no_more, behind, first}
+use Rattle.wasm_encode.specs.SectionSizes.{IsContents, types, imports, funcs, tables, memories, globals, exports, elems, codes, datas, rank_of, IsTooLongCustom, IsTooLong, contents, body, custom}
+use Rattle.wasm_encode.specs.Written.{SpellsCustom, custom as custom_section, AddsCustoms}
+use Rattle.wasm_encode.specs.Begun.{paid, Accounts, IsBegun}
+use Rattle.wasm_encode.proofs.Joined.{each_parts}
+use Rattle.wasm_encode.proofs.Chains.{chain_next, chain_along}
 
--- The bytes are the header and sections that write these fields, the last of which isn't beyond this rank.
-pub record IsBegun (fields : Module) (rank : ℕ) (bytes : List ℕ) : Type 0 where
-  pub sections : List ℕ
-  pub parts : bytes ≡ header ++ sections
-  pub count : ℕ
-  pub end : Progress
-  pub chain : Chain at_start count sections end
-  pub written : end.fields ≡ fields
-  pub below : end.last ≤ rank
+-- where custom sections stand
+rank_small : {m : Module} {k : ℕ} → HasRank m k → k ≤ 12
+rank_small (formed.types h) = omega arith
+rank_small (formed.imports h) = omega arith
+rank_small (formed.funcs h) = omega arith
+rank_small (formed.tables h) = omega arith
+rank_small (formed.memories h) = omega arith
+rank_small (formed.globals h) = omega arith
+rank_small (formed.exports h) = omega arith
+rank_small (formed.elems h) = omega arith
+rank_small (formed.codes h) = omega arith
+rank_small (formed.datas h) = omega arith
 
-begun_header : (bytes : List ℕ) → bytes ≡ header → IsBegun empty_module 0 bytes
-begun_header bytes e = record { sections = []; parts = e ∙ sym (append-nil header); count = 0; end = at_start; chain = done; written = refl; below = omega arith }
+pub placed_none : {m : Module} {r : ℕ} {cs : List Custom} → 12 < r → ArePlaced m r cs → cs ≡ []
+placed_none h no_more = refl
+placed_none h (behind le has short p) = let small = rank_small has in absurd (omega arith)
+placed_none h (first e short p) = absurd (omega arith)
 
--- one more section, of this number and rank, which writes a field
-module _ {A : Type 0} (Spells : A → List ℕ → Type 0) (id rank : ℕ) (put : Module → List A → Module) (field : Module → List A) (unchanged : (f : Module) → put f (field f) ≡ f)
-    (after : Progress → List A → Progress) (puts : (s : Progress) (xs : List A) → (after s xs).fields ≡ put s.fields xs) (ends : (s : Progress) (xs : List A) → (after s xs).last ≡ rank)
-    (contents : (s : Progress) (xs : List A) (w : List ℕ) → s.last < rank → SpellsVec Spells xs w → Contents s id w (after s xs)) where
-  begun_next : (f : Module) (before : ℕ) (xs : List A) {old new : List ℕ} → before < rank → field f ≡ [] → IsBegun f before old → AddsSection Spells id xs old new → IsBegun (put f xs) rank new
-  begun_next f before xs h none b (nothing empty same) =
-      let list : field f ≡ xs = none ∙ sym empty in
+pub placed_short : {m : Module} {r : ℕ} {cs : List Custom} → ArePlaced m r cs → All (λ c. IsShort c.name) cs
+placed_short no_more = All-nil (λ c. IsShort c.name)
+placed_short (behind {c} {cs} le has short p) = All-cons (λ d. IsShort d.name) c cs short (placed_short p)
+placed_short (first {c} {cs} e short p) = All-cons (λ d. IsShort d.name) c cs short (placed_short p)
+
+pub placed_all : {m : Module} {r : ℕ} {cs : List Custom} (q : ℕ) → q ≤ r → ArePlaced m r cs → All (λ c. q ≤ c.rank) cs
+placed_all q h no_more = All-nil (λ c. q ≤ c.rank)
+placed_all q h (behind {c} {cs} le has short p) = All-cons (λ d. q ≤ d.rank) c cs (omega arith) (placed_all q (omega arith) p)
+placed_all q h (first {c} {cs} e short p) = All-cons (λ d. q ≤ d.rank) c cs (omega arith) (placed_all q h p)
+
+placed_next : {m : Module} {r : ℕ} {cs : List Custom} → ((c : Custom) (ds : List Custom) → cs ≡ c ∷ ds → c.rank ≢ r) → ArePlaced m r cs → ArePlaced m (suc r) cs
+placed_next h no_more = no_more
+placed_next h (behind {c} {cs} le has short p) = let other = h c cs refl in behind (omega arith) has short p
+placed_next h (first {c} {cs} e short p) = absurd (h c cs refl e)
+
+beyond : (r k : ℕ) → r ≤ k → (r ≡ k → ⊥) → suc r ≤ k
+beyond r k le ne = omega arith
+
+-- no custom section stands behind a section that is empty
+pub placed_over : {m : Module} {r : ℕ} {cs : List Custom} → 0 < r → (HasRank m r → ⊥) → ArePlaced m r cs → ArePlaced m (suc r) cs
+placed_over some empty no_more = no_more
+placed_over {m} {r} some empty (behind {c} le has short p) = behind (beyond r c.rank le (λ e. empty (subst (HasRank m) (sym e) has))) has short p
+placed_over some empty (first e short p) = absurd (omega arith)
+
+all_head : {A : Type 0} (P : A → Type 0) (x : A) (xs : List A) → All P (x ∷ xs) → P x × All P xs
+all_head P x xs all = (All-head P x xs all, All-tail P x xs all)
+
+placed_rest : {m : Module} {r : ℕ} (written rest : List Custom) → All (λ c. c.rank ≡ r) written → ArePlaced m r (written ++ rest) → ArePlaced m r rest
+placed_rest [] rest all p = p
+placed_rest {m} {r} (c ∷ cs) rest all (behind le has short p) = let parts = all_head (λ d. d.rank ≡ r) c cs all in placed_rest cs rest parts.1 (subst (λ k. ArePlaced m k (cs ++ rest)) parts.0 p)
+placed_rest (c ∷ cs) rest all (first e short p) = placed_rest cs rest (all_head (λ d. d.rank ≡ 0) c cs all).1 p
+
+rank_known : {m : Module} {r : ℕ} (c : Custom) (cs : List Custom) → c.rank ≡ r → ArePlaced m r (c ∷ cs) → HasRank m r ⊎ (r ≡ 0)
+rank_known {m} c cs e (behind le has short p) = inl (subst (HasRank m) e has)
+rank_known c cs e (first f short p) = inr refl
+
+-- the sections that can be long
+pub rank_some : {m : Module} {id : ℕ} {w : List ℕ} → IsContents m id w → (0 < rank_of id) × (rank_of id ≤ 12)
+rank_some (types s) = (omega arith, omega arith)
+rank_some (imports s) = (omega arith, omega arith)
+rank_some (funcs s) = (omega arith, omega arith)
+rank_some (tables s) = (omega arith, omega arith)
+rank_some (memories s) = (omega arith, omega arith)
+rank_some (globals s) = (omega arith, omega arith)
+rank_some (exports s) = (omega arith, omega arith)
+rank_some (elems s) = (omega arith, omega arith)
+rank_some (codes s) = (omega arith, omega arith)
+rank_some (datas s) = (omega arith, omega arith)
+
+no_first : {m : Module} {id p : ℕ} → p ≡ 0 → IsTooLong m id p → ⊥
+no_first e (contents s h) = let some = (rank_some s).0 in omega arith
+no_first e (body has long) = omega arith
+no_first e (custom has long) = omega arith
+
+pub section_small : {id : ℕ} {text w : List ℕ} → IsSection id text w → length text < 2 ^ 32
+section_small (one_section size) = unsigned_small size
+
+-- the header alone
+pub begun_header : (m : Module) (bytes : List ℕ) → ArePlaced m 0 m.customs → bytes ≡ header → IsBegun m 0 0 m.customs bytes
+begun_header m bytes placed e = record {
+  sections = [];
+  parts = e ∙ sym (append-nil header);
+  count = 0;
+  end = at_start;
+  chain = done;
+  before = [];
+  all = refl;
+  fields = refl;
+  last = omega arith;
+  ranked = λ h. refl;
+  placed = placed;
+  least = λ n a w each. omega arith;
+  sections_fit = λ id k h long. no_first (omega arith) long;
+  customs_fit = λ c has long. omega (arith, has.1);
+}
+
+-- custom sections
+record AfterCustoms (s : Progress) (written : List Custom) (text : List ℕ) : Type 0 where
+  count : ℕ
+  end : Progress
+  chain : Chain at_start count text end
+  fields : end.fields ≡ record s.fields { customs = s.fields.customs ++ written }
+  last : end.last ≡ s.last
+  rank : end.rank ≡ s.rank
+
+abbrev with_rank : Custom → ℕ → Custom
+with_rank c k = record { rank = k; name = c.name; bytes = c.bytes }
+
+custom_same : (c : Custom) (rank : ℕ) → c.rank ≡ rank → ◌≡◌ {A = Custom} (record { rank = rank; name = c.name; bytes = c.bytes }) c
+custom_same c rank e = ap (with_rank c) (sym e)
+
+customs_chain : {k : ℕ} {s : Progress} (text : List ℕ) → Chain at_start k text s → (written : List Custom) {v : List ℕ} → SpellsEach SpellsCustom written v → All (λ c. c.rank ≡ s.rank) written
+    → AfterCustoms s written (text ++ v)
+customs_chain {k} {s} text chain [] none all = record {
+  count = k;
+  end = s;
+  chain = chain_along text (text ++ []) (sym (append-nil text)) chain;
+  fields = ap (λ l. record s.fields { customs = l }) (sym (append-nil s.fields.customs));
+  last = refl;
+  rank = refl;
+}
+customs_chain {k} {s} text chain (c ∷ cs) (next {w} {v} (custom_section named is) rest) all =
+    let parts = all_head (λ d. d.rank ≡ s.rank) c cs all in
+    let s' = with_custom s c.name c.bytes in
+    let done : AfterCustoms s' cs ((text ++ w) ++ v) = customs_chain (text ++ w) (chain_next chain is (custom_contents c.bytes named)) cs rest parts.1 in
+    let here : with_rank c s.rank ≡ c = custom_same c s.rank parts.0 in
+    record {
+      count = done.count;
+      end = done.end;
+      chain = chain_along ((text ++ w) ++ v) (text ++ (w ++ v)) (append_assoc text w v) done.chain;
+      fields = done.fields ∙ ap (λ l. record s.fields { customs = l }) (append_assoc s.fields.customs (with_rank c s.rank ∷ []) cs ∙ ap (λ d. s.fields.customs ++ (d ∷ cs)) here);
+      last = done.last;
+      rank = done.rank;
+    }
+
+same_rank : (r k : ℕ) (written : List Custom) → All (λ c. c.rank ≡ r) written → ((c : Custom) (cs : List Custom) → written ≡ c ∷ cs → k ≡ r) → All (λ c. c.rank ≡ k) written
+same_rank r k [] all h = All-nil (λ c. c.rank ≡ k)
+same_rank r k (c ∷ cs) all h = subst (λ n. All (λ d. d.rank ≡ n) (c ∷ cs)) (sym (h c cs refl)) all
+
+pub each_all : {A : Type 0} {S : A → List ℕ → Type 0} (P : A → Type 0) → ((x : A) (w : List ℕ) → S x w → P x) → {xs : List A} {w : List ℕ} → SpellsEach S xs w → All P xs
+each_all P make none = All-nil P
+each_all P make (next {x} {xs} {w} s rest) = All-cons P x xs (make x w s) (each_all P make rest)
+
+custom_fits : (c : Custom) (w : List ℕ) → SpellsCustom c w → IsTooLongCustom c → ⊥
+custom_fits c w (custom_section {name} named is) long = let small = section_small is in let large = long.long name named in omega arith
+
+head_rank : {m : Module} {r : ℕ} (written rest : List Custom) → All (λ c. c.rank ≡ r) written → ArePlaced m r (written ++ rest) → (c : Custom) (cs : List Custom) → written ≡ c ∷ cs → HasRank m r ⊎ (r ≡ 0)
+head_rank {m} {r} written rest all p c cs e =
+    let known = subst (λ l. All (λ d. d.rank ≡ r) l) e all in
+    rank_known c (cs ++ rest) (all_head (λ d. d.rank ≡ r) c cs known).0 (subst (λ l. ArePlaced m r (l ++ rest)) e p)
+
+module _ {m : Module} {r : ℕ} {customs rest : List Custom} {old new : List ℕ} (b : IsBegun m r r customs old) (a : AddsCustoms r customs rest old new) where
+  placed_here : ArePlaced m r (a.written ++ rest)
+  placed_here = subst (ArePlaced m r) a.parts b.placed
+
+  customs_after : AfterCustoms b.end a.written (b.sections ++ a.appended.0)
+  customs_after =
+      customs_chain b.sections b.chain a.written a.appended.1.spelled
+      (same_rank r b.end.rank a.written a.ranked (λ c cs e. b.ranked (head_rank a.written rest a.ranked placed_here c cs e)))
+
+  customs_least : (n : ℕ) (accounts : Accounts m n) (w : List ℕ) → SpellsEach SpellsCustom (b.before ++ a.written) w → length (b.sections ++ a.appended.0) ≤ paid accounts.cost r + length w
+  customs_least n accounts w each =
+      let parts = each_parts b.before a.written each in
+      let first = b.least n accounts parts.before parts.first in
+      let second : length a.appended.0 ≤ length parts.after = a.appended.1.least parts.after parts.rest in
+      omega (arith, first, ap length parts.parts, length-append parts.before parts.after, length-append b.sections a.appended.0)
+
+  customs_below : (c : Custom) → Contains (b.before ++ a.written) c → IsTooLongCustom c → ⊥
+  customs_below c has long = elim (Contains-append_cases b.before a.written c has) [
+    | inl here ↦ b.customs_fit c here long
+    | inr here ↦ All-contains (λ d. IsTooLongCustom d → ⊥) a.written c (each_all (λ d. IsTooLongCustom d → ⊥) custom_fits a.appended.1.spelled) here long
+  ]
+
+  pub customs_begun : IsBegun m r (suc r) rest new
+  customs_begun =
+      let done = customs_after in
       record {
-        sections = b.sections;
-        parts = same ∙ b.parts;
-        count = b.count;
-        end = b.end;
-        chain = b.chain;
-        written = b.written ∙ sym (unchanged f) ∙ ap (put f) list;
-        below = omega (arith, b.below);
+        sections = b.sections ++ a.appended.0;
+        parts = a.appended.2 ∙ ap (λ t. t ++ a.appended.0) b.parts ∙ append_assoc header b.sections a.appended.0;
+        count = done.count;
+        end = done.end;
+        chain = done.chain;
+        before = b.before ++ a.written;
+        all = b.all ∙ ap (λ l. b.before ++ l) a.parts ∙ sym (append_assoc b.before a.written rest);
+        fields = done.fields ∙ ap {A = Module} (λ f. record f { customs = f.customs ++ a.written }) b.fields;
+        last = omega (arith, done.last, b.last);
+        ranked = λ h. done.rank ∙ b.ranked h;
+        placed = placed_next a.end (placed_rest a.written rest a.ranked placed_here);
+        least = customs_least;
+        sections_fit = b.sections_fit;
+        customs_fit = customs_below;
       }
-  begun_next f before xs h none b (section {contents = w} {word} spelled framed joined) =
-      record {
-        sections = b.sections ++ word;
-        parts = joined ∙ ap (λ t. t ++ word) b.parts ∙ append_assoc header b.sections word;
-        count = suc b.count;
-        end = after b.end xs;
-        chain = chain_next b.chain framed (contents b.end xs w (omega (arith, b.below)) spelled);
-        written = puts b.end xs ∙ ap (λ g. put g xs) b.written;
-        below = omega (arith, ends b.end xs);
-      }
-
-written_fields : (m : Module) → IsWritten m →
-    ◌≡◌ {A = Module} (record { types = m.types; imports = []; funcs = m.funcs; tables = m.tables; memories = m.memories; globals = []; exports = m.exports; start = None; elems = []; data_count = None; codes = m.codes; datas = m.datas; customs = [] }) m
-written_fields m written =
-    let whole : ◌≡◌ {A = Module} (record { types = m.types; imports = m.imports; funcs = m.funcs; tables = m.tables; memories = m.memories; globals = m.globals; exports = m.exports; start = m.start; elems = m.elems; data_count = m.data_count; codes = m.codes; datas = m.datas; customs = m.customs }) m = refl in
-    cc
-
--- a module's bytes, section by section
-pub module_written : (m : Module) (b0 b1 b2 b3 b4 b5 b6 b7 : List ℕ) → IsWritten m → b0 ≡ header → AddsSection SpellsFuncType 1 m.types b0 b1 → AddsSection (SpellsUnsigned 32) 3 m.funcs b1 b2
-    → AddsSection SpellsTableType 4 m.tables b2 b3 → AddsSection SpellsLimits 5 m.memories b3 b4 → AddsSection SpellsExport 7 m.exports b4 b5 → AddsSection SpellsCode 10 m.codes b5 b6
-    → AddsSection SpellsData 11 m.datas b6 b7 → SpellsModule m b7
-module_written m b0 b1 b2 b3 b4 b5 b6 b7 written e a1 a2 a3 a4 a5 a6 a7 =
-    let f1 : Module = record empty_module { types = m.types } in
-    let f2 : Module = record f1 { funcs = m.funcs } in
-    let f3 : Module = record f2 { tables = m.tables } in
-    let f4 : Module = record f3 { memories = m.memories } in
-    let f5 : Module = record f4 { exports = m.exports } in
-    let f6 : Module = record f5 { codes = m.codes } in
-    let r1 : IsBegun f1 1 b1 = begun_next SpellsFuncType 1 1 (λ f xs. record f { types = xs }) (λ f. f.types) (λ f. refl) with_types (λ s xs. refl) (λ s xs. refl) (λ s xs w h p. types h p) empty_module 0 m.types (omega arith) refl (begun_header b0 e) a1 in
-    let r2 : IsBegun f2 3 b2 = begun_next (SpellsUnsigned 32) 3 3 (λ f xs. record f { funcs = xs }) (λ f. f.funcs) (λ f. refl) with_funcs (λ s xs. refl) (λ s xs. refl) (λ s xs w h p. funcs h p) f1 1 m.funcs (omega arith) refl r1 a2 in
-    let r3 : IsBegun f3 4 b3 = begun_next SpellsTableType 4 4 (λ f xs. record f { tables = xs }) (λ f. f.tables) (λ f. refl) with_tables (λ s xs. refl) (λ s xs. refl) (λ s xs w h p. tables h p) f2 3 m.tables (omega arith) refl r2 a3 in
-    let r4 : IsBegun f4 5 b4 = begun_next SpellsLimits 5 5 (λ f xs. record f { memories = xs }) (λ f. f.memories) (λ f. refl) with_memories (λ s xs. refl) (λ s xs. refl) (λ s xs w h p. memories h p) f3 4 m.memories (omega arith) refl r3 a4 in
-    let r5 : IsBegun f5 7 b5 = begun_next SpellsExport 7 7 (λ f xs. record f { exports = xs }) (λ f. f.exports) (λ f. refl) with_exports (λ s xs. refl) (λ s xs. refl) (λ s xs w h p. exports h p) f4 5 m.exports (omega arith) refl r4 a5 in
-    let r6 : IsBegun f6 11 b6 = begun_next SpellsCode 10 11 (λ f xs. record f { codes = xs }) (λ f. f.codes) (λ f. refl) with_codes (λ s xs. refl) (λ s xs. refl) (λ s xs w h p. codes h p) f5 7 m.codes (omega arith) refl r5 a6 in
-    let r7 : IsBegun (record f6 { datas = m.datas }) 12 b7 = begun_next SpellsData 11 12 (λ f xs. record f { datas = xs }) (λ f. f.datas) (λ f. refl) with_datas (λ s xs. refl) (λ s xs. refl) (λ s xs w h p. datas h p) f6 11 m.datas (omega arith) refl r6 a7 in
-    record { sections = r7.sections; parts = r7.parts; count = r7.count; end = r7.end; chain = r7.chain; fields = r7.written ∙ written_fields m written; bodies = written.bodies }

@@ -1,85 +1,169 @@
--- What the writers of parts do, over plain lists.
-use denote.Hole.Carrier.{out}
-use Rattle.std.proofs.Common.{◌≡◌, ℕ, ℤ, ◌+◌, ◌<◌, ◌≤◌, List, [], ◌∷◌, ◌++◌, length, take, get_or, Result, Ok, Err, Some, None, refl, sym, ap, ◌∙◌, subst, append-nil, add-one}
-use Rattle.std.proofs.Math.Seq.{take-suc}
-use Rattle.std.proofs.lemmas.List.{take_all}
-use Rattle.std.specs.Prelude.{OnOk}
+-- What the writers of imports, globals, exports and bodies write.
+use Rattle.std.proofs.Common.{◌≡◌, ℕ, ◌^◌, ◌≤◌, List, [], ◌∷◌, ◌++◌, length, length-append, refl, sym, subst, arith}
 use Rattle.wasm_form.specs.declared.types.Limits.{Limits}
-use Rattle.wasm_form.specs.declared.module.ExportDesc.{ExportDesc}
-use Rattle.wasm_form.specs.declared.instr.Instr.{Instr, Plain, Index, I32Const, out-Instr}
+use Rattle.wasm_form.specs.declared.types.TableType.{TableType}
+use Rattle.wasm_form.specs.declared.types.GlobalType.{GlobalType}
 use Rattle.wasm_form.specs.declared.instr.Expr.{Expr}
-use Rattle.wasm_form.specs.Number.{SpellsUnsigned, SpellsSigned, IsShortest, Appends}
-use Rattle.spec_binary.specs.Instructions.{NoOperand, OneIndex, operands, SpellsInstr, SpellsExpr}
-use Rattle.spec_binary.specs.WrittenForm.{IsWrittenInstr}
-use Rattle.spec_binary.proofs.ShortestCode.{shortest_plain, shortest_index, shortest_const, shortest_expr}
-use Rattle.spec_binary.specs.Types.{SpellsLimits}
-use Rattle.spec_binary.specs.Parts.{SpellsExportDesc}
-use Rattle.wasm_form.specs.Sequence.{SpellsEach}
-use Rattle.spec_binary.proofs.Joined.{appends_byte, appends_after, appends_joined, appends_mapped, shortest_none, shortest_next}
-use Rattle.spec_binary.proofs.ShortestParts.{shortest_open, shortest_bounded, shortest_desc, number_of}
-use Rattle.wasm_encode.specs.Sized.{IsNumbered}
+use Rattle.wasm_form.specs.declared.module.ImportDesc.{ImportDesc}
+use Rattle.wasm_form.specs.declared.module.ImportDesc.TheVariants as imported
+use Rattle.wasm_form.specs.declared.module.Import.{Import}
+use Rattle.wasm_form.specs.declared.module.GlobalDef.{GlobalDef}
+use Rattle.wasm_form.specs.declared.module.ExportDesc.{ExportDesc}
+use Rattle.wasm_form.specs.declared.module.ExportDesc.TheVariants as exported
+use Rattle.wasm_form.specs.declared.module.Export.{Export}
+use Rattle.wasm_form.specs.declared.module.Group.{Group}
+use Rattle.wasm_form.specs.declared.module.Code.{Code}
+use Rattle.wasm_form.specs.Number.{SpellsUnsigned, IsShortest, Appends}
+use Rattle.wasm_form.specs.Name.{SpellsName}
+use Rattle.wasm_form.specs.Sequence.{SpellsVec}
+use Rattle.spec_binary.specs.Types.{SpellsValType, SpellsLimits, SpellsTableType, SpellsGlobalType}
+use Rattle.spec_binary.specs.Instructions.{SpellsExpr}
+use Rattle.spec_binary.specs.Trees.{nesting_all}
+use Rattle.spec_binary.specs.Parts as part
+use Rattle.spec_binary.specs.Parts.{SpellsByte, byte, SpellsConstant, constant, SpellsImportDesc, SpellsImport, import, SpellsGlobal, SpellsExportDesc, SpellsExport, export, SpellsGroup, group, SpellsFunc, func, SpellsCode, code}
+use Rattle.wasm_encode.specs.Joined.{IsByte, Joined, IsSized}
+use Rattle.wasm_encode.specs.SectionSizes.{IsTooLongBody}
+use Rattle.wasm_encode.proofs.Joined.{joined, behind, unjoined, itself, whole, appends_byte, appends_joined, appends_like, appends_after, shortest_size}
+use Rattle.wasm_encode.proofs.TypeForms.{coded_written}
 
-pub on_ok : {A E P Q : Type 0} (r : Result A E) → (P → Q) → OnOk r P → OnOk r Q
-on_ok (Ok x) f h = f h
-on_ok (Err e) f h = h
+byte_is : {b : ℕ} {w : List ℕ} → SpellsByte b w → IsByte b w
+byte_is byte = refl
 
--- a byte and a number
-pub numbered : (byte number : ℕ) (old middle new : List ℕ) → middle ≡ old ++ byte ∷ [] → Appends (IsShortest (SpellsUnsigned 32 number)) middle new → Appends (IsNumbered byte number) old new
-numbered byte number old middle new e written = appends_after old middle new byte (λ w p. record { digits = w; shortest = p; parts = refl }) e written
+pub byte_written : (b : ℕ) (old new : List ℕ) → new ≡ old ++ b ∷ [] → Appends (IsShortest (SpellsByte b)) old new
+byte_written b old new e = appends_like old new (λ w p. subst (SpellsByte b) (sym p) byte) (λ other s. itself other (byte_is s)) (appends_byte old new b e)
 
-pub numbered_is : {R : List ℕ → Type 0} {byte number : ℕ} → ((w : List ℕ) → IsShortest (SpellsUnsigned 32 number) w → IsShortest R (byte ∷ w)) → (w : List ℕ) → IsNumbered byte number w → IsShortest R w
-numbered_is {R} make w p = subst (λ t. IsShortest R t) (sym p.parts) (make p.digits p.shortest)
+constant_expr : {e : Expr} {w : List ℕ} → SpellsConstant e w → SpellsExpr e w
+constant_expr (constant flat s) = s
 
--- limits
-pub open_written : (limits : Limits) (old new : List ℕ) → limits.max ≡ None → Appends (IsNumbered 0x00 limits.min) old new → Appends (IsShortest (SpellsLimits limits)) old new
-open_written limits old new e = appends_mapped old new (numbered_is {R = SpellsLimits limits} (λ w p. shortest_open limits w e p))
+pub constant_written : (e : Expr) (old new : List ℕ) → nesting_all e.list ≡ 0 → Appends (IsShortest (SpellsExpr e)) old new → Appends (IsShortest (SpellsConstant e)) old new
+constant_written e old new flat = appends_like old new (λ w s. constant flat s) (λ other s. itself other (constant_expr s))
 
-bounded_is : (limits : Limits) (max : ℕ) → limits.max ≡ Some max → (w v : List ℕ) → IsNumbered 0x01 limits.min w → IsShortest (SpellsUnsigned 32 max) v → IsShortest (SpellsLimits limits) (w ++ v)
-bounded_is limits max e w v p q = subst (λ t. IsShortest (SpellsLimits limits) (t ++ v)) (sym p.parts) (shortest_bounded limits max p.digits v e p.shortest q)
+-- imports
+import_function : {n : ℕ} {w : List ℕ} → SpellsImportDesc (imported.Func n) w → Joined (IsByte 0x00) (SpellsUnsigned 32 n) w
+import_function (part.function s) = behind _ _ s
 
-pub bounded_written : (limits : Limits) (max : ℕ) (old middle new : List ℕ) → limits.max ≡ Some max → Appends (IsNumbered 0x01 limits.min) old middle
-    → Appends (IsShortest (SpellsUnsigned 32 max)) middle new → Appends (IsShortest (SpellsLimits limits)) old new
-bounded_written limits max old middle new e first rest = appends_joined old middle new (bounded_is limits max e) first rest
+import_table : {ty : TableType} {w : List ℕ} → SpellsImportDesc (imported.Table ty) w → Joined (IsByte 0x01) (SpellsTableType ty) w
+import_table (part.table s) = behind _ _ s
 
--- what is exported
-pub desc_written : (d e : ExportDesc) (byte : ℕ) (old new : List ℕ) → e ≡ d → ((w : List ℕ) → SpellsUnsigned 32 (number_of d) w → SpellsExportDesc d (byte ∷ w))
-    → Appends (IsNumbered byte (number_of d)) old new → Appends (IsShortest (SpellsExportDesc e)) old new
-desc_written d e byte old new same make written =
-    subst (λ x. Appends (IsShortest (SpellsExportDesc x)) old new) (sym same) (appends_mapped old new (numbered_is {R = SpellsExportDesc d} (λ w p. shortest_desc d byte w (make w) p)) written)
+import_memory : {limits : Limits} {w : List ℕ} → SpellsImportDesc (imported.Space limits) w → Joined (IsByte 0x02) (SpellsLimits limits) w
+import_memory (part.memory s) = behind _ _ s
 
--- one more of a list
-pub each_next : {A : Type 0} {Spells : A → List ℕ → Type 0} (xs : List A) (x : A) (k : ℕ) (old middle new : List ℕ) → k < length xs → x ≡ get_or xs k x
-    → Appends (IsShortest (SpellsEach Spells (take k xs))) old middle → Appends (IsShortest (Spells x)) middle new → Appends (IsShortest (SpellsEach Spells (take (k + 1) xs))) old new
-each_next {Spells} xs x k old middle new h is first rest =
-    let more : take (k + 1) xs ≡ take k xs ++ x ∷ [] = rw (add-one) (take-suc xs k x h ∙ ap (λ y. take k xs ++ y ∷ []) (sym is)) in
-    subst (λ l. Appends (IsShortest (SpellsEach Spells l)) old new) (sym more) (appends_joined old middle new (λ w v p q. shortest_next (take k xs) x w v p q) first rest)
+import_global : {ty : GlobalType} {w : List ℕ} → SpellsImportDesc (imported.Global ty) w → Joined (IsByte 0x03) (SpellsGlobalType ty) w
+import_global (part.global s) = behind _ _ s
 
-pub each_started : {A : Type 0} {Spells : A → List ℕ → Type 0} (old : List ℕ) → Appends (IsShortest (SpellsEach Spells [])) old old
-each_started old = ([], shortest_none, sym (append-nil old))
+module _ (d : ImportDesc) (old : List ℕ) where
+  pub import_function_written : (n : ℕ) (new : List ℕ) → d ≡ imported.Func n → Appends (IsShortest (Joined (IsByte 0x00) (SpellsUnsigned 32 n))) old new → Appends (IsShortest (SpellsImportDesc d)) old new
+  import_function_written n new is written =
+      subst (λ e. Appends (IsShortest (SpellsImportDesc e)) old new) (sym is) (coded_written 0x00 old new (λ w s. part.function s) (λ other s. itself other (import_function s)) written)
 
-pub each_ended : {A : Type 0} {Spells : A → List ℕ → Type 0} (xs : List A) (k : ℕ) (old new : List ℕ) → length xs ≤ k → Appends (IsShortest (SpellsEach Spells (take k xs))) old new
-    → Appends (IsShortest (SpellsEach Spells xs)) old new
-each_ended {Spells} xs k old new h p = subst (λ l. Appends (IsShortest (SpellsEach Spells l)) old new) (take_all k xs h) p
+  pub import_table_written : (ty : TableType) (middle new : List ℕ) → d ≡ imported.Table ty → middle ≡ old ++ 0x01 ∷ [] → Appends (IsShortest (SpellsTableType ty)) middle new
+      → Appends (IsShortest (SpellsImportDesc d)) old new
+  import_table_written ty middle new is e written =
+      subst (λ e. Appends (IsShortest (SpellsImportDesc e)) old new) (sym is)
+      (coded_written 0x01 old new (λ w s. part.table s) (λ other s. itself other (import_table s)) (appends_after 0x01 old middle new e written))
 
--- instructions
-pub plain_written : (i : Instr) (op : ℕ) (old new : List ℕ) → i ≡ Plain op → IsWrittenInstr i → new ≡ old ++ op ∷ [] → (d : ℕ) → Appends (IsShortest (SpellsInstr d i)) old new
-unfolding out-Instr out
-plain_written i op old new is written e d =
-    let known : operands op ≡ NoOperand = subst IsWrittenInstr is written in
-    subst (λ j. Appends (IsShortest (SpellsInstr d j)) old new) (sym is) (op ∷ [], shortest_plain d op known, e)
+  pub import_memory_written : (limits : Limits) (middle new : List ℕ) → d ≡ imported.Space limits → middle ≡ old ++ 0x02 ∷ [] → Appends (IsShortest (SpellsLimits limits)) middle new
+      → Appends (IsShortest (SpellsImportDesc d)) old new
+  import_memory_written limits middle new is e written =
+      subst (λ e. Appends (IsShortest (SpellsImportDesc e)) old new) (sym is)
+      (coded_written 0x02 old new (λ w s. part.memory s) (λ other s. itself other (import_memory s)) (appends_after 0x02 old middle new e written))
 
-pub index_written : (i : Instr) (op n : ℕ) (old new : List ℕ) → i ≡ Index op n → IsWrittenInstr i → Appends (IsNumbered op n) old new → (d : ℕ) → Appends (IsShortest (SpellsInstr d i)) old new
-unfolding out-Instr out
-index_written i op n old new is written number d =
-    let known : operands op ≡ OneIndex = subst IsWrittenInstr is written in
-    subst (λ j. Appends (IsShortest (SpellsInstr d j)) old new) (sym is) (appends_mapped old new (numbered_is {R = SpellsInstr d (Index op n)} (λ w p. shortest_index d op n w known p)) number)
+  pub import_global_written : (ty : GlobalType) (middle new : List ℕ) → d ≡ imported.Global ty → middle ≡ old ++ 0x03 ∷ [] → Appends (IsShortest (SpellsGlobalType ty)) middle new
+      → Appends (IsShortest (SpellsImportDesc d)) old new
+  import_global_written ty middle new is e written =
+      subst (λ e. Appends (IsShortest (SpellsImportDesc e)) old new) (sym is)
+      (coded_written 0x03 old new (λ w s. part.global s) (λ other s. itself other (import_global s)) (appends_after 0x03 old middle new e written))
 
-pub const_written : (i : Instr) (n m : ℤ) (old middle new : List ℕ) → i ≡ I32Const n → m ≡ n → middle ≡ old ++ 0x41 ∷ [] → Appends (IsShortest (SpellsSigned 32 m)) middle new → (d : ℕ)
-    → Appends (IsShortest (SpellsInstr d i)) old new
-const_written i n m old middle new is same e number d =
-    subst (λ j. Appends (IsShortest (SpellsInstr d j)) old new) (sym is)
-    (appends_after old middle new 0x41 (λ w p. shortest_const d n w (subst (λ z. IsShortest (SpellsSigned 32 z) w) same p)) e number)
+import_parts : {i : Import} {w : List ℕ} → SpellsImport i w → Joined (SpellsName i.module) (Joined (SpellsName i.field) (SpellsImportDesc i.desc)) w
+import_parts (import s t u) = joined _ _ s (joined _ _ t u)
 
-pub expr_written : (e : Expr) (old middle new : List ℕ) → ((d : ℕ) → Appends (IsShortest (SpellsEach (SpellsInstr d) e.list)) old middle) → new ≡ middle ++ 0x0B ∷ [] → (d : ℕ)
-    → Appends (IsShortest (SpellsExpr d e)) old new
-expr_written e old middle new each end d = appends_joined old middle new (λ w v p q. shortest_expr d e w v p q) (each d) (appends_byte middle new 0x0B end)
+pub import_written : (i : Import) (old first second new : List ℕ) → Appends (IsShortest (SpellsName i.module)) old first → Appends (IsShortest (SpellsName i.field)) first second
+    → Appends (IsShortest (SpellsImportDesc i.desc)) second new → Appends (IsShortest (SpellsImport i)) old new
+import_written i old first second new a b c =
+    appends_like old new (unjoined (SpellsImport i) (λ w u s. unjoined (λ x. SpellsImport i (w ++ x)) (λ v x t d. import s t d) u)) (λ other s. itself other (import_parts s))
+    (appends_joined old first new a (appends_joined first second new b c))
+
+-- globals
+global_parts : {g : GlobalDef} {w : List ℕ} → SpellsGlobal g w → Joined (SpellsGlobalType g.ty) (SpellsConstant g.init) w
+global_parts (part.global s t) = joined _ _ s t
+
+pub global_written : (g : GlobalDef) (old middle new : List ℕ) → Appends (IsShortest (SpellsGlobalType g.ty)) old middle → Appends (IsShortest (SpellsConstant g.init)) middle new
+    → Appends (IsShortest (SpellsGlobal g)) old new
+global_written g old middle new a b =
+    appends_like old new (unjoined (SpellsGlobal g) (λ w v s t. part.global s t)) (λ other s. itself other (global_parts s)) (appends_joined old middle new a b)
+
+-- exports
+abbrev kind_of : ExportDesc → ℕ
+kind_of (exported.Func n) = 0x00
+kind_of (exported.Table n) = 0x01
+kind_of (exported.Space n) = 0x02
+kind_of (exported.Global n) = 0x03
+
+abbrev number_of : ExportDesc → ℕ
+number_of (exported.Func n) = n
+number_of (exported.Table n) = n
+number_of (exported.Space n) = n
+number_of (exported.Global n) = n
+
+export_parts : {d : ExportDesc} {w : List ℕ} → SpellsExportDesc d w → Joined (IsByte (kind_of d)) (SpellsUnsigned 32 (number_of d)) w
+export_parts (part.function s) = behind _ _ s
+export_parts (part.table s) = behind _ _ s
+export_parts (part.memory s) = behind _ _ s
+export_parts (part.global s) = behind _ _ s
+
+export_made : (d : ExportDesc) (w : List ℕ) → SpellsUnsigned 32 (number_of d) w → SpellsExportDesc d (kind_of d ∷ w)
+export_made (exported.Func n) w s = part.function s
+export_made (exported.Table n) w s = part.table s
+export_made (exported.Space n) w s = part.memory s
+export_made (exported.Global n) w s = part.global s
+
+pub desc_written : (d e : ExportDesc) (old new : List ℕ) → e ≡ d → Appends (IsShortest (Joined (IsByte (kind_of d)) (SpellsUnsigned 32 (number_of d)))) old new
+    → Appends (IsShortest (SpellsExportDesc e)) old new
+desc_written d e old new same written =
+    subst (λ x. Appends (IsShortest (SpellsExportDesc x)) old new) (sym same) (coded_written (kind_of d) old new (export_made d) (λ other s. itself other (export_parts s)) written)
+
+whole_export_parts : {e : Export} {w : List ℕ} → SpellsExport e w → Joined (SpellsName e.name) (SpellsExportDesc e.desc) w
+whole_export_parts (export s t) = joined _ _ s t
+
+pub export_written : (e : Export) (old middle new : List ℕ) → Appends (IsShortest (SpellsName e.name)) old middle → Appends (IsShortest (SpellsExportDesc e.desc)) middle new
+    → Appends (IsShortest (SpellsExport e)) old new
+export_written e old middle new a b =
+    appends_like old new (unjoined (SpellsExport e) (λ w v s t. export s t)) (λ other s. itself other (whole_export_parts s)) (appends_joined old middle new a b)
+
+-- bodies
+group_parts : {g : Group} {w : List ℕ} → SpellsGroup g w → Joined (SpellsUnsigned 32 g.count) (SpellsValType g.ty) w
+group_parts (group s t) = joined _ _ s t
+
+pub group_written : (g : Group) (old middle new : List ℕ) → Appends (IsShortest (SpellsUnsigned 32 g.count)) old middle → Appends (IsShortest (SpellsValType g.ty)) middle new
+    → Appends (IsShortest (SpellsGroup g)) old new
+group_written g old middle new a b =
+    appends_like old new (unjoined (SpellsGroup g) (λ w v s t. group s t)) (λ other s. itself other (group_parts s)) (appends_joined old middle new a b)
+
+func_parts : {c : Code} {w : List ℕ} → SpellsFunc c w → Joined (SpellsVec SpellsGroup c.locals) (SpellsExpr c.body) w
+func_parts (func s t) = joined _ _ s t
+
+func_written : (c : Code) (old middle new : List ℕ) → Appends (IsShortest (SpellsVec SpellsGroup c.locals)) old middle → Appends (IsShortest (SpellsExpr c.body)) middle new
+    → Appends (IsShortest (SpellsFunc c)) old new
+func_written c old middle new a b =
+    appends_like old new (unjoined (SpellsFunc c) (λ w v s t. func s t)) (λ other s. itself other (func_parts s)) (appends_joined old middle new a b)
+
+least_code : {c : Code} {other : List ℕ} (size w : List ℕ) → IsShortest (SpellsUnsigned 32 (length w)) size → IsShortest (SpellsFunc c) w → SpellsCode c other → length (size ++ w) ≤ length other
+least_code size w n p (code {size = z} {w = x} m s) =
+    let inside : length w ≤ length x = p.least x s in
+    let sizes : length size ≤ length z = shortest_size (length w) size n (length x) z inside m in
+    omega (arith, length-append size w, length-append z x)
+
+sized_code : (c : Code) (contents w : List ℕ) → IsShortest (SpellsFunc c) contents → IsSized contents w → IsShortest (SpellsCode c) w
+sized_code c contents w p sized =
+    subst (λ l. IsShortest (SpellsCode c) l) (sym sized.parts)
+    (record { spelled = code sized.shortest.spelled p.spelled; least = λ other s. least_code sized.size contents sized.shortest p s })
+
+pub code_written : (c : Code) (middle contents : List ℕ) → Appends (IsShortest (SpellsVec SpellsGroup c.locals)) [] middle → Appends (IsShortest (SpellsExpr c.body)) middle contents → (old new : List ℕ)
+    → Appends (IsSized contents) old new → Appends (IsShortest (SpellsCode c)) old new
+code_written c middle contents locals body old new (w, sized, e) = (w, sized_code c contents w (whole contents (func_written c [] middle contents locals body)) sized, e)
+
+pub code_too_long : (c : Code) (middle contents : List ℕ) → Appends (IsShortest (SpellsVec SpellsGroup c.locals)) [] middle → Appends (IsShortest (SpellsExpr c.body)) middle contents
+    → 2 ^ 32 ≤ length contents → IsTooLongBody c
+code_too_long c middle contents locals body h =
+    let p = whole contents (func_written c [] middle contents locals body) in
+    record { word = contents; spelled = p.spelled; long = λ v s. let least : length contents ≤ length v = p.least v s in omega arith }

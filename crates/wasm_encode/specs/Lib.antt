@@ -1,2 +1,6 @@
-pub mod Sized
+pub mod Joined
+pub mod Bodies
+pub mod Segments
+pub mod SectionSizes
 pub mod Written
+pub mod Begun

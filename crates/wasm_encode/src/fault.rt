@@ -18,6 +18,14 @@ pub enum EncodeFault {
     Memory,
 }
 
+impl From<Memory> for EncodeFault {
+    ghost from_gives = { λ _ fault. fault ≡ encode.Memory };
+
+    fn from(_: Memory) -> EncodeFault {
+        EncodeFault::Memory
+    }
+}
+
 impl From<AllocError> for EncodeFault {
     ghost from_gives = { λ _ fault. fault ≡ encode.Memory };
 

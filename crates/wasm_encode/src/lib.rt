@@ -2,8 +2,9 @@
 #![tactic(auto)]
 
 mod code;
-mod export;
 mod fault;
+mod import;
+mod instr;
 mod module;
 mod part;
 mod section;

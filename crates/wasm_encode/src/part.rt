@@ -3,7 +3,7 @@ ghost use Rattle.std.specs.Prelude.{◌≡◌, ℕ, ◌^◌, ◌<◌, ◌≤◌,
 ghost use Rattle.wasm_form.specs.Number.{IsShortest, Appends, SpellsUnsigned};
 ghost use Rattle.wasm_form.specs.Sequence.{SpellsEach, SpellsVec};
 ghost use Rattle.spec_binary.specs.Parts.{SpellsByte};
-ghost use Rattle.wasm_encode.specs.Sized.{IsNumbered, IsSized};
+ghost use Rattle.wasm_encode.specs.Joined.{IsByte, Joined, IsSized};
 
 use crate::fault::PartFault;
 use std::alloc::Global;
@@ -51,16 +51,28 @@ impl Part for u32 {
     }
 }
 
+/// Writes two numbers.
+pub(crate) fn put_two(a: u32, b: u32, to: &mut Vec<u8>) -> Result<(), Memory>
+    ensures { OnOk result (Appends (IsShortest (Joined (SpellsUnsigned 32 a) (SpellsUnsigned 32 b))) to.old.items to.new.items) }
+{
+    put_u32(to, a)?;
+    put_u32(to, b)
+}
+
 /// Writes a byte and a number after it.
 pub(crate) fn put_numbered(byte: u8, number: u32, to: &mut Vec<u8>) -> Result<(), Memory>
-    ensures { OnOk result (Appends (IsNumbered byte number) to.old.items to.new.items) }
+    ensures { OnOk result (Appends (IsShortest (Joined (IsByte byte) (SpellsUnsigned 32 number))) to.old.items to.new.items) }
 {
     to.push(byte)?;
     put_u32(to, number)
 }
 
 /// Writes each of a list, one after the other.
-fn put_each<T: Part>(alloc: Global, items: &[T], to: &mut Vec<u8>) -> Result<(), PartFault>
+pub(crate) fn put_each<T: Part>(
+    alloc: Global,
+    items: &[T],
+    to: &mut Vec<u8>,
+) -> Result<(), PartFault>
     requires { All T.writable items.now }
     ensures ok { OnOk result (Appends (IsShortest (SpellsEach T.spells items.now)) to.old.items to.new.items) }
     ensures long { result ≡ Err PartFault.TooLong → (x : T) × Contains items.now x × T.too_long x }

@@ -1,16 +1,24 @@
 // Types (section 5.3).
-ghost use Rattle.std.specs.Prelude.{◌≡◌, List as Listing, [], ◌∷◌, OnOk};
+ghost use Rattle.std.specs.Prelude.{◌≡◌, List as Listing, [], ◌∷◌, OnOk, IsTrue};
 ghost use Rattle.wasm_form.specs.Number.{IsShortest, Appends};
-ghost use Rattle.spec_binary.specs.Types.{SpellsValType, SpellsRefType, SpellsFuncType, SpellsLimits, SpellsTableType};
-ghost use Rattle.spec_binary.specs.WrittenForm.{IsReferenceType, IsWrittenType, IsWrittenTable};
+ghost use Rattle.spec_binary.specs.Types.{
+  SpellsValType,
+  SpellsRefType,
+  SpellsFuncType,
+  SpellsLimits,
+  SpellsTableType,
+  SpellsMutability,
+  SpellsGlobalType,
+};
+ghost use Rattle.spec_binary.specs.WellFormed.{is_reference_type, IsFormedType, IsFormedTable};
 
 use crate::fault::PartFault;
 use crate::part::{Part, put_numbered, put_vec};
 use std::alloc::Global;
-use wasm_form::{FuncType, Limits, Memory, TableType, ValType, put_u32};
+use wasm_form::{FuncType, GlobalType, Limits, Memory, TableType, ValType, put_u32};
 
 /// The byte of a type.
-fn type_byte(ty: ValType) -> u8
+pub(crate) fn type_byte(ty: ValType) -> u8
     ensures { SpellsValType ty (result ∷ []) }
 {
     match ty {
@@ -21,6 +29,35 @@ fn type_byte(ty: ValType) -> u8
         ValType::FuncRef => 0x70,
         ValType::ExternRef => 0x6F,
     }
+}
+
+/// Writes a reference type.
+pub(crate) fn put_ref_type(ty: ValType, to: &mut Vec<u8>) -> Result<(), Memory>
+    requires { IsTrue (is_reference_type ty) }
+    ensures { OnOk result (Appends (IsShortest (SpellsRefType ty)) to.old.items to.new.items) }
+{
+    to.push(type_byte(ty))?;
+    Ok(())
+}
+
+/// Writes a size range.
+fn put_limits(limits: &Limits, to: &mut Vec<u8>) -> Result<(), Memory>
+    ensures { OnOk result (Appends (IsShortest (SpellsLimits limits.now)) to.old.items to.new.items) }
+{
+    match limits.max {
+        None => put_numbered(0x00, limits.min, to),
+        Some(max) => {
+            put_numbered(0x01, limits.min, to)?;
+            put_u32(to, max)
+        }
+    }
+}
+
+/// The byte that says whether a global can be written.
+fn mutability(mutable: bool) -> u8
+    ensures { SpellsMutability mutable (result ∷ []) }
+{
+    if mutable { 0x01 } else { 0x00 }
 }
 
 impl Part for ValType {
@@ -37,7 +74,7 @@ impl Part for ValType {
 }
 
 impl Part for FuncType {
-    ghost writable = { IsWrittenType };
+    ghost writable = { IsFormedType };
 
     ghost spells = { SpellsFuncType };
 
@@ -47,19 +84,6 @@ impl Part for FuncType {
         to.push(0x60)?;
         put_vec(alloc, self.params.items(), to)?;
         put_vec(alloc, self.results.items(), to)
-    }
-}
-
-/// Writes a size range.
-fn put_limits(limits: &Limits, to: &mut Vec<u8>) -> Result<(), Memory>
-    ensures { OnOk result (Appends (IsShortest (SpellsLimits limits.now)) to.old.items to.new.items) }
-{
-    match limits.max {
-        None => put_numbered(0x00, limits.min, to),
-        Some(max) => {
-            put_numbered(0x01, limits.min, to)?;
-            put_u32(to, max)
-        }
     }
 }
 
@@ -77,15 +101,29 @@ impl Part for Limits {
 }
 
 impl Part for TableType {
-    ghost writable = { IsWrittenTable };
+    ghost writable = { IsFormedTable };
 
     ghost spells = { SpellsTableType };
 
     ghost too_long = { λ _. ⊥ };
 
     fn put(&self, _: Global, to: &mut Vec<u8>) -> Result<(), PartFault> {
-        to.push(type_byte(self.elem))?;
+        put_ref_type(self.elem, to)?;
         put_limits(&self.limits, to)?;
+        Ok(())
+    }
+}
+
+impl Part for GlobalType {
+    ghost writable = { λ _. Unit {0} };
+
+    ghost spells = { SpellsGlobalType };
+
+    ghost too_long = { λ _. ⊥ };
+
+    fn put(&self, _: Global, to: &mut Vec<u8>) -> Result<(), PartFault> {
+        to.push(type_byte(self.value))?;
+        to.push(mutability(self.mutable))?;
         Ok(())
     }
 }

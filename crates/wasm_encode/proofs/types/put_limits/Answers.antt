@@ -1,4 +1,5 @@
-use Rattle.wasm_encode.proofs.Parts.{on_ok, open_written, bounded_written}
+use Rattle.wasm_encode.proofs.Joined.{on_ok}
+use Rattle.wasm_encode.proofs.TypeForms.{open_written, bounded_written}
 use Rattle.wasm_encode.proofs.types.put_limits.Goals as goal
 
 pub returns-in-None : goal.returns-in-None

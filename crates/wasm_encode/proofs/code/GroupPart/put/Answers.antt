@@ -1,5 +1,5 @@
-use Rattle.wasm_encode.proofs.Parts.{on_ok}
-use Rattle.wasm_encode.proofs.Wholes.{group_written}
+use Rattle.wasm_encode.proofs.Joined.{on_ok}
+use Rattle.wasm_encode.proofs.Parts.{group_written}
 use Rattle.wasm_encode.proofs.code.GroupPart.put.Goals as goal
 
 pub returns-clause-ok : goal.returns-clause-ok

@@ -1,6 +1,5 @@
-use Rattle.std.proofs.Common.{[], ◌∷◌}
-use Rattle.spec_binary.proofs.ShortestParts.{shortest_byte}
+use Rattle.wasm_encode.proofs.Parts.{byte_written}
 use Rattle.wasm_encode.proofs.part.U8Part.put.Goals as goal
 
 pub returns-clause-ok : goal.returns-clause-ok
-returns-clause-ok c = (c.args.self.now ∷ [], shortest_byte c.args.self.now, c.in_ok-push.ensures.items)
+returns-clause-ok c = byte_written c.args.self.now _ _ c.in_ok-push.ensures.items

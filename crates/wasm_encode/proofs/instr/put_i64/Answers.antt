@@ -1,0 +1,12 @@
+use Rattle.std.proofs.Common.{rules, SFits, w64, subst}
+use Rattle.std.proofs.lemmas.Int.{to_z-of_z}
+use Rattle.wasm_form.specs.Number.{SpellsSigned, IsShortest, Appends}
+use Rattle.wasm_encode.proofs.Joined.{on_ok, appends_after}
+use Rattle.wasm_encode.proofs.instr.put_i64.Goals as goal
+
+pub returns : goal.returns
+returns c =
+    let fits : SFits w64 c.args.number = search rules in
+    let same = to_z-of_z w64 c.args.number fits in
+    on_ok c.put_s64.result
+    (λ p. appends_after 0x42 _ c.push.new.self.items _ c.in_ok-push.ensures.items (subst (λ z. Appends (IsShortest (SpellsSigned 64 z)) c.push.new.self.items c.put_s64.new.to.items) same p)) c.put_s64.ensures.ok
