@@ -1,0 +1,7 @@
+pub mod Tellings
+pub mod Unsupported
+pub mod Distinct
+pub mod Contexts
+pub mod Heights
+pub mod ConstantValues
+pub mod Valid

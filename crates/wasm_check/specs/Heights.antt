@@ -1,0 +1,27 @@
+-- The heights of bodies, as they are kept.
+use Rattle.std.specs.Prelude.{◌≡◌, ℕ, ◌-◌, ◌^◌, ◌<◌, min, List, length, slice_get, Option, Some, None}
+use Rattle.wasm_form.specs.declared.module.Module.{Module}
+use Rattle.spec_binary.specs.Options.{◌>>=◌}
+use Rattle.spec_binary.specs.IndexSpaces.{function_space}
+use Rattle.spec_binary.specs.WellFormed.{IsWellFormed}
+use Rattle.spec_validation.specs.Faults.{body_height, fault}
+
+-- the number, or the greatest one of 32 bits
+abbrev pub saturated : ℕ → ℕ
+saturated n = min n (2 ^ 32 - 1)
+
+-- the height of a body, by its number
+abbrev pub height_of : Module → ℕ → Option ℕ
+height_of m n = slice_get m.codes n >>= λ c. body_height m n c >>= λ h. Some (saturated h)
+
+-- these are the heights of the first bodies
+pub record HaveHeights (m : Module) (count : ℕ) (heights : List ℕ) : Type 0 where
+  pub as_many : length heights ≡ count
+  pub each : (n : ℕ) → n < count → slice_get heights n ≡ height_of m n
+
+-- the module is well formed and has no fault, its functions are these by the numbers of their types, and its bodies have these heights
+pub record IsChecked (m : Module) (functions heights : List ℕ) : Type 0 where
+  pub formed : IsWellFormed m
+  pub valid : fault m ≡ None
+  pub space : functions ≡ function_space m
+  pub bodies : HaveHeights m (length m.codes) heights

@@ -1,0 +1,6 @@
+pub mod Answers
+pub mod Inside
+pub mod Spaces
+pub mod Marks
+pub mod Heights
+pub mod Constants

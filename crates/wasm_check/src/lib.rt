@@ -1,0 +1,21 @@
+//! The check of a module: what is supported, and what is valid (WebAssembly Core 2.0, chapter 3).
+#![tactic(auto)]
+
+mod bodies;
+mod checked;
+mod evaluation;
+mod fault;
+mod fields;
+mod inside;
+mod names;
+mod refers;
+mod spaces;
+mod support;
+#[cfg(test)]
+mod tests;
+mod value;
+
+pub use checked::{CheckRefused, Checked, check};
+pub use evaluation::constant;
+pub use fault::{CheckFault, Field, Place};
+pub use value::Constant;

@@ -1,0 +1,6 @@
+pub mod Laws
+pub mod LayoutLaws
+pub mod Tops
+pub mod Steps
+pub mod LocalSearch
+pub mod SameContexts

@@ -1,0 +1,8 @@
+pub mod Answers
+pub mod Contexts
+pub mod ModuleEnv
+pub mod GroupEnds
+pub mod Places
+pub mod Layout
+pub mod Blocks
+pub mod Shapes
