@@ -1,0 +1,13 @@
+pub mod SameRecords
+pub mod Notes
+pub mod Fields
+pub mod Parts
+pub mod Chains
+pub mod Readings
+pub mod RecordLaws
+pub mod Loop
+pub mod RecordRead
+pub mod Found
+pub mod Shortest
+pub mod Subsections
+pub mod Sampled

@@ -1,0 +1,7 @@
+use Rattle.std.proofs.Common.{take}
+use Rattle.wasm_form.specs.Number.{IsShortest, Appends}
+use Rattle.wasm_form.specs.Sequence.{SpellsEach}
+use Rattle.dyl_section.proofs.write.put_each.Given as goal
+
+abbrev pub invariant-loop-item : goal.invariant-loop-item
+invariant-loop-item g l = Appends (IsShortest (SpellsEach g.T.Note.spells (take l.item-index l.items))) l.initial.to.items l.to.items

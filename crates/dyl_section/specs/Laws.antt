@@ -1,0 +1,16 @@
+-- Laws of records.
+use Rattle.std.specs.Prelude.{◌≡◌, ℕ, List, ◌∷◌, Result}
+use Rattle.wasm_form.specs.declared.module.Custom.{Custom}
+use Rattle.wasm_form.specs.declared.module.Module.{Module}
+use Rattle.spec_binary.specs.SmallForm.{dylink_name}
+use Rattle.spec_linking.specs.Records.{DylinkRecord, empty_record, Subsections, HasRecord, RecordFault, RecordAnswer}
+
+-- there is one thing to say of a module's record
+abbrev pub OneRecordAnswer : Type 0
+OneRecordAnswer = (m : Module) (one other : Result DylinkRecord RecordFault) → RecordAnswer m one → RecordAnswer m other → one ≡ other
+
+-- a module whose first custom section is `dylink.0`, stands first, and holds bytes that say something has that record
+abbrev pub WrittenIsRecorded : Type 0
+WrittenIsRecorded =
+    (m : Module) (d : DylinkRecord) (count : ℕ) (bytes : List ℕ) (others : List Custom) → m.customs ≡ record { rank = 0; name = dylink_name; bytes = bytes } ∷ others
+    → Subsections empty_record count bytes d → HasRecord m d

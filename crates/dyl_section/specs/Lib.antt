@@ -1,0 +1,4 @@
+pub mod Recorded
+pub mod Reading
+pub mod Written
+pub mod Laws

@@ -1,0 +1,12 @@
+// Laws of records, which say nothing of code.
+ghost use Rattle.dyl_section.specs.Laws.{OneRecordAnswer, WrittenIsRecorded};
+
+/// There is one thing to say of a module's record.
+pub fn one_record_answer()
+    ensures { OneRecordAnswer }
+{}
+
+/// What is written into a `dylink.0` section is the record of its module.
+pub fn written_is_recorded()
+    ensures { WrittenIsRecorded }
+{}
