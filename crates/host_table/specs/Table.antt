@@ -1,12 +1,13 @@
 -- What a host table holds.
-use Rattle.std.specs.Prelude.{◌≡◌, ℕ, List, ◌++◌, ◌∷◌, [], map, Option, slice_get, length, IfSome, Bool, true, false}
+use Rattle.std.specs.Prelude.{◌≡◌, ℕ, List, ◌++◌, ◌∷◌, [], map, Option, slice_get, length, IfSome, IsTrue, Bool, true, false}
 use Rattle.std.specs.Borrow.{Bor}
 use Rattle.std.specs.List.{position_from}
 use Rattle.std.specs.declared.dyn_box.DynBox.{DynBox}
 use Rattle.std.specs.declared.alloc.Global.{Global}
 use Rattle.spec_execution.specs.Names as names
+use Rattle.spec_execution.specs.Hosts.{numbers_fit}
 use Rattle.host_table.specs.Names.{host_name_of, is_called}
-use Rattle.host_table.specs.Answers.{AnswersAt, FitAll, ReplyFits}
+use Rattle.host_table.specs.Answers.{AnswersAt, ReplyFits}
 use Rattle.host_table.specs.declared.host.Reply.{Reply}
 use Rattle.host_table.specs.declared.entry.AddFault.{AddFault}
 use Rattle.host_table.specs.declared.entry.AddFault.TheVariants.{SameName, Memory}
@@ -21,10 +22,6 @@ module _ {X : Type 0} {F : X → Type 0} {g : _} where
   abbrev pub functions_of : HostTable X F g → List names.HostName
   functions_of t = map (λ e. host_name_of e.host) t.entries.items
 
-  -- the callbacks of a table, in order
-  abbrev pub callbacks_of : HostTable X F g → List (DynBox X Global F)
-  callbacks_of t = map (λ e. e.call) t.entries.items
-
   abbrev pub entry_count : HostTable X F g → ℕ
   entry_count t = length t.entries.items
 
@@ -34,7 +31,7 @@ module _ {X : Type 0} {F : X → Type 0} {g : _} where
 
   -- the arguments fit the type of entry n
   abbrev pub FitEntry : HostTable X F g → ℕ → List ℕ → Type 0
-  FitEntry t n args = IfSome (slice_get t.entries.items n) (λ e. FitAll e.host.ty.params args)
+  FitEntry t n args = IfSome (slice_get t.entries.items n) (λ e. IsTrue (numbers_fit e.host.ty.params args))
 
   -- the callback of entry n may give this answer, where `post` is what a call of a callback may give
   abbrev pub GivesAnswer : (DynBox X Global F → Bor (List ℕ) → ℕ → Reply → Type 0) → HostTable X F g → ℕ → List ℕ → ℕ → Reply → Type 0

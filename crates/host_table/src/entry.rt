@@ -1,8 +1,9 @@
 // The entries of a host table.
 ghost use Rattle.std.specs.Prelude.{◌≡◌, ◌≤◌, length, OnOk, IsTrue};
 ghost use Rattle.spec_execution.specs.Names.{with_name, has_integers};
+ghost use Rattle.spec_execution.specs.Hosts.{numbers_fit};
 ghost use Rattle.host_table.specs.Names.{host_name_of, is_called};
-ghost use Rattle.host_table.specs.Answers.{Keeps, FitAll, ReplyFits, AnswersAt};
+ghost use Rattle.host_table.specs.Answers.{Keeps, ReplyFits, AnswersAt};
 
 use crate::copies::copied_type;
 use crate::{Callback, HostName, HostNames, Reply};
@@ -28,7 +29,7 @@ impl Entry {
 
     // Calls it.
     pub fn ask(&self, args: &[u64], size: u64) -> Reply
-        requires fit { FitAll self.now.host.ty.params args.now }
+        requires fit { IsTrue (numbers_fit self.now.host.ty.params args.now) }
         requires memory { size ≤ 4294967296 }
         ensures answers { AnswersAt (Callback.post self.now.call) args.now size result }
         ensures fits { ReplyFits self.now.host.ty size result }
@@ -64,8 +65,8 @@ pub struct AddRefused {
     pub call: Callback,
 }
 
-/// Host functions with their callbacks, each beside the fact that its answers fit its type and the memory. No two have the same
-/// module and name.
+/// Host functions with their callbacks, each beside the fact that its answers fit its type and the memory. No two
+/// have the same module and name.
 #[derive(Drop)]
 pub struct HostTable {
     pub(crate) entries: Vec<Entry>,

@@ -1,7 +1,8 @@
 // What a host function is given, and what it answers.
 use wasm_form::{FuncType, Text};
 
-/// Bytes that a host function writes into memory: the `len` low bytes of a number, the lowest first, from an address on.
+/// Bytes that a host function writes into memory: the `len` low bytes of a number, the lowest first, from an address
+/// on.
 #[derive(Clone, Copy, Debug, PartialEq, Eq)]
 pub struct Put {
     pub at: u32,

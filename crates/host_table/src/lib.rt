@@ -1,4 +1,5 @@
-//! Host functions: callbacks beside the fact that their answers fit, and the names under which host functions are declared.
+//! Host functions: callbacks beside the fact that their answers fit, and the names under which host functions are
+//! declared.
 #![tactic(auto)]
 
 mod copies;

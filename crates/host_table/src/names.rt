@@ -13,7 +13,8 @@ use std::alloc::Global;
 use std::marker::Model;
 use wasm_form::{FuncType, Memory};
 
-/// The host functions that are declared, by their modules and names. Of two declarations that cover a name the first one counts.
+/// The host functions that are declared, by their modules and names. Of two declarations that cover a name the first
+/// one counts.
 #[derive(Drop)]
 pub struct HostNames {
     modules: IndexMap<String, ModuleNames>,
@@ -38,8 +39,8 @@ impl HostNames {
         }
     }
 
-    /// Declares a host function of integers alone by its module, its name and its type. Where the name is declared already, the earlier
-    /// declaration stays the one that counts. At want of memory nothing is changed.
+    /// Declares a host function of integers alone by its module, its name and its type. Where the name is declared
+    /// already, the earlier declaration stays the one that counts. At want of memory nothing is changed.
     pub fn declare(
         &mut self,
         alloc: Global,
@@ -91,7 +92,8 @@ impl HostNames {
         }
     }
 
-    /// The type of a name whose declaration that counts was made with a type by `declare`, else None. It has integers alone.
+    /// The type of a name whose declaration that counts was made with a type by `declare`, else None. It has integers
+    /// alone.
     pub fn typed(&self, from: &str, name: &str) -> Option<&FuncType>
         ensures value { option_copied result ≡ host_typed self.now from.now name.now }
         ensures integers { IfSome (option_copied result) (λ t. IsTrue (has_integers t)) }

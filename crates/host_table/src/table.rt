@@ -38,8 +38,9 @@ impl HostTable {
         None
     }
 
-    /// Adds a host function of integer parameters and at most one integer result, at the end. It is refused, with its callback,
-    /// as `SameName` exactly where the table has its module and name, else for want of memory; the table then stays as it is.
+    /// Adds a host function of integer parameters and at most one integer result, at the end. It is refused, with its
+    /// callback, as `SameName` exactly where the table has its module and name, else for want of memory; the table
+    /// then stays as it is.
     pub fn add(
         &mut self,
         alloc: Global,
@@ -94,8 +95,8 @@ impl HostTable {
         }
     }
 
-    /// Calls entry n with these arguments and a memory of `size` bytes: an answer that its callback gives, which fits the
-    /// entry's type and the memory.
+    /// Calls entry n with these arguments and a memory of `size` bytes: an answer that its callback gives, which fits
+    /// the entry's type and the memory.
     pub fn call(&self, n: u32, args: &[u64], size: u64) -> Reply
         requires there { n < entry_count self.now }
         requires fit { FitEntry self.now n args.now }

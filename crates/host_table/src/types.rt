@@ -1,13 +1,14 @@
 // Tests of function types.
 ghost use Rattle.std.specs.Prelude.{◌≡◌};
 ghost use Rattle.std.specs.List.{list_all};
+ghost use Rattle.spec_binary.specs.SameTypes.{same_function_type};
 ghost use Rattle.spec_execution.specs.Names as names;
 
 use wasm_form::{FuncType, ValType};
 
 // Whether two types are one.
 pub fn is_same_type(one: &FuncType, other: &FuncType) -> bool
-    ensures { result ≡ names.is_same_function_type one.now other.now }
+    ensures { result ≡ same_function_type one.now other.now }
 {
     one == other
 }

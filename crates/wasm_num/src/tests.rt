@@ -1,6 +1,6 @@
-// Rows over all opcodes: an opcode, its operands and what it gives, in hexadecimal. An operand that isn't looked at is
-// 0. The values were computed from the formulas of the standard (WebAssembly Core 2.0, section 4.3.2) with the unbounded
-// integers of Python, apart from this program.
+// Rows over all opcodes: an opcode, its operands and what it gives, in hexadecimal. An operand that isn't looked at
+// is 0. The values were computed from the formulas of the standard (WebAssembly Core 2.0, section 4.3.2) with the
+// unbounded integers of Python, apart from this program.
 use super::{binary, compare, convert, unary};
 use wasm_form::Trap;
 

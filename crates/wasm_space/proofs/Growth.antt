@@ -44,15 +44,3 @@ unfolding nulls
 new_table_is entries n max old len empty none is =
     let all : n - len ≡ n = omega arith in
     rw (is, empty, all, take-nil) refl
-
-table_grown : (entries after : List (Option Ref)) (value : Option Ref) (max delta : ℕ) → length entries + delta ≤ max → after ≡ entries ++ replicate delta value
-    → entries_grown (record { entries = entries; max = max }) delta value ≡ Some (record { entries = after; max = max })
-table_grown entries after value max delta within is = rw (le-leb _ _ within, is) refl
-
-pub table_grows : (old : TableInstance) (entries after : List (Option Ref)) (value : Option Ref) (size max delta : ℕ) → record { entries = entries; max = max } ≡ old → size ≡ length entries → size + delta ≤ max
-    → after ≡ take (size + delta) entries ++ replicate (size + delta - size) value
-    → GrowsOrStays old (entries_grown old delta value) (length old.entries) (Ok size) (record { entries = after; max = max })
-table_grows old entries after value size max delta view same within is =
-    let P : TableInstance → Type 0 = λ t. GrowsOrStays t (entries_grown t delta value) (length t.entries) (Ok size) (record { entries = after; max = max }) in
-    let more = resized entries after value (size + delta) delta size same (omega arith) is in
-    subst P view (grows _ _ _ _ size (table_grown entries after value max delta (omega arith) more) same)

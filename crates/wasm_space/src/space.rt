@@ -67,8 +67,8 @@ impl Space {
         Ok(old)
     }
 
-    /// The number in `len` bytes at `base + offset`, the lowest byte first, added without wrapping; `MemoryBounds` where they
-    /// pass the end (section 4.4.7, t.load).
+    /// The number in `len` bytes at `base + offset`, the lowest byte first, added without wrapping; `MemoryBounds`
+    /// where they pass the end (section 4.4.7, t.load).
     pub fn load(&self, base: u32, offset: u32, len: u8) -> Result<u64, Trap>
         requires { IsAccessLength len }
         ensures value { result ≡ ok_or (loaded self.now base offset len) Trap.MemoryBounds }
@@ -82,8 +82,8 @@ impl Space {
         Ok(read_little(&self.bytes[at..end]))
     }
 
-    /// Writes the lowest `len` bytes of a number at `base + offset`; `MemoryBounds` where they pass the end, and nothing
-    /// is written (section 4.4.7, t.store).
+    /// Writes the lowest `len` bytes of a number at `base + offset`; `MemoryBounds` where they pass the end, and
+    /// nothing is written (section 4.4.7, t.store).
     pub fn store(&mut self, base: u32, offset: u32, len: u8, value: u64) -> Result<(), Trap>
         requires { IsAccessLength len }
         ensures { ChangesOrTraps Trap.MemoryBounds self.old (stored self.old base offset len value) result self.new }
@@ -97,8 +97,8 @@ impl Space {
         Ok(())
     }
 
-    /// Copies `n` bytes from `from` to `to`, as if all were read before the first is written; `MemoryBounds` where either range
-    /// passes the end, and nothing is written (section 4.4.7, memory.copy).
+    /// Copies `n` bytes from `from` to `to`, as if all were read before the first is written; `MemoryBounds` where
+    /// either range passes the end, and nothing is written (section 4.4.7, memory.copy).
     pub fn copy(&mut self, to: u32, from: u32, n: u32) -> Result<(), Trap>
         ensures { ChangesOrTraps Trap.MemoryBounds self.old (copied self.old to from n) result self.new }
     {
@@ -124,8 +124,8 @@ impl Space {
         Ok(())
     }
 
-    /// Writes `n` of these bytes, from place `from` of them on, at `to`; `MemoryBounds` where they pass the end of the bytes or
-    /// of the memory, and nothing is written (section 4.4.7, memory.init).
+    /// Writes `n` of these bytes, from place `from` of them on, at `to`; `MemoryBounds` where they pass the end of
+    /// the bytes or of the memory, and nothing is written (section 4.4.7, memory.init).
     pub fn init(&mut self, to: u32, bytes: &[u8], from: u32, n: u32) -> Result<(), Trap>
         ensures { ChangesOrTraps Trap.MemoryBounds self.old (initialized self.old to bytes.now from n) result self.new }
     {
