@@ -6,5 +6,10 @@ pub mod Opening
 pub mod Startup
 pub mod Headline
 pub mod Seeing
-pub mod Written
+pub mod SmallBodies
+pub mod ChainTexts
+pub mod Fits
+pub mod FormedMerged
+pub mod Distinct
+pub mod CustomTest
 pub mod Rows

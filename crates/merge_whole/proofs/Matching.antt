@@ -9,7 +9,12 @@ use Rattle.wasm_form.specs.declared.runtime.Ref.TheVariants.{Own}
 use Rattle.spec_runs.specs.Systems.{Moving}
 use Rattle.spec_runs.specs.Agreement.{StepLaw}
 use Rattle.spec_binary.specs.Options.{◌>>=◌}
-use Rattle.spec_binary.specs.Opcodes.{PlainForm, Unreachable, Nop, OtherPlain, plain_form, IndexForm, Call, OtherIndex, index_form}
+use Rattle.wasm_opcode.specs.declared.plain.PlainForm.{PlainForm}
+use Rattle.wasm_opcode.specs.declared.plain.PlainForm.TheVariants.{Unreachable, Nop}
+use Rattle.wasm_opcode.specs.declared.index.IndexForm.{IndexForm}
+use Rattle.wasm_opcode.specs.declared.index.IndexForm.TheVariants.{Call}
+use Rattle.wasm_opcode.specs.Plain.{plain_form}
+use Rattle.wasm_opcode.specs.Index.{index_form}
 use Rattle.spec_binary.specs.Indices.{Function, function_type, function_at}
 use Rattle.spec_execution.specs.Hosts.{Answer, Reply, Exit}
 use Rattle.spec_execution.specs.Activations.{Value, Num, Level, Activation, Move, On, Calls, Leaves, Fails, Stuck, take_values, plain_move, index_move, instr_move, end_move, code_move, move}
@@ -31,14 +36,14 @@ AtZero (Leaves values) = Unit {0}
 AtZero (Fails why) = Unit {0}
 AtZero Stuck = Unit {0}
 
-plain_at_zero : (f : PlainForm) (a : Activation) → a.unit ≡ 0 → AtZero (plain_move f a)
-plain_at_zero Unreachable a zero_is = tt
-plain_at_zero Nop a zero_is = zero_is
-plain_at_zero OtherPlain a zero_is = tt
+plain_at_zero : (f : Option PlainForm) (a : Activation) → a.unit ≡ 0 → AtZero (plain_move f a)
+plain_at_zero (Some Unreachable) a zero_is = tt
+plain_at_zero (Some Nop) a zero_is = zero_is
+plain_at_zero _ a zero_is = tt
 
-index_at_zero : (n : ℕ) (f : IndexForm) (a : Activation) → a.unit ≡ 0 → AtZero (index_move n f a)
-index_at_zero n Call a zero_is = zero_is
-index_at_zero n OtherIndex a zero_is = tt
+index_at_zero : (n : ℕ) (f : Option IndexForm) (a : Activation) → a.unit ≡ 0 → AtZero (index_move n f a)
+index_at_zero n (Some Call) a zero_is = zero_is
+index_at_zero n _ a zero_is = tt
 
 instr_at_zero : (x : Open.Instr-F Instr Expr) (a : Activation) → a.unit ≡ 0 → AtZero (instr_move x a)
 instr_at_zero (Open.Plain op) a zero_is = plain_at_zero (plain_form op) a zero_is

@@ -1,5 +1,5 @@
 -- Two sets of one module, run by hand: the smallest main module, whose `_start` does nothing, and one whose `_start` is unreachable.
-use Rattle.std.proofs.Common.{◌≡◌, ℕ, ◌<◌, List, [], ◌∷◌, length, Option, Some, None, refl, sym, ap, ◌∙◌, subst, arith}
+use Rattle.std.proofs.Common.{◌≡◌, ℕ, ◌<◌, List, [], ◌∷◌, Option, Some, None, refl, sym, ap, ◌∙◌, subst, arith}
 use Rattle.std.specs.Prelude.{codes}
 use Rattle.std.specs.List.{All}
 use Rattle.std.proofs.lemmas.List.Elements.{All-nil, All-cons}
@@ -10,14 +10,12 @@ use Rattle.wasm_form.specs.declared.module.ExportDesc.TheVariants.{Func}
 use Rattle.wasm_form.specs.declared.module.Export.{Export}
 use Rattle.wasm_form.specs.declared.module.Code.{Code}
 use Rattle.wasm_form.specs.declared.module.Module.{Module}
-use Rattle.wasm_form.specs.declared.runtime.Trap.{Trap}
 use Rattle.wasm_form.specs.declared.runtime.Trap.TheVariants.{Unreachable}
-use Rattle.spec_runs.specs.Systems.{Status, Moving, Returned, Trapped, run}
-use Rattle.spec_runs.specs.Agreement.{Silent}
-use Rattle.spec_runs.proofs.Simulation.{silent_append, silent_end, silent_below}
+use Rattle.spec_runs.specs.Systems.{Moving, Returned, Trapped}
+use Rattle.spec_runs.proofs.Simulation.{silent_append, silent_end}
 use Rattle.spec_binary.specs.SmallForm.{nullary, small_custom, IsSmallStep, IsSmallInstr, IsSmallCode, IsSmallExport, IsSmall}
 use Rattle.spec_binary.specs.Indices.{Function, function_with}
-use Rattle.spec_execution.specs.Hosts.{HostCall, Answer, no_names}
+use Rattle.spec_execution.specs.Hosts.{Answer, no_names}
 use Rattle.spec_execution.specs.Activations.{move, code_move, instr_move, Move, Leaves, Fails}
 use Rattle.spec_execution.specs.Runs.{entered, carried_out}
 use Rattle.spec_execution.specs.OneModule.{ModuleState, module_view, module_system, module_run}
@@ -53,9 +51,10 @@ main_with is = record {
 
 main_small : (is : List Instr) → All (IsSmallInstr 1) is → IsSmall (main_with is)
 main_small is all = record {
-  types = refl;
+  types = All-cons (λ t. t ≡ nullary) nullary [] refl (All-nil (λ t. t ≡ nullary));
+  few_types = omega arith;
   imports = refl;
-  funcs = All-cons (λ t. t ≡ 0) 0 [] refl (All-nil (λ t. t ≡ 0));
+  funcs = All-cons (λ t. t < 1) 0 [] (omega arith) (All-nil (λ t. t < 1));
   tables = refl;
   memories = refl;
   globals = refl;

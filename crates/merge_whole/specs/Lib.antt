@@ -1,2 +1,3 @@
 pub mod MergedModule
+pub mod SmallParts
 pub mod Seen

@@ -10,7 +10,8 @@ use Rattle.wasm_form.specs.declared.types.TableType.{TableType}
 use Rattle.wasm_form.specs.declared.module.Export.{Export}
 use Rattle.wasm_form.specs.declared.module.Data.{Data}
 use Rattle.wasm_form.specs.declared.module.Module.{Module}
-use Rattle.spec_binary.specs.SmallForm.{IsSmallFile}
+use Rattle.spec_binary.specs.SmallForm.{IsSmall}
+use Rattle.spec_binary.specs.Modules.{SpellsModule}
 use Rattle.spec_linking.specs.Records.{empty_record}
 use Rattle.spec_linking.specs.Sets.{Member, ClosedSet, most_bytes}
 use Rattle.spec_linking.specs.Plans.{default_link}
@@ -31,11 +32,12 @@ set_alone name path size wasm = record { members = main_member name path size wa
 abbrev pub linked_alone : List ℕ → List ℕ → ℕ → Module → LinkedSet
 linked_alone name path size wasm = record { set = set_alone name path size wasm; options = default_link; names = no_names }
 
--- some bytes of the small form spell the module, no more than a set may have
+-- the module is small, and some bytes spell it, no more than a set may have
 pub record IsSmallInput (wasm : Module) : Type 0 where
   pub bytes : List ℕ
-  pub file : IsSmallFile wasm bytes
+  pub spelled : SpellsModule wasm bytes
   pub few : length bytes ≤ most_bytes
+  pub small : IsSmall wasm
 
 -- the address of the error texts, as a constant expression
 abbrev pub texts_offset : Expr

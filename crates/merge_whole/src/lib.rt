@@ -3,6 +3,8 @@
 
 mod parts;
 mod slots;
+mod small_form;
 mod whole;
 
+pub use small_form::is_small;
 pub use whole::merge;

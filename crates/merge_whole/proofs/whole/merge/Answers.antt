@@ -10,5 +10,5 @@ returns c = all c.encoded.result c.encoded.ensures
   where
     all : (r : Result (Vec ℕ Global) Memory) → IfOk r (λ bytes. SpellsModule c.in_ok-merged.merged bytes.items)
         → IfOk r (λ bytes. (name path : List ℕ) (size : ℕ) → MergedAs (merged_alone c.args.wasm c.args.entry) (linked_alone name path size c.args.wasm) bytes.items)
-    all (Ok bytes) spelled = λ name path size. merges name path size c.args.wasm c.args.entry c.requires.input.file.small c.requires.entry bytes.items (subst (λ m. SpellsModule m bytes.items) c.in_ok-merged.ensures spelled)
+    all (Ok bytes) spelled = λ name path size. merges name path size c.args.wasm c.args.entry c.requires.input.small c.requires.entry bytes.items (subst (λ m. SpellsModule m bytes.items) c.in_ok-merged.ensures spelled)
     all (Err e) spelled = tt
