@@ -1,14 +1,13 @@
 -- What an input comes to.
-use Rattle.std.proofs.Common.{◌≡◌, ℕ, List, [], ◌∷◌, length, Option, Some, None, refl, ap, ◌∙◌, arith, inl, inr}
+use Rattle.std.proofs.Common.{◌≡◌, ℕ, List, length, Option, Some, None, Ok, refl, ap, ◌∙◌, inl, inr}
 use Rattle.std.specs.Prelude.{IsSomeAnd, ◌⊎◌}
 use Rattle.std.specs.FinMap.{get}
 use Rattle.wasm_form.specs.declared.module.Module.{Module}
-use Rattle.wasm_form.specs.Number.{SpellsUnsigned, last}
 use Rattle.dyl_outside.specs.FileMap.{FileMap}
-use Rattle.spec_binary.specs.SmallForm.{IsSmall, small_custom}
-use Rattle.spec_binary.proofs.Chains.{small_file_spells}
+use Rattle.spec_binary.specs.SmallForm.{IsSmall}
+use Rattle.spec_binary.specs.Modules.{SpellsModule}
+use Rattle.spec_binary.specs.Answers.{Answers, spelled}
 use Rattle.spec_validation.proofs.Valid.{small_valid}
-use Rattle.spec_linking.specs.Records.{empty_record, memory_information, done, next, HasRecord}
 use Rattle.spec_linking.specs.Sets.{Files, ClosedSet, main_name}
 use Rattle.spec_linking.specs.Definitions.{entry_of}
 use Rattle.spec_linking.specs.Links.{fault_without}
@@ -21,23 +20,14 @@ use Rattle.dyl_app.specs.Due.{GathersSmall, LinksAt, DueAt, Yields, Tells}
 use Rattle.dyl_app.specs.Gathered.{IsInput}
 use Rattle.dyl_app.specs.Finish.{HoldsMerged, LeavesWritten, ByEntry}
 use Rattle.dyl_app.specs.Files.{IsMerged, Leaves}
+use Rattle.dyl_app.proofs.SmallRecords.{small_record}
 use Rattle.dyl_app.proofs.Dues.{verdict, due_input}
 
-zero_byte : SpellsUnsigned 32 0 (0 ∷ [])
-zero_byte = last (omega arith) (omega arith)
+-- what is answered with a module spells it
+pub is_spelled : {bytes : List ℕ} {m : Module} → Answers bytes (Ok m) → SpellsModule m bytes
+is_spelled (spelled s within agree) = s
 
--- a small module says of itself that it has no regions and needs nothing
-small_record : (wasm : Module) → IsSmall wasm → HasRecord wasm empty_record
-small_record wasm small = record {
-  section = small_custom;
-  others = [];
-  first = small.customs;
-  rank = refl;
-  name = refl;
-  contents = next {code = 1} {size = 4 ∷ []} {contents = 0 ∷ 0 ∷ 0 ∷ 0 ∷ []} {rest = []} (last (omega arith) (omega arith)) (memory_information (omega arith) (omega arith) zero_byte zero_byte zero_byte zero_byte) done;
-}
-
-module _ (files : Files) (path : List ℕ) (wasm : Module) (input : IsInput files path wasm) where
+module _ (files : Files) (path : List ℕ) (wasm : Module) (input : IsInput files path (Ok wasm)) (small : IsSmall wasm) where
   abbrev set : ClosedSet
   set = set_alone (main_name path) path (length input.bytes) wasm
 
@@ -49,14 +39,12 @@ module _ (files : Files) (path : List ℕ) (wasm : Module) (input : IsInput file
       startup = refl;
       name = refl;
       path = refl;
-      found = record { bytes = input.bytes; found = input.file; size = refl; spelled = small_file_spells wasm input.bytes input.small; valid = small_valid wasm input.small.small; dylink = small_record wasm input.small.small };
+      found = record { bytes = input.bytes; found = input.file; size = refl; spelled = is_spelled input.answers.told; valid = small_valid wasm small; dylink = small_record wasm small };
       few_bytes = input.few;
       needs_none = refl;
       needed = refl;
     };
-    bytes = input.bytes;
-    file = input.file;
-    small = input.small;
+    small = small;
   }
 
   links : (o : Option ℕ) → entry_of wasm ≡ o → (answer : Outcome) → ByEntry o answer → Tells files path answer
@@ -87,7 +75,7 @@ module _ (files : Files) (path : List ℕ) (wasm : Module) (input : IsInput file
   yields o Unbuilt due h e = absurd h
 
   pub input_due : (answer : Outcome) → ByEntry (entry_of wasm) answer → (due : Outcome) → DueAt files path due → Yields due answer
-  input_due answer h due d = yields (entry_of wasm) answer due h (due_input files path wasm input due d)
+  input_due answer h due d = yields (entry_of wasm) answer due h (due_input files path wasm input small due d)
 
 -- what is done has an entry
 has_entry : (o : Option ℕ) → ByEntry o Done → fault_without o ≡ None
@@ -95,16 +83,16 @@ has_entry None h = absurd h
 has_entry (Some entry) h = refl
 
 -- what is written is merged
-pub input_leaves : (told : FileMap) (order : Order) (wasm : Module) → IsInput (get told) order.main wasm → (answer : Outcome) (after : Option FileMap) (before now : ℕ)
+pub input_leaves : (told : FileMap) (order : Order) (wasm : Module) → IsInput (get told) order.main (Ok wasm) → IsSmall wasm → (answer : Outcome) (after : Option FileMap) (before now : ℕ)
     → ByEntry (entry_of wasm) answer → LeavesWritten wasm order.out told answer after → Leaves order told answer after before now
-input_leaves told order wasm input Done after before now h leaves = holds after leaves
+input_leaves told order wasm input small Done after before now h leaves = holds after leaves
   where
     holds : (a : Option FileMap) → IsSomeAnd a (HoldsMerged wasm order.out told) → IsSomeAnd a (IsMerged order told)
     holds None l = l
     holds (Some new) l =
         record {
           set = set_alone (main_name order.main) order.main (length input.bytes) wasm;
-          gathered = gathers (get told) order.main wasm input;
+          gathered = gathers (get told) order.main wasm input small;
           links = has_entry (entry_of wasm) h;
           entry = l.entry;
           entered = l.entered;
@@ -113,23 +101,23 @@ input_leaves told order wasm input Done after before now h leaves = holds after 
           shape = (l.merged (main_name order.main) order.main (length input.bytes)).shape;
           written = l.written;
         }
-input_leaves told order wasm input WriteFault after before now h leaves = leaves
-input_leaves told order wasm input Memory after before now h leaves = inl leaves
-input_leaves told order wasm input (Usage kind) after before now h leaves = absurd leaves
-input_leaves told order wasm input (Set fault) after before now h leaves = absurd leaves
-input_leaves told order wasm input Unbuilt after before now h leaves = absurd leaves
-input_leaves told order wasm input (Link fault) after before now h leaves = leaves
+input_leaves told order wasm input small WriteFault after before now h leaves = leaves
+input_leaves told order wasm input small Memory after before now h leaves = inl leaves
+input_leaves told order wasm input small (Usage kind) after before now h leaves = absurd leaves
+input_leaves told order wasm input small (Set fault) after before now h leaves = absurd leaves
+input_leaves told order wasm input small Unbuilt after before now h leaves = absurd leaves
+input_leaves told order wasm input small (Link fault) after before now h leaves = leaves
 
 -- where the set links, a module that is gathered is merged, unless a write failed or memory was wanted
-pub input_complete : (files : Files) (path : List ℕ) (wasm : Module) → IsInput files path wasm → (answer : Outcome) → ByEntry (entry_of wasm) answer → LinksAt files path
+pub input_complete : (files : Files) (path : List ℕ) (wasm : Module) → IsInput files path (Ok wasm) → IsSmall wasm → (answer : Outcome) → ByEntry (entry_of wasm) answer → LinksAt files path
     → (answer ≡ WriteFault → ⊥) → (answer ≡ Done) ⊎ (answer ≡ Memory)
-input_complete files path wasm input answer h links written = go (entry_of wasm) refl answer h written
+input_complete files path wasm input small answer h links written = go (entry_of wasm) refl answer h written
   where
     go : (o : Option ℕ) → entry_of wasm ≡ o → (a : Outcome) → ByEntry o a → (a ≡ WriteFault → ⊥) → (a ≡ Done) ⊎ (a ≡ Memory)
     go (Some entry) e Done h w = inl refl
     go (Some entry) e WriteFault h w = absurd (w refl)
     go o e Memory h w = inr refl
-    go None e a h w = absurd (let done = due_input files path wasm input Done links in let e' = done ∙ ap verdict e in cc)
+    go None e a h w = absurd (let done = due_input files path wasm input small Done links in let e' = done ∙ ap verdict e in cc)
     go (Some entry) e (Link fault) h w = absurd h
     go o e (Usage kind) h w = absurd h
     go o e (Set fault) h w = absurd h

@@ -2,6 +2,7 @@ pub mod Status
 pub mod Orders
 pub mod Due
 pub mod Gathered
-pub mod Entry
 pub mod Finish
 pub mod Files
+pub mod Lines
+pub mod Told

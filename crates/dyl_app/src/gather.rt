@@ -1,16 +1,27 @@
 // The closed set of a main module alone.
-ghost use Rattle.std.specs.Prelude.{◌≡◌, IfOk, List, ℕ};
+ghost use Rattle.std.specs.Prelude.{◌≡◌, ◌≢◌, IfOk, List, ℕ, None};
 ghost use Rattle.std.specs.Option.{ForSome};
 ghost use Rattle.std.specs.FinMap.{get};
 ghost use Rattle.dyl_outside.specs.Faults.{Rises};
 ghost use Rattle.merge_whole.specs.MergedModule.{IsSmallInput};
 ghost use Rattle.spec_linking.specs.Sets.{main_name};
+ghost use Rattle.spec_binary.specs.WellFormed.{IsWellFormed};
+ghost use Rattle.spec_validation.specs.Faults as validation;
+ghost use Rattle.wasm_decode.specs.declared.fault.DecodeFault.TheVariants as decode;
+ghost use Rattle.dyl_section.specs.declared.fault.RecordFault.{RecordFault};
+ghost use Rattle.dyl_section.specs.declared.fault.RecordFault.TheVariants as record_faults;
+ghost use Rattle.wasm_check.specs.declared.fault.CheckFault.{CheckFault};
+ghost use Rattle.wasm_check.specs.declared.fault.CheckFault.TheVariants as check_faults;
 ghost use Rattle.dyl_app.specs.declared.outcome.SetFault.TheVariants as set;
-ghost use Rattle.dyl_app.specs.Gathered.{Gathered, IsDecoded, IsMissingOf, IsReadFaultOf};
+ghost use Rattle.dyl_app.specs.Due.{IsRecorded};
+ghost use Rattle.dyl_app.specs.Gathered.{Gathered, IsTheAnswer, ComesTo, IsTested, TellsRecord, TellsValid, unless_memory, record_unless_memory, check_unless_memory, IsMissingOf, IsReadFaultOf};
 
 use crate::outcome::{Outcome, SetFault};
 use dyl_outside::{FileFault, Files};
+use dyl_section::{RecordFault, read_dylink};
+use merge_whole::is_small;
 use std::alloc::{AllocError, Global};
+use wasm_check::{CheckFault, check};
 use wasm_decode::{DecodeFault, decode};
 use wasm_form::{Memory, Module, Text};
 
@@ -66,14 +77,88 @@ fn unread(alloc: Global, path: &str) -> InputFault
     }
 }
 
+/// That the main module is not decoded, or no memory could be had.
+fn not_decoded(fault: DecodeFault) -> InputFault
+    ensures { result ≡ unless_memory fault }
+{
+    match fault {
+        DecodeFault::Memory => InputFault::Memory,
+        fault => InputFault::Set(SetFault::Decode { module: 0, fault }),
+    }
+}
+
+/// That the main module has no record, or no memory could be had.
+fn not_recorded(fault: RecordFault) -> InputFault
+    ensures { result ≡ record_unless_memory fault }
+{
+    match fault {
+        RecordFault::Memory => InputFault::Memory,
+        fault => InputFault::Set(SetFault::Record { module: 0, fault }),
+    }
+}
+
+/// That the main module has a fault, or no memory could be had.
+fn not_valid(fault: CheckFault) -> InputFault
+    ensures { result ≡ check_unless_memory fault }
+{
+    match fault {
+        CheckFault::Memory => InputFault::Memory,
+        fault => InputFault::Set(SetFault::Check { module: 0, fault }),
+    }
+}
+
+/// Whether a module has a record.
+fn recorded(alloc: Global, wasm: &Module) -> Result<(), InputFault>
+    ensures { TellsRecord wasm.now result }
+{
+    match read_dylink(alloc, wasm) {
+        Ok(_) => Ok(()),
+        Err(fault) => Err(not_recorded(fault)),
+    }
+}
+
+/// A module with a record that has no fault.
+fn valid(alloc: Global, wasm: Module) -> Result<Module, InputFault>
+    requires formed { IsWellFormed wasm }
+    requires recorded { IsRecorded wasm }
+    ensures { TellsValid wasm result }
+{
+    match check(alloc, wasm) {
+        Ok(checked) => Ok(checked.into_module()),
+        Err(refused) => Err(not_valid(refused.fault)),
+    }
+}
+
+/// A module with a record and without a fault that is of the form that is built.
+fn of_form(alloc: Global, wasm: Module) -> Result<Module, InputFault>
+    requires recorded { IsRecorded wasm }
+    requires valid { validation.fault wasm ≡ None }
+    ensures { IsTested wasm result }
+{
+    match is_small(alloc, &wasm) {
+        Ok(true) => Ok(wasm),
+        Ok(false) => Err(InputFault::Unbuilt),
+        Err(_) => Err(InputFault::Memory),
+    }
+}
+
+/// A well formed module that has a record and no fault, and is of the form that is built.
+fn tested(alloc: Global, wasm: Module) -> Result<Module, InputFault>
+    requires { IsWellFormed wasm }
+    ensures { IsTested wasm result }
+{
+    recorded(alloc, &wasm)?;
+    let wasm = valid(alloc, wasm)?;
+    of_form(alloc, wasm)
+}
+
 /// The module of a file.
 fn decoded(alloc: Global, bytes: &[u8]) -> Result<Module, InputFault>
-    ensures { IsDecoded bytes.now result }
+    ensures { ComesTo (IsTheAnswer bytes.now) result }
 {
     match decode(alloc, bytes) {
-        Ok(wasm) => Ok(wasm),
-        Err(DecodeFault::Unbuilt) => Err(InputFault::Unbuilt),
-        Err(DecodeFault::Memory) => Err(InputFault::Memory),
+        Ok(wasm) => tested(alloc, wasm),
+        Err(fault) => Err(not_decoded(fault)),
     }
 }
 
@@ -86,6 +171,9 @@ pub fn gather<F: Files>(alloc: Global, path: &str, files: &mut F) -> Result<Modu
     ensures input { IfOk result IsSmallInput }
     ensures writes { F.write_faults files.new ≡ F.write_faults files.old }
     ensures reads { (at : List ℕ) → result ≡ Err (InputFault.Set (set.ReadFault at)) → (at ≡ path.now) × Rises (F.read_faults files.old) (F.read_faults files.new) }
+    ensures decode { (member : ℕ) (fault : DecodeFault) → result ≡ Err (InputFault.Set (set.Decode member fault)) → (member ≡ 0) × (fault ≢ decode.Memory) }
+    ensures record_fault { (member : ℕ) (fault : RecordFault) → result ≡ Err (InputFault.Set (set.Record member fault)) → (member ≡ 0) × (fault ≢ record_faults.Memory) }
+    ensures check { (member : ℕ) (fault : CheckFault) → result ≡ Err (InputFault.Set (set.Check member fault)) → (member ≡ 0) × (fault ≢ check_faults.Memory) }
     ensures absents { (name : List ℕ) → result ≡ Err (InputFault.Set (set.Missing name)) → (name ≡ main_name path.now) × Rises (F.absents files.old) (F.absents files.new) }
 {
     match files.fetch(alloc, path, MOST_BYTES) {

@@ -2,15 +2,15 @@
 ghost use Rattle.std.specs.Prelude.{◌≡◌};
 ghost use Rattle.spec_binary.specs.SmallForm.{IsSmall};
 ghost use Rattle.spec_linking.specs.Definitions.{entry_of};
-ghost use Rattle.dyl_app.specs.Entry.{function_named};
+ghost use Rattle.spec_binary.specs.Indices.{own_function};
 
-use wasm_form::{Export, ExportDesc, Module};
+use wasm_form::{ExportDesc, Module};
 
-/// The function that is exported under a name.
-fn exported(exports: &[Export], name: &str) -> Option<u32>
-    ensures { result ≡ function_named name.now exports.now }
+/// The function that a module exports under a name.
+fn exported(wasm: &Module, name: &str) -> Option<u32>
+    ensures { result ≡ own_function wasm.now name.now }
 {
-    for export in exports {
+    for export in wasm.exports.items() {
         if name == export.name.as_str() {
             return match export.desc {
                 ExportDesc::Func(f) => Some(f),
@@ -26,9 +26,8 @@ pub fn entry(wasm: &Module) -> Option<u32>
     requires { IsSmall wasm.now }
     ensures { result ≡ entry_of wasm.now }
 {
-    let exports = wasm.exports.items();
-    match exported(exports, "_start") {
+    match exported(wasm, "_start") {
         Some(f) => Some(f),
-        None => exported(exports, "main"),
+        None => exported(wasm, "main"),
     }
 }

@@ -2,6 +2,9 @@
 ghost use Rattle.std.specs.Prelude.{◌≡◌};
 ghost use Rattle.dyl_app.specs.Status.{status_of};
 
+use dyl_section::RecordFault;
+use wasm_check::CheckFault;
+use wasm_decode::DecodeFault;
 use wasm_form::Text;
 
 /// What is wrong with the words.
@@ -22,6 +25,12 @@ pub enum SetFault {
     Missing { name: Text },
     /// The file at this path could not be read.
     ReadFault { path: Text },
+    /// The file of the module with this number is no well formed module. The fault is never `Memory`.
+    Decode { module: u32, fault: DecodeFault },
+    /// The module with this number has no record. The fault is never `Memory`.
+    Record { module: u32, fault: RecordFault },
+    /// The module with this number has something that is not supported or not valid. The fault is never `Memory`.
+    Check { module: u32, fault: CheckFault },
     /// The files have more than 16,777,216 bytes.
     SetSize,
 }

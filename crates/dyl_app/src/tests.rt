@@ -1,7 +1,12 @@
+mod check;
+mod codec;
+mod lines;
+
 use crate::{LinkFault, Outcome, SetFault, UsageKind, serve, status};
-use dyl_outside::{Files, MemFiles};
+use dyl_outside::{Files, MemFiles, MemSink};
 use std::alloc::Global;
 use std::test::Fail;
+use wasm_decode::DecodeFault;
 use wasm_form::put_u32;
 
 /// The smallest main module: one function without parameters and results, which is `_start` and does nothing.
@@ -24,7 +29,19 @@ const MAIN: &[u8] =
 const CUT: &[u8] =
     b"\0asm\x01\0\0\0\0\x0f\x08dylink.0\x01\x04\0\0\0\0\x01\x04\x01\x60\0\0\x03\x02\x01\0\x07\x0a\x01\x06_start\0\0\x0a\x04\x01\x02\0";
 
-/// The same with `drop` as its body, which takes a value that isn't there.
+/// The smallest main module without its code section, and so with a function that has no body.
+const NO_BODY: &[u8] =
+    b"\0asm\x01\0\0\0\0\x0f\x08dylink.0\x01\x04\0\0\0\0\x01\x04\x01\x60\0\0\x03\x02\x01\0\x07\x0a\x01\x06_start\0\0";
+
+/// The smallest main module with an empty import section, which spells the same module.
+const EMPTY_IMPORTS: &[u8] =
+    b"\0asm\x01\0\0\0\0\x0f\x08dylink.0\x01\x04\0\0\0\0\x01\x04\x01\x60\0\0\x02\x01\0\x03\x02\x01\0\x07\x0a\x01\x06_start\0\0\x0a\x04\x01\x02\0\x0b";
+
+/// The smallest main module with a data count of 0.
+const COUNTED: &[u8] =
+    b"\0asm\x01\0\0\0\0\x0f\x08dylink.0\x01\x04\0\0\0\0\x01\x04\x01\x60\0\0\x03\x02\x01\0\x07\x0a\x01\x06_start\0\0\x0c\x01\0\x0a\x04\x01\x02\0\x0b";
+
+/// The smallest main module with `drop` as its body, which takes a value that isn't there.
 const DROPS: &[u8] =
     b"\0asm\x01\0\0\0\0\x0f\x08dylink.0\x01\x04\0\0\0\0\x01\x04\x01\x60\0\0\x03\x02\x01\0\x07\x0a\x01\x06_start\0\0\x0a\x05\x01\x03\0\x1a\x0b";
 
@@ -45,7 +62,7 @@ fn merged(alloc: Global, file: &[u8]) -> Result<(Outcome, bool), Fail> {
     let mut files = MemFiles::new(alloc);
     files.add(alloc, "main.wasm", file)?;
     let words = words(alloc, &["wdyl", "merge", "main.wasm", "out.wasm"])?;
-    let outcome = serve(alloc, &words, &mut files);
+    let outcome = serve(alloc, &words, &mut files, &mut MemSink::new(alloc));
     let written = files.fetch(alloc, "out.wasm", 1_000_000_000).is_ok();
     Ok((outcome, written))
 }
@@ -58,8 +75,11 @@ fn small_files(rt: HostRuntime) -> Result<(), Fail> {
         (TRAPS, 0, true),
         (MAIN, 0, true),
         (RECURSES, 0, true),
+        (EMPTY_IMPORTS, 0, true),
         (NO_ENTRY, 65, false),
         (CUT, 65, false),
+        (NO_BODY, 65, false),
+        (COUNTED, 65, false),
         (DROPS, 65, false),
     ] {
         let (outcome, written) = merged(alloc, file)?;
@@ -74,10 +94,28 @@ fn refusals_by_name(rt: HostRuntime) -> Result<(), Fail> {
     let alloc = rt.alloc();
     let (outcome, _) = merged(alloc, NO_ENTRY)?;
     assert!(rt; matches!(outcome, Outcome::Link(LinkFault::NoEntry)));
-    let (outcome, _) = merged(alloc, CUT)?;
+    let (outcome, _) = merged(alloc, COUNTED)?;
     assert!(rt; matches!(outcome, Outcome::Unbuilt));
     let (outcome, _) = merged(alloc, DROPS)?;
-    assert!(rt; matches!(outcome, Outcome::Unbuilt));
+    assert!(rt; matches!(outcome, Outcome::Set(SetFault::Check { .. })));
+    Ok(())
+}
+
+#[test]
+fn files_that_are_not_decoded(rt: HostRuntime) -> Result<(), Fail> {
+    let alloc = rt.alloc();
+    for (file, expected) in [
+        (CUT, DecodeFault::Malformed { section: 4 }),
+        (NO_BODY, DecodeFault::Counts),
+    ] {
+        match merged(alloc, file)?.0 {
+            Outcome::Set(SetFault::Decode { module, fault }) => {
+                assert_eq!(rt; module, 0);
+                assert_eq!(rt; fault, expected);
+            }
+            _ => assert!(rt; false, "the file is not decoded"),
+        }
+    }
     Ok(())
 }
 
@@ -87,7 +125,7 @@ fn failing(alloc: Global, call: u64) -> Result<(Outcome, bool), Fail> {
     files.add(alloc, "main.wasm", SMALLEST)?;
     files.fail_at(alloc, call)?;
     let words = words(alloc, &["wdyl", "merge", "main.wasm", "out.wasm"])?;
-    let outcome = serve(alloc, &words, &mut files);
+    let outcome = serve(alloc, &words, &mut files, &mut MemSink::new(alloc));
     let written = files.fetch(alloc, "out.wasm", 1_000_000_000).is_ok();
     Ok((outcome, written))
 }
@@ -109,7 +147,7 @@ fn missing_files(rt: HostRuntime) -> Result<(), Fail> {
     let alloc = rt.alloc();
     let mut files = MemFiles::new(alloc);
     let words = words(alloc, &["wdyl", "merge", "set/app/main.wasm", "out.wasm"])?;
-    let outcome = serve(alloc, &words, &mut files);
+    let outcome = serve(alloc, &words, &mut files, &mut MemSink::new(alloc));
     assert_eq!(rt; status(&outcome), 65);
     match &outcome {
         Outcome::Set(SetFault::Missing { name }) => assert_eq!(rt; name.as_str(), "main.wasm"),
@@ -147,7 +185,12 @@ fn words_that_are_no_order(rt: HostRuntime) -> Result<(), Fail> {
         (["wdyl", "merge", "a", "b\0"].as_slice(), UsageKind::Words),
     ] {
         let words = words(alloc, texts)?;
-        let outcome = serve(alloc, &words, &mut MemFiles::new(alloc));
+        let outcome = serve(
+            alloc,
+            &words,
+            &mut MemFiles::new(alloc),
+            &mut MemSink::new(alloc),
+        );
         assert_eq!(rt; status(&outcome), 64);
         match outcome {
             Outcome::Usage(found) => assert_eq!(rt; found, kind),

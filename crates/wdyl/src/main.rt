@@ -1,24 +1,25 @@
 //! `wdyl merge MAIN OUT`: makes one WebAssembly module of a main module and the libraries that it needs.
 #![tactic(auto)]
 
-use dyl_app::{Outcome, UsageKind, serve, status};
-use dyl_outside::DiskFiles;
+use dyl_app::{Outcome, UsageKind, serve, status, tell};
+use dyl_outside::{DiskFiles, StreamSink};
 use std::env;
 use std::process::ExitCode;
 
 fn main(rt: HostRuntime) -> ExitCode {
     let alloc = rt.alloc();
     let mut files = DiskFiles::new(&rt);
+    let mut errors = StreamSink::new(rt.stderr());
     let outcome = match env::args(&rt) {
         Ok(words) => match words.collect(alloc) {
             Ok(words) => {
                 let words: Vec<String> = words;
-                serve(alloc, &words, &mut files)
+                serve(alloc, &words, &mut files, &mut errors)
             }
-            Err(_) => Outcome::Memory,
+            Err(_) => tell(alloc, Outcome::Memory, &mut errors),
         },
         // Words that are no text.
-        Err(_) => Outcome::Usage(UsageKind::Words),
+        Err(_) => tell(alloc, Outcome::Usage(UsageKind::Words), &mut errors),
     };
     ExitCode::from(status(&outcome))
 }
