@@ -10,14 +10,13 @@ The first build proves crates that weren't built before, which takes minutes.
 """
 
 import os
-import re
-import shutil
 import subprocess
 import sys
 import tempfile
 
+import crates
+
 HERE = os.path.dirname(os.path.abspath(__file__))
-ROOT = os.path.dirname(HERE)
 # The crates that the Rattle program uses; those below them are looked up in crates.txt.
 USED = ["wasm_form", "wasm_num", "wasm_space"]
 RUNS = 3
@@ -48,51 +47,11 @@ WORKS = [
 ]
 
 
-def listed():
-    """The crates of crates.txt, each with those that it uses."""
-    with open(os.path.join(ROOT, "crates.txt")) as lines:
-        found = [re.match(r"(\w+)\s*:(.*)", line) for line in lines]
-    return {match[1]: match[2].split() for match in found if match}
-
-
-def below(names, crates):
-    """These crates and all below them that the repository has."""
-    closed = set()
-    while names:
-        name = names.pop()
-        if name in crates and name not in closed:
-            closed.add(name)
-            names += crates[name]
-    return sorted(closed)
-
-
-def lay_out(folder):
-    """A repository of the crates that are used, with what was built of them, and of the program."""
-    crates = listed()
-    names = below(list(USED), crates)
-    for name in names:
-        shutil.copytree(os.path.join(ROOT, "crates", name), os.path.join(folder, "crates", name))
-    source = os.path.join(folder, "crates", "inner", "src")
-    os.makedirs(source)
-    # No file ends in .rt outside of crates/, since the check wants to prove each.
-    shutil.copy(os.path.join(HERE, "inner", "main.rattle"), os.path.join(source, "main.rt"))
-    with open(os.path.join(folder, "crates.txt"), "w") as out:
-        out.writelines(f"{name}: {' '.join(crates[name])}\n" for name in names)
-        out.write(f"inner: {' '.join(USED)}\n")
-
-
 def build(folder):
     """Builds both programs, and answers where they stand."""
     in_c = os.path.join(folder, "inner_in_c")
     subprocess.run(["cc", "-O2", "-o", in_c, os.path.join(HERE, "inner", "main.c")], check=True)
-    lay_out(folder)
-    crate = os.path.join(folder, "crates", "inner")
-    # `rt run` proves the program, builds it by LLVM and runs it.
-    command = ["rt", "run", "--", PAGES, "start"]
-    built = subprocess.run(command, cwd=crate, stdout=subprocess.PIPE, stderr=subprocess.STDOUT)
-    if built.returncode != 0:
-        sys.exit(built.stdout.decode(errors="replace"))
-    return os.path.join(crate, "out", "inner"), in_c
+    return crates.build(folder, "inner", USED, [PAGES, "start"]), in_c
 
 
 def run(program, word):
