@@ -14,6 +14,3 @@ pub use codec::{RoundTripFault, round_trip};
 pub use errors::tell;
 pub use outcome::{LinkFault, Outcome, SetFault, UsageKind, status};
 pub use service::serve;
-
-#[cfg(test)]
-mod tests;

@@ -4,6 +4,7 @@ use Rattle.std.specs.Ordering.{int_eq}
 use Rattle.std.specs.Int.{int_shr}
 use Rattle.wasm_form.specs.declared.runtime.Trap.{Trap}
 use Rattle.wasm_form.specs.declared.runtime.Trap.TheVariants.{DivideByZero, Overflow}
+use Rattle.wasm_opcode.specs.Ranges.{within}
 
 pub data Width : Type 0 where
   W32 W64 : Width
@@ -182,9 +183,6 @@ converts_to I64Extend16S = W64
 converts_to I64Extend32S = W64
 
 -- ---- the operators by their opcode (section 5.4.6); those of i64 stand at one distance from those of i32
-
-abbrev pub within : ℕ → ℕ → ℕ → Bool
-within low high op = nat_le low op && nat_le op high
 
 abbrev pub unary_at : ℕ → Unary
 unary_at op =

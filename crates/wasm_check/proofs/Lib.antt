@@ -3,5 +3,4 @@ pub mod Unsupported
 pub mod Distinct
 pub mod Contexts
 pub mod Heights
-pub mod ConstantValues
 pub mod Valid

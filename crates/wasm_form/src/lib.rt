@@ -9,8 +9,6 @@ mod module;
 mod name;
 mod runtime;
 mod signed;
-#[cfg(test)]
-mod tests;
 mod text;
 mod types;
 mod unsigned;

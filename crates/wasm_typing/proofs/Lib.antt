@@ -3,4 +3,3 @@ pub mod LayoutLaws
 pub mod Tops
 pub mod Steps
 pub mod LocalSearch
-pub mod SameContexts

@@ -1,6 +1,5 @@
 pub mod Answers
 pub mod Contexts
-pub mod ModuleEnv
 pub mod GroupEnds
 pub mod Places
 pub mod Layout

@@ -1,12 +1,11 @@
-mod check;
-mod codec;
 mod lines;
 
-use crate::{LinkFault, Outcome, SetFault, UsageKind, serve, status};
+use dyl_app::{LinkFault, Outcome, SetFault, UsageKind, serve, status};
 use dyl_outside::{Files, MemFiles, MemSink};
 use std::alloc::Global;
 use std::test::Fail;
-use wasm_decode::DecodeFault;
+use wasm_check::check;
+use wasm_decode::{DecodeFault, decode};
 use wasm_form::put_u32;
 
 /// The smallest main module: one function without parameters and results, which is `_start` and does nothing.
@@ -85,6 +84,24 @@ fn small_files(rt: HostRuntime) -> Result<(), Fail> {
         let (outcome, written) = merged(alloc, file)?;
         assert_eq!(rt; status(&outcome), code);
         assert_eq!(rt; written, is_written);
+    }
+    Ok(())
+}
+
+#[test]
+fn what_is_merged_is_valid(rt: HostRuntime) -> Result<(), Fail> {
+    let alloc = rt.alloc();
+    for file in [SMALLEST, TRAPS, MAIN, RECURSES, EMPTY_IMPORTS] {
+        let mut files = MemFiles::new(alloc);
+        files.add(alloc, "main.wasm", file)?;
+        let words = words(alloc, &["wdyl", "merge", "main.wasm", "out.wasm"])?;
+        let outcome = serve(alloc, &words, &mut files, &mut MemSink::new(alloc));
+        assert_eq!(rt; status(&outcome), 0);
+        let output = files
+            .fetch(alloc, "out.wasm", 1_000_000_000)
+            .expect(&rt, "the output");
+        let module = decode(alloc, &output)?;
+        assert!(rt; check(alloc, module).is_ok(), "the merged module");
     }
     Ok(())
 }

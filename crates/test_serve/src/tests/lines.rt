@@ -1,6 +1,6 @@
 // The lines of faults.
 use super::{SMALLEST, words};
-use crate::{LinkFault, Outcome, SetFault, UsageKind, serve, status, tell};
+use dyl_app::{LinkFault, Outcome, SetFault, UsageKind, serve, status, tell};
 use dyl_outside::{MemFiles, MemSink};
 use dyl_section::RecordFault;
 use std::alloc::Global;

@@ -1,11 +1,11 @@
 // Spellings from the rule of the standard (WebAssembly Core 2.0, sections 5.2.2 and 5.2.4), with the edges of each
 // width, and one call of each writer.
-use super::{
+use std::alloc::{AllocError, Global};
+use std::test::Fail;
+use wasm_form::{
     List, Text, put_name, put_s32, put_s33, put_s64, put_u32, read_name, read_s32, read_s33,
     read_s64, read_u32,
 };
-use std::alloc::{AllocError, Global};
-use std::test::Fail;
 
 // What is read, bytes in hexadecimal, and the number that they spell, if they do. Of a name it is the place where its
 // bytes start.
