@@ -6,7 +6,7 @@ use Rattle.spec_binary.specs.Answers as answers
 use Rattle.spec_binary.specs.Answers.{Fault, Answers}
 use Rattle.spec_binary.specs.SmallForm.{IsSmall}
 use Rattle.spec_validation.specs.Faults as validation
-use Rattle.spec_execution.specs.Hosts.{no_names}
+use Rattle.spec_runtime.specs.Hosts.{no_names}
 use Rattle.spec_linking.specs.Records as records
 use Rattle.spec_linking.specs.Records.{DylinkRecord, RecordAnswer}
 use Rattle.spec_linking.specs.Sets.{Files, ClosedSet, default_options, main_name, most_bytes, Gathers}

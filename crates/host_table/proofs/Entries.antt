@@ -10,7 +10,7 @@ use Rattle.wasm_form.specs.declared.types.FuncType.{FuncType}
 use Rattle.std.proofs.lemmas.Map.Steps.{set_value_same}
 use Rattle.std.proofs.lemmas.Bool.{cond_both}
 use Rattle.std.proofs.lemmas.List.Elements.{All-cons, All-head, All-tail}
-use Rattle.spec_execution.specs.Names.{HostModule, HostNames, empty_module, declares, with_function, change_module}
+use Rattle.spec_runtime.specs.Names.{HostModule, HostNames, empty_module, declares, with_function, change_module}
 use Rattle.host_table.specs.Names.{by_text}
 
 module _ {Z X : Type 0} where

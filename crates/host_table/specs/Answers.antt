@@ -3,7 +3,7 @@ use Rattle.std.specs.Prelude.{◌≡◌, ◌<◌, ◌≤◌, ◌+◌, ℕ, List,
 use Rattle.std.specs.Borrow.{Bor}
 use Rattle.wasm_form.specs.declared.types.ValType.{ValType}
 use Rattle.wasm_form.specs.declared.types.FuncType.{FuncType}
-use Rattle.spec_execution.specs.Hosts.{number_fits, numbers_fit}
+use Rattle.spec_runtime.specs.Hosts.{number_fits, numbers_fit}
 use Rattle.host_table.specs.declared.host.Put.{Put}
 use Rattle.host_table.specs.declared.host.Reply.{Reply}
 

@@ -4,8 +4,8 @@ use Rattle.std.specs.Borrow.{Bor}
 use Rattle.std.specs.List.{position_from}
 use Rattle.std.specs.declared.dyn_box.DynBox.{DynBox}
 use Rattle.std.specs.declared.alloc.Global.{Global}
-use Rattle.spec_execution.specs.Names as names
-use Rattle.spec_execution.specs.Hosts.{numbers_fit}
+use Rattle.spec_runtime.specs.Names as names
+use Rattle.spec_runtime.specs.Hosts.{numbers_fit}
 use Rattle.host_table.specs.Names.{host_name_of, is_called}
 use Rattle.host_table.specs.Answers.{AnswersAt, ReplyFits}
 use Rattle.host_table.specs.declared.host.Reply.{Reply}

@@ -1,7 +1,7 @@
 // The entries of a host table.
 ghost use Rattle.std.specs.Prelude.{◌≡◌, ◌≤◌, length, OnOk, IsTrue};
-ghost use Rattle.spec_execution.specs.Names.{with_name, has_integers};
-ghost use Rattle.spec_execution.specs.Hosts.{numbers_fit};
+ghost use Rattle.spec_runtime.specs.Names.{with_name, has_integers};
+ghost use Rattle.spec_runtime.specs.Hosts.{numbers_fit};
 ghost use Rattle.host_table.specs.Names.{host_name_of, is_called};
 ghost use Rattle.host_table.specs.Answers.{Keeps, ReplyFits, AnswersAt};
 

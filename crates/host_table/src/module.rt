@@ -3,7 +3,7 @@ ghost use Rattle.std.specs.Prelude.{◌≡◌, false, OnOk, OnErr, IfSome, IsTru
 ghost use Rattle.std.specs.Map.{lookup};
 ghost use Rattle.std.specs.Str.{bytes_eq};
 ghost use Rattle.std.specs.Option.{option_copied};
-ghost use Rattle.spec_execution.specs.Names.{empty_module, declares, with_function, with_every_name, module_match, has_integers};
+ghost use Rattle.spec_runtime.specs.Names.{empty_module, declares, with_function, with_every_name, module_match, has_integers};
 ghost use Rattle.host_table.specs.Names.{match_of, fits_where};
 
 use crate::copies::owned;
@@ -29,7 +29,7 @@ pub struct ModuleNames {
 }
 
 impl Model for ModuleNames {
-    ghost use Rattle.spec_execution.specs.Names.{HostModule};
+    ghost use Rattle.spec_runtime.specs.Names.{HostModule};
     ghost use Rattle.host_table.specs.Names.{by_text, HaveIntegers};
 
     ghost Value = { HostModule };

@@ -3,7 +3,7 @@ ghost use Rattle.std.specs.Prelude.{◌≡◌, OnOk, OnErr, None, unwrap_or, IfS
 ghost use Rattle.std.specs.Map.{lookup};
 ghost use Rattle.std.specs.Str.{bytes_eq};
 ghost use Rattle.std.specs.Option.{option_copied};
-ghost use Rattle.spec_execution.specs.Names.{HostModule, no_names, empty_module, host_module, change_module, with_name, with_rest, host_match, host_typed, has_integers};
+ghost use Rattle.spec_runtime.specs.Names.{HostModule, no_names, empty_module, host_module, change_module, with_name, with_rest, host_match, host_typed, has_integers};
 ghost use Rattle.host_table.specs.Names.{match_of};
 
 use crate::copies::owned;
@@ -22,7 +22,7 @@ pub struct HostNames {
 
 impl Model for HostNames {
     ghost use Rattle.host_table.specs.Names.{by_text};
-    ghost use Rattle.spec_execution.specs.Names as names;
+    ghost use Rattle.spec_runtime.specs.Names as names;
 
     ghost Value = { names.HostNames };
 

@@ -1,6 +1,6 @@
 // Host functions with their callbacks.
 ghost use Rattle.std.specs.Prelude.{◌≡◌, ◌<◌, ◌≤◌, ◌+◌, length, [], OnOk, OnErr, IfErr, IfOk, is_some, false, IsTrue};
-ghost use Rattle.spec_execution.specs.Names.{has_integers, with_names};
+ghost use Rattle.spec_runtime.specs.Names.{has_integers, with_names};
 ghost use Rattle.host_table.specs.Names.{host_name_of};
 ghost use Rattle.host_table.specs.Answers.{Keeps};
 ghost use Rattle.host_table.specs.Table.{is_same_name, functions_of, entry_count, entry_number, FitEntry, FitsEntry, GivesAnswer, Adds, IsUnchanged};

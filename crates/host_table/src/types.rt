@@ -2,7 +2,7 @@
 ghost use Rattle.std.specs.Prelude.{◌≡◌};
 ghost use Rattle.std.specs.List.{list_all};
 ghost use Rattle.spec_binary.specs.SameTypes.{same_function_type};
-ghost use Rattle.spec_execution.specs.Names as names;
+ghost use Rattle.spec_runtime.specs.Names as names;
 
 use wasm_form::{FuncType, ValType};
 

@@ -1,6 +1,8 @@
 pub mod Levels
 pub mod Entry
 pub mod Valid
+pub mod NoImports
+pub mod SmallMoves
 pub mod Matching
 pub mod Opening
 pub mod Startup

@@ -1,169 +1,195 @@
 -- A loaded set of one small module and its merged module make the same steps, once both have begun.
-use Rattle.std.proofs.Common.{◌≡◌, ℕ, List, [], ◌∷◌, ◌++◌, length, reverse, map, Option, Some, None, Bool, true, false, if◌then◌else◌, refl, sym, ap, ◌∙◌, subst, nat_eq}
+use Rattle.std.proofs.Common.{◌≡◌, ℕ, List, [], ◌∷◌, ◌++◌, length, reverse, map, Option, Some, None, refl, sym, ap, ◌∙◌, subst, slice_get}
+use Rattle.std.specs.List.{All}
 use Rattle.wasm_form.specs.declared.types.FuncType.{FuncType}
-use Rattle.wasm_form.specs.declared.instr.Instr.{Instr, out-Instr}
-use Rattle.wasm_form.specs.declared.instr.Instr.TheOpen as Open
-use Rattle.wasm_form.specs.declared.instr.Expr.{Expr}
 use Rattle.wasm_form.specs.declared.module.Module.{Module}
+use Rattle.wasm_form.specs.declared.runtime.Ref.{Ref}
 use Rattle.wasm_form.specs.declared.runtime.Ref.TheVariants.{Own}
-use Rattle.spec_runs.specs.Systems.{Moving}
+use Rattle.wasm_runtime.specs.declared.Value.{Value}
+use Rattle.wasm_runtime.specs.declared.Value.TheVariants.{Num}
+use Rattle.wasm_runtime.specs.declared.Answer.{Answer}
+use Rattle.wasm_runtime.specs.declared.Answer.TheVariants.{Reply, Exit}
+use Rattle.spec_runs.specs.Systems.{Trapped}
 use Rattle.spec_runs.specs.Agreement.{StepLaw}
 use Rattle.spec_binary.specs.Options.{◌>>=◌}
-use Rattle.wasm_opcode.specs.declared.plain.PlainForm.{PlainForm}
-use Rattle.wasm_opcode.specs.declared.plain.PlainForm.TheVariants.{Unreachable, Nop}
-use Rattle.wasm_opcode.specs.declared.index.IndexForm.{IndexForm}
-use Rattle.wasm_opcode.specs.declared.index.IndexForm.TheVariants.{Call}
-use Rattle.wasm_opcode.specs.Plain.{plain_form}
-use Rattle.wasm_opcode.specs.Index.{index_form}
+use Rattle.spec_binary.specs.SmallForm.{IsSmallInstr, IsSmall}
 use Rattle.spec_binary.specs.Indices.{Function, function_type, function_at}
-use Rattle.spec_execution.specs.Hosts.{Answer, Reply, Exit}
-use Rattle.spec_execution.specs.Activations.{Value, Num, Level, Activation, Move, On, Calls, Leaves, Fails, Stuck, take_values, plain_move, index_move, instr_move, end_move, code_move, move}
-use Rattle.spec_execution.specs.Runs.{Frame, View, State, stands, left_with, entered, enter, call, calling, carried_out, all_written, answered}
+use Rattle.spec_runtime.specs.Memories.{MemoryInstance}
+use Rattle.spec_runtime.specs.Hosts.{all_written}
+use Rattle.spec_execution.specs.Values.{take_values}
+use Rattle.spec_execution.specs.Activations.{Activation, with_values, Move, On, Calls, CallsEntry, Refers, Does, Leaves, Fails, Stuck, move}
+use Rattle.spec_execution.specs.Runs.{Frame, Next, Goes, Asks, Loads, Ends, Traps, entered, call_own, call, calling, left_with, carried_out, became, returned, taken}
 use Rattle.spec_execution.specs.Runs as frames
-use Rattle.spec_execution.specs.OneModule.{Starting, ModuleState, module_view, module_step, module_system}
+use Rattle.spec_execution.specs.Instances.{ModuleParts, module_hosts, module_view, module_target}
+use Rattle.spec_execution.specs.OneModule.{Starting, ModuleState, module_next, module_step, module_system}
 use Rattle.spec_linking.specs.Links.{LinkedSet}
 use Rattle.spec_loading.specs.Phases.{LoaderFrame}
-use Rattle.spec_loading.specs.LoadedSet.{SetState, set_view, set_step, set_system}
-use Rattle.spec_execution.specs.Hosts.{no_names}
+use Rattle.spec_loading.specs.LoadedSet.{SetParts, SetState, set_hosts, set_view, set_step, set_system}
 use Rattle.merge_whole.specs.MergedModule.{linked_alone, merged_alone}
+use Rattle.merge_whole.proofs.NoImports.{same_target, same_function}
+use Rattle.merge_whole.proofs.SmallMoves.{IsSmallActivation, IsSmallMove, move_small, body_small}
 
--- ---- activations of unit 0 stay there
+-- ---- what matches, where n functions may be called
 
-abbrev pub AtZero : Move → Type 0
-AtZero (On a) = a.unit ≡ 0
-AtZero (Calls f a) = a.unit ≡ 0
-AtZero (Leaves values) = Unit {0}
-AtZero (Fails why) = Unit {0}
-AtZero Stuck = Unit {0}
+-- the same activations, all of unit 0, which run small code
+abbrev pub Same : ℕ → List (Frame LoaderFrame) → List (Frame Starting) → Type 0
+Same n [] [] = Unit {0}
+Same n (frames.Active a ∷ fs) (frames.Active b ∷ gs) = (a ≡ b) × IsSmallActivation n a × Same n fs gs
+Same n _ _ = ⊥
 
-plain_at_zero : (f : Option PlainForm) (a : Activation) → a.unit ≡ 0 → AtZero (plain_move f a)
-plain_at_zero (Some Unreachable) a zero_is = tt
-plain_at_zero (Some Nop) a zero_is = zero_is
-plain_at_zero _ a zero_is = tt
+pub record Matches (n : ℕ) (s : SetState) (t : ModuleState) : Type 0 where
+  pub memory : t.memory ≡ s.memory
+  pub status : t.status ≡ s.status
+  pub stacks : Same n s.stack t.stack
 
-index_at_zero : (n : ℕ) (f : Option IndexForm) (a : Activation) → a.unit ≡ 0 → AtZero (index_move n f a)
-index_at_zero n (Some Call) a zero_is = zero_is
-index_at_zero n _ a zero_is = tt
+-- steps that come to the same
+abbrev Alike : ℕ → Next SetParts LoaderFrame → Next ModuleParts Starting → Type 0
+Alike n (Goes us memory fs) (Goes vs other gs) = (other ≡ memory) × Same n fs gs
+Alike n Ends Ends = Unit {0}
+Alike n (Traps why) (Traps other) = other ≡ why
+Alike n _ _ = ⊥
 
-instr_at_zero : (x : Open.Instr-F Instr Expr) (a : Activation) → a.unit ≡ 0 → AtZero (instr_move x a)
-instr_at_zero (Open.Plain op) a zero_is = plain_at_zero (plain_form op) a zero_is
-instr_at_zero (Open.Index op n) a zero_is = index_at_zero n (index_form op) a zero_is
-instr_at_zero _ a zero_is = tt
+-- both have no step, or two that come to the same
+abbrev BothNext : ℕ → Option (Next SetParts LoaderFrame) → Option (Next ModuleParts Starting) → Type 0
+BothNext n None None = Unit {0}
+BothNext n (Some x) (Some y) = Alike n x y
+BothNext n None (Some y) = ⊥
+BothNext n (Some x) None = ⊥
 
-end_at_zero : (ls : List Level) (a : Activation) → a.unit ≡ 0 → AtZero (end_move ls a)
-end_at_zero [] a zero_is = go (nat_eq (length a.values) a.results)
-  where
-    go : (b : Bool) → AtZero (if b then Leaves a.values else Stuck)
-    go true = tt
-    go false = tt
-end_at_zero (l ∷ ls) a zero_is = zero_is
+-- both have no step, or matching ones
+abbrev Paired : ℕ → Option SetState → Option ModuleState → Type 0
+Paired n None None = Unit {0}
+Paired n (Some s) (Some t) = Matches n s t
+Paired n None (Some t) = ⊥
+Paired n (Some s) None = ⊥
 
-code_at_zero : (is : List Instr) (a : Activation) → a.unit ≡ 0 → AtZero (code_move is a)
-code_at_zero [] a zero_is = end_at_zero a.levels a zero_is
-code_at_zero (i ∷ is) a zero_is = instr_at_zero (out-Instr i) (record a { rest = is }) zero_is
+-- ---- returns
 
-pub move_at_zero : (a : Activation) → a.unit ≡ 0 → AtZero (move a)
-move_at_zero a zero_is = code_at_zero a.rest a zero_is
+-- values for the same activations
+given_same : (n : ℕ) (values : List Value) (a b : Activation) → a ≡ b → IsSmallActivation n a
+    → (with_values a (values ++ a.values) ≡ with_values b (values ++ b.values)) × IsSmallActivation n (with_values a (values ++ a.values))
+given_same n values a b same small =
+    (ap (λ (x : Activation). with_values x (values ++ x.values)) same, record { unit = small.unit; rest = small.rest; levels = small.levels })
+
+left_same : (n : ℕ) (us : SetParts) (vs : ModuleParts) (memory other : MemoryInstance) → other ≡ memory → (values : List Value) (fs : List (Frame LoaderFrame)) (gs : List (Frame Starting)) → Same n fs gs
+    → Alike n (left_with us memory values fs) (left_with vs other values gs)
+left_same n us vs memory other is values [] [] same = tt
+left_same n us vs memory other is values [] (g ∷ gs) same = absurd same
+left_same n us vs memory other is values (frames.Active a ∷ fs) (frames.Active b ∷ gs) same =
+    let given = given_same n values a b same.0 same.1 in
+    (is, (given.0, given.1, same.2))
+left_same n us vs memory other is values (f ∷ fs) gs same = absurd same
+
+returned_same : (n : ℕ) (s : SetState) (t : ModuleState) → t.memory ≡ s.memory → (values : List Value) (fs : List (Frame LoaderFrame)) (gs : List (Frame Starting)) → Same n fs gs
+    → Matches n (returned s values fs) (returned t values gs)
+returned_same n s t memory values [] [] same = record { memory = memory; status = refl; stacks = tt }
+returned_same n s t memory values [] (g ∷ gs) same = absurd same
+returned_same n s t memory values (frames.Active a ∷ fs) (frames.Active b ∷ gs) same =
+    let given = given_same n values a b same.0 same.1 in
+    record { memory = memory; status = refl; stacks = (given.0, given.1, same.2) }
+returned_same n s t memory values (f ∷ fs) gs same = absurd same
+
+-- what both take of the host
+pub answered_same : (n : ℕ) (s : SetState) (t : ModuleState) → Matches n s t → (answer : Answer) → Matches n (taken answer s) (taken answer t)
+answered_same n s t m (Reply results writes) =
+    returned_same n (record s { memory = all_written writes s.memory }) (record t { memory = all_written writes t.memory }) (ap (all_written writes) m.memory) (reverse (map Num results)) s.stack t.stack m.stacks
+answered_same n s t m (Exit code) = record { memory = m.memory; status = refl; stacks = tt }
 
 -- ---- the two runs
 
--- the same activations, all of unit 0
-abbrev pub Same : List (Frame LoaderFrame) → List (Frame Starting) → Type 0
-Same [] [] = Unit {0}
-Same (frames.Active a ∷ fs) (frames.Active b ∷ gs) = (a ≡ b) × (a.unit ≡ 0) × Same fs gs
-Same _ _ = ⊥
+module _ (name path : List ℕ) (size : ℕ) (wasm : Module) (small : IsSmall wasm) (entry : ℕ) where
+  abbrev n : ℕ
+  n = length wasm.funcs
 
-module _ (name path : List ℕ) (size : ℕ) (wasm : Module) (entry : ℕ) where
-  abbrev pub set : LinkedSet
+  abbrev set : LinkedSet
   set = linked_alone name path size wasm
 
-  abbrev pub Loaded : Type 0
-  Loaded = SetState set
-
-  abbrev pub merged : Module
+  abbrev merged : Module
   merged = merged_alone wasm entry
 
-  abbrev pub One : Type 0
-  One = ModuleState merged no_names
+  module _ (us : SetParts) (vs : ModuleParts) (memory other : MemoryInstance) (is : other ≡ memory) (fs : List (Frame LoaderFrame)) (gs : List (Frame Starting)) (same : Same n fs gs) (a : Activation) (runs : IsSmallActivation n a) where
+    taken_same : (f : ℕ) (x : Function) → All (IsSmallInstr n) x.body → (o : Option (List Value × List Value))
+        → BothNext n (o >>= λ p. Some (Goes us memory (frames.Active (entered 0 f x p.0) ∷ calling a fs p.1))) (o >>= λ p. Some (Goes vs other (frames.Active (entered 0 f x p.0) ∷ calling a gs p.1)))
+    taken_same f x body None = tt
+    taken_same f x body (Some p) =
+        (is, (refl, record { unit = refl; rest = body; levels = refl }, (refl, record { unit = runs.unit; rest = runs.rest; levels = runs.levels }, same)))
 
-  pub record Matches (s : Loaded) (t : One) : Type 0 where
-    pub memory : t.memory ≡ s.memory
-    pub status : t.status ≡ s.status
-    pub stacks : Same s.stack t.stack
+    entered_same : (f : ℕ) (o : Option Function) → function_at wasm f ≡ o → BothNext n (o >>= call_own us memory (calling a fs) a.values 0 f) (o >>= call_own vs other (calling a gs) a.values 0 f)
+    entered_same f None e = tt
+    entered_same f (Some x) e = taken_same f x (body_small wasm small f x e) (take_values (reverse x.ty.params) a.values)
 
-  -- both have no step, or matching ones
-  abbrev Paired : Option Loaded → Option One → Type 0
-  Paired None None = Unit {0}
-  Paired (Some s) (Some t) = Matches s t
-  Paired None (Some t) = ⊥
-  Paired (Some s) None = ⊥
+    function_same : (f : ℕ) → BothNext n (call (set_view set) us memory (calling a fs) a.values (Own 0 f)) (call (module_view merged) vs other (calling a gs) a.values (Own 0 f))
+    function_same f =
+        subst (λ (o : Option Function). BothNext n (function_at wasm f >>= call_own us memory (calling a fs) a.values 0 f) (o >>= call_own vs other (calling a gs) a.values 0 f)) (sym (same_function merged refl f))
+        (entered_same f (function_at wasm f) refl)
 
-  left_same : (s : Loaded) (t : One) → t.memory ≡ s.memory → (values : List Value) (fs : List (Frame LoaderFrame)) (gs : List (Frame Starting)) → Same fs gs
-      → Matches (left_with {V = set_view set} s values fs) (left_with {V = module_view merged no_names} t values gs)
-  left_same s t memory values [] [] same = record { memory = memory; status = refl; stacks = tt }
-  left_same s t memory values [] (g ∷ gs) same = absurd same
-  left_same s t memory values (frames.Active a ∷ fs) (frames.Active b ∷ gs) same =
-      record { memory = memory; status = refl; stacks = (ap (λ (x : Activation). record x { values = values ++ x.values }) same.0, same.1, same.2) }
-  left_same s t memory values (f ∷ fs) gs same = absurd same
+    called_same : (f : ℕ) (o : Option FuncType)
+        → BothNext n (o >>= (λ ty. Some (Own 0 f)) >>= call (set_view set) us memory (calling a fs) a.values) (o >>= (λ ty. Some (Own 0 f)) >>= call (module_view merged) vs other (calling a gs) a.values)
+    called_same f None = tt
+    called_same f (Some ty) = function_same f
 
-  module _ (s : Loaded) (t : One) (memory : t.memory ≡ s.memory) (fs : List (Frame LoaderFrame)) (gs : List (Frame Starting)) (same : Same fs gs) where
-    taken_same : (a : Activation) → a.unit ≡ 0 → (f : Function) (o : Option (List Value × List Value))
-        → Paired (o >>= λ p. Some (stands {V = set_view set} s (frames.Active (entered 0 f p.0) ∷ calling a fs p.1) Moving)) (o >>= λ p. Some (stands {V = module_view merged no_names} t (frames.Active (entered 0 f p.0) ∷ calling a gs p.1) Moving))
-    taken_same a zero_is f None = tt
-    taken_same a zero_is f (Some p) = record { memory = memory; status = refl; stacks = (refl, refl, (refl, zero_is, same)) }
+    -- both name the same function
+    target_same : (f : ℕ) → BothNext n ((set_view set).target a.unit f >>= call (set_view set) us memory (calling a fs) a.values) (module_target merged f >>= call (module_view merged) vs other (calling a gs) a.values)
+    target_same f =
+        let here : (set_view set).target a.unit f ≡ (function_type wasm f >>= λ ty. Some (Own 0 f)) = ap (λ u. (set_view set).target u f) runs.unit in
+        let there : module_target merged f ≡ (function_type wasm f >>= λ ty. Some (Own 0 f)) = same_target merged refl f in
+        subst (λ (o : Option Ref). BothNext n (o >>= call (set_view set) us memory (calling a fs) a.values) (module_target merged f >>= call (module_view merged) vs other (calling a gs) a.values)) (sym here)
+        (subst (λ (o : Option Ref). BothNext n ((function_type wasm f >>= λ ty. Some (Own 0 f)) >>= call (set_view set) us memory (calling a fs) a.values) (o >>= call (module_view merged) vs other (calling a gs) a.values)) (sym there)
+        (called_same f (function_type wasm f)))
 
-    entered_same : (a : Activation) → a.unit ≡ 0 → (o : Option Function)
-        → Paired (o >>= enter {V = set_view set} s 0 (calling a fs) a.values) (o >>= enter {V = module_view merged no_names} t 0 (calling a gs) a.values)
-    entered_same a zero_is None = tt
-    entered_same a zero_is (Some f) = taken_same a zero_is f (take_values (reverse f.ty.params) a.values)
+  module _ (us : SetParts) (vs : ModuleParts) (memory other : MemoryInstance) (is : other ≡ memory) (fs : List (Frame LoaderFrame)) (gs : List (Frame Starting)) (same : Same n fs gs) where
+    carried_same : (x : Move) → IsSmallMove n x → BothNext n (carried_out (set_view set) us memory fs x) (carried_out (module_view merged) vs other gs x)
+    carried_same (On a) runs = (is, (refl, runs, same))
+    carried_same (Calls f a) runs = target_same us vs memory other is fs gs same a runs f
+    carried_same (CallsEntry table ty i a) runs = absurd runs
+    carried_same (Refers f a) runs = absurd runs
+    carried_same (Does effect a) runs = absurd runs
+    carried_same (Leaves values) runs = left_same n us vs memory other is values fs gs same
+    carried_same (Fails why) runs = refl
+    carried_same Stuck runs = tt
 
-    called_same : (a : Activation) → a.unit ≡ 0 → (f : ℕ) (o : Option FuncType)
-        → Paired (o >>= (λ ty. Some (Own 0 f)) >>= call {V = set_view set} s (calling a fs) a.values) (o >>= (λ ty. Some (Own 0 f)) >>= call {V = module_view merged no_names} t (calling a gs) a.values)
-    called_same a zero_is f None = tt
-    called_same a zero_is f (Some ty) = entered_same a zero_is (function_at wasm f)
+  became_alike : (s : SetState) (t : ModuleState) → t.memory ≡ s.memory → (x : Next SetParts LoaderFrame) (y : Next ModuleParts Starting) → Alike n x y → Paired n (became (set_hosts set) s x) (became (module_hosts merged) t y)
+  became_alike s t memory (Goes us own fs) (Goes vs other gs) alike = record { memory = alike.0; status = refl; stacks = alike.1 }
+  became_alike s t memory Ends Ends alike = record { memory = memory; status = refl; stacks = tt }
+  became_alike s t memory (Traps why) (Traps other) alike = record { memory = memory; status = ap Trapped alike; stacks = tt }
+  became_alike s t memory _ _ alike = absurd alike
 
-    carried_same : (x : Move) → AtZero x → Paired (carried_out {V = set_view set} s fs x) (carried_out {V = module_view merged no_names} t gs x)
-    carried_same (On a) zero_is = record { memory = memory; status = refl; stacks = (refl, zero_is, same) }
-    carried_same (Calls f a) zero_is =
-        let target : (set_view set).target a.unit f ≡ (function_type wasm f >>= λ ty. Some (Own 0 f)) = ap (λ u. (set_view set).target u f) zero_is in
-        subst (λ o. Paired (o >>= call {V = set_view set} s (calling a fs) a.values) (function_type wasm f >>= (λ ty. Some (Own 0 f)) >>= call {V = module_view merged no_names} t (calling a gs) a.values)) (sym target)
-        (called_same a zero_is f (function_type wasm f))
-    carried_same (Leaves values) zero_is = left_same s t memory values fs gs same
-    carried_same (Fails why) zero_is = record { memory = memory; status = refl; stacks = same }
-    carried_same Stuck zero_is = tt
+  became_same : (s : SetState) (t : ModuleState) → t.memory ≡ s.memory → (o : Option (Next SetParts LoaderFrame)) (p : Option (Next ModuleParts Starting)) → BothNext n o p
+      → Paired n (o >>= became (set_hosts set) s) (p >>= became (module_hosts merged) t)
+  became_same s t memory None None both = tt
+  became_same s t memory (Some x) (Some y) both = became_alike s t memory x y both
+  became_same s t memory None (Some y) both = absurd both
+  became_same s t memory (Some x) None both = absurd both
 
-  step_same : (s : Loaded) (t : One) → t.memory ≡ s.memory → (fs : List (Frame LoaderFrame)) (gs : List (Frame Starting)) → Same fs gs
-      → Paired (set_step set s fs) (module_step merged no_names t gs)
+  step_same : (s : SetState) (t : ModuleState) → t.memory ≡ s.memory → (fs : List (Frame LoaderFrame)) (gs : List (Frame Starting)) → Same n fs gs
+      → Paired n (set_step set s fs) (module_next merged t gs >>= became (module_hosts merged) t)
   step_same s t memory [] [] same = tt
   step_same s t memory [] (g ∷ gs) same = absurd same
   step_same s t memory (frames.Active a ∷ fs) (frames.Active b ∷ gs) same =
-      subst (λ x. Paired (carried_out {V = set_view set} s fs (move a)) (carried_out {V = module_view merged no_names} t gs (move x))) same.0
-      (carried_same s t memory fs gs same.2 (move a) (move_at_zero a same.1))
+      let declared : (set_view set).declared a.unit ≡ slice_get wasm.types = ap (λ u. (set_view set).declared u) same.1.unit in
+      subst (λ (x : Activation). Paired n (carried_out (set_view set) s.units s.memory fs (move ((set_view set).declared a.unit) a) >>= became (set_hosts set) s) (carried_out (module_view merged) t.units t.memory gs (move (slice_get wasm.types) x) >>= became (module_hosts merged) t)) same.0
+      (subst (λ (types : ℕ → Option FuncType). Paired n (carried_out (set_view set) s.units s.memory fs (move types a) >>= became (set_hosts set) s) (carried_out (module_view merged) t.units t.memory gs (move (slice_get wasm.types) a) >>= became (module_hosts merged) t)) (sym declared)
+      (became_same s t memory _ _ (carried_same s.units t.units s.memory t.memory memory fs gs same.2 (move (slice_get wasm.types) a) (move_small n (slice_get wasm.types) a same.1))))
   step_same s t memory (f ∷ fs) gs same = absurd same
 
-  stepped : (s : Loaded) (o : Option Loaded) (p : Option One) → Paired o p → o ≡ Some s → (t : One) × (p ≡ Some t) × Matches s t
-  stepped s (Some x) (Some t) m e = let same : x ≡ s = cc in (t, refl, subst (λ y. Matches y t) same m)
+  stepped : (s : SetState) (o : Option SetState) (p : Option ModuleState) → Paired n o p → o ≡ Some s → (t : ModuleState) × (p ≡ Some t) × Matches n s t
+  stepped s (Some x) (Some t) m e = (let same : x ≡ s = cc in (t, refl, subst (λ y. Matches n y t) same m))
   stepped s (Some x) None m e = absurd m
   stepped s None p m e = absurd cc
 
-  halted : (o : Option Loaded) (p : Option One) → Paired o p → o ≡ None → p ≡ None
+  halted : (o : Option SetState) (p : Option ModuleState) → Paired n o p → o ≡ None → p ≡ None
   halted None None m e = refl
   halted None (Some t) m e = absurd m
   halted (Some s) p m e = absurd cc
 
-  paired : (s : Loaded) (t : One) → Matches s t → Paired (set_step set s s.stack) (module_step merged no_names t t.stack)
+  paired : (s : SetState) (t : ModuleState) → Matches n s t → Paired n (set_step set s s.stack) (module_step merged t)
   paired s t m = step_same s t m.memory s.stack t.stack m.stacks
 
-  answered_same : (s : Loaded) (t : One) → Matches s t → (answer : Answer) → Matches (answered {V = set_view set} answer s) (answered {V = module_view merged no_names} answer t)
-  answered_same s t m (Reply results writes) =
-      left_same (record s { memory = all_written writes s.memory }) (record t { memory = all_written writes t.memory }) (ap (all_written writes) m.memory) (reverse (map Num results)) s.stack t.stack m.stacks
-  answered_same s t m (Exit code) = record { memory = m.memory; status = refl; stacks = m.stacks }
-
-  pub one_step : StepLaw (set_system set) (module_system merged no_names) Matches
+  pub one_step : StepLaw (set_system set) (module_system merged) (Matches n)
   one_step = record {
     status = λ s t m. m.status;
     memory = λ s t m. m.memory;
     steps = λ s s' t m moving e. let x = stepped s' _ _ (paired s t m) e in (0, x.0, (x.0, m.status ∙ moving, x.1, refl), x.2);
     stuck = λ s t m moving e. halted _ _ (paired s t m) e;
-    answers = λ s t asked answer m waits fits. (0, answered {V = module_view merged no_names} answer t, refl, answered_same s t m answer);
+    answers = λ s t asked answer m waits fits. (0, taken answer t, refl, answered_same n s t m answer);
   }

@@ -9,16 +9,16 @@ use Rattle.spec_runs.specs.Systems.{Moving}
 use Rattle.spec_runs.specs.Agreement.{Silent}
 use Rattle.spec_binary.specs.Options.{◌>>=◌}
 use Rattle.spec_binary.specs.SmallForm.{nullary, IsSmall, constructors_name}
-use Rattle.spec_binary.specs.Indices.{function_with, own_function}
-use Rattle.spec_execution.specs.Tables.{TableInstance, nulls, new_table}
-use Rattle.spec_execution.specs.Runs.{Frame, enter, entered, call}
+use Rattle.spec_binary.specs.Indices.{Function, function_with, own_function}
+use Rattle.spec_runtime.specs.Tables.{TableInstance, nulls, new_table}
+use Rattle.spec_execution.specs.Runs.{Frame, entered, call_own, call, became}
 use Rattle.spec_execution.specs.Runs as frames
 use Rattle.spec_linking.specs.Definitions.{entry_of, enters_at_start}
 use Rattle.spec_linking.specs.Plans.{default_link}
 use Rattle.spec_linking.specs.Slots.{defined_functions, table_growth, table_entries}
 use Rattle.spec_linking.specs.Links.{LinkedSet}
 use Rattle.spec_loading.specs.Phases.{Phase, Start, Relocate, Construct, Task, CallEntry, LoaderFrame, phase_function}
-use Rattle.spec_loading.specs.LoadedSet.{SetState, set_view, set_step, set_system, set_opening, slots_written, place_with, call_with, raised}
+use Rattle.spec_loading.specs.LoadedSet.{SetState, set_hosts, set_view, set_step, set_system, set_opening, slots_written, place_with, call_with, raised}
 use Rattle.merge_whole.specs.MergedModule.{set_alone, linked_alone, slots_of}
 use Rattle.spec_validation.proofs.Small.{no_relocations, no_constructors}
 use Rattle.merge_whole.proofs.Opening.{text_memory, entry_code, entry_function_is}
@@ -47,7 +47,7 @@ module _ (name path : List ℕ) (size : ℕ) (wasm : Module) (entry : ℕ) (smal
   abbrev L : LinkedSet
   L = linked_alone name path size wasm
 
-  abbrev pub opening : SetState L
+  abbrev pub opening : SetState
   opening = set_opening L
 
   abbrev first_table : TableInstance
@@ -66,7 +66,7 @@ module _ (name path : List ℕ) (size : ℕ) (wasm : Module) (entry : ℕ) (smal
   later phase = record { phase = phase; member = 0 }
 
   -- the loader has come so far
-  abbrev stage : ℕ → List Task → SetState L
+  abbrev stage : ℕ → List Task → SetState
   stage n tasks = record {
     units = record { stages = n ∷ []; table = own_slots_fit.0 };
     memory = text_memory;
@@ -79,26 +79,26 @@ module _ (name path : List ℕ) (size : ℕ) (wasm : Module) (entry : ℕ) (smal
 
   placed : set_step L opening opening.stack ≡ Some (stage 1 (later Start ∷ later Relocate ∷ later Construct ∷ []))
   placed =
-      ap (λ n. Some (place_with L (raised L opening 0 1) (frame (later Start ∷ later Relocate ∷ later Construct ∷ [])) (slots_written 1 own_slots (new_table n (n + table_growth))))) slots_count
-      ∙ ap (λ o. Some (place_with L (raised L opening 0 1) (frame (later Start ∷ later Relocate ∷ later Construct ∷ [])) o)) own_slots_fit.1
+      ap (λ n. Some (place_with (raised opening 0 1) (frame (later Start ∷ later Relocate ∷ later Construct ∷ [])) (slots_written 1 own_slots (new_table n (n + table_growth))))) slots_count
+      ∙ ap (λ o. Some (place_with (raised opening 0 1) (frame (later Start ∷ later Relocate ∷ later Construct ∷ [])) o)) own_slots_fit.1
 
   started : set_step L (stage 1 (later Start ∷ later Relocate ∷ later Construct ∷ [])) (frame (later Start ∷ later Relocate ∷ later Construct ∷ [])) ≡ Some (stage 2 (later Relocate ∷ later Construct ∷ []))
-  started = ap (call_with L (raised L (stage 1 (later Start ∷ later Relocate ∷ later Construct ∷ [])) 0 2) (frame (later Relocate ∷ later Construct ∷ [])) 0) small.start
+  started = ap (call_with L (raised (stage 1 (later Start ∷ later Relocate ∷ later Construct ∷ [])) 0 2) (frame (later Relocate ∷ later Construct ∷ [])) 0) small.start
 
   relocated : set_step L (stage 2 (later Relocate ∷ later Construct ∷ [])) (frame (later Relocate ∷ later Construct ∷ [])) ≡ Some (stage 3 (later Construct ∷ []))
-  relocated = ap (call_with L (raised L (stage 2 (later Relocate ∷ later Construct ∷ [])) 0 3) (frame (later Construct ∷ [])) 0) (no_relocations wasm small)
+  relocated = ap (call_with L (raised (stage 2 (later Relocate ∷ later Construct ∷ [])) 0 3) (frame (later Construct ∷ [])) 0) (no_relocations wasm small)
 
   constructed : set_step L (stage 3 (later Construct ∷ [])) (frame (later Construct ∷ [])) ≡ Some (stage 4 [])
-  constructed = ap (call_with L (raised L (stage 3 (later Construct ∷ [])) 0 4) (frame []) 0) (no_construct wasm small)
+  constructed = ap (call_with L (raised (stage 3 (later Construct ∷ [])) 0 4) (frame []) 0) (no_construct wasm small)
 
   -- the entry runs
-  abbrev pub begun : SetState L
-  begun = record (stage 4 []) { stack = frames.Active (entered 0 (function_with nullary (entry_code wasm entry small is)) []) ∷ [] }
+  abbrev pub begun : SetState
+  begun = record (stage 4 []) { stack = frames.Active (entered 0 entry (function_with nullary (entry_code wasm entry small is)) []) ∷ [] }
 
   entered_entry : set_step L (stage 4 []) (frame []) ≡ Some begun
   entered_entry =
-      ap (λ o. o >>= λ f. call {V = set_view L} (stage 4 []) (λ values. []) [] (Own 0 f)) is
-      ∙ ap (λ o. o >>= enter {V = set_view L} (stage 4 []) 0 (λ values. []) []) (entry_function_is wasm entry small is)
+      ap (λ o. o >>= λ f. call (set_view L) (stage 4 []).units text_memory (λ values. []) [] (Own 0 f) >>= became (set_hosts L) (stage 4 [])) is
+      ∙ ap (λ (o : Option Function). o >>= call_own (stage 4 []).units text_memory (λ values. []) [] 0 entry >>= became (set_hosts L) (stage 4 [])) (entry_function_is wasm entry small is)
 
   -- the five steps
   pub starts : Silent (set_system L) 5 opening begun

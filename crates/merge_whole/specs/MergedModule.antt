@@ -17,7 +17,7 @@ use Rattle.spec_linking.specs.Sets.{Member, ClosedSet, most_bytes}
 use Rattle.spec_linking.specs.Plans.{default_link}
 use Rattle.spec_linking.specs.Slots.{defined_functions, table_growth}
 use Rattle.spec_linking.specs.Links.{LinkedSet}
-use Rattle.spec_execution.specs.Hosts.{no_names}
+use Rattle.spec_runtime.specs.Hosts.{no_names}
 use Rattle.spec_loading.specs.Texts.{error_texts}
 use Rattle.spec_loading.specs.Merged.{Merged}
 

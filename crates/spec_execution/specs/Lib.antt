@@ -1,8 +1,8 @@
-pub mod Memories
-pub mod Tables
-pub mod Names
-pub mod Hosts
+pub mod Values
 pub mod Activations
+pub mod Views
 pub mod Runs
+pub mod Limits
+pub mod Ranges
+pub mod Instances
 pub mod OneModule
-pub mod Numerics

@@ -1,6 +1,6 @@
 -- Link faults, and linked sets.
 use Rattle.std.specs.Prelude.{◌≡◌, ℕ, List, [], ◌∷◌, Option, Some, None}
-use Rattle.spec_execution.specs.Hosts.{HostNames}
+use Rattle.spec_runtime.specs.Hosts.{HostNames}
 use Rattle.spec_linking.specs.Sets.{Member, ClosedSet}
 use Rattle.spec_linking.specs.Plans.{LinkOptions}
 use Rattle.spec_linking.specs.Definitions.{entry_of}

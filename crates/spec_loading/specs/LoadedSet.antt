@@ -1,19 +1,23 @@
 -- The run of a loaded set: the members are units of their own, which share one memory and one table, and run on one call stack.
-use Rattle.std.specs.Prelude.{ℕ, zero, suc, ◌+◌, List, [], ◌∷◌, length, map, Option, Some, None, slice_get, slice_set, nat_lt, if◌then◌else◌}
+use Rattle.std.specs.Prelude.{ℕ, zero, suc, ◌+◌, List, [], ◌∷◌, length, map, Option, Some, None, slice_get, slice_set, nat_lt, unwrap_or, if◌then◌else◌}
 use Rattle.spec_runs.specs.Systems.{Moving, Trapped, System, Ran, run}
 use Rattle.wasm_form.specs.declared.module.Module.{Module}
 use Rattle.wasm_form.specs.declared.runtime.Ref.{Ref}
 use Rattle.wasm_form.specs.declared.runtime.Ref.TheVariants.{Own}
 use Rattle.wasm_form.specs.declared.runtime.Trap.TheVariants as trap
 use Rattle.spec_binary.specs.Options.{◌>>=◌}
+use Rattle.wasm_runtime.specs.declared.Answer.{Answer}
 use Rattle.spec_binary.specs.Indices.{function_type, function_at}
-use Rattle.spec_execution.specs.Memories.{MemoryInstance, new_memory, overwritten}
-use Rattle.spec_execution.specs.Tables.{TableInstance, new_table, entry_set}
-use Rattle.spec_execution.specs.Names.{named_functions}
-use Rattle.spec_execution.specs.Hosts.{Answer, hosts}
+use Rattle.spec_validation.specs.Faults.{body_height}
+use Rattle.spec_runtime.specs.Memories.{MemoryInstance, new_memory, overwritten}
+use Rattle.spec_runtime.specs.Tables.{TableInstance, new_table, entry_set}
+use Rattle.spec_runtime.specs.Names.{HostName, named_functions}
+use Rattle.spec_runtime.specs.Hosts.{hosts}
 use Rattle.spec_execution.specs.Activations.{move}
-use Rattle.spec_execution.specs.Runs.{View, Frame, State, stands, call, carried_out, answered}
+use Rattle.spec_execution.specs.Views.{Counts, View}
+use Rattle.spec_execution.specs.Runs.{Frame, Next, State, stands, call, carried_out, became, taken}
 use Rattle.spec_execution.specs.Runs as frames
+use Rattle.spec_execution.specs.Instances.{host_type}
 use Rattle.spec_linking.specs.Sets.{Member}
 use Rattle.spec_linking.specs.Plans.{plan_of}
 use Rattle.spec_linking.specs.Slots.{defined_functions, table_entries, table_most}
@@ -29,18 +33,39 @@ pub record SetParts : Type 0 where
 abbrev pub wasm_of : LinkedSet → ℕ → Option Module
 wasm_of L m = slice_get L.set.members m >>= λ member. Some member.wasm
 
--- unit m is member m; its numbers name functions of its own, since none imports a function so far
-abbrev pub set_view : LinkedSet → View
+abbrev pub set_hosts : LinkedSet → ℕ → Option HostName
+set_hosts L entry = slice_get (named_functions L.names) entry
+
+abbrev pub counts_of : Option Module → Counts
+counts_of None = record { types = 0; functions = 0; globals = 0; tables = 0; elems = 0; datas = 0 }
+counts_of (Some wasm) = record { types = length wasm.types; functions = length wasm.funcs; globals = 0; tables = 0; elems = 0; datas = 0 }
+
+abbrev pub member_height : ℕ → Module → Option ℕ
+member_height f wasm = slice_get wasm.codes f >>= body_height wasm f
+
+-- Unit m is member m; its numbers name functions of its own, since none imports a function so far. No member has a global, a table
+-- or a segment so far.
+abbrev pub set_view : LinkedSet → View SetParts
 set_view L = record {
-  Units = SetParts;
-  Mark = LoaderFrame;
+  counts = λ m. counts_of (wasm_of L m);
+  declared = λ m t. wasm_of L m >>= λ wasm. slice_get wasm.types t;
   target = λ m f. wasm_of L m >>= λ wasm. function_type wasm f >>= λ ty. Some (Own m f);
   code = λ m f. wasm_of L m >>= λ wasm. function_at wasm f;
-  host = slice_get (named_functions L.names);
+  height = λ m f. unwrap_or (wasm_of L m >>= member_height f) 0;
+  host = λ entry. host_type (set_hosts L entry);
+  stub = λ m f. None;
+  global = λ us m g. None;
+  set_global = λ us m g v. us;
+  table = λ us m t. None;
+  set_table = λ us m t x. us;
+  elem = λ us m e. None;
+  drop_elem = λ us m e. us;
+  bytes = λ us m d. None;
+  drop_data = λ us m d. us;
 }
 
-abbrev pub SetState : LinkedSet → Type 0
-SetState L = State (set_view L)
+abbrev pub SetState : Type 0
+SetState = State SetParts LoaderFrame
 
 -- ---- the work of a phase
 
@@ -64,55 +89,55 @@ abbrev pub slots_placed : LinkedSet → ℕ → TableInstance → Option TableIn
 slots_placed L m table =
     slots_written ((plan_of L.set L.options).table_end + slots_before m L.set.members) (own_functions m (slice_get L.set.members m)) table
 
-abbrev pub with_table : (L : LinkedSet) → SetState L → TableInstance → SetState L
-with_table L s table = record s { units = record s.units { table = table } }
+abbrev pub with_table : SetState → TableInstance → SetState
+with_table s table = record s { units = record s.units { table = table } }
 
 -- what no table has is written nowhere: a trap
-abbrev pub place_with : (L : LinkedSet) → SetState L → List (Frame LoaderFrame) → Option TableInstance → SetState L
-place_with L s frames None = stands s frames (Trapped trap.TableBounds)
-place_with L s frames (Some table) = stands (with_table L s table) frames Moving
+abbrev pub place_with : SetState → List (Frame LoaderFrame) → Option TableInstance → SetState
+place_with s frames None = stands s [] (Trapped trap.TableBounds)
+place_with s frames (Some table) = stands (with_table s table) frames Moving
 
 -- a function of member m is called, if there is one
-abbrev pub call_with : (L : LinkedSet) → SetState L → List (Frame LoaderFrame) → ℕ → Option ℕ → Option (SetState L)
+abbrev pub call_with : LinkedSet → SetState → List (Frame LoaderFrame) → ℕ → Option ℕ → Option SetState
 call_with L s frames m None = Some (stands s frames Moving)
-call_with L s frames m (Some f) = call {V = set_view L} s (λ values. frames) [] (Own m f)
+call_with L s frames m (Some f) = call (set_view L) s.units s.memory (λ values. frames) [] (Own m f) >>= became (set_hosts L) s
 
-abbrev pub work : (L : LinkedSet) → SetState L → List (Frame LoaderFrame) → Phase → ℕ → Option (SetState L)
-work L s frames Place m = Some (place_with L s frames (slots_placed L m s.units.table))
+abbrev pub work : LinkedSet → SetState → List (Frame LoaderFrame) → Phase → ℕ → Option SetState
+work L s frames Place m = Some (place_with s frames (slots_placed L m s.units.table))
 work L s frames Start m = wasm_of L m >>= λ wasm. call_with L s frames m (phase_function Start m wasm)
 work L s frames Relocate m = wasm_of L m >>= λ wasm. call_with L s frames m (phase_function Relocate m wasm)
 work L s frames Construct m = wasm_of L m >>= λ wasm. call_with L s frames m (phase_function Construct m wasm)
 
 -- ---- steps
 
-abbrev pub raised : (L : LinkedSet) → SetState L → ℕ → ℕ → SetState L
-raised L s m stage = record s { units = record s.units { stages = slice_set s.units.stages m stage } }
+abbrev pub raised : SetState → ℕ → ℕ → SetState
+raised s m stage = record s { units = record s.units { stages = slice_set s.units.stages m stage } }
 
 -- A task is passed over where its member's stage is no lower than that of its phase. Else the stage is raised, and the work done.
-abbrev pub task_step : (L : LinkedSet) → SetState L → List (Frame LoaderFrame) → Task → Option (SetState L)
+abbrev pub task_step : LinkedSet → SetState → List (Frame LoaderFrame) → Task → Option SetState
 task_step L s frames task =
     slice_get s.units.stages task.member >>= λ stage.
-    if nat_lt stage (stage_of task.phase) then work L (raised L s task.member (stage_of task.phase)) frames task.phase task.member
+    if nat_lt stage (stage_of task.phase) then work L (raised s task.member (stage_of task.phase)) frames task.phase task.member
     else Some (stands s frames Moving)
 
-abbrev pub after_step : (L : LinkedSet) → SetState L → List (Frame LoaderFrame) → After → Option (SetState L)
-after_step L s under CallEntry = set_entry L.set.members >>= λ f. call {V = set_view L} s (λ values. under) [] (Own 0 f)
+abbrev pub after_step : LinkedSet → SetState → List (Frame LoaderFrame) → After → Option SetState
+after_step L s under CallEntry = set_entry L.set.members >>= λ f. call (set_view L) s.units s.memory (λ values. under) [] (Own 0 f) >>= became (set_hosts L) s
 
 -- one task, or what follows the last
-abbrev pub loader_step : (L : LinkedSet) → SetState L → List (Frame LoaderFrame) → After → List Task → Option (SetState L)
+abbrev pub loader_step : LinkedSet → SetState → List (Frame LoaderFrame) → After → List Task → Option SetState
 loader_step L s under after [] = after_step L s under after
 loader_step L s under after (task ∷ tasks) = task_step L s (frames.Marked (record { tasks = tasks; after = after }) ∷ under) task
 
-abbrev pub set_step : (L : LinkedSet) → SetState L → List (Frame LoaderFrame) → Option (SetState L)
+abbrev pub set_step : LinkedSet → SetState → List (Frame LoaderFrame) → Option SetState
 set_step L s [] = None
-set_step L s (frames.Active a ∷ under) = carried_out {V = set_view L} s under (move a)
+set_step L s (frames.Active a ∷ under) = carried_out (set_view L) s.units s.memory under (move ((set_view L).declared a.unit) a) >>= became (set_hosts L) s
 set_step L s (frames.Marked frame ∷ under) = loader_step L s under frame.after frame.tasks
 
 abbrev pub set_system : LinkedSet → System hosts
 set_system L = record {
-  State = SetState L;
+  State = SetState;
   step = λ s. set_step L s s.stack;
-  take = λ answer s. answered {V = set_view L} answer s;
+  take = taken;
   status = λ s. s.status;
   memory = λ s. s.memory;
 }
@@ -126,7 +151,7 @@ opening_memory L =
     let memory = new_memory plan.pages plan.pages_max in
     record memory { bytes = overwritten memory.bytes plan.stack_top error_texts }
 
-abbrev pub set_opening : (L : LinkedSet) → SetState L
+abbrev pub set_opening : LinkedSet → SetState
 set_opening L = record {
   units = record { stages = map (λ m. 0) L.set.members; table = new_table (table_entries L.set L.options) (table_most L.set L.options) };
   memory = opening_memory L;
@@ -135,5 +160,5 @@ set_opening L = record {
 }
 
 -- n steps of the loaded set from its opening state
-abbrev pub set_run : (L : LinkedSet) → List Answer → ℕ → Ran hosts (SetState L)
+abbrev pub set_run : (L : LinkedSet) → List Answer → ℕ → Ran hosts SetState
 set_run L answers n = run (set_system L) n (set_opening L) answers

@@ -5,7 +5,7 @@ use Rattle.std.proofs.lemmas.Bool.Decides.{nat_tests}
 use Rattle.std.specs.Int.Count.{ones, ones-le, ones_step, count_leading_zeros, count_trailing_zeros, leading_of_zero, under}
 use Rattle.std.proofs.lemmas.Nat.{mod-pow-add, shr-shr}
 use Rattle.std.proofs.Math.Nat.{pow-suc}
-use Rattle.spec_execution.specs.Numerics.{count, iclz, ictz, ipopcnt}
+use Rattle.spec_runtime.specs.Numerics.{count, iclz, ictz, ipopcnt}
 
 count_same : (n : ℕ) (p q : ℕ → Bool) → ((i : ℕ) → p i ≡ q i) → count n p ≡ count n q
 unfolding count

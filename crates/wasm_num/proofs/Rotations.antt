@@ -4,7 +4,7 @@ use Rattle.std.proofs.Math.Nat.{sub-zero, mul-mod_left, mod_self, div-one, mul-o
 use Rattle.std.specs.Int.Bits.{bit_or, or_self}
 use Rattle.std.specs.Int.{rotate_left, rotate_right}
 use Rattle.std.proofs.lemmas.Nat.{or_shifted, or_comm, shr_below, shl-shr, mod-pow-add}
-use Rattle.spec_execution.specs.Numerics.{irotl, irotr}
+use Rattle.spec_runtime.specs.Numerics.{irotl, irotr}
 
 -- the low m bits stand above, and the high j bits below
 joined_at : (m j a : ℕ) → a < 2 ^ (j + m) → bit_or ((a * 2 ^ j) % 2 ^ (m + j)) (a / 2 ^ m) ≡ (a * 2 ^ j) % 2 ^ (m + j) + a / 2 ^ m

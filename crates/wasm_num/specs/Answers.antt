@@ -1,7 +1,7 @@
 -- How the functions of this crate answer, and what an operand must be.
 use Rattle.std.specs.Prelude.{ℕ, ◌<◌, ◌^◌, Result, Ok, Err, ⊤}
 use Rattle.wasm_form.specs.declared.runtime.Trap.{Trap}
-use Rattle.spec_execution.specs.Numerics.{Outcome, Whole, Traps, Width, bits, Compare, Eqz}
+use Rattle.spec_runtime.specs.Numerics.{Outcome, Whole, Traps, Width, bits, Compare, Eqz}
 
 -- a number, or the trap
 abbrev pub answer : Outcome → Result ℕ Trap

@@ -9,7 +9,7 @@ mod tests;
 mod wide;
 
 ghost use Rattle.std.specs.Prelude.{◌≡◌, ◌<◌, ◌^◌, IsSome, IfSome};
-ghost use Rattle.spec_execution.specs.Numerics.{
+ghost use Rattle.spec_runtime.specs.Numerics.{
   unary_of,
   unary as unary_result,
   binary_of,

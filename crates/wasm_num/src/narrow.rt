@@ -1,6 +1,6 @@
 // The operators of i32, by their opcodes. An opcode of none of a group's is taken for the last one of it.
 ghost use Rattle.std.specs.Prelude.{◌≡◌, ◌<◌, ◌^◌};
-ghost use Rattle.spec_execution.specs.Numerics.{
+ghost use Rattle.spec_runtime.specs.Numerics.{
   W32,
   idiv_u,
   idiv_s,

@@ -1,7 +1,7 @@
 // The operators of i64, by the opcodes of the same operators of i32. An opcode of none of a group's is taken for the
 // last one of it.
 ghost use Rattle.std.specs.Prelude.{◌≡◌, ◌<◌, ◌^◌};
-ghost use Rattle.spec_execution.specs.Numerics.{
+ghost use Rattle.spec_runtime.specs.Numerics.{
   W64,
   idiv_u,
   idiv_s,

@@ -4,8 +4,8 @@ use Rattle.std.proofs.lemmas.Bool.{le-leb}
 use Rattle.std.proofs.lemmas.List.{length-take-le, length-drop}
 use Rattle.wasm_form.specs.declared.runtime.Trap.{Trap}
 use Rattle.spec_binary.specs.Options.{◌>>=◌}
-use Rattle.spec_execution.specs.Memories.{MemoryInstance, overwritten, written, little}
-use Rattle.spec_execution.specs.Tables.{TableInstance, entries_overwritten, entries_written}
+use Rattle.spec_runtime.specs.Memories.{MemoryInstance, overwritten, written, little}
+use Rattle.spec_runtime.specs.Tables.{TableInstance, entries_overwritten, entries_written}
 use Rattle.wasm_space.specs.Access.{ChangesOrTraps}
 
 pub length-little : (n value : ℕ) → length (little n value) ≡ n

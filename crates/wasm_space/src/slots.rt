@@ -1,7 +1,7 @@
 // A table (WebAssembly Core 2.0, sections 4.2.7 and 4.4.6).
 ghost use Rattle.std.specs.Prelude.{◌≡◌, ◌≤◌, ◌<◌, length, Option, IfOk};
 ghost use Rattle.std.specs.Option.{ok_or};
-ghost use Rattle.spec_execution.specs.Tables.{new_table, entry_at, entry_set, entries_copied, entries_copied_from, entries_filled, entries_initialized, entries_grown};
+ghost use Rattle.spec_runtime.specs.Tables.{new_table, entry_at, entry_set, entries_copied, entries_copied_from, entries_filled, entries_initialized, entries_grown};
 ghost use Rattle.wasm_space.specs.Access.{ChangesOrTraps, GrowsOrStays};
 
 use std::alloc::Global;
@@ -17,7 +17,7 @@ pub struct Slots {
 
 impl Model for Slots {
     ghost use Rattle.std.specs.Prelude.{◌≤◌, length};
-    ghost use Rattle.spec_execution.specs.Tables.{TableInstance};
+    ghost use Rattle.spec_runtime.specs.Tables.{TableInstance};
 
     ghost Value = { TableInstance };
 

@@ -1,7 +1,7 @@
 // A memory (WebAssembly Core 2.0, sections 4.2.8 and 4.4.7).
 ghost use Rattle.std.specs.Prelude.{◌≡◌, ◌≤◌, ◌<◌, ◌*◌, ◌^◌, length, IfOk};
 ghost use Rattle.std.specs.Option.{ok_or};
-ghost use Rattle.spec_execution.specs.Memories.{page_size, new_memory, loaded, stored, copied, filled, initialized, pages, grown};
+ghost use Rattle.spec_runtime.specs.Memories.{page_size, new_memory, loaded, stored, copied, filled, written, initialized, pages, grown};
 ghost use Rattle.wasm_space.specs.Access.{IsAccessLength, ChangesOrTraps, GrowsOrStays};
 
 use crate::little::{read_little, write_little};
@@ -22,7 +22,7 @@ pub struct Space {
 
 impl Model for Space {
     ghost use Rattle.std.specs.Prelude.{◌≡◌, ◌≤◌, ◌*◌, length};
-    ghost use Rattle.spec_execution.specs.Memories.{MemoryInstance};
+    ghost use Rattle.spec_runtime.specs.Memories.{MemoryInstance};
 
     ghost Value = { MemoryInstance };
 
@@ -121,6 +121,18 @@ impl Space {
             return Err(Trap::MemoryBounds);
         }
         self.bytes[to..to + n].fill(byte);
+        Ok(())
+    }
+
+    /// Writes all of these bytes at `to`; `MemoryBounds` where they pass the end of the memory, and nothing is written.
+    pub fn put(&mut self, to: u32, bytes: &[u8]) -> Result<(), Trap>
+        ensures { ChangesOrTraps Trap.MemoryBounds self.old (written self.old to bytes.now) result self.new }
+    {
+        let at = to as usize;
+        if at + bytes.len() > self.bytes.len() {
+            return Err(Trap::MemoryBounds);
+        }
+        self.bytes[at..at + bytes.len()].copy_from_slice(bytes);
         Ok(())
     }
 

@@ -1,6 +1,6 @@
 use Rattle.std.proofs.Common.{◌≡◌, length}
 use Rattle.std.specs.List.{list_all}
-use Rattle.spec_execution.specs.Names.{is_integer}
+use Rattle.spec_runtime.specs.Names.{is_integer}
 use Rattle.host_table.proofs.types.are_integers.Given as goal
 
 abbrev pub invariant-loop-ty : goal.invariant-loop-ty

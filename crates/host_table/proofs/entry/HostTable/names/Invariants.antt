@@ -1,5 +1,5 @@
 use Rattle.std.proofs.Common.{◌≡◌, length, map}
-use Rattle.spec_execution.specs.Names.{with_names}
+use Rattle.spec_runtime.specs.Names.{with_names}
 use Rattle.host_table.specs.Names.{host_name_of}
 use Rattle.host_table.proofs.entry.HostTable.names.Given as goal
 

@@ -1,6 +1,6 @@
 use Rattle.std.proofs.Common.{rules, ◌≡◌, string_bytes, IsTrue}
 use Rattle.std.specs.String.{string_eq}
-use Rattle.spec_execution.specs.Names.{has_integers}
+use Rattle.spec_runtime.specs.Names.{has_integers}
 use Rattle.host_table.proofs.Entries.{function_added, All-inserted}
 use Rattle.host_table.proofs.module.ModuleNames.add_function.Goals as goal
 

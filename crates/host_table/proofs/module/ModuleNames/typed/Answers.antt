@@ -3,7 +3,7 @@ use Rattle.std.specs.Bool.{IsTrue}
 use Rattle.std.specs.Str.{bytes_eq}
 use Rattle.std.specs.Map.{lookup}
 use Rattle.std.proofs.lemmas.Map.Entries.{All-lookup}
-use Rattle.spec_execution.specs.Names.{has_integers}
+use Rattle.spec_runtime.specs.Names.{has_integers}
 use Rattle.host_table.proofs.Entries.{lookup_by_text}
 use Rattle.host_table.proofs.module.ModuleNames.typed.Goals as goal
 

@@ -1,7 +1,7 @@
 use Rattle.std.proofs.Common.{◌∙◌, ap, sym}
 use Rattle.std.specs.Map.{lookup}
 use Rattle.std.specs.Str.{bytes_eq}
-use Rattle.spec_execution.specs.Names.{with_function}
+use Rattle.spec_runtime.specs.Names.{with_function}
 use Rattle.host_table.specs.Names.{by_text}
 use Rattle.host_table.proofs.Entries.{lookup_by_text, module_changed, module_unchanged, on_ok, on_err}
 use Rattle.host_table.proofs.names.HostNames.declare.Goals as goal

@@ -1,5 +1,5 @@
 use Rattle.std.proofs.Common.{◌∙◌, ap, sym, unwrap_or}
-use Rattle.spec_execution.specs.Names.{empty_module, host_module}
+use Rattle.spec_runtime.specs.Names.{empty_module, host_module}
 use Rattle.host_table.proofs.Entries.{lookup_by_text}
 use Rattle.host_table.proofs.names.HostNames.module.Goals as goal
 

@@ -1,6 +1,6 @@
 use Rattle.std.proofs.Common.{◌∙◌, ◌+◌, ◌≤◌, length, arith, subst, refl, Ok}
 use Rattle.wasm_form.specs.declared.runtime.Trap.TheVariants.{MemoryBounds}
-use Rattle.spec_execution.specs.Memories.{MemoryInstance, copied, written}
+use Rattle.spec_runtime.specs.Memories.{MemoryInstance, copied, written}
 use Rattle.wasm_space.proofs.Changes.{memory_writes, initialized_all}
 use Rattle.wasm_space.specs.Access.{ChangesOrTraps}
 use Rattle.wasm_space.proofs.Overwriting.{paste_is}

@@ -1,7 +1,7 @@
 use Rattle.std.proofs.Common.{◌∙◌, ap, ◌+◌, ◌≤◌, length, replicate, arith}
 use Rattle.std.proofs.lemmas.List.{length-replicate}
 use Rattle.wasm_form.specs.declared.runtime.Trap.TheVariants.{MemoryBounds}
-use Rattle.spec_execution.specs.Memories.{written}
+use Rattle.spec_runtime.specs.Memories.{written}
 use Rattle.wasm_space.proofs.Changes.{memory_writes, written_all}
 use Rattle.wasm_space.proofs.Overwriting.{refilled, part_length}
 use Rattle.wasm_space.proofs.space.Space.fill.Goals as goal
