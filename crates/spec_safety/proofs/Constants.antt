@@ -1,0 +1,114 @@
+-- What constant expressions and element segments of a valid module refer to is there.
+use Rattle.std.proofs.Common.{◌≡◌, ℕ, Bool, true, false, List, [], ◌∷◌, length, map, Option, Some, None, refl, subst}
+use Rattle.std.specs.Prelude.{if◌then◌else◌, unwrap_or}
+use Rattle.std.specs.List.{list_all}
+use Rattle.std.proofs.lemmas.Bool.{ltb-true, and_parts}
+use Rattle.std.proofs.lemmas.List.Elements.{All-nil, All-cons}
+use Rattle.wasm_form.specs.declared.types.ValType.{ValType}
+use Rattle.wasm_form.specs.declared.types.ValType.TheVariants.{FuncRef}
+use Rattle.wasm_form.specs.declared.instr.Instr.{Instr, out-Instr}
+use Rattle.wasm_form.specs.declared.instr.Instr.TheOpen as Open
+use Rattle.wasm_form.specs.declared.instr.Expr.{Expr}
+use Rattle.wasm_form.specs.declared.module.GlobalDef.{GlobalDef}
+use Rattle.wasm_form.specs.declared.module.ElemMode.{ElemMode}
+use Rattle.wasm_form.specs.declared.module.ElemMode.TheVariants as elem_mode
+use Rattle.wasm_form.specs.declared.module.ElemItems.{ElemItems}
+use Rattle.wasm_form.specs.declared.module.ElemItems.TheVariants as elem_items
+use Rattle.wasm_form.specs.declared.module.Elem.{Elem}
+use Rattle.wasm_form.specs.declared.module.Module.{Module}
+use Rattle.wasm_opcode.specs.declared.index.IndexForm.{IndexForm}
+use Rattle.wasm_opcode.specs.declared.index.IndexForm.TheVariants.{RefFunc}
+use Rattle.wasm_opcode.specs.Index.{index_form}
+use Rattle.wasm_runtime.specs.declared.Value.{Value}
+use Rattle.wasm_runtime.specs.declared.Value.TheVariants.{Num, Func}
+use Rattle.spec_binary.specs.Options.{◌>>=◌}
+use Rattle.spec_binary.specs.IndexSpaces.{function_space}
+use Rattle.spec_validation.specs.Faults.{is_function, is_of_type, is_constant, global_fits, elem_mode_fits, items_fit, elem_fits}
+use Rattle.spec_validation.specs.Faults as valid
+use Rattle.spec_execution.specs.Values.{zero_value, zero_of}
+use Rattle.spec_execution.specs.Ranges.{ReferenceExists, ValueExists, AllExist}
+use Rattle.spec_execution.specs.Instances.{function_named, module_view, constant_index, constant_step, constant_value, reference_in, global_value, constant_reference, segment_items, kept_items}
+use Rattle.spec_safety.specs.Laws.{IsAlone}
+use Rattle.spec_safety.proofs.Functions.{named_exists}
+
+-- there is no type without a function
+needs : (b : Bool) (t u : ValType) → is_of_type t (if b then Some u else None) ≡ true → b ≡ true
+needs true t u e = refl
+needs false t u e = absurd cc
+
+module _ (m : Module) (alone : IsAlone m) where
+  function_exists : (f : ℕ) → is_function m f ≡ true → ReferenceExists (module_view m) (Some (function_named m f))
+  function_exists f e = named_exists m alone f (ltb-true f (length (function_space m)) e)
+
+  number_exists : (n : ℕ) (v : Value) → Some (Num n) ≡ Some v → ValueExists (module_view m) v
+  number_exists n v e = let is : Num n ≡ v = cc in subst (ValueExists (module_view m)) is tt
+
+  index_exists : (t : ValType) (form : Option IndexForm) (f : ℕ) (v : Value) → is_of_type t (form >>= λ i. valid.constant_index m i f) ≡ true → constant_index m form f ≡ Some v → ValueExists (module_view m) v
+  index_exists t (Some RefFunc) f v typed e =
+      let is : Func (Some (function_named m f)) ≡ v = cc in
+      subst (ValueExists (module_view m)) is (function_exists f (needs (is_function m f) t FuncRef typed))
+  index_exists t _ f v typed e = absurd cc
+
+  step_exists : (t : ValType) (x : Open.Instr-F Instr Expr) (v : Value) → is_of_type t (valid.constant_step m x) ≡ true → constant_step m x ≡ Some v → ValueExists (module_view m) v
+  step_exists t (Open.I32Const n) v typed e = number_exists _ v e
+  step_exists t (Open.I64Const n) v typed e = number_exists _ v e
+  step_exists t (Open.RefNull u) v typed e = let is : Func None ≡ v = cc in subst (ValueExists (module_view m)) is tt
+  step_exists t (Open.Index op f) v typed e = index_exists t (index_form op) f v typed e
+  step_exists t _ v typed e = absurd cc
+
+  -- the value of a constant expression
+  constant_exists : (t : ValType) (e : Expr) (v : Value) → is_constant m t e ≡ true → constant_value m e ≡ Some v → ValueExists (module_view m) v
+  constant_exists t e v typed h = go e.list refl
+    where
+      go : (is : List Instr) → e.list ≡ is → ValueExists (module_view m) v
+      go (i ∷ []) q = step_exists t (out-Instr i) v (rw q at typed) (rw q at h)
+      go [] q = let none = rw q at h in absurd cc
+      go (i ∷ j ∷ is) q = let none = rw q at h in absurd cc
+
+  reference_exists : (e : Expr) → is_constant m FuncRef e ≡ true → ReferenceExists (module_view m) (constant_reference m e)
+  reference_exists e typed = go (constant_value m e) (λ v h. constant_exists FuncRef e v typed h)
+    where
+      go : (o : Option Value) → ((v : Value) → o ≡ Some v → ValueExists (module_view m) v) → ReferenceExists (module_view m) (o >>= reference_in)
+      go None exists = tt
+      go (Some (Num n)) exists = tt
+      go (Some (Func r)) exists = exists (Func r) refl
+
+  zero_exists : (b : Bool) → ValueExists (module_view m) (zero_value b)
+  zero_exists true = tt
+  zero_exists false = tt
+
+  pub global_exists : (g : GlobalDef) → global_fits m g ≡ true → ValueExists (module_view m) (global_value m g)
+  global_exists g typed = go (constant_value m g.init) (λ v h. constant_exists g.ty.value g.init v typed h)
+    where
+      go : (o : Option Value) → ((v : Value) → o ≡ Some v → ValueExists (module_view m) v) → ValueExists (module_view m) (unwrap_or o (zero_of g.ty.value))
+      go None exists = zero_exists _
+      go (Some v) exists = exists v refl
+
+  -- ---- element segments
+
+  functions_exist : (fs : List ℕ) → list_all (is_function m) fs ≡ true → AllExist (module_view m) (map (λ f. Some (function_named m f)) fs)
+  functions_exist [] e = All-nil (ReferenceExists (module_view m))
+  functions_exist (f ∷ fs) e =
+      let both = and_parts (is_function m f) (list_all (is_function m) fs) e in
+      All-cons (ReferenceExists (module_view m)) (Some (function_named m f)) (map (λ f. Some (function_named m f)) fs) (function_exists f both.0) (functions_exist fs both.1)
+
+  references_exist : (es : List Expr) → list_all (is_constant m FuncRef) es ≡ true → AllExist (module_view m) (map (constant_reference m) es)
+  references_exist [] e = All-nil (ReferenceExists (module_view m))
+  references_exist (x ∷ xs) e =
+      let both = and_parts (is_constant m FuncRef x) (list_all (is_constant m FuncRef) xs) e in
+      All-cons (ReferenceExists (module_view m)) (constant_reference m x) (map (constant_reference m) xs) (reference_exists x both.0) (references_exist xs both.1)
+
+  items_exist : (items : ElemItems) → items_fit m items ≡ true → AllExist (module_view m) (segment_items m items)
+  items_exist (elem_items.Funcs fs) e = functions_exist fs e
+  items_exist (elem_items.Exprs t es) e = references_exist es (and_parts _ (list_all (is_constant m FuncRef) es) e).1
+
+  pub segment_exists : (e : Elem) → elem_fits m e ≡ true → AllExist (module_view m) (segment_items m e.items)
+  segment_exists e fits = items_exist e.items (and_parts (elem_mode_fits m e.mode) (items_fit m e.items) fits).1
+
+  pub kept_exist : (e : Elem) → elem_fits m e ≡ true → AllExist (module_view m) (kept_items m e)
+  kept_exist e fits = go e.mode refl
+    where
+      go : (mode : ElemMode) → e.mode ≡ mode → AllExist (module_view m) (kept_items m e)
+      go (elem_mode.Active table offset) q = rw q (All-nil (ReferenceExists (module_view m)))
+      go elem_mode.Passive q = rw q (segment_exists e fits)
+      go elem_mode.Declarative q = rw q (All-nil (ReferenceExists (module_view m)))

@@ -1,0 +1,10 @@
+mod Lookups
+mod Levels
+mod TypedCode
+mod Validity
+mod Spaces
+mod Functions
+mod Changes
+mod Constants
+mod Opening
+mod Checked

@@ -1,0 +1,12 @@
+-- Tests of all elements of a list.
+use Rattle.std.proofs.Common.{◌≡◌, ℕ, ◌<◌, Bool, true, false, List, length, get_or, refl}
+use Rattle.std.specs.List.{list_all}
+use Rattle.std.proofs.lemmas.List.Folds.{list_all_at}
+
+-- a test of all elements holds of each
+pub all_at : {A : Type 0} (p : A → Bool) (xs : List A) (i : ℕ) (x : A) → i < length xs → x ≡ get_or xs i x → list_all p xs ≡ true → p x ≡ true
+all_at p xs i x lt is all = go (p x) refl
+  where
+    go : (b : Bool) → p x ≡ b → p x ≡ true
+    go true e = e
+    go false e = absurd (let h = list_all_at p xs i x lt (rw (← is) e) in cc)

@@ -1,0 +1,10 @@
+use Rattle.std.proofs.Common.{◌≡◌, ◌+◌, ◌≤◌, drop, length}
+use Rattle.spec_binary.specs.Indices.{declared_locals}
+use Rattle.wasm_instance.specs.Rooms.{saturated}
+use Rattle.wasm_instance.proofs.rooms.locals_of.Given as goal
+
+abbrev pub invariant-loop-group : goal.invariant-loop-group
+invariant-loop-group l = record {
+  counted : saturated (l.count + length (declared_locals (drop l.group-index l.groups))) ≡ saturated (length (declared_locals l.groups));
+  small : l.count ≤ 4294967295;
+}

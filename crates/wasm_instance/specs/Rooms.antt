@@ -1,0 +1,17 @@
+-- The rooms of a module's functions, as they are kept.
+use Rattle.std.specs.Prelude.{◌≡◌, ℕ, ◌+◌, ◌<◌, min, List, slice_get, Some}
+use Rattle.wasm_form.specs.declared.module.Module.{Module}
+use Rattle.spec_execution.specs.Limits.{room_of}
+use Rattle.spec_execution.specs.Instances.{imported_count, module_view}
+
+-- the number, or the greatest one of 32 bits
+abbrev pub saturated : ℕ → ℕ
+saturated n = min n 4294967295
+
+-- the room of a function that the module defines, by its place among those
+abbrev pub room_in : Module → ℕ → ℕ
+room_in m n = saturated (room_of (module_view m) 0 (imported_count m + n))
+
+-- these are the rooms of the first functions that the module defines
+abbrev pub HaveRooms : Module → ℕ → List ℕ → Type 0
+HaveRooms m count rooms = (n : ℕ) → n < count → slice_get rooms n ≡ Some (room_in m n)

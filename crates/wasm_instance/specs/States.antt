@@ -1,0 +1,10 @@
+-- An instance, as contracts see it.
+use Rattle.wasm_form.specs.declared.module.Module.{Module}
+use Rattle.spec_runtime.specs.Memories.{MemoryInstance}
+use Rattle.spec_execution.specs.Instances.{ModuleParts}
+
+-- a module, what changes of it in a run, and its memory
+pub record InstanceState : Type 0 where
+  pub wasm : Module
+  pub parts : ModuleParts
+  pub memory : MemoryInstance

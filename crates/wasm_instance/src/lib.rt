@@ -1,0 +1,16 @@
+//! One module as the only unit of a run: its instance, which a machine runs over (WebAssembly Core 2.0, sections 4.2.5 and 4.5.4).
+#![tactic(auto)]
+
+mod constants;
+mod fault;
+mod imports;
+mod instance;
+mod opening;
+mod rooms;
+mod segments;
+mod space;
+mod tables;
+mod view;
+
+pub use fault::OpenFault;
+pub use instance::Instance;

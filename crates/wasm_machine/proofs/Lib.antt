@@ -1,0 +1,17 @@
+pub mod Levels
+pub mod Joined
+pub mod Called
+pub mod Indirect
+pub mod Coming
+pub mod Staying
+pub mod Leading
+pub mod MovesInRange
+pub mod EffectsInRange
+pub mod StepsInRange
+pub mod Depths
+pub mod OnTop
+pub mod Answering
+pub mod Marking
+pub mod Telling
+pub mod Receiving
+pub mod Asking

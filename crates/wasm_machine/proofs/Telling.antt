@@ -1,0 +1,194 @@
+-- What a step that was led tells, and that the machine stands over its view afterwards.
+use Rattle.std.proofs.Common.{◌≡◌, ◌≢◌, ℕ, List, [], refl, ap, sym, ◌∙◌, subst, Option, Some, None, true, false, inl, inr, ◌⊎◌}
+use Rattle.std.specs.Prelude.{IfSome}
+use Rattle.std.proofs.lemmas.List.Elements.{All-nil}
+use Rattle.wasm_form.specs.declared.runtime.Ref.{Ref}
+use Rattle.wasm_form.specs.declared.runtime.Trap.{Trap}
+use Rattle.spec_runtime.specs.Memories.{MemoryInstance}
+use Rattle.spec_execution.specs.Views.{View}
+use Rattle.spec_execution.specs.Ranges.{AllInRange, IsFrameInRange}
+use Rattle.spec_execution.specs.Runs.{Frame, Next, Goes, Asks, Loads, Ends, Traps, call}
+use Rattle.wasm_step.specs.Tops.{Top}
+use Rattle.wasm_machine.specs.Stacks.{CallStack, empty_stack, IsJoined, under_of, is_live, joined, IsBounded}
+use Rattle.wasm_step.specs.Moves.{Changes, AreSame}
+use Rattle.wasm_machine.specs.Machines.{MachineState, RoomsAre, IsOver, IsAsked, IsEnd, MayWant, Led, Told, QuickStepped, IsCallingOutside, is_code, calls_outside, next_of}
+use Rattle.wasm_machine.specs.declared.machine.Standing.{Standing}
+use Rattle.wasm_machine.specs.declared.machine.Standing.TheVariants as standing
+use Rattle.wasm_machine.specs.declared.callers.Caller.{Caller}
+use Rattle.wasm_step.specs.declared.done.Done.{Done}
+use Rattle.wasm_step.specs.declared.done.Done.TheVariants as done
+use Rattle.wasm_machine.specs.declared.event.Event.TheVariants as event
+use Rattle.wasm_machine.proofs.StepsInRange.{IsNextInRange, begin_in, step_in}
+use Rattle.wasm_machine.proofs.Depths.{not_deep_at}
+
+module _ {Units : Type 0} (V : View Units) (Wanting : Type 0) (stack : CallStack) (c : Changes Units) where
+  -- the code goes on
+  pub told_moved : (next : Option (Next Units ℕ)) (old new : MachineState) → Led V done.Goes next Wanting stack new.stack c → new.standing ≡ standing.Moving → RoomsAre V new.stack → IsBounded new.stack → Told V event.Moved next old new c
+  told_moved None old new l s r b = absurd l
+  told_moved (Some (Goes us memory frames)) old new l s r b = (record { frames_are = l.0; standing_is = s }, not_deep_at V new.stack frames l.0 r b, l.1, l.2)
+  told_moved (Some (Asks entry args frames)) old new l s r b = absurd l
+  told_moved (Some (Loads which args frames)) old new l s r b = absurd l
+  told_moved (Some Ends) old new l s r b = absurd l
+  told_moved (Some (Traps why)) old new l s r b = absurd l
+
+  pub range_moved : (next : Option (Next Units ℕ)) (us : Units) (new : CallStack) → Led V done.Goes next Wanting stack new c → IfSome next (IsNextInRange V us) → AllInRange V c.new_units new.frames
+  range_moved None us new l n = absurd l
+  range_moved (Some (Goes us' memory frames)) us new l n = rw (l.0, l.1) n
+  range_moved (Some (Asks entry args frames)) us new l n = absurd l
+  range_moved (Some (Loads which args frames)) us new l n = absurd l
+  range_moved (Some Ends) us new l n = absurd l
+  range_moved (Some (Traps why)) us new l n = absurd l
+
+-- nothing has changed
+abbrev pub unchanged : {Units : Type 0} → Units → MemoryInstance → Changes Units
+unchanged us memory = record { old_units = us; old_memory = memory; new_units = us; new_memory = memory }
+
+-- ---- a call over a mark or nothing
+
+module _ {Units : Type 0} (V : View Units) (Wanting : Type 0) (us : Units) (memory : MemoryInstance) (cs : List Caller) (t t' : Top) (s : Standing) (r : Ref) (idle : is_live t ≡ false) (moving : s ≡ standing.Moving)
+    (led : Led V done.Goes (call V us memory (λ _. under_of cs t) [] r) Wanting (joined cs t) (joined cs t') (unchanged us memory)) (rooms : RoomsAre V (joined cs t')) where
+  frames_under : (joined cs t).frames ≡ under_of cs t
+  frames_under = rw idle refl
+
+  led_over : Led V done.Goes (call V us memory (λ _. (joined cs t).frames) [] r) Wanting (joined cs t) (joined cs t') (unchanged us memory)
+  led_over = subst (λ (frames : List (Frame ℕ)). Led V done.Goes (call V us memory (λ _. frames) [] r) Wanting (joined cs t) (joined cs t') (unchanged us memory)) (sym frames_under) led
+
+  pub begun_told : IsBounded (joined cs t')
+      → Told V event.Moved (call V us memory (λ _. (joined cs t).frames) [] r) (record { stack = joined cs t; standing = s }) (record { stack = joined cs t'; standing = s }) (unchanged us memory)
+  begun_told b =
+      told_moved V Wanting (joined cs t) (unchanged us memory) (call V us memory (λ _. (joined cs t).frames) [] r) (record { stack = joined cs t; standing = s }) (record { stack = joined cs t'; standing = s }) led_over moving rooms b
+
+  -- the same of a machine and a function that are so
+  pub begun_told_at : (old : MachineState) (f : Ref) → record { stack = joined cs t; standing = s } ≡ old → f ≡ r → IsBounded (joined cs t')
+      → Told V event.Moved (call V us memory (λ _. old.stack.frames) [] f) old (record { stack = joined cs t'; standing = s }) (unchanged us memory)
+  begun_told_at old f e q b =
+      subst (λ (m : MachineState). Told V event.Moved (call V us memory (λ _. m.stack.frames) [] f) m (record { stack = joined cs t'; standing = s }) (unchanged us memory)) e
+      (subst (λ (h : Ref). Told V event.Moved (call V us memory (λ _. (joined cs t).frames) [] h) (record { stack = joined cs t; standing = s }) (record { stack = joined cs t'; standing = s }) (unchanged us memory)) (sym q) (begun_told b))
+
+  pub begun_over : IsOver V us (record { stack = joined cs t; standing = s }) → IsOver V us (record { stack = joined cs t'; standing = s })
+  begun_over o = record {
+    range = range_moved V Wanting (joined cs t) (unchanged us memory) (call V us memory (λ _. (joined cs t).frames) [] r) us (joined cs t') led_over (begin_in V us memory o.range.whole o.range.units (joined cs t).frames r o.range.stack);
+    rooms = rooms;
+    asked = rw moving tt;
+  }
+
+-- ---- one step that is told in few bytes
+
+module _ {Units : Type 0} (V : View Units) (Wanting : Type 0) (old new : CallStack) (c : Changes Units) where
+  pub returned_same : (next : Option (Next Units ℕ)) → Led V done.Returned next Wanting old new c → AreSame c
+  returned_same None l = absurd l
+  returned_same (Some (Goes us memory frames)) l = absurd l
+  returned_same (Some (Asks entry args frames)) l = absurd l
+  returned_same (Some (Loads which args frames)) l = absurd l
+  returned_same (Some Ends) l = l
+  returned_same (Some (Traps why)) l = absurd l
+
+  pub trapped_same : (next : Option (Next Units ℕ)) (why : Trap) → Led V (done.Trapped why) next Wanting old new c → AreSame c
+  trapped_same None why l = absurd l
+  trapped_same (Some (Goes us memory frames)) why l = absurd l
+  trapped_same (Some (Asks entry args frames)) why l = absurd l
+  trapped_same (Some (Loads which args frames)) why l = absurd l
+  trapped_same (Some Ends) why l = absurd l
+  trapped_same (Some (Traps cause)) why l = l.1
+
+  pub stuck_same : (next : Option (Next Units ℕ)) → Led V done.Stuck next Wanting old new c → AreSame c
+  stuck_same None l = l
+  stuck_same (Some (Goes us memory frames)) l = absurd l
+  stuck_same (Some (Asks entry args frames)) l = absurd l
+  stuck_same (Some (Loads which args frames)) l = absurd l
+  stuck_same (Some Ends) l = absurd l
+  stuck_same (Some (Traps why)) l = absurd l
+
+  -- a step that would pass a limit changes nothing
+  pub told_deep : (next : Option (Next Units ℕ)) (m n : MachineState) → n ≡ m → Led V done.Deep next Wanting old new c → Told V event.Deep next m n c × (new ≡ old) × AreSame c
+  told_deep None m n e l = absurd l
+  told_deep (Some (Goes us memory frames)) m n e l = ((l.0, e, l.2), l.1, l.2)
+  told_deep (Some (Asks entry args frames)) m n e l = absurd l
+  told_deep (Some (Loads which args frames)) m n e l = absurd l
+  told_deep (Some Ends) m n e l = absurd l
+  told_deep (Some (Traps why)) m n e l = absurd l
+
+asked_at_end : {Units : Type 0} (V : View Units) (s : Standing) → IsEnd s → IsAsked V s
+asked_at_end V standing.Moving h = tt
+asked_at_end V (standing.Asking entry count) h = absurd h
+asked_at_end V standing.Loading h = tt
+asked_at_end V standing.Returned h = tt
+asked_at_end V (standing.Trapped why) h = tt
+asked_at_end V (standing.Exited code) h = tt
+asked_at_end V standing.Stuck h = tt
+asked_at_end V standing.Lost h = tt
+
+-- an end stands over the view
+pub ended_over : {Units : Type 0} (V : View Units) (c : Changes Units) (old new : MachineState) (s : Standing) → IsOver V c.old_units old → AreSame c → IsEnd s → new ≡ record { stack = empty_stack; standing = s } → IsOver V c.new_units new
+ended_over V c old new s o same e q =
+    let none : AllInRange V c.old_units [] = record { whole = o.range.whole; units = o.range.units; stack = All-nil (IsFrameInRange V) } in
+    rw (same.0, q) (record { range = none; rooms = refl; asked = asked_at_end V s e })
+
+module _ {Units : Type 0} (V : View Units) (c : Changes Units) (cs cs' : List Caller) (t t' : Top) (s : Standing) (d : Done) (old : MachineState) (live : is_live t ≡ true) (moving : s ≡ standing.Moving)
+    (led : Led V d (next_of V c.old_units c.old_memory (joined cs t).frames) (MayWant V (joined cs t).frames) (joined cs t) (joined cs' t') c) (is : record { stack = joined cs t; standing = s } ≡ old) (over : IsOver V c.old_units old) where
+  abbrev at : MachineState
+  at = record { stack = joined cs t; standing = s }
+
+  abbrev to : MachineState
+  to = record { stack = joined cs' t'; standing = s }
+
+  over_at : IsOver V c.old_units at
+  over_at = rw (← is) at over
+
+  code_at : is_code (joined cs t).frames ≡ true
+  code_at = rw live refl
+
+  goes_stepped : d ≡ done.Goes → RoomsAre V (joined cs' t') → IsBounded (joined cs' t') → QuickStepped V done.Goes at to c
+  goes_stepped e r b =
+      let l = rw e at led in
+      inl (moving, code_at, told_moved V (MayWant V (joined cs t).frames) (joined cs t) c (next_of V c.old_units c.old_memory (joined cs t).frames) at to l moving r b)
+
+  goes_over : d ≡ done.Goes → RoomsAre V (joined cs' t') → IsOver V c.new_units to
+  goes_over e r = record {
+    range = range_moved V (MayWant V (joined cs t).frames) (joined cs t) c (next_of V c.old_units c.old_memory (joined cs t).frames) c.old_units (joined cs' t') (rw e at led) (step_in V c.old_units c.old_memory (joined cs t).frames over_at.range);
+    rooms = r;
+    asked = rw moving tt;
+  }
+
+  same_over : joined cs' t' ≡ joined cs t → AreSame c → IsOver V c.new_units to
+  same_over e q = rw (e, q.0) over_at
+
+  at_same : joined cs' t' ≡ joined cs t → to ≡ at
+  at_same e = ap (λ (st : CallStack). let m : MachineState = record { stack = st; standing = s } in m) e
+
+  deep_kept : d ≡ done.Deep → (joined cs' t' ≡ joined cs t) × AreSame c
+  deep_kept e =
+      let k = told_deep V (MayWant V (joined cs t).frames) (joined cs t) (joined cs' t') c (next_of V c.old_units c.old_memory (joined cs t).frames) at at refl (rw e at led) in
+      (k.1, k.2)
+
+  deep_stepped : d ≡ done.Deep → QuickStepped V done.Deep at to c
+  deep_stepped e =
+      let k = told_deep V (MayWant V (joined cs t).frames) (joined cs t) (joined cs' t') c (next_of V c.old_units c.old_memory (joined cs t).frames) at to (at_same (deep_kept e).0) (rw e at led) in
+      inl (moving, code_at, k.0)
+
+  outside_kept : d ≡ done.Outside → (joined cs' t' ≡ joined cs t) × AreSame c
+  outside_kept e = rw e at led
+
+  outside_stepped : d ≡ done.Outside → calls_outside V c.old_units t.act ≡ true → QuickStepped V done.Outside at to c
+  outside_stepped e q =
+      let k = outside_kept e in
+      let calls : IsCallingOutside V c.old_units at = rw live (moving, q) in
+      (calls, at_same k.0, k.1)
+
+  module _ (outside : d ≡ done.Outside → calls_outside V c.old_units t.act ≡ true) (lies : d ≢ done.NoMemory → IsJoined cs' t') (rooms : d ≡ done.Goes → RoomsAre V (joined cs' t')) (which : (d ≡ done.Goes) ⊎ ((d ≡ done.Deep) ⊎ (d ≡ done.Outside))) where
+    pub stays_stepped : QuickStepped V d old to c
+    stays_stepped =
+        subst (λ (m : MachineState). QuickStepped V d m to c) is (elim which as (λ _. QuickStepped V d at to c) [
+          | inl e ↦ subst (λ (x : Done). QuickStepped V x at to c) (sym e) (goes_stepped e (rooms e) (lies (λ f. let g : done.Goes ≡ done.NoMemory = sym e ∙ f in cc)).bounded)
+          | inr k ↦ (elim k as (λ _. QuickStepped V d at to c) [
+            | inl e ↦ subst (λ (x : Done). QuickStepped V x at to c) (sym e) (deep_stepped e)
+            | inr e ↦ subst (λ (x : Done). QuickStepped V x at to c) (sym e) (outside_stepped e (outside e))
+          ])
+        ])
+
+    pub stays_over : IsOver V c.new_units to
+    stays_over =
+        elim which as (λ _. IsOver V c.new_units to) [
+          | inl e ↦ goes_over e (rooms e)
+          | inr k ↦ (elim k as (λ _. IsOver V c.new_units to) [ inl e ↦ same_over (deep_kept e).0 (deep_kept e).1 | inr e ↦ same_over (outside_kept e).0 (outside_kept e).1 ])
+        ]

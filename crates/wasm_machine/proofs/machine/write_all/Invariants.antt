@@ -1,0 +1,13 @@
+use Rattle.std.proofs.Common.{◌≡◌, drop}
+use Rattle.std.specs.Prelude.{IsTrue}
+use Rattle.spec_runtime.specs.Hosts.{writes_fit, all_written}
+use Rattle.wasm_machine.proofs.machine.write_all.Given as goal
+
+-- the writes that are left fit, and lead to where all of them lead
+abbrev pub invariant-loop-write : goal.invariant-loop-write
+invariant-loop-write g l = record {
+  fit : IsTrue (writes_fit (drop l.write-index l.writes) (g.V.View.space l.view));
+  leads : all_written (drop l.write-index l.writes) (g.V.View.space l.view) ≡ all_written l.writes (g.V.View.space l.fn.view);
+  units : g.V.View.units l.view ≡ g.V.View.units l.fn.view;
+  fixed : g.V.View.fixed l.view ≡ g.V.View.fixed l.fn.view;
+}

@@ -1,0 +1,4 @@
+pub mod Stacks
+pub mod Machines
+pub mod Whole
+pub mod Outside

@@ -1,0 +1,319 @@
+-- What a machine is, and what it answers of a step, beside what the definition of the step says.
+use Rattle.std.specs.Prelude.{◌≡◌, ◌≢◌, ◌≤◌, ◌⊎◌, ◌||◌, ◌+◌, ℕ, List, [], ◌∷◌, map, length, reverse, drop, Option, Some, None, IfSome, Bool, true, false, IsTrue, if◌then◌else◌}
+use Rattle.wasm_form.specs.declared.types.FuncType.{FuncType}
+use Rattle.wasm_form.specs.declared.instr.Instr.{Instr, out-Instr}
+use Rattle.wasm_form.specs.declared.instr.Instr.TheOpen as Open
+use Rattle.wasm_form.specs.declared.instr.Expr.{Expr}
+use Rattle.wasm_form.specs.declared.runtime.Ref.{Ref}
+use Rattle.wasm_form.specs.declared.runtime.Ref.TheVariants as ref
+use Rattle.wasm_opcode.specs.declared.index.IndexForm.{IndexForm}
+use Rattle.wasm_opcode.specs.declared.index.IndexForm.TheVariants.{Call}
+use Rattle.wasm_opcode.specs.Index.{index_form}
+use Rattle.wasm_runtime.specs.declared.Value.{Value}
+use Rattle.wasm_runtime.specs.declared.Value.TheVariants.{Num}
+use Rattle.wasm_runtime.specs.declared.Answer.{Answer}
+use Rattle.wasm_runtime.specs.declared.Answer.TheVariants.{Reply, Exit}
+use Rattle.spec_binary.specs.Options.{◌>>=◌}
+use Rattle.spec_binary.specs.SameTypes.{same_function_type}
+use Rattle.spec_runtime.specs.Numerics.{W32}
+use Rattle.spec_runtime.specs.Memories.{MemoryInstance}
+use Rattle.spec_runtime.specs.Tables.{entry_at}
+use Rattle.spec_runtime.specs.Hosts.{fits_results, all_written}
+use Rattle.spec_execution.specs.Values.{low}
+use Rattle.spec_execution.specs.Activations.{Activation, with_values, move}
+use Rattle.spec_execution.specs.Views.{View, type_of}
+use Rattle.spec_execution.specs.Runs.{Frame, Active, Marked, Next, Goes, Asks, Loads, Ends, Traps, carried_out, given}
+use Rattle.spec_execution.specs.Limits.{room_of, activations, is_deep}
+use Rattle.spec_execution.specs.Ranges.{AllInRange}
+use Rattle.wasm_step.specs.Tops.{height_of}
+use Rattle.wasm_step.specs.Primitives.{number_on, with_rest}
+use Rattle.wasm_machine.specs.Stacks.{CallStack, most_blocks}
+use Rattle.wasm_step.specs.Moves.{Changes, AreSame}
+use Rattle.wasm_step.specs.Named.{is_call, is_growth}
+use Rattle.wasm_machine.specs.declared.machine.Standing.{Standing}
+use Rattle.wasm_machine.specs.declared.machine.Standing.TheVariants as standing
+use Rattle.wasm_step.specs.declared.done.Done.{Done}
+use Rattle.wasm_step.specs.declared.done.Done.TheVariants as done
+use Rattle.wasm_machine.specs.declared.event.Event.{Event}
+use Rattle.wasm_machine.specs.declared.event.Event.TheVariants as event
+
+-- a machine: its call stack, and what it is at
+pub record MachineState : Type 0 where
+  pub stack : CallStack
+  pub standing : Standing
+
+-- ---- what is kept
+
+-- the activations took the rooms that the view tells
+abbrev pub RoomsAre : {Units : Type 0} → View Units → CallStack → Type 0
+RoomsAre V s = s.rooms ≡ map (λ a. room_of V a.unit a.func) (activations s.frames)
+
+-- a host function that is waited for has so many results
+abbrev pub IsAsked : {Units : Type 0} → View Units → Standing → Type 0
+IsAsked V (standing.Asking entry count) = (ty : FuncType) × (V.host entry ≡ Some ty) × (length ty.results ≡ count)
+IsAsked V _ = Unit {0}
+
+-- The condition on a view and a machine: all that the code, the values and the tables name is there, and the machine was run over
+-- this view alone.
+pub record IsOver {Units : Type 0} (V : View Units) (us : Units) (m : MachineState) : Type 0 where
+  pub range : AllInRange V us m.stack.frames
+  pub rooms : RoomsAre V m.stack
+  pub asked : IsAsked V m.standing
+
+-- ---- steps
+
+-- the next step of the code on top
+abbrev pub next_of : {Units : Type 0} → View Units → Units → MemoryInstance → List (Frame ℕ) → Option (Next Units ℕ)
+next_of V us memory [] = None
+next_of V us memory (Active a ∷ frames) = carried_out V us memory frames (move (V.declared a.unit) a)
+next_of V us memory (Marked tag ∷ frames) = None
+
+-- What is answered in few bytes, and what has changed. What is outside is told by a slower call.
+abbrev pub Led : {Units : Type 0} → View Units → Done → Option (Next Units ℕ) → Type 0 → CallStack → CallStack → Changes Units → Type 0
+Led V done.Goes (Some (Goes us memory frames)) Wanting old new c = (new.frames ≡ frames) × (c.new_units ≡ us) × (c.new_memory ≡ memory)
+Led V done.Deep (Some (Goes us memory frames)) Wanting old new c = (is_deep V frames ≡ true) × (new ≡ old) × AreSame c
+Led V done.Returned (Some Ends) Wanting old new c = AreSame c
+Led V (done.Trapped why) (Some (Traps cause)) Wanting old new c = (why ≡ cause) × AreSame c
+Led V done.Stuck None Wanting old new c = AreSame c
+Led V done.Outside next Wanting old new c = (new ≡ old) × AreSame c
+Led V done.NoMemory next Wanting old new c = Wanting × AreSame c
+Led V _ next Wanting old new c = ⊥
+
+-- the arguments of a function of the loader, or 0 where there are fewer
+abbrev pub first_of : List ℕ → ℕ
+first_of [] = 0
+first_of (n ∷ ns) = n
+
+abbrev pub second_of : List ℕ → ℕ
+second_of [] = 0
+second_of (n ∷ ns) = first_of ns
+
+-- the machine stands at a call stack
+pub record StandsAt (m : MachineState) (frames : List (Frame ℕ)) (s : Standing) : Type 0 where
+  pub frames_are : m.stack.frames ≡ frames
+  pub standing_is : m.standing ≡ s
+
+-- an event and what has changed fit what the step comes to
+abbrev pub Told : {Units : Type 0} → View Units → Event → Option (Next Units ℕ) → MachineState → MachineState → Changes Units → Type 0
+Told V event.Moved (Some (Goes us memory frames)) old new c =
+    StandsAt new frames standing.Moving × (is_deep V frames ≡ false) × (c.new_units ≡ us) × (c.new_memory ≡ memory)
+Told V (event.Waits asked) (Some (Asks entry args frames)) old new c =
+    (count : ℕ) × StandsAt new frames (standing.Asking entry count) × (asked.entry ≡ entry) × (asked.args ≡ args) × AreSame c
+Told V (event.Loader which first second) (Some (Loads called args frames)) old new c =
+    StandsAt new frames standing.Loading × (which ≡ called) × (first ≡ first_of args) × (second ≡ second_of args) × AreSame c
+Told V event.Returned (Some Ends) old new c = StandsAt new [] standing.Returned × AreSame c
+Told V (event.Trapped why) (Some (Traps cause)) old new c = StandsAt new [] (standing.Trapped why) × (why ≡ cause) × AreSame c
+Told V event.Deep (Some (Goes us memory frames)) old new c = (is_deep V frames ≡ true) × (new ≡ old) × AreSame c
+Told V event.Stuck None old new c = StandsAt new [] standing.Stuck × AreSame c
+Told V _ next old new c = ⊥
+
+-- the event of an end
+abbrev pub Repeats : Event → Standing → Type 0
+Repeats event.Returned standing.Returned = Unit {0}
+Repeats (event.Trapped why) (standing.Trapped cause) = why ≡ cause
+Repeats (event.Exited code) (standing.Exited value) = code ≡ value
+Repeats event.Stuck standing.Stuck = Unit {0}
+Repeats _ _ = ⊥
+
+abbrev pub IsAtMark : Event → List (Frame ℕ) → Type 0
+IsAtMark (event.Marked tag) (Marked top ∷ frames) = tag ≡ top
+IsAtMark _ frames = ⊥
+
+-- whether the code that is on top goes on
+abbrev pub is_code : List (Frame ℕ) → Bool
+is_code (Active a ∷ frames) = true
+is_code _ = false
+
+-- a step: code on top goes on, a mark is told, and an end is told again
+abbrev pub Stepped : {Units : Type 0} → View Units → Event → MachineState → MachineState → Changes Units → Type 0
+Stepped V e old new c =
+    ((old.standing ≡ standing.Moving) × (is_code old.stack.frames ≡ true) × Told V e (next_of V c.old_units c.old_memory old.stack.frames) old new c)
+    ⊎ ((old.standing ≡ standing.Moving) × IsAtMark e old.stack.frames × (new ≡ old) × AreSame c)
+    ⊎ (Repeats e old.standing × (new ≡ old) × AreSame c)
+
+-- it may be asked for a step: it doesn't wait, and it has ended or has something on its call stack
+abbrev pub IsReady : MachineState → Type 0
+IsReady m = go m.standing
+  where
+    go : Standing → Type 0
+    go standing.Moving = m.stack.frames ≢ []
+    go (standing.Asking entry count) = ⊥
+    go standing.Loading = ⊥
+    go _ = Unit {0}
+
+-- ---- where memory may be wanting
+
+-- the code on top calls, or grows a memory or a table next
+abbrev pub may_grow_at : List Instr → Bool
+may_grow_at [] = false
+may_grow_at (i ∷ is) = is_call (out-Instr i) || is_growth (out-Instr i)
+
+-- The next step may want memory: it calls or grows. Or it has used up the room that the view told, which well typed code never does.
+abbrev pub MayWant : {Units : Type 0} → View Units → List (Frame ℕ) → Type 0
+MayWant V [] = ⊥
+MayWant V (Marked tag ∷ frames) = ⊥
+MayWant V (Active a ∷ frames) =
+    IsTrue (may_grow_at a.rest) ⊎ (room_of V a.unit a.func ≤ length a.locals + height_of a) ⊎ (most_blocks ≤ length a.levels)
+
+abbrev pub IsWanting : {Units : Type 0} → View Units → MachineState → Type 0
+IsWanting V m = (m.standing ≡ standing.Lost) ⊎ ((m.standing ≡ standing.Moving) × MayWant V m.stack.frames)
+
+-- ---- beginnings and marks
+
+-- nothing is on the call stack, or a mark is on top
+abbrev pub IsClear : List (Frame ℕ) → Type 0
+IsClear [] = Unit {0}
+IsClear (Marked tag ∷ frames) = Unit {0}
+IsClear (Active a ∷ frames) = ⊥
+
+-- a call may begin
+abbrev pub IsStart : MachineState → Type 0
+IsStart m = go m.standing
+  where
+    go : Standing → Type 0
+    go standing.Moving = IsClear m.stack.frames
+    go standing.Lost = Unit {0}
+    go _ = ⊥
+
+-- a mark may be put: on an empty call stack, or where a function of the loader is waited for
+abbrev pub MayMark : MachineState → Type 0
+MayMark m = go m.standing
+  where
+    go : Standing → Type 0
+    go standing.Moving = m.stack.frames ≡ []
+    go standing.Loading = Unit {0}
+    go standing.Lost = Unit {0}
+    go _ = ⊥
+
+pub record Marks (tag : ℕ) (old new : MachineState) : Type 0 where
+  pub stack : new.stack ≡ record old.stack { frames = Marked tag ∷ old.stack.frames }
+  pub goes_on : new.standing ≡ standing.Moving
+  pub found : old.standing ≢ standing.Lost
+
+-- a mark is on top
+abbrev pub IsMarked : MachineState → Type 0
+IsMarked m = (m.standing ≡ standing.Moving) × go m.stack.frames
+  where
+    go : List (Frame ℕ) → Type 0
+    go (Marked tag ∷ frames) = Unit {0}
+    go _ = ⊥
+
+-- what a machine is at over what was under a mark
+abbrev pub waits_under : List (Frame ℕ) → Standing
+waits_under (Active a ∷ frames) = standing.Loading
+waits_under _ = standing.Moving
+
+pub record Unmarks (old new : MachineState) : Type 0 where
+  pub stack : new.stack ≡ record old.stack { frames = drop 1 old.stack.frames }
+  pub waits : new.standing ≡ waits_under (drop 1 old.stack.frames)
+
+-- ---- answers
+
+-- an answer fits the host function that is waited for
+abbrev pub FitsAnswer : {Units : Type 0} → View Units → MemoryInstance → Answer → Standing → Type 0
+FitsAnswer V memory a (standing.Asking entry count) = IfSome (V.host entry) (λ ty. IsTrue (fits_results ty.results memory a))
+FitsAnswer V memory a _ = ⊥
+
+-- so many results are waited for
+abbrev pub IsExpecting : MachineState → ℕ → Type 0
+IsExpecting m n = go m.standing
+  where
+    go : Standing → Type 0
+    go (standing.Asking entry count) = count ≡ n
+    go _ = ⊥
+
+-- numbers were given to what waited: to code on top, or else they are dropped; over nothing that is the end
+abbrev pub Received : List (Frame ℕ) → List ℕ → MachineState → Type 0
+Received [] results new = StandsAt new [] standing.Returned
+Received (f ∷ frames) results new = StandsAt new (given (reverse (map Num results)) f ∷ frames) standing.Moving
+
+abbrev pub Answered : {Units : Type 0} → Answer → MachineState → MachineState → Changes Units → Type 0
+Answered (Reply results writes) old new c = Received old.stack.frames results new × (c.new_units ≡ c.old_units) × (c.new_memory ≡ all_written writes c.old_memory)
+Answered (Exit code) old new c = StandsAt new [] (standing.Exited code) × AreSame c
+
+-- an end, which is told again
+abbrev pub IsEnd : Standing → Type 0
+IsEnd standing.Moving = ⊥
+IsEnd (standing.Asking entry count) = ⊥
+IsEnd standing.Loading = ⊥
+IsEnd _ = Unit {0}
+
+-- ---- returns and calls
+
+-- the values are given to what called: the last return ends
+abbrev pub Finished : Done → List Value → CallStack → CallStack → Type 0
+Finished done.Goes values old new = go old.frames
+  where
+    go : List (Frame ℕ) → Type 0
+    go (top ∷ under ∷ frames) = (new.frames ≡ given values under ∷ frames) × (new.rooms ≡ drop 1 old.rooms)
+    go _ = ⊥
+Finished done.Returned values old new = length old.frames ≡ 1
+Finished _ values old new = ⊥
+
+-- an activation past a call, without the values above its arguments
+abbrev pub past_call : Activation → ℕ → Activation
+past_call a above = with_values (with_rest a (drop 1 a.rest)) (drop above a.values)
+
+-- functions outside the code
+abbrev pub is_outside : Ref → Bool
+is_outside (ref.Own unit f) = false
+is_outside (ref.Loader which) = true
+is_outside (ref.Host entry) = true
+is_outside (ref.Stub unit f) = false
+
+abbrev pub some_outside : Option Ref → Bool
+some_outside None = false
+some_outside (Some r) = is_outside r
+
+abbrev pub names_outside : {Units : Type 0} → View Units → Activation → ℕ → Bool
+names_outside V a f = some_outside (V.target a.unit f)
+
+-- the entry of a table that the number on top names, where it is of a type
+abbrev pub entry_of_type : {Units : Type 0} → View Units → Option FuncType → Option (Option Ref) → Option Ref
+entry_of_type V ty None = None
+entry_of_type V ty (Some None) = None
+entry_of_type V ty (Some (Some r)) = ty >>= λ wanted. type_of V r >>= λ found. if same_function_type found wanted then Some r else None
+
+abbrev pub entry_on_top : {Units : Type 0} → View Units → Units → Activation → ℕ → ℕ → Option Ref
+entry_on_top V us a ty table =
+    number_on a.values >>= λ n. V.table us a.unit table >>= λ x. entry_of_type V (V.declared a.unit ty) (entry_at x (low W32 n))
+
+abbrev pub entry_is_outside : {Units : Type 0} → View Units → Units → Activation → ℕ → ℕ → Bool
+entry_is_outside V us a ty table = some_outside (entry_on_top V us a ty table)
+
+abbrev pub call_is_outside : {Units : Type 0} → View Units → Activation → ℕ → Option IndexForm → Bool
+call_is_outside V a f (Some Call) = names_outside V a f
+call_is_outside V a f _ = false
+
+-- whether an instruction calls a function outside
+abbrev pub calls_outside_here : {Units : Type 0} → View Units → Units → Activation → Open.Instr-F Instr Expr → Bool
+calls_outside_here V us a (Open.Index op f) = call_is_outside V a f (index_form op)
+calls_outside_here V us a (Open.CallIndirect ty table) = entry_is_outside V us a ty table
+calls_outside_here V us a _ = false
+
+abbrev pub calls_outside : {Units : Type 0} → View Units → Units → Activation → Bool
+calls_outside V us a = go a.rest
+  where
+    go : List Instr → Bool
+    go [] = false
+    go (i ∷ is) = calls_outside_here V us a (out-Instr i)
+
+-- the code on top calls a function outside next
+abbrev pub IsCallingOutside : {Units : Type 0} → View Units → Units → MachineState → Type 0
+IsCallingOutside V us m = (m.standing ≡ standing.Moving) × go m.stack.frames
+  where
+    go : List (Frame ℕ) → Type 0
+    go (Active a ∷ frames) = calls_outside V us a ≡ true
+    go _ = ⊥
+
+-- the same of a step that is told in few bytes
+abbrev pub QuickStepped : {Units : Type 0} → View Units → Done → MachineState → MachineState → Changes Units → Type 0
+QuickStepped V done.Goes old new c = Stepped V event.Moved old new c
+QuickStepped V (done.Trapped why) old new c = Stepped V (event.Trapped why) old new c
+QuickStepped V done.Stuck old new c = Stepped V event.Stuck old new c
+QuickStepped V done.Returned old new c = Stepped V event.Returned old new c
+QuickStepped V (done.Exited code) old new c = Stepped V (event.Exited code) old new c
+QuickStepped V (done.Marked tag) old new c = Stepped V (event.Marked tag) old new c
+QuickStepped V done.Deep old new c = Stepped V event.Deep old new c
+QuickStepped V done.Outside old new c = IsCallingOutside V c.old_units old × (new ≡ old) × AreSame c
+QuickStepped V done.NoMemory old new c = IsWanting V old × (new.standing ≡ standing.Lost) × AreSame c

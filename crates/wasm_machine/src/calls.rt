@@ -1,0 +1,308 @@
+// Calls and returns (section 4.4.10), and one step of the code on top.
+ghost use Rattle.std.specs.Prelude.{◌≡◌, ◌≢◌, ◌<◌, ◌≤◌, [], drop, length, true, false, Some};
+ghost use Rattle.spec_execution.specs.Activations.{with_values, with_i32, Calls, CallsEntry};
+ghost use Rattle.spec_execution.specs.Ranges.{IsWhole, HoldsAll, AllInRange, AreInRange, Exists};
+ghost use Rattle.spec_execution.specs.Views.{type_of as type_seen};
+ghost use Rattle.wasm_form.specs.declared.instr.Instr.{out-Instr};
+ghost use Rattle.spec_binary.specs.SmallForm.{nullary};
+ghost use Rattle.spec_binary.specs.SameTypes.{same_function_type};
+ghost use Rattle.wasm_machine.specs.Outside.{callee_of, IsOutsideCall};
+ghost use Rattle.spec_execution.specs.Runs.{call as called, calling, carried_out};
+ghost use Rattle.wasm_step.specs.Primitives.{with_rest};
+ghost use Rattle.wasm_machine.specs.Stacks.{joined, under_of, is_live, IsJoined};
+ghost use Rattle.wasm_machine.specs.Machines.{Led, Finished, RoomsAre, next_of, past_call, MayWant, is_outside, names_outside, entry_is_outside, calls_outside};
+
+use crate::callers::{Caller, Callers};
+use wasm_form::{FuncType, Instr, Ref, Trap};
+use wasm_step::{Current, Done, instruction};
+use wasm_view::View;
+
+/// The most activations, and the most values that they may take room for.
+const MOST_ACTIVATIONS: usize = 10_000;
+
+const MOST_VALUES: usize = 4_194_304;
+
+/// Leaves the innermost block at its end, or the activation whose body is done.
+fn end<'m, V: View<'m>>(callers: &mut Callers<'m>, top: &mut Current<'m>, view: &V) -> Done
+    requires joined { IsJoined callers.old top.old }
+    requires live { is_live top.old ≡ true }
+    requires done { top.old.act.rest ≡ [] }
+    requires rooms { RoomsAre (V.fixed view.now) (joined callers.old top.old) }
+    ensures led { Led (V.fixed view.now) result (next_of (V.fixed view.now) (V.units view.now) (V.space view.now) (joined callers.old top.old).frames) ⊥ (joined callers.old top.old) (joined callers.new top.new) (record { old_units = V.units view.now; old_memory = V.space view.now; new_units = V.units view.now; new_memory = V.space view.now }) }
+    ensures inside { result ≢ Done.Outside }
+    ensures joined { IsJoined callers.new top.new }
+    ensures rooms { result ≡ Done.Goes → RoomsAre (V.fixed view.now) (joined callers.new top.new) }
+{
+    if top.leave() {
+        return Done::Goes;
+    }
+    if top.height() != top.results() {
+        return Done::Stuck;
+    }
+    finish(callers, top)
+}
+
+/// Gives the values on top to what called.
+fn finish<'m>(callers: &mut Callers<'m>, top: &mut Current<'m>) -> Done
+    requires joined { IsJoined callers.old top.old }
+    requires live { is_live top.old ≡ true }
+    requires done { top.old.act.levels ≡ [] }
+    ensures finished { Finished result top.old.act.values (joined callers.old top.old) (joined callers.new top.new) }
+    ensures joined { IsJoined callers.new top.new }
+{
+    match callers.last() {
+        None => {
+            top.leave_all();
+            Done::Returned
+        }
+        Some(Caller::Mark(_)) => {
+            top.leave_all();
+            Done::Goes
+        }
+        Some(Caller::Active(place)) => {
+            let _ = callers.pop();
+            top.resume(place);
+            Done::Goes
+        }
+    }
+}
+
+/// Calls code that a unit defines, with the arguments under the topmost `above` values, which are dropped.
+fn call_own<'m, V: View<'m>>(
+    callers: &mut Callers<'m>,
+    top: &mut Current<'m>,
+    view: &V,
+    above: usize,
+    unit: u32,
+    func: u32,
+) -> Done
+    requires joined { IsJoined callers.old top.old }
+    requires live { is_live top.old ≡ true }
+    requires rooms { RoomsAre (V.fixed view.now) (joined callers.old top.old) }
+    requires some { 0 < length top.old.act.rest }
+    requires above { above ≤ length top.old.act.values }
+    requires exists { Exists (V.fixed view.now) (Ref.Own unit func) }
+    ensures led { Led (V.fixed view.now) result (called (V.fixed view.now) (V.units view.now) (V.space view.now) (calling (past_call top.old.act above) (under_of callers.old top.old)) (past_call top.old.act above).values (Ref.Own unit func)) (Unit {0}) (joined callers.old top.old) (joined callers.new top.new) (record { old_units = V.units view.now; old_memory = V.space view.now; new_units = V.units view.now; new_memory = V.space view.now }) }
+    ensures inside { result ≢ Done.Outside }
+    ensures joined { result ≢ Done.NoMemory → IsJoined callers.new top.new }
+    ensures rooms { result ≡ Done.Goes → RoomsAre (V.fixed view.now) (joined callers.new top.new) }
+{
+    let ty = view.type_of(Ref::Own { unit, func });
+    let params = ty.params.items();
+    if !top.has_arguments(above, params) {
+        return Done::Stuck;
+    }
+    let room = view.room(unit, func) as usize;
+    if callers.count() + 2 > MOST_ACTIVATIONS || callers.room() + top.room() + room > MOST_VALUES {
+        return Done::Deep;
+    }
+    let results = ty.results.items().len();
+    let code = view.code(unit, func);
+    top.advance();
+    top.drop_values(above);
+    match top.open(unit, func, room, params.len(), results, code) {
+        Err(_) => Done::NoMemory,
+        Ok(place) => match callers.push(place) {
+            Ok(()) => Done::Goes,
+            Err(_) => Done::NoMemory,
+        },
+    }
+}
+
+/// Calls a function, with the arguments under the topmost `above` values.
+fn call_to<'m, V: View<'m>>(
+    callers: &mut Callers<'m>,
+    top: &mut Current<'m>,
+    view: &V,
+    above: usize,
+    r: Ref,
+) -> Done
+    requires joined { IsJoined callers.old top.old }
+    requires live { is_live top.old ≡ true }
+    requires rooms { RoomsAre (V.fixed view.now) (joined callers.old top.old) }
+    requires some { 0 < length top.old.act.rest }
+    requires above { above ≤ length top.old.act.values }
+    requires exists { Exists (V.fixed view.now) r }
+    ensures led { Led (V.fixed view.now) result (called (V.fixed view.now) (V.units view.now) (V.space view.now) (calling (past_call top.old.act above) (under_of callers.old top.old)) (past_call top.old.act above).values r) (Unit {0}) (joined callers.old top.old) (joined callers.new top.new) (record { old_units = V.units view.now; old_memory = V.space view.now; new_units = V.units view.now; new_memory = V.space view.now }) }
+    ensures outside { result ≡ Done.Outside → is_outside r ≡ true }
+    ensures joined { result ≢ Done.NoMemory → IsJoined callers.new top.new }
+    ensures rooms { result ≡ Done.Goes → RoomsAre (V.fixed view.now) (joined callers.new top.new) }
+{
+    match r {
+        Ref::Own { unit, func } => call_own(callers, top, view, above, unit, func),
+        Ref::Stub { .. } => Done::Trapped(Trap::Unreachable),
+        Ref::Loader(_) | Ref::Host(_) => Done::Outside,
+    }
+}
+
+/// Whether two types are one.
+fn is_same_type(one: &FuncType, other: &FuncType) -> bool
+    ensures { result ≡ same_function_type one.now other.now }
+{
+    one == other
+}
+
+/// Calls the function of a table at the index on top, which has to be of a type.
+fn call_indirect<'m, V: View<'m>>(
+    callers: &mut Callers<'m>,
+    top: &mut Current<'m>,
+    view: &V,
+    ty: u32,
+    table: u32,
+) -> Done
+    requires joined { IsJoined callers.old top.old }
+    requires live { is_live top.old ≡ true }
+    requires rooms { RoomsAre (V.fixed view.now) (joined callers.old top.old) }
+    requires some { 0 < length top.old.act.rest }
+    requires whole { IsWhole (V.fixed view.now) }
+    requires holds { HoldsAll (V.fixed view.now) (V.units view.now) }
+    requires declared { ty < ((V.fixed view.now).counts top.old.act.unit).types }
+    requires table { table < ((V.fixed view.now).counts top.old.act.unit).tables }
+    ensures led { Led (V.fixed view.now) result (carried_out (V.fixed view.now) (V.units view.now) (V.space view.now) (under_of callers.old top.old) (with_i32 top.old.act.values (λ i vs. CallsEntry table ty i (with_values (with_rest top.old.act (drop 1 top.old.act.rest)) vs)))) (Unit {0}) (joined callers.old top.old) (joined callers.new top.new) (record { old_units = V.units view.now; old_memory = V.space view.now; new_units = V.units view.now; new_memory = V.space view.now }) }
+    ensures outside { result ≡ Done.Outside → entry_is_outside (V.fixed view.now) (V.units view.now) top.old.act ty table ≡ true }
+    ensures joined { result ≢ Done.NoMemory → IsJoined callers.new top.new }
+    ensures rooms { result ≡ Done.Goes → RoomsAre (V.fixed view.now) (joined callers.new top.new) }
+{
+    let Some(n) = top.number() else {
+        return Done::Stuck;
+    };
+    let unit = top.unit();
+    match view.table(unit, table).get((n % (1 << 32)) as u32) {
+        Err(trap) => Done::Trapped(trap),
+        Ok(None) => Done::Trapped(Trap::NullEntry),
+        Ok(Some(r)) => {
+            if !is_same_type(view.type_of(r), view.declared(unit, ty)) {
+                return Done::Trapped(Trap::WrongType);
+            }
+            call_to(callers, top, view, 1, r)
+        }
+    }
+}
+
+/// Calls a function of the unit.
+fn call<'m, V: View<'m>>(callers: &mut Callers<'m>, top: &mut Current<'m>, view: &V, f: u32) -> Done
+    requires joined { IsJoined callers.old top.old }
+    requires live { is_live top.old ≡ true }
+    requires rooms { RoomsAre (V.fixed view.now) (joined callers.old top.old) }
+    requires some { 0 < length top.old.act.rest }
+    requires whole { IsWhole (V.fixed view.now) }
+    requires named { f < ((V.fixed view.now).counts top.old.act.unit).functions }
+    ensures led { Led (V.fixed view.now) result (carried_out (V.fixed view.now) (V.units view.now) (V.space view.now) (under_of callers.old top.old) (Calls f (with_rest top.old.act (drop 1 top.old.act.rest)))) (Unit {0}) (joined callers.old top.old) (joined callers.new top.new) (record { old_units = V.units view.now; old_memory = V.space view.now; new_units = V.units view.now; new_memory = V.space view.now }) }
+    ensures outside { result ≡ Done.Outside → names_outside (V.fixed view.now) top.old.act f ≡ true }
+    ensures joined { result ≢ Done.NoMemory → IsJoined callers.new top.new }
+    ensures rooms { result ≡ Done.Goes → RoomsAre (V.fixed view.now) (joined callers.new top.new) }
+{
+    let r = view.target(top.unit(), f);
+    call_to(callers, top, view, 0, r)
+}
+
+/// What an instruction calls: a function of the unit, or an entry of a table as one of a type.
+#[derive(Clone, Copy)]
+pub(crate) enum Callee {
+    Function(u32),
+    Entry { ty: u32, table: u32 },
+}
+
+/// What this instruction calls, if it does.
+#[inline(always)]
+fn named_callee(i: &Instr) -> Option<Callee>
+    ensures { result ≡ callee_of (out-Instr i.now) }
+{
+    match i {
+        Instr::Index(op, f) => (*op == 0x10).then_some(Callee::Function(*f)),
+        Instr::CallIndirect { ty, table } => Some(Callee::Entry {
+            ty: *ty,
+            table: *table,
+        }),
+        _ => None,
+    }
+}
+
+/// One step of the code on top.
+pub(crate) fn advance<'m, V: View<'m>>(
+    callers: &mut Callers<'m>,
+    top: &mut Current<'m>,
+    view: &mut V,
+) -> Done
+    requires joined { IsJoined callers.old top.old }
+    requires live { is_live top.old ≡ true }
+    requires rooms { RoomsAre (V.fixed view.old) (joined callers.old top.old) }
+    requires range { AllInRange (V.fixed view.old) (V.units view.old) (joined callers.old top.old).frames }
+    ensures led { Led (V.fixed view.old) result (next_of (V.fixed view.old) (V.units view.old) (V.space view.old) (joined callers.old top.old).frames) (MayWant (V.fixed view.old) (joined callers.old top.old).frames) (joined callers.old top.old) (joined callers.new top.new) (record { old_units = V.units view.old; old_memory = V.space view.old; new_units = V.units view.new; new_memory = V.space view.new }) }
+    ensures outside { result ≡ Done.Outside → calls_outside (V.fixed view.old) (V.units view.old) top.old.act ≡ true }
+    ensures joined { result ≢ Done.NoMemory → IsJoined callers.new top.new }
+    ensures rooms { result ≡ Done.Goes → RoomsAre (V.fixed view.old) (joined callers.new top.new) }
+    ensures fixed { V.fixed view.new ≡ V.fixed view.old }
+{
+    let Some(i) = top.peek() else {
+        return end(callers, top, view);
+    };
+    match named_callee(i) {
+        Some(Callee::Function(f)) => call(callers, top, view, f),
+        Some(Callee::Entry { ty, table }) => call_indirect(callers, top, view, ty, table),
+        None => {
+            top.advance();
+            instruction(top, view, i)
+        }
+    }
+}
+
+/// Calls code without parameters and results, over a mark or nothing.
+pub(crate) fn begin_own<'m, V: View<'m>>(
+    callers: &Callers<'m>,
+    top: &mut Current<'m>,
+    view: &V,
+    unit: u32,
+    func: u32,
+) -> Done
+    requires joined { IsJoined callers.now top.old }
+    requires idle { is_live top.old ≡ false }
+    requires rooms { RoomsAre (V.fixed view.now) (joined callers.now top.old) }
+    requires nullary { type_seen (V.fixed view.now) (Ref.Own unit func) ≡ Some nullary }
+    ensures led { Led (V.fixed view.now) result (called (V.fixed view.now) (V.units view.now) (V.space view.now) (λ _. under_of callers.now top.old) [] (Ref.Own unit func)) (Unit {0}) (joined callers.now top.old) (joined callers.now top.new) (record { old_units = V.units view.now; old_memory = V.space view.now; new_units = V.units view.now; new_memory = V.space view.now }) }
+    ensures joined { result ≢ Done.NoMemory → IsJoined callers.now top.new }
+    ensures rooms { result ≡ Done.Goes → RoomsAre (V.fixed view.now) (joined callers.now top.new) }
+{
+    let room = view.room(unit, func) as usize;
+    if callers.count() + 1 > MOST_ACTIVATIONS || callers.room() + room > MOST_VALUES {
+        return Done::Deep;
+    }
+    match top.start(unit, func, room, 0, view.code(unit, func)) {
+        Ok(()) => Done::Goes,
+        Err(_) => Done::NoMemory,
+    }
+}
+
+/// A call of a function outside, whose arguments lie under the topmost `above` values.
+#[derive(Clone, Copy)]
+pub(crate) struct OutsideCall {
+    pub(crate) target: Ref,
+    pub(crate) above: usize,
+}
+
+/// The function outside that the next instruction calls.
+pub(crate) fn outside_call<'m, V: View<'m>>(top: &Current<'m>, view: &V) -> OutsideCall
+    requires outside { calls_outside (V.fixed view.now) (V.units view.now) top.now.act ≡ true }
+    requires whole { IsWhole (V.fixed view.now) }
+    requires holds { HoldsAll (V.fixed view.now) (V.units view.now) }
+    requires rest { AreInRange ((V.fixed view.now).counts top.now.act.unit) top.now.act.rest }
+    ensures { IsOutsideCall (V.fixed view.now) (V.units view.now) (V.space view.now) top.now.act result }
+{
+    let Some(i) = top.peek() else {
+        unreachable!();
+    };
+    match named_callee(i) {
+        Some(Callee::Function(f)) => OutsideCall {
+            target: view.target(top.unit(), f),
+            above: 0,
+        },
+        Some(Callee::Entry { table, .. }) => match top.number() {
+            Some(n) => match view.table(top.unit(), table).get((n % (1 << 32)) as u32) {
+                Ok(Some(target)) => OutsideCall { target, above: 1 },
+                _ => unreachable!(),
+            },
+            None => unreachable!(),
+        },
+        None => unreachable!(),
+    }
+}

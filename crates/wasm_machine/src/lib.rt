@@ -1,0 +1,13 @@
+//! A machine that runs code, one step at a time, over a view of its units (WebAssembly Core 2.0, section 4.4).
+#![tactic(auto)]
+
+mod callers;
+mod calls;
+mod event;
+mod machine;
+
+pub use event::Event;
+pub use machine::{Machine, Standing};
+pub use wasm_runtime::{Answer, Asked, Value, Write};
+pub use wasm_step::Done;
+pub use wasm_view::View;

@@ -1,0 +1,383 @@
+// The machine.
+ghost use Rattle.std.specs.Prelude.{◌≡◌, ◌≢◌, ◌≤◌, ◌<◌, ◌^◌, [], ◌∷◌, ◌++◌, length, map, reverse, take, drop, is_some, true, slice_get, unwrap_or, All, IfOk, OnOk, OnErr, Some, IsTrue};
+ghost use Rattle.spec_binary.specs.SmallForm.{nullary};
+ghost use Rattle.spec_runtime.specs.Hosts.{writes_fit, all_written};
+ghost use Rattle.spec_execution.specs.Values.{take_values, numbers_of};
+ghost use Rattle.spec_execution.specs.Activations.{with_values};
+ghost use Rattle.spec_execution.specs.Views.{type_of as type_seen};
+ghost use Rattle.spec_execution.specs.Runs.{call as called};
+ghost use Rattle.wasm_step.specs.Tops.{with_act};
+ghost use Rattle.wasm_step.specs.Primitives.{HasSpare, IsIdle, Widened, with_rest};
+ghost use Rattle.wasm_machine.specs.Stacks.{empty_stack};
+ghost use Rattle.wasm_step.specs.Moves.{AreSame};
+ghost use Rattle.wasm_machine.specs.Machines.{IsOver, IsReady, IsStart, Stepped, QuickStepped, Told, IsWanting, FitsAnswer, Answered, IsCallingOutside, next_of, MayMark, Marks, IsMarked, Unmarks, IsExpecting, Received, IsEnd};
+
+use crate::callers::{Caller, Callers};
+use crate::calls::{advance, begin_own, outside_call};
+use crate::event::Event;
+use std::alloc::Global;
+use std::marker::Model;
+use wasm_form::{List, Memory, Ref, Trap, ValType};
+use wasm_runtime::{Answer, Asked, Value, Write};
+use wasm_step::{Current, Done};
+use wasm_view::View;
+
+/// What a machine is at: it goes on, waits for the host function of an entry with so many results or for a function of the
+/// loader, has ended, or found no memory.
+#[derive(Clone, Copy, Debug, PartialEq, Eq)]
+pub enum Standing {
+    Moving,
+    Asking(u32, usize),
+    Loading,
+    Returned,
+    Trapped(Trap),
+    Exited(u32),
+    Stuck,
+    Lost,
+}
+
+/// A machine that runs code over a view: a call stack, on which marks may stand between activations. Contracts see it as a
+/// `MachineState`. Code is borrowed, and never copied.
+#[derive(Drop)]
+pub struct Machine<'m> {
+    callers: Callers<'m>,
+    top: Current<'m>,
+    standing: Standing,
+}
+
+impl<'m> Model for Machine<'m> {
+    ghost use Rattle.wasm_form.specs.contracts.instr.Instr as instructions;
+    ghost use Rattle.std.specs.Coded.{codes};
+    ghost use Rattle.wasm_machine.specs.Machines.{MachineState};
+    ghost use Rattle.wasm_machine.specs.Whole.{machine_of, IsMachine};
+
+    ghost Value = { MachineState };
+
+    ghost coded = { Prim.hlevel (codes, instructions.the_row.coded) };
+
+    ghost view = { machine_of };
+
+    ghost invariant = { IsMachine };
+}
+
+impl<'m> Machine<'m> {
+    /// An empty call stack. It takes no memory.
+    pub fn new(alloc: Global) -> Machine<'m>
+        ensures { result ≡ (record { stack = empty_stack; standing = Standing.Moving }) }
+    {
+        Machine {
+            callers: Callers::new(alloc),
+            top: Current::new(alloc),
+            standing: Standing::Moving,
+        }
+    }
+
+    /// Calls a function without parameters and results, over an empty call stack or a mark: `Moved`, `Waits` for a host
+    /// function, `Trapped` for a stub, or `Deep` with nothing changed.
+    pub fn begin<V: View<'m>>(&mut self, alloc: Global, view: &V, r: Ref) -> Result<Event, Memory>
+        requires over { IsOver (V.fixed view.now) (V.units view.now) self.old }
+        requires start { IsStart self.old }
+        requires nullary { type_seen (V.fixed view.now) r ≡ Some nullary }
+        ensures told { IfOk result (λ e. (self.old.standing ≡ Standing.Moving) × Told (V.fixed view.now) e (called (V.fixed view.now) (V.units view.now) (V.space view.now) (λ _. self.old.stack.frames) [] r) self.old self.new (record { old_units = V.units view.now; old_memory = V.space view.now; new_units = V.units view.now; new_memory = V.space view.now })) }
+        ensures lost { OnErr result (self.new.standing ≡ Standing.Lost) }
+        ensures over { IfOk result (λ _. IsOver (V.fixed view.now) (V.units view.now) self.new) }
+    {
+        if self.standing == Standing::Lost {
+            return Err(Memory);
+        }
+        match r {
+            Ref::Stub { .. } => {
+                self.end(Standing::Trapped(Trap::Unreachable));
+                Ok(Event::Trapped(Trap::Unreachable))
+            }
+            Ref::Host(entry) => {
+                self.standing = Standing::Asking(entry, 0);
+                Ok(Event::Waits(Asked {
+                    entry,
+                    args: List::of(Vec::new(alloc)),
+                }))
+            }
+            Ref::Loader(_) => unreachable!(),
+            Ref::Own { unit, func } => match begin_own(
+                &self.callers,
+                &mut self.top,
+                view,
+                unit,
+                func,
+            ) {
+                Done::Goes => Ok(Event::Moved),
+                Done::Deep => Ok(Event::Deep),
+                _ => {
+                    lose(&mut self.callers, &mut self.top, &mut self.standing);
+                    Err(Memory)
+                }
+            },
+        }
+    }
+
+    /// Makes one step, as `step` does, and answers in few bytes: `Outside` and `NoMemory` in place of what takes more.
+    pub fn quick<V: View<'m>>(&mut self, view: &mut V) -> Done
+        requires over { IsOver (V.fixed view.old) (V.units view.old) self.old }
+        requires ready { IsReady self.old }
+        ensures stepped { QuickStepped (V.fixed view.old) result self.old self.new (record { old_units = V.units view.old; old_memory = V.space view.old; new_units = V.units view.new; new_memory = V.space view.new }) }
+        ensures over { result ≢ Done.NoMemory → IsOver (V.fixed view.old) (V.units view.new) self.new }
+        ensures fixed { V.fixed view.new ≡ V.fixed view.old }
+    {
+        match self.standing {
+            Standing::Moving => {}
+            Standing::Returned => return Done::Returned,
+            Standing::Trapped(trap) => return Done::Trapped(trap),
+            Standing::Exited(code) => return Done::Exited(code),
+            Standing::Stuck => return Done::Stuck,
+            Standing::Lost => return Done::NoMemory,
+            Standing::Asking(..) | Standing::Loading => unreachable!(),
+        }
+        if !self.top.is_live() {
+            return match self.callers.last() {
+                Some(Caller::Mark(tag)) => Done::Marked(tag),
+                _ => unreachable!(),
+            };
+        }
+        let done = advance(&mut self.callers, &mut self.top, view);
+        match done {
+            Done::Goes | Done::Deep | Done::Outside => {}
+            Done::Returned => self.end(Standing::Returned),
+            Done::Trapped(trap) => self.end(Standing::Trapped(trap)),
+            Done::Stuck => self.end(Standing::Stuck),
+            _ => lose(&mut self.callers, &mut self.top, &mut self.standing),
+        }
+        done
+    }
+
+    /// Makes one step of the code on top, tells the mark on top, or answers the end again.
+    pub fn step<V: View<'m>>(&mut self, alloc: Global, view: &mut V) -> Result<Event, Memory>
+        requires over { IsOver (V.fixed view.old) (V.units view.old) self.old }
+        requires ready { IsReady self.old }
+        ensures stepped { IfOk result (λ e. Stepped (V.fixed view.old) e self.old self.new (record { old_units = V.units view.old; old_memory = V.space view.old; new_units = V.units view.new; new_memory = V.space view.new })) }
+        ensures wanting { OnErr result (IsWanting (V.fixed view.old) self.old) }
+        ensures lost { OnErr result ((self.new.standing ≡ Standing.Lost) × AreSame (record { old_units = V.units view.old; old_memory = V.space view.old; new_units = V.units view.new; new_memory = V.space view.new })) }
+        ensures over { IfOk result (λ _. IsOver (V.fixed view.old) (V.units view.new) self.new) }
+        ensures fixed { V.fixed view.new ≡ V.fixed view.old }
+    {
+        match self.quick(view) {
+            Done::Goes => Ok(Event::Moved),
+            Done::Trapped(trap) => Ok(Event::Trapped(trap)),
+            Done::Stuck => Ok(Event::Stuck),
+            Done::Returned => Ok(Event::Returned),
+            Done::Exited(code) => Ok(Event::Exited(code)),
+            Done::Marked(tag) => Ok(Event::Marked(tag)),
+            Done::Deep => Ok(Event::Deep),
+            Done::NoMemory => Err(Memory),
+            Done::Outside => self.ask(alloc, view),
+        }
+    }
+}
+
+// ---- what is outside, marks and answers
+
+impl<'m> Machine<'m> {
+    /// Asks what is outside: the next step is a call of it.
+    fn ask<V: View<'m>>(&mut self, alloc: Global, view: &V) -> Result<Event, Memory>
+        requires over { IsOver (V.fixed view.now) (V.units view.now) self.old }
+        requires outside { IsCallingOutside (V.fixed view.now) (V.units view.now) self.old }
+        ensures told { IfOk result (λ e. Told (V.fixed view.now) e (next_of (V.fixed view.now) (V.units view.now) (V.space view.now) self.old.stack.frames) self.old self.new (record { old_units = V.units view.now; old_memory = V.space view.now; new_units = V.units view.now; new_memory = V.space view.now })) }
+        ensures lost { OnErr result (self.new.standing ≡ Standing.Lost) }
+        ensures over { IfOk result (λ _. IsOver (V.fixed view.now) (V.units view.now) self.new) }
+    {
+        let call = outside_call(&self.top, view);
+        let ty = view.type_of(call.target);
+        let params = ty.params.items();
+        if !self.top.has_arguments(call.above, params) {
+            self.end(Standing::Stuck);
+            return Ok(Event::Stuck);
+        }
+        let count = ty.results.items().len();
+        let Ok(args) = leave(&mut self.top, alloc, call.above, params, count) else {
+            lose(&mut self.callers, &mut self.top, &mut self.standing);
+            return Err(Memory);
+        };
+        match call.target {
+            Ref::Host(entry) => {
+                self.standing = Standing::Asking(entry, count);
+                Ok(Event::Waits(Asked {
+                    entry,
+                    args: List::of(args),
+                }))
+            }
+            Ref::Loader(which) => {
+                self.standing = Standing::Loading;
+                Ok(Event::Loader {
+                    call: which,
+                    first: argument(&args, 0),
+                    second: argument(&args, 1),
+                })
+            }
+            Ref::Own { .. } | Ref::Stub { .. } => unreachable!(),
+        }
+    }
+
+    /// Puts a mark on an empty call stack, or on what waits for a function of the loader.
+    pub fn mark(&mut self, alloc: Global, tag: u32) -> Result<(), Memory>
+        requires { MayMark self.old }
+        ensures marked { OnOk result (Marks tag self.old self.new) }
+        ensures lost { OnErr result (self.new.standing ≡ Standing.Lost) }
+    {
+        let _ = alloc;
+        if self.standing == Standing::Lost {
+            return Err(Memory);
+        }
+        if self.top.spare(1).is_err() {
+            lose(&mut self.callers, &mut self.top, &mut self.standing);
+            return Err(Memory);
+        }
+        if self.top.is_live() {
+            let place = self.top.park();
+            if self.callers.push(place).is_err() {
+                lose(&mut self.callers, &mut self.top, &mut self.standing);
+                return Err(Memory);
+            }
+        }
+        if self.callers.mark(tag).is_err() {
+            lose(&mut self.callers, &mut self.top, &mut self.standing);
+            return Err(Memory);
+        }
+        self.standing = Standing::Moving;
+        Ok(())
+    }
+
+    /// Takes the mark on top away: what waited for a function of the loader under it waits again.
+    pub fn unmark(&mut self)
+        requires { IsMarked self.old }
+        ensures { Unmarks self.old self.new }
+    {
+        let _ = self.callers.pop();
+        if let Some(Caller::Active(place)) = self.callers.last() {
+            let _ = self.callers.pop();
+            self.top.resume(place);
+            self.standing = Standing::Loading;
+        }
+    }
+
+    /// Takes the answer of the host function that is waited for: its writes in order and then its results, or the end.
+    pub fn answer<V: View<'m>>(&mut self, view: &mut V, a: &Answer)
+        requires over { IsOver (V.fixed view.old) (V.units view.old) self.old }
+        requires fits { FitsAnswer (V.fixed view.old) (V.space view.old) a.now self.old.standing }
+        ensures answered { Answered a.now self.old self.new (record { old_units = V.units view.old; old_memory = V.space view.old; new_units = V.units view.new; new_memory = V.space view.new }) }
+        ensures over { IsOver (V.fixed view.old) (V.units view.new) self.new }
+        ensures fixed { V.fixed view.new ≡ V.fixed view.old }
+    {
+        match a {
+            Answer::Exit(code) => self.end(Standing::Exited(*code)),
+            Answer::Reply { results, writes } => {
+                write_all(view, writes.items());
+                self.receive(results.items());
+            }
+        }
+    }
+
+    // Goes on with the results of a host function.
+    fn receive(&mut self, results: &[u64])
+        requires { IsExpecting self.old (length results.now) }
+        ensures received { Received self.old.stack.frames results.now self.new }
+        ensures rooms { self.new.stack.rooms ≡ self.old.stack.rooms }
+    {
+        if self.top.is_live() {
+            push_numbers(&mut self.top, results);
+            self.standing = Standing::Moving;
+        } else if self.callers.last().is_none() {
+            self.end(Standing::Returned);
+        } else {
+            self.standing = Standing::Moving;
+        }
+    }
+
+    /// Goes on with the result of a function of the loader.
+    pub fn give(&mut self, value: u32)
+        requires { self.old.standing ≡ Standing.Loading }
+        ensures received { Received self.old.stack.frames (value ∷ []) self.new }
+        ensures rooms { self.new.stack.rooms ≡ self.old.stack.rooms }
+    {
+        self.top.push_spare(Value::Num(u64::from(value)));
+        self.standing = Standing::Moving;
+    }
+
+    // Nothing is left but an end.
+    fn end(&mut self, standing: Standing)
+        requires { IsEnd standing }
+        ensures { self.new ≡ (record { stack = empty_stack; standing = standing }) }
+    {
+        self.callers.clear();
+        self.top.clear();
+        self.standing = standing;
+    }
+}
+
+/// No memory was found: nothing is left.
+fn lose<'m>(callers: &mut Callers<'m>, top: &mut Current<'m>, standing: &mut Standing)
+    ensures callers { callers.new ≡ [] }
+    ensures idle { IsIdle top.new }
+    ensures standing { standing.new ≡ Standing.Lost }
+{
+    callers.clear();
+    top.clear();
+    *standing = Standing::Lost;
+}
+
+/// Goes past a call whose arguments lie under the topmost `above` values, takes these and the arguments off, and takes room for
+/// so many results. The numbers among the arguments come back, each by its type.
+fn leave(
+    top: &mut Current,
+    alloc: Global,
+    above: usize,
+    params: &[ValType],
+    count: usize,
+) -> Result<Vec<u64>, Memory>
+    requires some { 0 < length top.old.act.rest }
+    requires above { above ≤ length top.old.act.values }
+    requires arguments { is_some (take_values (reverse params.now) (drop above top.old.act.values)) ≡ true }
+    ensures args { IfOk result (λ args. args.items ≡ reverse (numbers_of (reverse params.now) (take (length params.now) (drop above top.old.act.values)))) }
+    ensures left { OnOk result (Widened (with_act top.old (with_values (with_rest top.old.act (drop 1 top.old.act.rest)) (drop (length params.now) (drop above top.old.act.values)))) top.new) }
+    ensures spare { OnOk result (HasSpare top.new count) }
+{
+    let args = top.arguments(alloc, above, params)?;
+    top.advance();
+    top.drop_values(above);
+    top.drop_values(params.len());
+    top.spare(count)?;
+    Ok(args)
+}
+
+/// Puts numbers on top, for which there is room.
+fn push_numbers(top: &mut Current, numbers: &[u64])
+    requires { HasSpare top.old (length numbers.now) }
+    ensures { top.new ≡ with_act top.old (with_values top.old.act (reverse (map Value.Num numbers.now) ++ top.old.act.values)) }
+{
+    for n in numbers {
+        top.push_spare(Value::Num(*n));
+    }
+}
+
+/// The writes of an answer, in order, all of which lie inside the memory.
+fn write_all<'m, V: View<'m>>(view: &mut V, writes: &[Write])
+    requires { IsTrue (writes_fit writes.now (V.space view.old)) }
+    ensures memory { V.space view.new ≡ all_written writes.now (V.space view.old) }
+    ensures others { V.units view.new ≡ V.units view.old }
+    ensures fixed { V.fixed view.new ≡ V.fixed view.old }
+{
+    for write in writes {
+        if view.memory_put(write.at, write.bytes.items()).is_err() {
+            unreachable!();
+        }
+    }
+}
+
+/// An argument of a function of the loader, or 0 where there are fewer.
+fn argument(args: &[u64], i: usize) -> u32
+    requires { All (λ n. n < 2 ^ 32) args.now }
+    ensures { result ≡ unwrap_or (slice_get args.now i) 0 }
+{
+    match args.get(i) {
+        Some(n) => (*n % (1 << 32)) as u32,
+        None => 0,
+    }
+}

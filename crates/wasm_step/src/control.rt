@@ -1,0 +1,273 @@
+// Instructions without an index that stay in their activation, branches, blocks and locals (sections 4.4.1, 4.4.2, 4.4.4, 4.4.5
+// and 4.4.8).
+ghost use Rattle.std.specs.Prelude.{◌≡◌, ◌∷◌, ℕ, slice_get, unwrap_or, Some, None, IfSome, IfNone};
+ghost use Rattle.wasm_opcode.specs.Plain.{plain_form as plain_form_of};
+ghost use Rattle.spec_execution.specs.Activations.{with_values, pushed, with_top, with_i32, with_reference, on_some, to_end, branch_move, branch_if_move, select_move, is_null, one_if, plain_move, local_got, local_set, entered_block, On};
+ghost use Rattle.spec_execution.specs.Values.{low};
+ghost use Rattle.spec_runtime.specs.Numerics.{W32};
+ghost use Rattle.wasm_step.specs.Tops.{with_act};
+ghost use Rattle.wasm_step.specs.Primitives.{either_of, landed_on, number_on};
+ghost use Rattle.wasm_step.specs.Moves.{Took};
+
+use crate::current::Current;
+use crate::done::Done;
+use crate::operators::operate;
+use wasm_form::{Instr, Trap};
+use wasm_opcode::{PlainForm, plain_form};
+use wasm_runtime::Value;
+
+/// Takes the low 32 bits of the topmost value, if it is a number.
+pub(crate) fn pop_i32(top: &mut Current) -> Option<u32>
+    ensures some { IfSome result (λ n. (m : ℕ) × (n ≡ low W32 m) × (top.old.act.values ≡ Value.Num m ∷ top.new.act.values)) }
+    ensures none { IfNone result (number_on top.old.act.values ≡ None) }
+    ensures same { IfNone result (top.new ≡ top.old) }
+    ensures rest { top.new ≡ with_act top.old (with_values top.old.act top.new.act.values) }
+{
+    let n = top.pop_number()?;
+    Some((n % (1 << 32)) as u32)
+}
+
+/// Puts a value on top.
+pub(crate) fn give(top: &mut Current, v: Value) -> Done
+    ensures took { Took result (On (pushed top.old.act v)) top.old top.new }
+    ensures rest { top.new ≡ with_act top.old top.new.act }
+{
+    if top.push(v) {
+        Done::Goes
+    } else {
+        Done::NoMemory
+    }
+}
+
+fn drop_one(top: &mut Current) -> Done
+    ensures took { Took result (with_top top.old.act.values (λ v vs. On (with_values top.old.act vs))) top.old top.new }
+    ensures rest { top.new ≡ with_act top.old top.new.act }
+{
+    match top.pop() {
+        Some(_) => Done::Goes,
+        None => Done::Stuck,
+    }
+}
+
+/// The first of two values where the number on top isn't 0, else the second.
+pub(crate) fn select(top: &mut Current) -> Done
+    ensures took { Took result (select_move top.old.act) top.old top.new }
+    ensures rest { top.new ≡ with_act top.old top.new.act }
+{
+    let Some(n) = pop_i32(top) else {
+        return Done::Stuck;
+    };
+    let Some(y) = top.pop() else {
+        return Done::Stuck;
+    };
+    let Some(x) = top.value() else {
+        return Done::Stuck;
+    };
+    top.set_top(if n != 0 { x } else { y });
+    Done::Goes
+}
+
+fn is_null_on(top: &mut Current) -> Done
+    ensures took { Took result (with_reference top.old.act.values (λ r vs. On (pushed (with_values top.old.act vs) (Value.Num (one_if (is_null r)))))) top.old top.new }
+    ensures rest { top.new ≡ with_act top.old top.new.act }
+{
+    match top.value() {
+        Some(Value::Func(r)) => {
+            top.set_top(Value::Num(u64::from(r.is_none())));
+            Done::Goes
+        }
+        _ => Done::Stuck,
+    }
+}
+
+/// Makes the body done.
+fn give_back(top: &mut Current) -> Done
+    ensures took { Took result (on_some (to_end top.old.act)) top.old top.new }
+    ensures rest { top.new ≡ with_act top.old top.new.act }
+{
+    let n = top.results();
+    if top.height() < n {
+        return Done::Stuck;
+    }
+    top.end_body(n);
+    Done::Goes
+}
+
+/// An instruction without operands.
+pub(crate) fn plain(top: &mut Current, op: u8) -> Done
+    ensures took { Took result (plain_move op (plain_form_of op) top.old.act) top.old top.new }
+    ensures rest { top.new ≡ with_act top.old top.new.act }
+{
+    match plain_form(op) {
+        None => Done::Stuck,
+        Some(PlainForm::Unreachable) => Done::Trapped(Trap::Unreachable),
+        Some(PlainForm::Nop) => Done::Goes,
+        Some(PlainForm::Return) => give_back(top),
+        Some(PlainForm::Drop) => drop_one(top),
+        Some(PlainForm::Select) => select(top),
+        Some(PlainForm::RefIsNull) => is_null_on(top),
+        Some(PlainForm::Operator(operator)) => operate(top, op, operator),
+    }
+}
+
+// ---- branches
+
+/// Goes to where a branch to the innermost block, or to the body, leads, with the values that stand there.
+fn land(top: &mut Current)
+    ensures { top.new ≡ with_act top.old (landed_on top.old.act top.old.act.levels) }
+{
+    if !top.is_open() {
+        let n = top.height();
+        top.end_body(n);
+        return;
+    }
+    match top.again() {
+        Some(body) => top.set_rest(body),
+        None => {
+            let _ = top.leave();
+        }
+    }
+}
+
+/// Branches with so many blocks between.
+pub(crate) fn branch(top: &mut Current, k: u32) -> Done
+    ensures took { Took result (branch_move top.old.act k) top.old top.new }
+    ensures rest { top.new ≡ with_act top.old top.new.act }
+{
+    let height = top.height();
+    for _between in 0..k {
+        if !top.leave() {
+            return Done::Stuck;
+        }
+    }
+    let n = top.arity();
+    if height < n {
+        return Done::Stuck;
+    }
+    top.keep(n);
+    land(top);
+    Done::Goes
+}
+
+/// Branches where the number on top isn't 0.
+pub(crate) fn branch_if(top: &mut Current, k: u32) -> Done
+    ensures took { Took result (with_i32 top.old.act.values (λ c vs. branch_if_move (with_values top.old.act vs) k c)) top.old top.new }
+    ensures rest { top.new ≡ with_act top.old top.new.act }
+{
+    let Some(n) = pop_i32(top) else {
+        return Done::Stuck;
+    };
+    if n == 0 {
+        return Done::Goes;
+    }
+    branch(top, k)
+}
+
+/// Branches by the number on top: to the block of that place in a list, or past its end to the last one.
+pub(crate) fn branch_by(top: &mut Current, blocks: &[u32], last: u32) -> Done
+    ensures took { Took result (with_i32 top.old.act.values (λ n vs. branch_move (with_values top.old.act vs) (unwrap_or (slice_get blocks.now n) last))) top.old top.new }
+    ensures rest { top.new ≡ with_act top.old top.new.act }
+{
+    let Some(n) = pop_i32(top) else {
+        return Done::Stuck;
+    };
+    let k = match blocks.get(n as usize) {
+        Some(k) => *k,
+        None => last,
+    };
+    branch(top, k)
+}
+
+// ---- blocks
+
+/// Opens a block of a type with so many parameters and results.
+pub(crate) fn block<'m>(
+    top: &mut Current<'m>,
+    params: usize,
+    results: usize,
+    body: &'m [Instr],
+) -> Done
+    ensures took { Took result (on_some (entered_block top.old.act params results None body.now)) top.old top.new }
+    ensures rest { top.new ≡ with_act top.old top.new.act }
+{
+    if top.height() < params {
+        return Done::Stuck;
+    }
+    if top.enter(params, results, None, body) {
+        Done::Goes
+    } else {
+        Done::NoMemory
+    }
+}
+
+/// Opens a loop of a type with so many parameters.
+pub(crate) fn again<'m>(top: &mut Current<'m>, params: usize, body: &'m [Instr]) -> Done
+    ensures took { Took result (on_some (entered_block top.old.act params params (Some body.now) body.now)) top.old top.new }
+    ensures rest { top.new ≡ with_act top.old top.new.act }
+{
+    if top.height() < params {
+        return Done::Stuck;
+    }
+    if top.enter(params, params, Some(body), body) {
+        Done::Goes
+    } else {
+        Done::NoMemory
+    }
+}
+
+/// Opens the first of two blocks where the number on top isn't 0, else the second.
+pub(crate) fn either<'m>(
+    top: &mut Current<'m>,
+    params: usize,
+    results: usize,
+    body: &'m [Instr],
+    other: &'m [Instr],
+) -> Done
+    ensures took { Took result (with_i32 top.old.act.values (λ n vs. on_some (entered_block (with_values top.old.act vs) params results None (either_of n body.now other.now)))) top.old top.new }
+    ensures rest { top.new ≡ with_act top.old top.new.act }
+{
+    let Some(n) = pop_i32(top) else {
+        return Done::Stuck;
+    };
+    block(top, params, results, if n == 0 { other } else { body })
+}
+
+// ---- locals
+
+pub(crate) fn local_get(top: &mut Current, k: u32) -> Done
+    ensures took { Took result (local_got top.old.act (slice_get top.old.act.locals k)) top.old top.new }
+    ensures rest { top.new ≡ with_act top.old top.new.act }
+{
+    match top.local(k) {
+        Some(v) => give(top, v),
+        None => Done::Stuck,
+    }
+}
+
+pub(crate) fn local_set_to(top: &mut Current, k: u32) -> Done
+    ensures took { Took result (with_top top.old.act.values (λ v vs. local_set top.old.act k v vs (slice_get top.old.act.locals k))) top.old top.new }
+    ensures rest { top.new ≡ with_act top.old top.new.act }
+{
+    let Some(v) = top.pop() else {
+        return Done::Stuck;
+    };
+    if top.set_local(k, v) {
+        Done::Goes
+    } else {
+        Done::Stuck
+    }
+}
+
+pub(crate) fn local_tee(top: &mut Current, k: u32) -> Done
+    ensures took { Took result (with_top top.old.act.values (λ v vs. local_set top.old.act k v (v ∷ vs) (slice_get top.old.act.locals k))) top.old top.new }
+    ensures rest { top.new ≡ with_act top.old top.new.act }
+{
+    let Some(v) = top.value() else {
+        return Done::Stuck;
+    };
+    if top.set_local(k, v) {
+        Done::Goes
+    } else {
+        Done::Stuck
+    }
+}

@@ -1,0 +1,142 @@
+// One instruction that doesn't call.
+ghost use Rattle.std.specs.Prelude.{◌≡◌, ◌⊎◌, Some, None, false, IsTrue, IsSome, IfSome, length};
+ghost use Rattle.wasm_form.specs.declared.instr.Instr.{out-Instr};
+ghost use Rattle.wasm_opcode.specs.Index.{index_form as index_form_of};
+ghost use Rattle.wasm_opcode.specs.Second.{second_form as second_form_of};
+ghost use Rattle.spec_execution.specs.Activations.{expanded, else_of, index_move, second_move, instr_move};
+ghost use Rattle.spec_execution.specs.Ranges.{IsWhole, HoldsAll, index_in_range, second_in_range, block_in_range};
+ghost use Rattle.wasm_step.specs.Tops.{with_act};
+ghost use Rattle.wasm_step.specs.Moves.{IsUsedUp, acted, Acted};
+ghost use Rattle.wasm_step.specs.Named.{named_here, is_call, is_call_form, is_growth, is_table_growth};
+
+use crate::control::{
+    again, block, branch, branch_by, branch_if, either, give, local_get, local_set_to, local_tee,
+    plain, select,
+};
+use crate::current::Current;
+use crate::done::Done;
+use crate::store::{
+    access, data_drop, elem_drop, global_get, global_set, memory_copy, memory_fill, memory_grow,
+    memory_init, memory_size, refer, table_copy, table_fill, table_get, table_grow, table_init,
+    table_set, table_size,
+};
+use wasm_form::{BlockType, Expr, Instr};
+use wasm_opcode::{IndexForm, SecondForm, index_form, second_form};
+use wasm_runtime::Value;
+use wasm_view::View;
+
+/// How many parameters and results a block has.
+fn sizes<'m, V: View<'m>>(view: &V, unit: u32, ty: BlockType) -> (usize, usize)
+    requires named { IsTrue (block_in_range ((V.fixed view.now).counts unit) ty) }
+    requires whole { IsWhole (V.fixed view.now) }
+    ensures there { IsSome (expanded ((V.fixed view.now).declared unit) ty) }
+    ensures sizes { IfSome (expanded ((V.fixed view.now).declared unit) ty) (λ f. (result.0 ≡ length f.params) × (result.1 ≡ length f.results)) }
+{
+    match ty {
+        BlockType::Empty => (0, 0),
+        BlockType::Value(_) => (0, 1),
+        BlockType::Index(t) => {
+            let ty = view.declared(unit, t);
+            (ty.params.items().len(), ty.results.items().len())
+        }
+    }
+}
+
+/// The instructions of `else`; without it there are none.
+fn else_items<'m>(other: &'m Option<Expr>) -> &'m [Instr]
+    ensures { result.now ≡ else_of other.now }
+{
+    match other {
+        Some(e) => e.list.items(),
+        None => &[],
+    }
+}
+
+/// An instruction with one index that is no call.
+fn indexed<'m, V: View<'m>>(top: &mut Current<'m>, view: &mut V, op: u8, n: u32) -> Done
+    requires named { IsTrue (index_in_range ((V.fixed view.old).counts top.old.act.unit) n (index_form_of op)) }
+    requires no_call { is_call_form (index_form_of op) ≡ false }
+    requires whole { IsWhole (V.fixed view.old) }
+    requires holds { HoldsAll (V.fixed view.old) (V.units view.old) }
+    ensures acted { Acted result (acted (V.fixed view.old) (V.units view.old) (V.space view.old) (index_move n (index_form_of op) top.old.act)) (IsUsedUp top.old) top.old top.new (record { old_units = V.units view.old; old_memory = V.space view.old; new_units = V.units view.new; new_memory = V.space view.new }) }
+    ensures rest { top.new ≡ with_act top.old top.new.act }
+    ensures fixed { V.fixed view.new ≡ V.fixed view.old }
+{
+    match index_form(op) {
+        None => Done::Stuck,
+        Some(IndexForm::Br) => branch(top, n),
+        Some(IndexForm::BrIf) => branch_if(top, n),
+        Some(IndexForm::Call) => unreachable!(),
+        Some(IndexForm::LocalGet) => local_get(top, n),
+        Some(IndexForm::LocalSet) => local_set_to(top, n),
+        Some(IndexForm::LocalTee) => local_tee(top, n),
+        Some(IndexForm::GlobalGet) => global_get(top, view, n),
+        Some(IndexForm::GlobalSet) => global_set(top, view, n),
+        Some(IndexForm::TableGet) => table_get(top, view, n),
+        Some(IndexForm::TableSet) => table_set(top, view, n),
+        Some(IndexForm::RefFunc) => refer(top, view, n),
+    }
+}
+
+/// An instruction with a second opcode.
+fn prefixed<'m, V: View<'m>>(top: &mut Current<'m>, view: &mut V, op: u32, a: u32, b: u32) -> Done
+    requires named { IsTrue (second_in_range ((V.fixed view.old).counts top.old.act.unit) a b (second_form_of op)) }
+    requires whole { IsWhole (V.fixed view.old) }
+    requires holds { HoldsAll (V.fixed view.old) (V.units view.old) }
+    ensures acted { Acted result (acted (V.fixed view.old) (V.units view.old) (V.space view.old) (second_move (second_form_of op) a b top.old.act)) (IsTrue (is_table_growth (second_form_of op)) ⊎ IsUsedUp top.old) top.old top.new (record { old_units = V.units view.old; old_memory = V.space view.old; new_units = V.units view.new; new_memory = V.space view.new }) }
+    ensures rest { top.new ≡ with_act top.old top.new.act }
+    ensures fixed { V.fixed view.new ≡ V.fixed view.old }
+{
+    match second_form(op) {
+        None => Done::Stuck,
+        Some(SecondForm::MemoryInit) => memory_init(top, view, a),
+        Some(SecondForm::DataDrop) => data_drop(top, view, a),
+        Some(SecondForm::MemoryCopy) => memory_copy(top, view),
+        Some(SecondForm::MemoryFill) => memory_fill(top, view),
+        Some(SecondForm::TableInit) => table_init(top, view, a, b),
+        Some(SecondForm::ElemDrop) => elem_drop(top, view, a),
+        Some(SecondForm::TableCopy) => table_copy(top, view, a, b),
+        Some(SecondForm::TableGrow) => table_grow(top, view, a),
+        Some(SecondForm::TableSize) => table_size(top, view, a),
+        Some(SecondForm::TableFill) => table_fill(top, view, a),
+    }
+}
+
+/// One instruction that is no call, past which the activation stands.
+pub fn instruction<'m, V: View<'m>>(top: &mut Current<'m>, view: &mut V, i: &'m Instr) -> Done
+    requires named { IsTrue (named_here ((V.fixed view.old).counts top.old.act.unit) (out-Instr i.now)) }
+    requires no_call { is_call (out-Instr i.now) ≡ false }
+    requires whole { IsWhole (V.fixed view.old) }
+    requires holds { HoldsAll (V.fixed view.old) (V.units view.old) }
+    ensures acted { Acted result (acted (V.fixed view.old) (V.units view.old) (V.space view.old) (instr_move ((V.fixed view.old).declared top.old.act.unit) (out-Instr i.now) top.old.act)) (IsTrue (is_growth (out-Instr i.now)) ⊎ IsUsedUp top.old) top.old top.new (record { old_units = V.units view.old; old_memory = V.space view.old; new_units = V.units view.new; new_memory = V.space view.new }) }
+    ensures rest { top.new ≡ with_act top.old top.new.act }
+    ensures fixed { V.fixed view.new ≡ V.fixed view.old }
+{
+    match i {
+        Instr::Plain(op) => plain(top, *op),
+        Instr::Index(op, n) => indexed(top, view, *op, *n),
+        Instr::Block(ty, body) => {
+            let (params, results) = sizes(view, top.unit(), *ty);
+            block(top, params, results, body.list.items())
+        }
+        Instr::Loop(ty, body) => {
+            let (params, _) = sizes(view, top.unit(), *ty);
+            again(top, params, body.list.items())
+        }
+        Instr::If(ty, body, other) => {
+            let (params, results) = sizes(view, top.unit(), *ty);
+            either(top, params, results, body.list.items(), else_items(other))
+        }
+        Instr::BrTable(blocks, last) => branch_by(top, blocks.items(), *last),
+        Instr::CallIndirect { .. } => unreachable!(),
+        Instr::Select(_) => select(top),
+        Instr::Access { op, offset, .. } => access(top, view, *op, *offset),
+        Instr::MemorySize => memory_size(top, view),
+        Instr::MemoryGrow => memory_grow(top, view),
+        Instr::I32Const(n) => give(top, Value::Num(u64::from(n.cast_unsigned()))),
+        Instr::I64Const(n) => give(top, Value::Num(n.cast_unsigned())),
+        Instr::F32Const(_) | Instr::F64Const(_) => Done::Stuck,
+        Instr::RefNull(_) => give(top, Value::Func(None)),
+        Instr::Prefixed { op, a, b } => prefixed(top, view, *op, *a, *b),
+    }
+}

@@ -1,0 +1,428 @@
+// Globals, references, tables, the memory and segments (sections 4.4.2 and 4.4.5 to 4.4.7).
+ghost use Rattle.std.specs.Prelude.{◌≡◌, ◌<◌, ◌≤◌, ◌*◌, ◌^◌, ◌%◌, Some, false, true, MatchResult};
+ghost use Rattle.wasm_opcode.specs.Access.{memory_access as access_of};
+ghost use Rattle.spec_execution.specs.Activations.{GlobalGet, GlobalSet, TableGet, TableSet, TableSize, TableGrow, TableFill, TableCopy, TableInit, ElemDrop, Load, Store, MemorySize, MemoryGrow, MemoryCopy, MemoryFill, MemoryInit, DataDrop, Does, Refers, with_values, with_top, with_number, with_i32, with_reference, with_three, access_move};
+ghost use Rattle.spec_runtime.specs.Numerics.{W32};
+ghost use Rattle.spec_execution.specs.Values.{low};
+ghost use Rattle.spec_execution.specs.Views.{access_length, load_extended};
+ghost use Rattle.wasm_space.specs.Access.{IsAccessLength};
+ghost use Rattle.spec_execution.specs.Ranges.{HoldsAll, IsWhole};
+ghost use Rattle.wasm_step.specs.Tops.{with_act};
+ghost use Rattle.wasm_step.specs.Moves.{IsUsedUp, acted, Acted};
+
+use crate::control::{give, pop_i32};
+use crate::current::Current;
+use crate::done::Done;
+use wasm_form::Trap;
+use wasm_num::convert;
+use wasm_opcode::{MemoryAccess, memory_access};
+use wasm_runtime::Value;
+use wasm_view::View;
+
+/// What becomes of a change that may trap.
+fn changed(answer: Result<(), Trap>) -> Done
+    ensures { MatchResult answer (λ _. result ≡ Done.Goes) (λ why. result ≡ Done.Trapped why) }
+{
+    match answer {
+        Ok(()) => Done::Goes,
+        Err(trap) => Done::Trapped(trap),
+    }
+}
+
+// ---- references and globals
+
+/// A reference to a function of the unit.
+pub(crate) fn refer<'m, V: View<'m>>(top: &mut Current<'m>, view: &V, f: u32) -> Done
+    requires named { f < ((V.fixed view.now).counts top.old.act.unit).functions }
+    requires whole { IsWhole (V.fixed view.now) }
+    ensures acted { Acted result (acted (V.fixed view.now) (V.units view.now) (V.space view.now) (Refers f top.old.act)) (IsUsedUp top.old) top.old top.new (record { old_units = V.units view.now; old_memory = V.space view.now; new_units = V.units view.now; new_memory = V.space view.now }) }
+    ensures rest { top.new ≡ with_act top.old top.new.act }
+{
+    give(top, Value::Func(Some(view.target(top.unit(), f))))
+}
+
+/// The value of a global.
+pub(crate) fn global_get<'m, V: View<'m>>(top: &mut Current<'m>, view: &V, g: u32) -> Done
+    requires named { g < ((V.fixed view.now).counts top.old.act.unit).globals }
+    requires holds { HoldsAll (V.fixed view.now) (V.units view.now) }
+    ensures acted { Acted result (acted (V.fixed view.now) (V.units view.now) (V.space view.now) (Does (GlobalGet g) top.old.act)) (IsUsedUp top.old) top.old top.new (record { old_units = V.units view.now; old_memory = V.space view.now; new_units = V.units view.now; new_memory = V.space view.now }) }
+    ensures rest { top.new ≡ with_act top.old top.new.act }
+{
+    give(top, view.global(top.unit(), g))
+}
+
+/// Sets a global.
+pub(crate) fn global_set<'m, V: View<'m>>(top: &mut Current<'m>, view: &mut V, g: u32) -> Done
+    requires named { g < ((V.fixed view.old).counts top.old.act.unit).globals }
+    requires holds { HoldsAll (V.fixed view.old) (V.units view.old) }
+    ensures acted { Acted result (acted (V.fixed view.old) (V.units view.old) (V.space view.old) (with_top top.old.act.values (λ v vs. Does (GlobalSet g v) (with_values top.old.act vs)))) ⊥ top.old top.new (record { old_units = V.units view.old; old_memory = V.space view.old; new_units = V.units view.new; new_memory = V.space view.new }) }
+    ensures rest { top.new ≡ with_act top.old top.new.act }
+    ensures fixed { V.fixed view.new ≡ V.fixed view.old }
+{
+    let Some(v) = top.pop() else {
+        return Done::Stuck;
+    };
+    view.set_global(top.unit(), g, v);
+    Done::Goes
+}
+
+// ---- tables
+
+/// An entry of a table.
+pub(crate) fn table_get<'m, V: View<'m>>(top: &mut Current<'m>, view: &V, t: u32) -> Done
+    requires named { t < ((V.fixed view.now).counts top.old.act.unit).tables }
+    requires holds { HoldsAll (V.fixed view.now) (V.units view.now) }
+    ensures acted { Acted result (acted (V.fixed view.now) (V.units view.now) (V.space view.now) (with_i32 top.old.act.values (λ i vs. Does (TableGet t i) (with_values top.old.act vs)))) ⊥ top.old top.new (record { old_units = V.units view.now; old_memory = V.space view.now; new_units = V.units view.now; new_memory = V.space view.now }) }
+    ensures rest { top.new ≡ with_act top.old top.new.act }
+{
+    let Some(n) = top.number() else {
+        return Done::Stuck;
+    };
+    match view.table(top.unit(), t).get(low_index(n)) {
+        Ok(r) => {
+            top.set_top(Value::Func(r));
+            Done::Goes
+        }
+        Err(trap) => Done::Trapped(trap),
+    }
+}
+
+/// Sets an entry of a table.
+pub(crate) fn table_set<'m, V: View<'m>>(top: &mut Current<'m>, view: &mut V, t: u32) -> Done
+    requires named { t < ((V.fixed view.old).counts top.old.act.unit).tables }
+    requires holds { HoldsAll (V.fixed view.old) (V.units view.old) }
+    ensures acted { Acted result (acted (V.fixed view.old) (V.units view.old) (V.space view.old) (with_reference top.old.act.values (λ r vs. with_i32 vs (λ i ws. Does (TableSet t i r) (with_values top.old.act ws))))) ⊥ top.old top.new (record { old_units = V.units view.old; old_memory = V.space view.old; new_units = V.units view.new; new_memory = V.space view.new }) }
+    ensures rest { top.new ≡ with_act top.old top.new.act }
+    ensures fixed { V.fixed view.new ≡ V.fixed view.old }
+{
+    let Some(r) = top.pop_reference() else {
+        return Done::Stuck;
+    };
+    let Some(i) = pop_i32(top) else {
+        return Done::Stuck;
+    };
+    changed(view.table_set(top.unit(), t, i, r))
+}
+
+/// The size of a table.
+pub(crate) fn table_size<'m, V: View<'m>>(top: &mut Current<'m>, view: &V, t: u32) -> Done
+    requires named { t < ((V.fixed view.now).counts top.old.act.unit).tables }
+    requires holds { HoldsAll (V.fixed view.now) (V.units view.now) }
+    ensures acted { Acted result (acted (V.fixed view.now) (V.units view.now) (V.space view.now) (Does (TableSize t) top.old.act)) (IsUsedUp top.old) top.old top.new (record { old_units = V.units view.now; old_memory = V.space view.now; new_units = V.units view.now; new_memory = V.space view.now }) }
+    ensures rest { top.new ≡ with_act top.old top.new.act }
+{
+    let size = view.table(top.unit(), t).size();
+    give(top, Value::Num(u64::from(size)))
+}
+
+/// Adds entries to a table.
+pub(crate) fn table_grow<'m, V: View<'m>>(top: &mut Current<'m>, view: &mut V, t: u32) -> Done
+    requires named { t < ((V.fixed view.old).counts top.old.act.unit).tables }
+    requires holds { HoldsAll (V.fixed view.old) (V.units view.old) }
+    ensures acted { Acted result (acted (V.fixed view.old) (V.units view.old) (V.space view.old) (with_i32 top.old.act.values (λ n vs. with_reference vs (λ r ws. Does (TableGrow t r n) (with_values top.old.act ws))))) (Unit {0}) top.old top.new (record { old_units = V.units view.old; old_memory = V.space view.old; new_units = V.units view.new; new_memory = V.space view.new }) }
+    ensures rest { top.new ≡ with_act top.old top.new.act }
+    ensures fixed { V.fixed view.new ≡ V.fixed view.old }
+{
+    let Some(n) = pop_i32(top) else {
+        return Done::Stuck;
+    };
+    let Some(Value::Func(r)) = top.value() else {
+        return Done::Stuck;
+    };
+    match view.table_grow(top.unit(), t, n, r) {
+        Ok(size) => {
+            top.set_top(Value::Num(u64::from(size)));
+            Done::Goes
+        }
+        Err(_) => Done::NoMemory,
+    }
+}
+
+/// Sets entries of a table to one value.
+pub(crate) fn table_fill<'m, V: View<'m>>(top: &mut Current<'m>, view: &mut V, t: u32) -> Done
+    requires named { t < ((V.fixed view.old).counts top.old.act.unit).tables }
+    requires holds { HoldsAll (V.fixed view.old) (V.units view.old) }
+    ensures acted { Acted result (acted (V.fixed view.old) (V.units view.old) (V.space view.old) (with_i32 top.old.act.values (λ n vs. with_reference vs (λ r ws. with_i32 ws (λ i us. Does (TableFill t i r n) (with_values top.old.act us)))))) ⊥ top.old top.new (record { old_units = V.units view.old; old_memory = V.space view.old; new_units = V.units view.new; new_memory = V.space view.new }) }
+    ensures rest { top.new ≡ with_act top.old top.new.act }
+    ensures fixed { V.fixed view.new ≡ V.fixed view.old }
+{
+    let Some(n) = pop_i32(top) else {
+        return Done::Stuck;
+    };
+    let Some(r) = top.pop_reference() else {
+        return Done::Stuck;
+    };
+    let Some(i) = pop_i32(top) else {
+        return Done::Stuck;
+    };
+    changed(view.table_fill(top.unit(), t, i, r, n))
+}
+
+/// Copies entries of a table to a table.
+pub(crate) fn table_copy<'m, V: View<'m>>(
+    top: &mut Current<'m>,
+    view: &mut V,
+    t: u32,
+    u: u32,
+) -> Done
+    requires named { t < ((V.fixed view.old).counts top.old.act.unit).tables }
+    requires other { u < ((V.fixed view.old).counts top.old.act.unit).tables }
+    requires holds { HoldsAll (V.fixed view.old) (V.units view.old) }
+    ensures acted { Acted result (acted (V.fixed view.old) (V.units view.old) (V.space view.old) (with_three top.old.act (TableCopy t u))) ⊥ top.old top.new (record { old_units = V.units view.old; old_memory = V.space view.old; new_units = V.units view.new; new_memory = V.space view.new }) }
+    ensures rest { top.new ≡ with_act top.old top.new.act }
+    ensures fixed { V.fixed view.new ≡ V.fixed view.old }
+{
+    let Some(n) = pop_i32(top) else {
+        return Done::Stuck;
+    };
+    let Some(from) = pop_i32(top) else {
+        return Done::Stuck;
+    };
+    let Some(to) = pop_i32(top) else {
+        return Done::Stuck;
+    };
+    changed(view.table_copy(top.unit(), t, u, to, from, n))
+}
+
+/// Copies entries of an element segment to a table.
+pub(crate) fn table_init<'m, V: View<'m>>(
+    top: &mut Current<'m>,
+    view: &mut V,
+    e: u32,
+    t: u32,
+) -> Done
+    requires named { e < ((V.fixed view.old).counts top.old.act.unit).elems }
+    requires other { t < ((V.fixed view.old).counts top.old.act.unit).tables }
+    requires holds { HoldsAll (V.fixed view.old) (V.units view.old) }
+    ensures acted { Acted result (acted (V.fixed view.old) (V.units view.old) (V.space view.old) (with_three top.old.act (TableInit e t))) ⊥ top.old top.new (record { old_units = V.units view.old; old_memory = V.space view.old; new_units = V.units view.new; new_memory = V.space view.new }) }
+    ensures rest { top.new ≡ with_act top.old top.new.act }
+    ensures fixed { V.fixed view.new ≡ V.fixed view.old }
+{
+    let Some(n) = pop_i32(top) else {
+        return Done::Stuck;
+    };
+    let Some(from) = pop_i32(top) else {
+        return Done::Stuck;
+    };
+    let Some(to) = pop_i32(top) else {
+        return Done::Stuck;
+    };
+    changed(view.table_init(top.unit(), t, e, to, from, n))
+}
+
+/// Drops an element segment.
+pub(crate) fn elem_drop<'m, V: View<'m>>(top: &mut Current<'m>, view: &mut V, e: u32) -> Done
+    requires named { e < ((V.fixed view.old).counts top.old.act.unit).elems }
+    requires holds { HoldsAll (V.fixed view.old) (V.units view.old) }
+    ensures acted { Acted result (acted (V.fixed view.old) (V.units view.old) (V.space view.old) (Does (ElemDrop e) top.old.act)) ⊥ top.old top.new (record { old_units = V.units view.old; old_memory = V.space view.old; new_units = V.units view.new; new_memory = V.space view.new }) }
+    ensures rest { top.new ≡ with_act top.old top.new.act }
+    ensures fixed { V.fixed view.new ≡ V.fixed view.old }
+{
+    view.drop_elem(top.unit(), e);
+    Done::Goes
+}
+
+// ---- the memory
+
+/// The low 32 bits of a number, as an address or an index.
+fn low_index(n: u64) -> u32
+    ensures { result ≡ low W32 n }
+{
+    (n % (1 << 32)) as u32
+}
+
+/// How many bytes are accessed.
+fn length_of(access: MemoryAccess) -> u8
+    requires { access.exponent ≤ 3 }
+    ensures length { result ≡ access_length access }
+    ensures legal { IsAccessLength result }
+{
+    match access.exponent {
+        0 => 1,
+        1 => 2,
+        2 => 4,
+        _ => 8,
+    }
+}
+
+/// The number that a load gives, of the one in the bytes that it accesses.
+fn extended(op: u8, n: u64, access: MemoryAccess) -> u64
+    requires access { access_of op ≡ Some access }
+    requires fits { n < 2 ^ (8 * access_length access) }
+    ensures { result ≡ load_extended op access n }
+{
+    match op {
+        0x2C => convert(0xC0, n),
+        0x2E => convert(0xC1, n),
+        0x30 => convert(0xC2, n),
+        0x32 => convert(0xC3, n),
+        0x34 => convert(0xC4, n),
+        _ => n,
+    }
+}
+
+/// A number from the memory.
+pub(crate) fn load<'m, V: View<'m>>(
+    top: &mut Current<'m>,
+    view: &V,
+    op: u8,
+    access: MemoryAccess,
+    offset: u32,
+) -> Done
+    requires access { access_of op ≡ Some access }
+    requires reads { access.writes ≡ false }
+    ensures acted { Acted result (acted (V.fixed view.now) (V.units view.now) (V.space view.now) (with_i32 top.old.act.values (λ at vs. Does (Load op access offset at) (with_values top.old.act vs)))) ⊥ top.old top.new (record { old_units = V.units view.now; old_memory = V.space view.now; new_units = V.units view.now; new_memory = V.space view.now }) }
+    ensures rest { top.new ≡ with_act top.old top.new.act }
+{
+    let Some(at) = top.number() else {
+        return Done::Stuck;
+    };
+    match view.memory().load(low_index(at), offset, length_of(access)) {
+        Ok(n) => {
+            top.set_top(Value::Num(extended(op, n, access)));
+            Done::Goes
+        }
+        Err(trap) => Done::Trapped(trap),
+    }
+}
+
+/// A number to the memory.
+pub(crate) fn store<'m, V: View<'m>>(
+    top: &mut Current<'m>,
+    view: &mut V,
+    op: u8,
+    access: MemoryAccess,
+    offset: u32,
+) -> Done
+    requires access { access_of op ≡ Some access }
+    requires writes { access.writes ≡ true }
+    ensures acted { Acted result (acted (V.fixed view.old) (V.units view.old) (V.space view.old) (with_number top.old.act.values (λ v vs. with_i32 vs (λ at ws. Does (Store access offset at v) (with_values top.old.act ws))))) ⊥ top.old top.new (record { old_units = V.units view.old; old_memory = V.space view.old; new_units = V.units view.new; new_memory = V.space view.new }) }
+    ensures rest { top.new ≡ with_act top.old top.new.act }
+    ensures fixed { V.fixed view.new ≡ V.fixed view.old }
+{
+    let Some(v) = top.pop_number() else {
+        return Done::Stuck;
+    };
+    let Some(at) = pop_i32(top) else {
+        return Done::Stuck;
+    };
+    changed(view.memory_store(at, offset, length_of(access), v))
+}
+
+/// A load or a store.
+pub(crate) fn access<'m, V: View<'m>>(
+    top: &mut Current<'m>,
+    view: &mut V,
+    op: u8,
+    offset: u32,
+) -> Done
+    ensures acted { Acted result (acted (V.fixed view.old) (V.units view.old) (V.space view.old) (access_move op offset (access_of op) top.old.act)) ⊥ top.old top.new (record { old_units = V.units view.old; old_memory = V.space view.old; new_units = V.units view.new; new_memory = V.space view.new }) }
+    ensures rest { top.new ≡ with_act top.old top.new.act }
+    ensures fixed { V.fixed view.new ≡ V.fixed view.old }
+{
+    match memory_access(op) {
+        None => Done::Stuck,
+        Some(access) => {
+            if access.writes {
+                store(top, view, op, access, offset)
+            } else {
+                load(top, view, op, access, offset)
+            }
+        }
+    }
+}
+
+/// The size of the memory.
+pub(crate) fn memory_size<'m, V: View<'m>>(top: &mut Current<'m>, view: &V) -> Done
+    ensures acted { Acted result (acted (V.fixed view.now) (V.units view.now) (V.space view.now) (Does MemorySize top.old.act)) (IsUsedUp top.old) top.old top.new (record { old_units = V.units view.now; old_memory = V.space view.now; new_units = V.units view.now; new_memory = V.space view.now }) }
+    ensures rest { top.new ≡ with_act top.old top.new.act }
+{
+    let size = view.memory().size();
+    give(top, Value::Num(u64::from(size)))
+}
+
+/// Adds pages to the memory.
+pub(crate) fn memory_grow<'m, V: View<'m>>(top: &mut Current<'m>, view: &mut V) -> Done
+    ensures acted { Acted result (acted (V.fixed view.old) (V.units view.old) (V.space view.old) (with_i32 top.old.act.values (λ n vs. Does (MemoryGrow n) (with_values top.old.act vs)))) (Unit {0}) top.old top.new (record { old_units = V.units view.old; old_memory = V.space view.old; new_units = V.units view.new; new_memory = V.space view.new }) }
+    ensures rest { top.new ≡ with_act top.old top.new.act }
+    ensures fixed { V.fixed view.new ≡ V.fixed view.old }
+{
+    let Some(n) = top.number() else {
+        return Done::Stuck;
+    };
+    match view.memory_grow(low_index(n)) {
+        Ok(size) => {
+            top.set_top(Value::Num(u64::from(size)));
+            Done::Goes
+        }
+        Err(_) => Done::NoMemory,
+    }
+}
+
+/// Copies bytes of the memory.
+pub(crate) fn memory_copy<'m, V: View<'m>>(top: &mut Current<'m>, view: &mut V) -> Done
+    ensures acted { Acted result (acted (V.fixed view.old) (V.units view.old) (V.space view.old) (with_three top.old.act MemoryCopy)) ⊥ top.old top.new (record { old_units = V.units view.old; old_memory = V.space view.old; new_units = V.units view.new; new_memory = V.space view.new }) }
+    ensures rest { top.new ≡ with_act top.old top.new.act }
+    ensures fixed { V.fixed view.new ≡ V.fixed view.old }
+{
+    let Some(n) = pop_i32(top) else {
+        return Done::Stuck;
+    };
+    let Some(from) = pop_i32(top) else {
+        return Done::Stuck;
+    };
+    let Some(to) = pop_i32(top) else {
+        return Done::Stuck;
+    };
+    changed(view.memory_copy(to, from, n))
+}
+
+/// Sets bytes of the memory to one value.
+pub(crate) fn memory_fill<'m, V: View<'m>>(top: &mut Current<'m>, view: &mut V) -> Done
+    ensures acted { Acted result (acted (V.fixed view.old) (V.units view.old) (V.space view.old) (with_three top.old.act (λ to byte n. MemoryFill to (byte % 256) n))) ⊥ top.old top.new (record { old_units = V.units view.old; old_memory = V.space view.old; new_units = V.units view.new; new_memory = V.space view.new }) }
+    ensures rest { top.new ≡ with_act top.old top.new.act }
+    ensures fixed { V.fixed view.new ≡ V.fixed view.old }
+{
+    let Some(n) = pop_i32(top) else {
+        return Done::Stuck;
+    };
+    let Some(byte) = pop_i32(top) else {
+        return Done::Stuck;
+    };
+    let Some(to) = pop_i32(top) else {
+        return Done::Stuck;
+    };
+    changed(view.memory_fill(to, (byte % 256) as u8, n))
+}
+
+/// Copies bytes of a data segment to the memory.
+pub(crate) fn memory_init<'m, V: View<'m>>(top: &mut Current<'m>, view: &mut V, d: u32) -> Done
+    requires named { d < ((V.fixed view.old).counts top.old.act.unit).datas }
+    requires holds { HoldsAll (V.fixed view.old) (V.units view.old) }
+    ensures acted { Acted result (acted (V.fixed view.old) (V.units view.old) (V.space view.old) (with_three top.old.act (MemoryInit d))) ⊥ top.old top.new (record { old_units = V.units view.old; old_memory = V.space view.old; new_units = V.units view.new; new_memory = V.space view.new }) }
+    ensures rest { top.new ≡ with_act top.old top.new.act }
+    ensures fixed { V.fixed view.new ≡ V.fixed view.old }
+{
+    let Some(n) = pop_i32(top) else {
+        return Done::Stuck;
+    };
+    let Some(from) = pop_i32(top) else {
+        return Done::Stuck;
+    };
+    let Some(to) = pop_i32(top) else {
+        return Done::Stuck;
+    };
+    changed(view.memory_init(top.unit(), d, to, from, n))
+}
+
+/// Drops a data segment.
+pub(crate) fn data_drop<'m, V: View<'m>>(top: &mut Current<'m>, view: &mut V, d: u32) -> Done
+    requires named { d < ((V.fixed view.old).counts top.old.act.unit).datas }
+    requires holds { HoldsAll (V.fixed view.old) (V.units view.old) }
+    ensures acted { Acted result (acted (V.fixed view.old) (V.units view.old) (V.space view.old) (Does (DataDrop d) top.old.act)) ⊥ top.old top.new (record { old_units = V.units view.old; old_memory = V.space view.old; new_units = V.units view.new; new_memory = V.space view.new }) }
+    ensures rest { top.new ≡ with_act top.old top.new.act }
+    ensures fixed { V.fixed view.new ≡ V.fixed view.old }
+{
+    view.drop_data(top.unit(), d);
+    Done::Goes
+}
