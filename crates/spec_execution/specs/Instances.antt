@@ -1,6 +1,6 @@
 -- One module as the only unit of a run: what its numbers name, and what changes of it (WebAssembly Core 2.0, sections 4.2.5 and
 -- 4.5.4). It imports functions alone.
-use Rattle.std.specs.Prelude.{ℕ, ◌-◌, List, [], ◌∷◌, ◌++◌, length, map, slice_get, slice_set, nat_lt, Option, Some, None, unwrap_or, if◌then◌else◌}
+use Rattle.std.specs.Prelude.{ℕ, ◌-◌, List, [], ◌∷◌, ◌++◌, length, map, slice_get, slice_set, nat_lt, false, Option, Some, None, unwrap_or, if◌then◌else◌}
 use Rattle.std.specs.Int.{cast_unsigned, w32, w64}
 use Rattle.wasm_form.specs.declared.types.FuncType.{FuncType}
 use Rattle.wasm_form.specs.declared.instr.Instr.{Instr, out-Instr}
@@ -108,6 +108,7 @@ module_view m = record {
   target = λ unit f. module_target m f;
   code = λ unit f. module_function m f;
   height = λ unit f. module_height m f;
+  has_loader = false;
   host = λ entry. host_type (module_hosts m entry);
   stub = λ unit f. None;
   global = λ us unit g. slice_get us.globals g;

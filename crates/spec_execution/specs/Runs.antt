@@ -10,7 +10,7 @@ use Rattle.wasm_runtime.specs.declared.Value.{Value}
 use Rattle.wasm_runtime.specs.declared.Value.TheVariants.{Num, Func}
 use Rattle.wasm_runtime.specs.declared.Answer.{Answer}
 use Rattle.wasm_runtime.specs.declared.Answer.TheVariants.{Reply, Exit}
-use Rattle.spec_runs.specs.Systems.{Status, Moving, Waits, Returned, Exited, Trapped}
+use Rattle.spec_runs.specs.Systems.{only_if, Status, Moving, Waits, Returned, Exited, Trapped}
 use Rattle.spec_binary.specs.Options.{◌>>=◌}
 use Rattle.spec_binary.specs.Indices.{Function}
 use Rattle.spec_binary.specs.SameTypes.{same_function_type}
@@ -66,7 +66,7 @@ call_loader caller values which ty = take_values (reverse ty.params) values >>= 
 abbrev pub call : {Units Mark : Type 0} → View Units → Units → MemoryInstance → Caller Mark → List Value → Ref → Option (Next Units Mark)
 call V us memory caller values (Own unit f) = V.code unit f >>= call_own us memory caller values unit f
 call V us memory caller values (Host entry) = V.host entry >>= call_host caller values entry
-call V us memory caller values (Loader which) = call_loader caller values which (loader_type which)
+call V us memory caller values (Loader which) = only_if V.has_loader (loader_type which) >>= call_loader caller values which
 call V us memory caller values (Stub unit f) = Some (Traps trap.Unreachable)
 
 -- what calls from an activation

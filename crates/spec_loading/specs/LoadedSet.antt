@@ -1,5 +1,5 @@
 -- The run of a loaded set: the members are units of their own, which share one memory and one table, and run on one call stack.
-use Rattle.std.specs.Prelude.{ℕ, zero, suc, ◌+◌, List, [], ◌∷◌, length, map, Option, Some, None, slice_get, slice_set, nat_lt, unwrap_or, if◌then◌else◌}
+use Rattle.std.specs.Prelude.{ℕ, zero, suc, ◌+◌, List, [], ◌∷◌, length, map, Option, Some, None, slice_get, slice_set, nat_lt, true, unwrap_or, if◌then◌else◌}
 use Rattle.spec_runs.specs.Systems.{Moving, Trapped, System, Ran, run}
 use Rattle.wasm_form.specs.declared.module.Module.{Module}
 use Rattle.wasm_form.specs.declared.runtime.Ref.{Ref}
@@ -52,6 +52,7 @@ set_view L = record {
   target = λ m f. wasm_of L m >>= λ wasm. function_type wasm f >>= λ ty. Some (Own m f);
   code = λ m f. wasm_of L m >>= λ wasm. function_at wasm f;
   height = λ m f. unwrap_or (wasm_of L m >>= member_height f) 0;
+  has_loader = true;
   host = λ entry. host_type (set_hosts L entry);
   stub = λ m f. None;
   global = λ us m g. None;

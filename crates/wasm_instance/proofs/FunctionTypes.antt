@@ -13,7 +13,8 @@ use Rattle.wasm_form.specs.declared.module.Import.{Import}
 use Rattle.wasm_form.specs.declared.module.Code.{Code}
 use Rattle.wasm_form.specs.declared.module.Module.{Module}
 use Rattle.wasm_form.specs.declared.runtime.Ref.{Ref}
-use Rattle.wasm_form.specs.declared.runtime.Ref.TheVariants.{Host, Stub}
+use Rattle.wasm_form.specs.declared.runtime.LoaderCall.{LoaderCall}
+use Rattle.wasm_form.specs.declared.runtime.Ref.TheVariants.{Host, Loader, Stub}
 use Rattle.spec_binary.specs.Options.{◌>>=◌}
 use Rattle.spec_binary.specs.IndexSpaces.{imports_of, functions_in, function_space}
 use Rattle.spec_validation.specs.Faults.{fault, is_type, import_fits, desc_fits, type_of_function}
@@ -155,3 +156,7 @@ module _ (m now : Module) (host_types : List ℕ) (r : Ref) (e : ℕ) (valid : f
 -- there are no stubs
 pub no_stub : (m : Module) (r : Ref) (unit f : ℕ) → r ≡ Stub unit f → IsSome (type_of (module_view m) r) → ⊥
 no_stub m r unit f is some = let h = subst (λ (x : Ref). IsSome (type_of (module_view m) x)) is some in cc
+
+-- nor functions of the loader
+pub no_loader : (m : Module) (r : Ref) (which : LoaderCall) → r ≡ Loader which → IsSome (type_of (module_view m) r) → ⊥
+no_loader m r which is some = let h = subst (λ (x : Ref). IsSome (type_of (module_view m) x)) is some in cc

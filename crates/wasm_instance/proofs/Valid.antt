@@ -29,6 +29,8 @@ pub record IsValid (m : Module) : Type 0 where
   pub tables : list_all table_bounded m.tables ≡ true
   pub memories : list_all memory_bounded m.memories ≡ true
   pub globals : list_all (global_fits m) m.globals ≡ true
+  pub exports : list_all (export_fits m) m.exports ≡ true
+  pub start : start_fits m m.start ≡ true
   pub elems : list_all (elem_fits m) m.elems ≡ true
   pub datas : list_all (data_fits m) m.datas ≡ true
 
@@ -49,6 +51,8 @@ valid_parts m none =
       tables = tables.0;
       memories = (both_true _ _ memories.0).1;
       globals = globals.0;
+      exports = (both_true _ _ exports.0).1;
+      start = start.0;
       elems = elems.0;
       datas = held (list_all (data_fits m) m.datas) (BadModule DataField) elems.1;
     }

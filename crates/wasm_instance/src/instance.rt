@@ -4,13 +4,11 @@ use wasm_check::Checked;
 use wasm_form::Ref;
 use wasm_runtime::Value;
 use wasm_space::{Slots, Space};
-use wasm_view::LoaderTypes;
 
 /// A module that imports functions alone, with what changes of it in a run. Contracts see it as an `InstanceState`.
 #[derive(Drop)]
 pub struct Instance<'m> {
     pub(crate) checked: &'m Checked,
-    pub(crate) loader: &'m LoaderTypes,
     pub(crate) imported: u32,
     pub(crate) host_types: Vec<u32>,
     pub(crate) rooms: Vec<u32>,

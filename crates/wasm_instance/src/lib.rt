@@ -2,6 +2,7 @@
 #![tactic(auto)]
 
 mod constants;
+mod exports;
 mod fault;
 mod imports;
 mod instance;
@@ -12,5 +13,6 @@ mod space;
 mod tables;
 mod view;
 
+pub use exports::exported_function;
 pub use fault::OpenFault;
 pub use instance::Instance;

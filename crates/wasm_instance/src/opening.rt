@@ -13,16 +13,11 @@ use crate::space::{apply_datas, kept_datas, space_of};
 use crate::tables::tables_of;
 use std::alloc::Global;
 use wasm_check::Checked;
-use wasm_view::LoaderTypes;
 
 impl<'m> Instance<'m> {
     /// The opening state of a module that imports functions alone: `SegmentTrap` exactly where an active segment passes the
     /// end of its table or of the memory, and `Memory` where memory was wanting.
-    pub fn open(
-        alloc: Global,
-        checked: &'m Checked,
-        loader: &'m LoaderTypes,
-    ) -> Result<Instance<'m>, OpenFault>
+    pub fn open(alloc: Global, checked: &'m Checked) -> Result<Instance<'m>, OpenFault>
         requires { IsTrue (imports_functions checked.now) }
         ensures { Opens checked.now result }
     {
@@ -39,7 +34,6 @@ impl<'m> Instance<'m> {
         let datas = kept_datas(alloc, m.datas.items())?;
         Ok(Instance {
             checked,
-            loader,
             imported,
             host_types,
             rooms,

@@ -36,7 +36,7 @@ impl<'m> View<'m> for Instance<'m> {
             Ref::Host(entry) => {
                 &self.checked.module().types.items()[self.host_types[entry as usize] as usize]
             }
-            Ref::Loader(which) => self.loader.of(which),
+            Ref::Loader(_) => unreachable!(),
             Ref::Stub { .. } => unreachable!(),
         }
     }

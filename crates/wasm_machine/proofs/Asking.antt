@@ -3,6 +3,7 @@ use Rattle.std.proofs.Common.{arith, ◌≡◌, ℕ, ◌+◌, ◌≤◌, ◌<◌
 use Rattle.std.specs.Prelude.{reverse, is_some, IfSome, if◌then◌else◌, slice_get, unwrap_or}
 use Rattle.std.specs.List.{All}
 use Rattle.std.proofs.lemmas.List.Elements.{All-nil, All-cons, All-head, All-tail}
+use Rattle.spec_runs.specs.Systems.{only_if}
 use Rattle.wasm_form.specs.declared.types.ValType.{ValType}
 use Rattle.wasm_form.specs.declared.types.ValType.TheVariants.{I32}
 use Rattle.wasm_form.specs.declared.types.FuncType.{FuncType}
@@ -72,6 +73,11 @@ loader_results Dlsym = refl
 loader_results Dlclose = refl
 loader_results Dlerror = refl
 
+-- a type that is given only by a test
+given_type : (b : Bool) (known ty : FuncType) → Some ty ≡ only_if b known → known ≡ ty
+given_type true known ty e = cc
+given_type false known ty e = cc
+
 -- ---- what is left on top
 
 -- an activation past a call, without its arguments
@@ -105,10 +111,13 @@ module _ {Units : Type 0} (V : View Units) (us : Units) (memory : MemoryInstance
   host_next entry e = is.next frames ∙ ap (call V us memory (calling (past_call a o.above) frames) (past_call a o.above).values) e ∙ rw (host_is entry e, taken, are) refl
 
   loader_is : (which : LoaderCall) → o.target ≡ Loader which → loader_type which ≡ ty
-  loader_is which e = let f : Some ty ≡ Some (loader_type which) = there ∙ ap (type_of V) e in cc
+  loader_is which e = given_type V.has_loader (loader_type which) ty (there ∙ ap (type_of V) e)
+
+  loader_there : (which : LoaderCall) → o.target ≡ Loader which → only_if V.has_loader (loader_type which) ≡ Some ty
+  loader_there which e = sym (there ∙ ap (type_of V) e)
 
   loader_next : (which : LoaderCall) → o.target ≡ Loader which → next_of V us memory (Active a ∷ frames) ≡ Some (Loads which args (Active (past_arguments a o.above (length ty.params)) ∷ frames))
-  loader_next which e = is.next frames ∙ ap (call V us memory (calling (past_call a o.above) frames) (past_call a o.above).values) e ∙ rw (loader_is which e, taken, are) refl
+  loader_next which e = is.next frames ∙ ap (call V us memory (calling (past_call a o.above) frames) (past_call a o.above).values) e ∙ rw (loader_there which e, taken, are) refl
 
 -- ---- the next step leaves the code
 

@@ -4,6 +4,7 @@ use Rattle.std.specs.Prelude.{IfSome, reverse, if◌then◌else◌}
 use Rattle.std.specs.List.{All}
 use Rattle.std.proofs.lemmas.List.{reverse-append}
 use Rattle.std.proofs.lemmas.List.Elements.{All-nil, All-cons, All-head, All-tail, All-append, All-map}
+use Rattle.spec_runs.specs.Systems.{only_if}
 use Rattle.wasm_form.specs.declared.types.ValType.{ValType}
 use Rattle.wasm_form.specs.declared.types.FuncType.{FuncType}
 use Rattle.wasm_form.specs.declared.runtime.LoaderCall.{LoaderCall}
@@ -103,10 +104,14 @@ module _ {Units : Type 0} (V : View Units) where
       host_type entry None = tt
       host_type entry (Some ty) = host_in entry ty
 
+      loader_there : (which : LoaderCall) (o : Option FuncType) → IfSome (o >>= call_loader {Units = Units} caller values which) (IsNextInRange V us)
+      loader_there which None = tt
+      loader_there which (Some ty) = loader_in which ty
+
       pub call_in : (r : Ref) → IfSome (call V us memory caller values r) (IsNextInRange V us)
       call_in (Own unit f) = own_code unit f (V.code unit f) refl
       call_in (Host entry) = host_type entry (V.host entry)
-      call_in (Loader which) = loader_in which (loader_type which)
+      call_in (Loader which) = loader_there which (only_if V.has_loader (loader_type which))
       call_in (Stub unit f) = tt
 
     -- a call over a mark or nothing

@@ -72,6 +72,13 @@ impl<'m> Machine<'m> {
         }
     }
 
+    /// What it is at.
+    pub fn standing(&self) -> Standing
+        ensures { result ≡ self.now.standing }
+    {
+        self.standing
+    }
+
     /// Calls a function without parameters and results, over an empty call stack or a mark: `Moved`, `Waits` for a host
     /// function, `Trapped` for a stub, or `Deep` with nothing changed.
     pub fn begin<V: View<'m>>(&mut self, alloc: Global, view: &V, r: Ref) -> Result<Event, Memory>
@@ -217,12 +224,11 @@ impl<'m> Machine<'m> {
     }
 
     /// Puts a mark on an empty call stack, or on what waits for a function of the loader.
-    pub fn mark(&mut self, alloc: Global, tag: u32) -> Result<(), Memory>
+    pub fn mark(&mut self, _alloc: Global, tag: u32) -> Result<(), Memory>
         requires { MayMark self.old }
         ensures marked { OnOk result (Marks tag self.old self.new) }
         ensures lost { OnErr result (self.new.standing ≡ Standing.Lost) }
     {
-        let _ = alloc;
         if self.standing == Standing::Lost {
             return Err(Memory);
         }

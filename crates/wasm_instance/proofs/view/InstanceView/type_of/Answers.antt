@@ -1,7 +1,7 @@
 use Rattle.std.proofs.Common.{arith, ◌≡◌, ap, ◌∙◌}
 use Rattle.wasm_form.specs.declared.module.Module.{Module}
 use Rattle.wasm_instance.specs.States.{InstanceState}
-use Rattle.wasm_instance.proofs.FunctionTypes.{host_within, host_type_within, host_type_is, no_stub}
+use Rattle.wasm_instance.proofs.FunctionTypes.{host_within, host_type_within, host_type_is, no_loader, no_stub}
 use Rattle.wasm_instance.proofs.view.InstanceView.type_of.Goals as goal
 
 pub index-requires : goal.index-requires
@@ -19,7 +19,10 @@ bounds-items-index c =
     host_type_within i.checked.now c.args.self.now.wasm i.host_types.items c.args.r c.in-Host.entry c.self.invariant.source.valid wasm c.self.invariant.hosts c.in-Host.is c.requires c.index.result.now c.items.result.now c.index.ensures types
 
 pub unreachable-requires : goal.unreachable-requires
-unreachable-requires c = no_stub c.args.self.now.wasm c.args.r c.in-Stub.unit c.in-Stub.func c.in-Stub.is c.requires
+unreachable-requires c = no_loader c.args.self.now.wasm c.args.r c.in-Loader.field-0 c.in-Loader.is c.requires
+
+pub unreachable-requires-in-Stub : goal.unreachable-requires-in-Stub
+unreachable-requires-in-Stub c = no_stub c.args.self.now.wasm c.args.r c.in-Stub.unit c.in-Stub.func c.in-Stub.is c.requires
 
 pub returns-in-Host : goal.returns-in-Host
 returns-in-Host c =
