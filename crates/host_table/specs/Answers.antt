@@ -1,5 +1,5 @@
 -- What a host function must do for each call that its type allows.
-use Rattle.std.specs.Prelude.{◌≡◌, ◌<◌, ◌≤◌, ◌+◌, ℕ, List, [], ◌∷◌, Option, Some, Bool, IsTrue, nat_eq}
+use Rattle.std.specs.Prelude.{◌≡◌, ◌<◌, ◌≤◌, ◌+◌, ℕ, List, [], ◌∷◌, Option, Some, Bool, false, IsTrue, nat_eq}
 use Rattle.std.specs.Borrow.{Bor}
 use Rattle.wasm_form.specs.declared.types.ValType.{ValType}
 use Rattle.wasm_form.specs.declared.types.FuncType.{FuncType}
@@ -7,10 +7,11 @@ use Rattle.spec_runtime.specs.Hosts.{number_fits, numbers_fit}
 use Rattle.host_table.specs.declared.host.Put.{Put}
 use Rattle.host_table.specs.declared.host.Reply.{Reply}
 
--- the result is of the first type, and 0 where there is none
+-- the result is of the one type, and 0 where there is none
 abbrev pub result_fits : List ValType → ℕ → Bool
 result_fits [] n = nat_eq n 0
-result_fits (t ∷ ts) n = number_fits t n
+result_fits (t ∷ []) n = number_fits t n
+result_fits (t ∷ u ∷ ts) n = false
 
 -- what is written has 1 to 8 bytes, inside a memory of this many bytes
 abbrev pub PutFits : ℕ → Option Put → Type 0

@@ -1,5 +1,10 @@
 // What a host function is given, and what it answers.
-use wasm_form::{FuncType, Text};
+ghost use Rattle.std.specs.Prelude.{◌≡◌, IfOk};
+ghost use Rattle.host_table.specs.Names.{host_name_of};
+
+use crate::copies::{copied_type, owned};
+use std::alloc::Global;
+use wasm_form::{FuncType, Memory, Text};
 
 /// Bytes that a host function writes into memory: the `len` low bytes of a number, the lowest first, from an address
 /// on.
@@ -23,6 +28,18 @@ pub struct HostName {
     pub module: Text,
     pub name: Text,
     pub ty: FuncType,
+}
+
+impl HostName {
+    /// A host function by copies of its module, its name and its type.
+    pub fn new(alloc: Global, from: &str, name: &str, ty: &FuncType) -> Result<HostName, Memory>
+        ensures { IfOk result (λ h. host_name_of h ≡ (record { module_name = from.now; name = name.now; ty = ty.now })) }
+    {
+        let module = Text::of(owned(alloc, from)?);
+        let name = Text::of(owned(alloc, name)?);
+        let ty = copied_type(alloc, ty)?;
+        Ok(HostName { module, name, ty })
+    }
 }
 
 /// A host function as the embedder wrote it. It is given the arguments and the size of the memory in bytes.

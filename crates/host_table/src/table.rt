@@ -1,5 +1,6 @@
 // Host functions with their callbacks.
 ghost use Rattle.std.specs.Prelude.{◌≡◌, ◌<◌, ◌≤◌, ◌+◌, length, [], OnOk, OnErr, IfErr, IfOk, is_some, false, IsTrue};
+ghost use Rattle.std.specs.List.{All};
 ghost use Rattle.spec_runtime.specs.Names.{has_integers, with_names};
 ghost use Rattle.host_table.specs.Names.{host_name_of};
 ghost use Rattle.host_table.specs.Answers.{Keeps};
@@ -107,9 +108,10 @@ impl HostTable {
         self.entries[n as usize].ask(args, size)
     }
 
-    /// These names, and then every entry of the table declared in order.
+    /// These names, and then every entry of the table declared in order. Each has integers alone.
     pub fn names(&self, alloc: Global, first: HostNames) -> Result<HostNames, Memory>
-        ensures { IfOk result (λ r. r ≡ with_names first (functions_of self.now)) }
+        ensures declared { IfOk result (λ r. r ≡ with_names first (functions_of self.now)) }
+        ensures integers { All (λ h. IsTrue (has_integers h.ty)) (functions_of self.now) }
     {
         let mut names = first;
         let mut rest = self.entries.as_slice();

@@ -1,7 +1,7 @@
 // Host functions and their names: each call once, and which of two declarations counts.
 ghost use Rattle.std.specs.Prelude.{◌≡◌, ◌<◌, ◌≤◌, ◌+◌, ◌∷◌, [], IfSome, IfOk};
 
-use crate::{AddFault, Callback, HostMatch, HostNames, HostTable, Put, Reply};
+use crate::{AddFault, Callback, HostMatch, HostName, HostNames, HostTable, Put, Reply};
 use std::alloc::Global;
 use wasm_form::{FuncType, List, Memory, ValType};
 
@@ -170,4 +170,14 @@ fn names_in_order(rt: HostRuntime) {
     assert!(rt; names.find("env", "a", &none) == HostMatch::Fits);
     assert!(rt; names.find("env", "a", &long) == HostMatch::OtherType);
     assert!(rt; names.find("other", "b", &none) == HostMatch::Fits);
+}
+
+#[test]
+fn name_copied(rt: HostRuntime) {
+    let alloc = rt.alloc();
+    let ty = type_of(alloc, &[ValType::I32], &[ValType::I64]).expect(&rt, "memory");
+    let host = HostName::new(alloc, "env", "first", &ty).expect(&rt, "memory");
+    assert!(rt; host.module.as_str() == "env");
+    assert!(rt; host.name.as_str() == "first");
+    assert!(rt; host.ty == ty);
 }

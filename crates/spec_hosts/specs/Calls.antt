@@ -1,5 +1,5 @@
 -- The calls of WASI preview 1: their names and types, what they test, and what they want of the outside.
-use Rattle.std.specs.Prelude.{ℕ, zero, suc, ◌+◌, ◌-◌, ◌*◌, ◌/◌, ◌<◌, List, [], ◌∷◌, ◌++◌, length, map, take, drop, replicate, sum, min, nat_eq, nat_lt, nat_le, Bool, true, false, ◌&&◌, ◌||◌, not, Option, Some, None, bytes_eq, codes, if◌then◌else◌}
+use Rattle.std.specs.Prelude.{ℕ, zero, suc, ◌+◌, ◌*◌, ◌/◌, List, [], ◌∷◌, ◌++◌, length, map, take, drop, replicate, sum, min, nat_eq, nat_lt, nat_le, Bool, true, false, ◌||◌, not, Option, Some, None, bytes_eq, codes, if◌then◌else◌}
 use Rattle.std.specs.List.{list_all, flat_map}
 use Rattle.wasm_form.specs.declared.types.ValType.{ValType}
 use Rattle.wasm_form.specs.declared.types.ValType.TheVariants.{I32, I64}
@@ -55,8 +55,11 @@ results_of _ = I32 ∷ []
 abbrev pub all_calls : List WasiCall
 all_calls = ArgsSizesGet ∷ ArgsGet ∷ EnvironSizesGet ∷ EnvironGet ∷ FdWrite ∷ FdRead ∷ FdClose ∷ FdSeek ∷ FdFdstatGet ∷ FdPrestatGet ∷ FdPrestatDirName ∷ ClockTimeGet ∷ RandomGet ∷ ProcExit ∷ []
 
+abbrev pub type_of_call : WasiCall → FuncType
+type_of_call c = record { params = params_of c; results = results_of c }
+
 abbrev pub host_name_of : WasiCall → HostName
-host_name_of c = record { module_name = wasi_name; name = name_of c; ty = record { params = params_of c; results = results_of c } }
+host_name_of c = record { module_name = wasi_name; name = name_of c; ty = type_of_call c }
 
 -- the calls are declared, and then every other name of their module
 abbrev pub with_wasi : HostNames → HostNames

@@ -1,3 +1,5 @@
 pub mod Devices
 pub mod Calls
 pub mod Hosted
+pub mod Laws
+pub mod Ends

@@ -1,2 +1,16 @@
 //! What host functions answer: the calls of WASI preview 1 by their table, and others by their callbacks.
 #![tactic(auto)]
+
+ghost use Rattle.spec_hosts.specs.Laws.{WasiGoesFirst, OthersAreOfTheTable, WasiAnswersFit, WasiKeepsFronts};
+
+/// Where WASI is declared before the host functions of a table, each declared type is that of its call or of its entry.
+pub fn names_have_their_types()
+    ensures wasi { WasiGoesFirst }
+    ensures others { OthersAreOfTheTable }
+{}
+
+/// What WASI answers fits the type of the call and the memory, and no byte that a sink held is lost.
+pub fn wasi_answers_fit()
+    ensures fits { WasiAnswersFit }
+    ensures fronts { WasiKeepsFronts }
+{}

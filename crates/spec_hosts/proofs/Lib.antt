@@ -1,0 +1,6 @@
+mod Types
+mod Modules
+mod Declared
+mod Inside
+mod Fitting
+mod Fronts
