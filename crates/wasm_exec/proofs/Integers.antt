@@ -1,0 +1,51 @@
+-- What is declared for a run has integers alone.
+use Rattle.std.proofs.Common.{◌≡◌, ℕ, Bool, true, false, true≢false, cond, List, [], ◌∷◌, Option, Some, None, IsSomeAnd, IsTrue, refl, sym, ap, ◌∙◌, subst}
+use Rattle.std.specs.List.{All, list_all}
+use Rattle.std.specs.Str.{bytes_eq}
+use Rattle.std.proofs.lemmas.Bool.{and_from, and_parts}
+use Rattle.std.proofs.lemmas.List.Elements.{All-head, All-tail}
+use Rattle.std.proofs.lemmas.Slice.Eq.{bytes_eq-Decides}
+use Rattle.wasm_form.specs.declared.types.ValType.{ValType}
+use Rattle.wasm_form.specs.declared.types.ValType.TheVariants.{I32}
+use Rattle.wasm_form.specs.declared.types.FuncType.{FuncType}
+use Rattle.spec_binary.specs.SameTypes.{same_type}
+use Rattle.spec_runtime.specs.Names.{HostName, Fits, host_match, is_integer, has_integers, is_one_i32, is_rest_type}
+use Rattle.spec_hosts.specs.Calls.{WasiCall, ProcExit, wasi_name, call_named, type_of_call}
+use Rattle.spec_hosts.specs.Laws.{run_names, host_called, IsWasiType, WasiGoesFirst, OthersAreOfTheTable}
+use Rattle.host_table.specs.Names.{is_called}
+use Rattle.wasm_exec.specs.Driving.{HaveIntegers}
+
+one_integer : (types : List ValType) → is_one_i32 types ≡ true → list_all is_integer types ≡ true
+one_integer [] one = absurd cc
+one_integer (I32 ∷ []) one = refl
+one_integer (t ∷ []) one = absurd cc
+one_integer (t ∷ u ∷ ts) one = absurd (true≢false (sym (and_parts (same_type t I32) false one).1))
+
+call_integers : (c : WasiCall) → has_integers (type_of_call c) ≡ true
+call_integers ProcExit = refl
+call_integers _ = refl
+
+wasi_integers : (name : List ℕ) (ty : FuncType) → IsWasiType name ty → IsTrue (has_integers ty)
+wasi_integers name ty typed = by (call_named name) refl
+  where
+    by : (found : Option WasiCall) → call_named name ≡ found → IsTrue (has_integers ty)
+    by (Some c) e = let same : ty ≡ type_of_call c = rw (e, IsWasiType) at typed in ap has_integers same ∙ call_integers c
+    by None e =
+        let rest : IsTrue (is_rest_type ty) = rw (e, IsWasiType) at typed in
+        let both = and_parts (list_all is_integer ty.params) (is_one_i32 ty.results) rest in
+        and_from (list_all is_integer ty.params) (list_all is_integer ty.results) both.0 (one_integer ty.results both.1)
+
+called_integers : (from name : List ℕ) (ty : FuncType) (table : List HostName) → All (λ h. IsTrue (has_integers h.ty)) table → IsSomeAnd (host_called from name table) (λ h. h.ty ≡ ty) → IsTrue (has_integers ty)
+called_integers from name ty [] all called = absurd called
+called_integers from name ty (h ∷ hs) all called = by (is_called from name h) called (called_integers from name ty hs (All-tail (λ h. IsTrue (has_integers h.ty)) h hs all))
+  where
+    by : (b : Bool) → IsSomeAnd (cond b (Some h) (host_called from name hs)) (λ h. h.ty ≡ ty) → (IsSomeAnd (host_called from name hs) (λ h. h.ty ≡ ty) → IsTrue (has_integers ty)) → IsTrue (has_integers ty)
+    by true called rest = subst (λ t. IsTrue (has_integers t)) called (All-head (λ h. IsTrue (has_integers h.ty)) h hs all)
+    by false called rest = rest called
+
+pub have_integers : WasiGoesFirst → OthersAreOfTheTable → (table : List HostName) → All (λ h. IsTrue (has_integers h.ty)) table → HaveIntegers (run_names table)
+have_integers first others table all from name ty fits = by (bytes_eq from wasi_name) refl
+  where
+    by : (wasi : Bool) → bytes_eq from wasi_name ≡ wasi → IsTrue (has_integers ty)
+    by true e = wasi_integers name ty (first table name ty (subst (λ f. host_match (run_names table) f name ty ≡ Fits) ((bytes_eq-Decides from wasi_name).0 e) fits))
+    by false e = called_integers from name ty table all (others table from name ty e fits)

@@ -1,0 +1,12 @@
+pub mod Advancing
+pub mod Answering
+pub mod Beginning
+pub mod Growth
+pub mod Hosting
+pub mod Integers
+pub mod Limits
+pub mod Openings
+pub mod Standing
+pub mod Proceeding
+pub mod Readiness
+pub mod Stepping

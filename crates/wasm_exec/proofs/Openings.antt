@@ -1,0 +1,72 @@
+-- What follows from an opening state: the imports are met by declared host functions.
+use Rattle.std.proofs.Common.{◌≡◌, ℕ, zero, suc, List, [], ◌∷◌, ◌++◌, map, slice_get, Option, Some, None, Result, Ok, Err, refl, subst}
+use Rattle.std.proofs.lemmas.Option.{same_Some}
+use Rattle.wasm_form.specs.declared.types.FuncType.{FuncType}
+use Rattle.wasm_form.specs.declared.module.Import.{Import}
+use Rattle.wasm_form.specs.declared.module.ImportDesc.{ImportDesc}
+use Rattle.wasm_form.specs.declared.module.ImportDesc.TheVariants as imported
+use Rattle.wasm_form.specs.declared.module.Module.{Module}
+use Rattle.spec_runtime.specs.Names.{HostName, HostNames, HostMatch, Unknown, Fits, OtherType, host_match}
+use Rattle.spec_execution.specs.Instances.{hosts_in, named_host, imported_hosts}
+use Rattle.spec_execution.specs.OneModule.{ModuleState, OpeningFault, import_matched, import_met, met_then, imports_met, opened_after, module_opening}
+use Rattle.wasm_single.specs.Starts.{opened}
+use Rattle.wasm_exec.specs.Driving.{HaveIntegers, AreDeclared}
+
+-- there is at most one opening state
+pub one_opening : {r : Result ModuleState OpeningFault} {a b : ModuleState} → r ≡ Ok a → r ≡ Ok b → a ≡ b
+one_opening first second = cc (first, second)
+
+-- an opening state is one whose imports are met
+pub opening_parts : (m : Module) (names : HostNames) (opening : ModuleState) → module_opening m names ≡ Ok opening → (imports_met m names m.imports ≡ Ok tt) × (opened m ≡ Ok opening)
+opening_parts m names opening opens = by (imports_met m names m.imports) refl opens
+  where
+    by : (met : Result (Unit {0}) OpeningFault) → imports_met m names m.imports ≡ met → opened_after m met ≡ Ok opening → (imports_met m names m.imports ≡ Ok tt) × (opened m ≡ Ok opening)
+    by (Ok u) e opens = (e, opens)
+    by (Err fault) e opens = absurd cc
+
+met_both : (a b : Result (Unit {0}) OpeningFault) → met_then a b ≡ Ok tt → (a ≡ Ok tt) × (b ≡ Ok tt)
+met_both (Ok u) b e = (refl, e)
+met_both (Err fault) b e = absurd cc
+
+module _ (m : Module) (names : HostNames) where
+  -- a host function is declared with its type
+  abbrev IsDeclared : HostName → Type 0
+  IsDeclared h = host_match names h.module_name h.name h.ty ≡ Fits
+
+  matched : (i : Import) (found : HostMatch) → import_matched i found ≡ Ok tt → found ≡ Fits
+  matched i Unknown e = absurd cc
+  matched i Fits e = refl
+  matched i OtherType e = absurd cc
+
+  typed : (i : Import) (rest : List HostName) (ty : FuncType) (k : ℕ) (h : HostName) → IsDeclared (named_host i ty) → slice_get (named_host i ty ∷ rest) k ≡ Some h
+      → ((j : ℕ) → slice_get rest j ≡ Some h → IsDeclared h) → IsDeclared h
+  typed i rest ty zero h fits at others = subst IsDeclared (same_Some (named_host i ty) h at) fits
+  typed i rest ty (suc j) h fits at others = others j at
+
+  -- what an import that is met names first is declared
+  one_declared : (i : Import) (rest : List HostName) (k : ℕ) (h : HostName) → import_met m names i ≡ Ok tt → slice_get (map (named_host i) (hosts_in m i.desc) ++ rest) k ≡ Some h
+      → ((j : ℕ) → slice_get rest j ≡ Some h → IsDeclared h) → IsDeclared h
+  one_declared i rest k h met at others = by i.desc refl
+    where
+      of_type : (t : ℕ) → i.desc ≡ imported.Func t → (ty : Option FuncType) → slice_get m.types t ≡ ty → IsDeclared h
+      of_type t e None there = absurd (let none = rw there at (rw (e, import_met) at met) in cc)
+      of_type t e (Some ty) there =
+          typed i rest ty k h (matched i (host_match names i.module i.field ty) (rw there at (rw (e, import_met) at met))) (rw there at (rw (e, hosts_in) at at)) others
+
+      by : (desc : ImportDesc) → i.desc ≡ desc → IsDeclared h
+      by (imported.Func t) e = of_type t e (slice_get m.types t) refl
+      by (imported.Table ty) e = absurd (let none = rw (e, import_met) at met in cc)
+      by (imported.Space limits) e = absurd (let none = rw (e, import_met) at met in cc)
+      by (imported.Global ty) e = absurd (let none = rw (e, import_met) at met in cc)
+
+  each_declared : (is : List Import) (k : ℕ) (h : HostName) → imports_met m names is ≡ Ok tt → slice_get (imported_hosts m is) k ≡ Some h → IsDeclared h
+  each_declared [] k h met at = absurd cc
+  each_declared (i ∷ is) k h met at =
+      let both = met_both (import_met m names i) (imports_met m names is) met in
+      one_declared i (imported_hosts m is) k h both.0 at (λ j there. each_declared is j h both.1 there)
+
+  -- each host function of a module that has an opening state is declared
+  pub are_declared : HaveIntegers names → (opening : ModuleState) → module_opening m names ≡ Ok opening → AreDeclared m names
+  are_declared integers opening opens entry h at =
+      let fits = each_declared m.imports entry h (opening_parts m names opening opens).0 at in
+      (fits, integers h.module_name h.name h.ty fits)

@@ -1,0 +1,242 @@
+-- The steps of the machine and the answers that it takes are those of the run.
+use Rattle.std.proofs.Common.{◌≡◌, ◌≢◌, inl, inr, ℕ, List, Option, Some, None, refl, ap, sym, ◌∙◌, subst, Bool, true, false}
+use Rattle.std.specs.Prelude.{IfSome, IsTrue}
+use Rattle.std.specs.Option.{option_map}
+use Rattle.wasm_form.specs.declared.module.Module.{Module}
+use Rattle.wasm_runtime.specs.declared.Answer.{Answer}
+use Rattle.spec_runtime.specs.Memories.{MemoryInstance}
+use Rattle.spec_runtime.specs.Names.{HostName}
+use Rattle.spec_runtime.specs.Hosts.{fits_results}
+use Rattle.spec_execution.specs.Views.{View}
+use Rattle.spec_execution.specs.Runs.{Frame, Next, Goes, Asks, Loads, Ends, Traps}
+use Rattle.spec_execution.specs.Instances.{ModuleParts, module_view, module_hosts, host_type}
+use Rattle.spec_execution.specs.OneModule.{Starting, ModuleState, module_next}
+use Rattle.wasm_step.specs.Moves.{Changes, AreSame}
+use Rattle.wasm_step.specs.declared.done.Done.{Done}
+use Rattle.wasm_step.specs.declared.done.Done.TheVariants as done
+use Rattle.wasm_instance.specs.States.{InstanceState}
+use Rattle.wasm_machine.specs.Machines.{MachineState, IsOver, is_code, next_of, Told, Repeats, IsAtMark, Stepped, QuickStepped, FitsAnswer}
+use Rattle.wasm_machine.specs.declared.machine.Standing.{Standing}
+use Rattle.wasm_machine.specs.declared.machine.Standing.TheVariants as standing
+use Rattle.wasm_machine.specs.declared.event.Event.{Event}
+use Rattle.wasm_machine.specs.declared.event.Event.TheVariants as event
+use Rattle.wasm_single.specs.declared.bare_run.Core.{Core}
+use Rattle.wasm_single.specs.declared.bare_run.Phase.TheVariants as phase
+use Rattle.wasm_single.specs.Cores.{seen, starting_of, IsLive, IsCore, IsState, StandsAs, Steps, QuickSteps, FitsHost, MayTake, is_begun, is_mark}
+use Rattle.wasm_single.proofs.Seen.{seen_next, seen_step}
+use Rattle.wasm_single.proofs.Under.{KeepsUnder, step_under}
+use Rattle.wasm_single.proofs.Telling.{is_marked, under_phase, stack_called, steps_told, deep_told, live_told}
+use Rattle.wasm_single.proofs.Calling.{live_moving, state_moving, deep_same, is_deep_event}
+
+abbrev changes : InstanceState → InstanceState → Changes ModuleParts
+changes old new = record { old_units = old.parts; old_memory = old.memory; new_units = new.parts; new_memory = new.memory }
+
+abbrev with_both : Core → InstanceState → MachineState → Core
+with_both c i n = record c { instance = i; machine = n }
+
+module _ (c : Core) (i : InstanceState) (n : MachineState) (h : IsCore c) (fixed : module_view i.wasm ≡ module_view c.instance.wasm) where
+  -- ---- nothing has changed
+
+  module _ (same : n ≡ c.machine) (kept : AreSame (changes c.instance i)) where
+    same_over : IsOver (module_view c.checked.now) i.parts n
+    same_over = subst (λ (us : ModuleParts). IsOver (module_view c.checked.now) us n) (sym kept.0) (subst (λ (x : MachineState). IsOver (module_view c.checked.now) c.instance.parts x) (sym same) h.over)
+
+    same_core : IsCore (with_both c i n)
+    same_core = record {
+      fixed = fixed ∙ h.fixed;
+      over = same_over;
+      live = subst (λ (x : MachineState). IsLive x.standing x.stack.frames c.phase) (sym same) h.live;
+      start = h.start;
+      entry = h.entry;
+      own = h.own;
+    }
+
+    same_state : (s : ModuleState) → IsState c s → IsState (with_both c i n) s
+    same_state s k = record {
+      units = k.units ∙ sym kept.0;
+      memory = k.memory ∙ sym kept.1;
+      standing = subst (λ (x : MachineState). StandsAs (with_both c i x) s x.standing) (sym same) k.standing;
+    }
+
+  -- ---- a step
+
+  module _ (moving : c.machine.standing ≡ standing.Moving) (called : c.phase ≢ phase.Opened) where
+    code_next : (s : ModuleState) → IsState c s → is_code c.machine.stack.frames ≡ true
+        → module_next c.checked.now s s.stack ≡ option_map (seen_next (starting_of c)) (next_of (module_view c.checked.now) c.instance.parts c.instance.memory c.machine.stack.frames)
+    code_next s k code =
+        let stack : s.stack ≡ seen (starting_of c) c.machine.stack.frames = (state_moving c s k moving).1 ∙ stack_called c.phase (starting_of c) c.machine.stack.frames called in
+        ap (λ (fs : List (Frame Starting)). module_next c.checked.now s fs) stack ∙ seen_step c.checked.now s (starting_of c) c.machine.stack.frames code
+        ∙ ap (λ (us : ModuleParts). option_map (seen_next (starting_of c)) (next_of (module_view c.checked.now) us s.memory c.machine.stack.frames)) k.units
+        ∙ ap (λ (space : MemoryInstance). option_map (seen_next (starting_of c)) (next_of (module_view c.checked.now) c.instance.parts space c.machine.stack.frames)) k.memory
+
+    code_under : IfSome (next_of (module_view c.checked.now) c.instance.parts c.instance.memory c.machine.stack.frames) (KeepsUnder (is_marked c.phase))
+    code_under =
+        step_under (module_view c.checked.now) refl c.instance.parts c.instance.memory (is_marked c.phase) c.machine.stack.frames
+        (under_phase c.phase c.machine.stack.frames called (live_moving c h moving)).over
+
+    module _ (e : Event) (t : Told (module_view c.checked.now) e (next_of (module_view c.checked.now) c.instance.parts c.instance.memory c.machine.stack.frames) c.machine n (changes c.instance i)) where
+      module _ (deep : is_begun e ≡ false) where
+        deep_kept : (n ≡ c.machine) × AreSame (changes c.instance i)
+        deep_kept =
+            deep_same (module_view c.checked.now) (next_of (module_view c.checked.now) c.instance.parts c.instance.memory c.machine.stack.frames) c.machine n (changes c.instance i)
+            (
+            subst (λ (x : Event). Told (module_view c.checked.now) x (next_of (module_view c.checked.now) c.instance.parts c.instance.memory c.machine.stack.frames) c.machine n (changes c.instance i))
+            (is_deep_event e deep) t
+            )
+
+        deep_code : (s : ModuleState) → IsState c s → is_code c.machine.stack.frames ≡ true → Steps e s (with_both c i n)
+        deep_code s k code =
+            subst (λ (x : Event). Steps x s (with_both c i n)) (sym (is_deep_event e deep)) (
+            deep_told (with_both c i n) s (starting_of c) (next_of (module_view c.checked.now) c.instance.parts c.instance.memory c.machine.stack.frames) c.machine (changes c.instance i) (code_next s k code)
+            (
+            subst (λ (x : Event). Told (module_view c.checked.now) x (next_of (module_view c.checked.now) c.instance.parts c.instance.memory c.machine.stack.frames) c.machine n (changes c.instance i))
+            (is_deep_event e deep) t
+            )
+            (ap (λ (x : MachineState). x.standing) deep_kept.0 ∙ moving)
+            (same_state deep_kept.0 deep_kept.1 s k)
+            )
+
+      code_core : IsOver (module_view c.checked.now) i.parts n → (begun : Bool) → is_begun e ≡ begun → IsCore (with_both c i n)
+      code_core over true begun = record {
+        fixed = fixed ∙ h.fixed;
+        over = over;
+        live = live_told (module_view c.checked.now) c.phase c.machine n (changes c.instance i) e (next_of (module_view c.checked.now) c.instance.parts c.instance.memory c.machine.stack.frames) begun called t code_under;
+        start = h.start;
+        entry = h.entry;
+        own = h.own;
+      }
+      code_core over false deep = let kept = deep_kept deep in same_core kept.0 kept.1
+
+      code_steps : IsOver (module_view c.checked.now) i.parts n → (begun : Bool) → is_begun e ≡ begun → is_code c.machine.stack.frames ≡ true → (s : ModuleState) → IsState c s → Steps e s (with_both c i n)
+      code_steps over true begun code s k =
+          steps_told (with_both c i n) s c.machine c.instance.parts c.instance.memory e (next_of (module_view c.checked.now) c.instance.parts c.instance.memory c.machine.stack.frames) begun called (state_moving c s k moving).0 k.units k.memory
+          (code_next s k code) t code_under over.asked
+      code_steps over false deep code s k = deep_code deep s k code
+
+    repeats_nothing : (e : Event) → Repeats e c.machine.standing → ⊥
+    repeats_nothing e r = go e (subst (λ (st : Standing). Repeats e st) moving r)
+      where
+        go : (x : Event) → Repeats x standing.Moving → ⊥
+        go event.Moved k = k
+        go (event.Waits asked) k = k
+        go (event.Loader which first second) k = k
+        go (event.Marked tag) k = k
+        go event.Returned k = k
+        go (event.Trapped why) k = k
+        go (event.Exited code) k = k
+        go event.Deep k = k
+        go event.Stuck k = k
+
+    module _ (e : Event) (st : Stepped (module_view c.checked.now) e c.machine n (changes c.instance i)) (over : IsOver (module_view c.checked.now) i.parts n) where
+      step_core : IsCore (with_both c i n)
+      step_core = go st
+        where
+          go : Stepped (module_view c.checked.now) e c.machine n (changes c.instance i) → IsCore (with_both c i n)
+          go (inl k) = code_core e k.2 over (is_begun e) refl
+          go (inr (inl k)) = same_core k.2 k.3
+          go (inr (inr k)) = same_core k.1 k.2
+
+      at_mark : (frames : List (Frame ℕ)) → IsAtMark e frames → is_mark e ≡ true
+      at_mark frames k = go e frames k
+        where
+          go : (x : Event) (fs : List (Frame ℕ)) → IsAtMark x fs → is_mark x ≡ true
+          go (event.Marked tag) fs k = refl
+          go x fs k = absurd k
+
+      step_steps : is_mark e ≡ false → (s : ModuleState) → IsState c s → Steps e s (with_both c i n)
+      step_steps plain s k = go st
+        where
+          go : Stepped (module_view c.checked.now) e c.machine n (changes c.instance i) → Steps e s (with_both c i n)
+          go (inl t) = code_steps e t.2 over (is_begun e) refl t.1 s k
+          go (inr (inl t)) = absurd (let wrong : true ≡ false = sym (at_mark c.machine.stack.frames t.1) ∙ plain in cc)
+          go (inr (inr t)) = absurd (repeats_nothing e t.0)
+
+    -- at a mark nothing changes
+    mark_told : (e : Event) (next : Option (Next ModuleParts ℕ)) → is_mark e ≡ true → Told (module_view c.checked.now) e next c.machine n (changes c.instance i) → ⊥
+    mark_told (event.Marked tag) next marked t = t
+    mark_told e next marked t = absurd cc
+
+    step_marked : (e : Event) → is_mark e ≡ true → Stepped (module_view c.checked.now) e c.machine n (changes c.instance i) → (n ≡ c.machine) × AreSame (changes c.instance i)
+    step_marked e marked (inl t) = absurd (mark_told e _ marked t.2)
+    step_marked e marked (inr (inl t)) = (t.2, t.3)
+    step_marked e marked (inr (inr t)) = absurd (repeats_nothing e t.0)
+
+-- ---- the step of a machine over the instance
+
+module _ (c : Core) (i : InstanceState) (n : MachineState) (h : IsCore c) (moving : c.machine.standing ≡ standing.Moving) (called : c.phase ≢ phase.Opened) (fixed : module_view i.wasm ≡ module_view c.instance.wasm) where
+  by_module : (e : Event) → Stepped (module_view c.instance.wasm) e c.machine n (changes c.instance i) → Stepped (module_view c.checked.now) e c.machine n (changes c.instance i)
+  by_module e t = subst (λ (V : View ModuleParts). Stepped V e c.machine n (changes c.instance i)) h.fixed t
+
+  over_module : IsOver (module_view c.instance.wasm) i.parts n → IsOver (module_view c.checked.now) i.parts n
+  over_module o = subst (λ (V : View ModuleParts). IsOver V i.parts n) h.fixed o
+
+  pub core_after : (e : Event) → Stepped (module_view c.instance.wasm) e c.machine n (changes c.instance i) → IsOver (module_view c.instance.wasm) i.parts n → IsCore (with_both c i n)
+  core_after e t o = step_core c i n h fixed moving called e (by_module e t) (over_module o)
+
+  pub steps_after : (e : Event) → Stepped (module_view c.instance.wasm) e c.machine n (changes c.instance i) → IsOver (module_view c.instance.wasm) i.parts n → is_mark e ≡ false
+      → (s : ModuleState) → IsState c s → Steps e s (with_both c i n)
+  steps_after e t o plain s k = step_steps c i n h fixed moving called e (by_module e t) (over_module o) plain s k
+
+  -- ---- a step that is told in few bytes
+
+  goes_on : Stepped (module_view c.instance.wasm) event.Moved c.machine n (changes c.instance i) → n.standing ≡ standing.Moving
+  goes_on (inl t) = go (next_of (module_view c.instance.wasm) c.instance.parts c.instance.memory c.machine.stack.frames) t.2
+    where
+      go : (next : Option (Next ModuleParts ℕ)) → Told (module_view c.instance.wasm) event.Moved next c.machine n (changes c.instance i) → n.standing ≡ standing.Moving
+      go (Some (Goes us memory frames)) t = t.0.standing_is
+      go (Some (Asks entry args frames)) t = absurd t
+      go (Some (Loads which args frames)) t = absurd t
+      go (Some Ends) t = absurd t
+      go (Some (Traps why)) t = absurd t
+      go None t = absurd t
+  goes_on (inr (inl t)) = absurd t.1
+  goes_on (inr (inr t)) = absurd (repeats_nothing c i n h fixed moving called event.Moved t.0)
+
+  never_exits : (code : ℕ) → Stepped (module_view c.instance.wasm) (event.Exited code) c.machine n (changes c.instance i) → ⊥
+  never_exits code (inl t) = t.2
+  never_exits code (inr (inl t)) = t.1
+  never_exits code (inr (inr t)) = repeats_nothing c i n h fixed moving called (event.Exited code) t.0
+
+  stays_deep : Stepped (module_view c.instance.wasm) event.Deep c.machine n (changes c.instance i) → (n ≡ c.machine) × AreSame (changes c.instance i)
+  stays_deep (inl t) = deep_same (module_view c.instance.wasm) (next_of (module_view c.instance.wasm) c.instance.parts c.instance.memory c.machine.stack.frames) c.machine n (changes c.instance i) t.2
+  stays_deep (inr (inl t)) = absurd t.1
+  stays_deep (inr (inr t)) = absurd (repeats_nothing c i n h fixed moving called event.Deep t.0)
+
+  stays_as : (n ≡ c.machine) × AreSame (changes c.instance i) → (s : ModuleState) → IsState c s → (n.standing ≡ standing.Moving) × IsState (with_both c i n) s
+  stays_as same s k = (ap (λ (x : MachineState). x.standing) same.0 ∙ moving, same_state c i n h fixed same.0 same.1 s k)
+
+  pub quick_steps : (d : Done) → QuickStepped (module_view c.instance.wasm) d c.machine n (changes c.instance i) → (d ≢ done.NoMemory → IsOver (module_view c.instance.wasm) i.parts n)
+      → (s : ModuleState) → IsState c s → QuickSteps d s (with_both c i n)
+  quick_steps done.Goes t o s k = (goes_on t, steps_after event.Moved t (o (λ e. cc)) refl s k)
+  quick_steps (done.Trapped why) t o s k = steps_after (event.Trapped why) t (o (λ e. cc)) refl s k
+  quick_steps done.Stuck t o s k = steps_after event.Stuck t (o (λ e. cc)) refl s k
+  quick_steps done.Returned t o s k = steps_after event.Returned t (o (λ e. cc)) refl s k
+  quick_steps (done.Exited code) t o s k = never_exits code t
+  quick_steps (done.Marked tag) t o s k = stays_as (step_marked c i n h fixed moving called (event.Marked tag) refl (by_module (event.Marked tag) t)) s k
+  quick_steps done.Deep t o s k = stays_as (stays_deep t) s k
+  quick_steps done.Outside t o s k = stays_as (t.1, t.2) s k
+  quick_steps done.NoMemory t o s k = tt
+
+  pub quick_core : (d : Done) → QuickStepped (module_view c.instance.wasm) d c.machine n (changes c.instance i) → (d ≢ done.NoMemory → IsOver (module_view c.instance.wasm) i.parts n) → d ≢ done.NoMemory → IsCore (with_both c i n)
+  quick_core done.Goes t o found = core_after event.Moved t (o found)
+  quick_core (done.Trapped why) t o found = core_after (event.Trapped why) t (o found)
+  quick_core done.Stuck t o found = core_after event.Stuck t (o found)
+  quick_core done.Returned t o found = core_after event.Returned t (o found)
+  quick_core (done.Exited code) t o found = core_after (event.Exited code) t (o found)
+  quick_core (done.Marked tag) t o found = core_after (event.Marked tag) t (o found)
+  quick_core done.Deep t o found = core_after event.Deep t (o found)
+  quick_core done.Outside t o found = same_core c i n h fixed t.1 t.2
+  quick_core done.NoMemory t o found = absurd (found refl)
+
+-- ---- answers
+
+fits_standing : (m : Module) (memory : MemoryInstance) (a : Answer) (st : Standing) → FitsHost m memory a st → FitsAnswer (module_view m) memory a st
+fits_standing m memory a (standing.Asking entry count) fits = go (module_hosts m entry) fits
+  where
+    go : (host : Option HostName) → IfSome host (λ h. IsTrue (fits_results h.ty.results memory a)) → IfSome (host_type host) (λ ty. IsTrue (fits_results ty.results memory a))
+    go None fits = tt
+    go (Some h) fits = fits
+fits_standing m memory a st fits = absurd fits
+
+pub fits_view : (c : Core) (a : Answer) → IsCore c → MayTake c a → FitsAnswer (module_view c.instance.wasm) c.instance.memory a c.machine.standing
+fits_view c a h fits = subst (λ (V : View ModuleParts). FitsAnswer V c.instance.memory a c.machine.standing) (sym h.fixed) (fits_standing c.checked.now c.instance.memory a c.machine.standing fits)

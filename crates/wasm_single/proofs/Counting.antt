@@ -1,0 +1,56 @@
+-- What a step of code that is told in few bytes makes of the count of steps.
+use Rattle.std.proofs.Common.{◌≡◌, ◌≢◌, ◌⊎◌, ℕ, false, refl, inl, inr, subst}
+use Rattle.wasm_form.specs.declared.module.Module.{Module}
+use Rattle.wasm_form.specs.declared.runtime.Trap.{Trap}
+use Rattle.spec_runs.specs.Systems.{Status, Moving, Waits, Returned, Exited, Trapped}
+use Rattle.spec_runtime.specs.Hosts.{HostCall}
+use Rattle.spec_execution.specs.OneModule.{ModuleState}
+use Rattle.wasm_step.specs.declared.done.Done.{Done}
+use Rattle.wasm_step.specs.declared.done.Done.TheVariants as done
+use Rattle.wasm_machine.specs.declared.event.Event.{Event}
+use Rattle.wasm_machine.specs.declared.event.Event.TheVariants as event
+use Rattle.wasm_single.specs.declared.bare_run.Core.{Core}
+use Rattle.wasm_single.specs.Cores.{IsState, TellsStatus, Steps, QuickSteps}
+use Rattle.wasm_single.specs.Singles.{waits}
+use Rattle.wasm_single.specs.Steps.{IsMade}
+
+-- what is told of a run that waits for a host function tells that alone
+not_waiting : (m : Module) (e : Event) (status : Status HostCall Trap) → ((call : HostCall) → TellsStatus m e (Waits call) → ⊥) → TellsStatus m e status → waits status ≡ false
+not_waiting m e Moving none tells = refl
+not_waiting m e (Waits call) none tells = absurd (none call tells)
+not_waiting m e Returned none tells = refl
+not_waiting m e (Exited code) none tells = refl
+not_waiting m e (Trapped why) none tells = refl
+
+module _ (s : ModuleState) (new : Core) where
+  pub moved_made : Steps event.Moved s new → IsMade s new
+  moved_made h = (h.0, (h.1.0, h.1.1, h.1.3, not_waiting new.checked.now event.Moved h.1.0.status (λ call tells. tells) h.1.2))
+
+  -- it was the last step
+  pub ended_made : (d : Done) → (d ≡ done.Returned) ⊎ ((why : Trap) × (d ≡ done.Trapped why)) → QuickSteps d s new → IsMade s new
+  ended_made d (inl e) q =
+      let h : Steps event.Returned s new = subst (λ x. QuickSteps x s new) e q in
+      (h.0, (h.1.0, h.1.1, h.1.3, not_waiting new.checked.now event.Returned h.1.0.status (λ call tells. tells) h.1.2))
+  ended_made d (inr e) q =
+      let h : Steps (event.Trapped e.0) s new = subst (λ x. QuickSteps x s new) e.1 q in
+      (h.0, (h.1.0, h.1.1, h.1.3, not_waiting new.checked.now (event.Trapped e.0) h.1.0.status (λ call tells. tells) h.1.2))
+
+  -- none was made
+  pub left_state : (d : Done)
+      → (d ≡ done.Stuck) ⊎ ((code : ℕ) × (d ≡ done.Exited code)) ⊎ ((tag : ℕ) × (d ≡ done.Marked tag)) ⊎ (d ≡ done.Deep) ⊎ (d ≡ done.Outside)
+      → QuickSteps d s new → IsState new s
+  left_state d (inl e) q = let h : Steps event.Stuck s new = subst (λ x. QuickSteps x s new) e q in h.2
+  left_state d (inr (inl e)) q = absurd (subst (λ x. QuickSteps x s new) e.1 q)
+  left_state d (inr (inr (inl e))) q = (subst (λ x. QuickSteps x s new) e.1 q).1
+  left_state d (inr (inr (inr (inl e)))) q = (subst (λ x. QuickSteps x s new) e q).1
+  left_state d (inr (inr (inr (inr e)))) q = (subst (λ x. QuickSteps x s new) e q).1
+
+-- and memory wasn't wanting
+pub left_found : (d : Done)
+    → (d ≡ done.Stuck) ⊎ ((code : ℕ) × (d ≡ done.Exited code)) ⊎ ((tag : ℕ) × (d ≡ done.Marked tag)) ⊎ (d ≡ done.Deep) ⊎ (d ≡ done.Outside)
+    → d ≢ done.NoMemory
+left_found d (inl e) none = cc
+left_found d (inr (inl e)) none = cc
+left_found d (inr (inr (inl e))) none = cc
+left_found d (inr (inr (inr (inl e)))) none = cc
+left_found d (inr (inr (inr (inr e)))) none = cc

@@ -1,0 +1,15 @@
+mod Seen
+mod Under
+mod Functions
+mod Telling
+mod Calling
+mod CoreSteps
+mod Imports
+mod Entries
+mod Openings
+mod Running
+mod Stepping
+mod Arguments
+mod Counting
+mod Advancing
+mod Recording

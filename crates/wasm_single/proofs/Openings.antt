@@ -1,0 +1,108 @@
+-- The opening of a run.
+use Rattle.std.proofs.Common.{◌≡◌, ℕ, false, List, [], length, map, Some, None, Ok, refl, ap, ◌∙◌, sym, subst}
+use Rattle.std.specs.Prelude.{Vec}
+use Rattle.std.specs.Borrow.{Bor}
+use Rattle.std.specs.declared.alloc.Global.{Global}
+use Rattle.std.proofs.lemmas.List.{length-map}
+use Rattle.std.proofs.lemmas.List.Elements.{All-nil}
+use Rattle.wasm_form.specs.declared.module.Import.{Import}
+use Rattle.wasm_form.specs.declared.module.Module.{Module}
+use Rattle.wasm_runtime.specs.declared.Answer.{Answer}
+use Rattle.spec_binary.specs.WellFormed.{IsWellFormed}
+use Rattle.spec_validation.specs.Faults.{fault}
+use Rattle.spec_runtime.specs.Names.{HostNames}
+use Rattle.spec_execution.specs.Ranges.{HoldsAll, IsFrameInRange}
+use Rattle.spec_execution.specs.Instances.{module_view, imported_hosts, imported_count}
+use Rattle.spec_execution.specs.OneModule.{ModuleState, imports_met, module_entry, opened_state, opened_with, opened_after, module_run}
+use Rattle.spec_safety.specs.Laws.{IsAlone, CheckedIsInRange, OpenedHolds}
+use Rattle.host_table.specs.Names.{host_name_of}
+use Rattle.host_table.specs.declared.host.HostName.{HostName}
+use Rattle.wasm_instance.specs.States.{InstanceState}
+use Rattle.wasm_instance.specs.Opening.{IsOpened, opened_tables, opened_space}
+use Rattle.wasm_machine.specs.Stacks.{empty_stack}
+use Rattle.wasm_machine.specs.declared.machine.Standing.TheVariants.{Moving}
+use Rattle.wasm_single.specs.declared.bare_run.Core.{Core}
+use Rattle.wasm_single.specs.declared.bare_run.Phase.TheVariants.{Opened}
+use Rattle.wasm_single.specs.declared.single.Single.TheInside.{Inside}
+use Rattle.wasm_single.specs.Starts.{Meets, opened}
+use Rattle.wasm_single.specs.Singles.{Loads}
+use Rattle.wasm_single.specs.Cores.{IsCore}
+use Rattle.wasm_single.specs.Kept.{IsSingle}
+use Rattle.wasm_single.proofs.Entries.{entry_is, start_is}
+use Rattle.wasm_single.proofs.Imports.{hosts_counted, all_functions}
+
+-- ---- imports
+
+pub met_of : (m now : Module) (names : HostNames) (imports : List Import) (hosts : Vec HostName Global) → m ≡ now → imports ≡ m.imports → Meets m names imports (Ok hosts) → Meets now names now.imports (Ok hosts)
+met_of m now names imports hosts same all met =
+    subst (λ (x : Module). Meets x names x.imports (Ok hosts)) same (subst (λ (is : List Import). Meets m names is (Ok hosts)) all met)
+
+pub hosts_are_counted : (m : Module) (names : HostNames) (hosts : Vec HostName Global) → Meets m names m.imports (Ok hosts) → length hosts.items ≡ imported_count m
+hosts_are_counted m names hosts met = sym (length-map hosts.items host_name_of) ∙ ap length met.1 ∙ hosts_counted m names m.imports met.0
+
+-- ---- the opening state
+
+-- the core over an instance, before its first step
+abbrev core_of : Bor Module → ℕ → InstanceState → Core
+core_of checked entry i = record { checked = checked; instance = i; machine = record { stack = empty_stack; standing = Moving }; start = checked.now.start; entry = entry; phase = Opened }
+
+abbrev inside_of : Core → Vec HostName Global → Vec Answer Global → Inside
+inside_of core hosts answers = record { core = core; hosts = hosts; steps = 0; answers = answers; answered = false; lost = false }
+
+module _ (m : Module) (entry : ℕ) (i : InstanceState) (found : module_entry m ≡ Some entry) (is : IsOpened m i) where
+  opening : ModuleState
+  opening = opened_state m entry i.parts.tables i.memory
+
+  opens : opened m ≡ Ok opening
+  unfolding opening
+  opens =
+      ap (λ e. opened_with m e (opened_tables m) (opened_space m)) found
+      ∙ ap (λ tables. opened_with m (Some entry) tables (opened_space m)) is.tables
+      ∙ ap (λ memory. opened_with m (Some entry) (Some i.parts.tables) memory) is.memory
+
+  pub loaded : (names : HostNames) (answers : List Answer) → imports_met m names m.imports ≡ Ok tt → answers ≡ []
+      → Loads m names (Ok (record { wasm = m; steps = 0; answers = answers; answered = false; lost = false }))
+  loaded names answers met none = (rw none refl, (opening, ap (opened_after m) met ∙ opens))
+
+-- what was found of the module says that the run is kept as it should
+module _ (checked : Bor Module) (entry : ℕ) (i : InstanceState) (found : module_entry checked.now ≡ Some entry) (is : IsOpened checked.now i)
+    (names : HostNames) (met : imports_met checked.now names checked.now.imports ≡ Ok tt) (formed : IsWellFormed checked.now) (valid : fault checked.now ≡ None)
+    (code : CheckedIsInRange) (holds : OpenedHolds) where
+  alone : IsAlone checked.now
+  alone = record { formed = formed; valid = valid; imports = all_functions checked.now names checked.now.imports met }
+
+  core_is : IsCore (core_of checked entry i)
+  core_is =
+      let m = checked.now in
+      let e = entry_is m entry found in
+      record {
+        fixed = ap module_view is.wasm;
+        over = record {
+          range = record {
+            whole = code m alone;
+            units = subst (HoldsAll (module_view m)) (sym (is.units entry)) (holds m entry i.parts.tables i.memory alone is.tables);
+            stack = All-nil (IsFrameInRange (module_view m));
+          };
+          rooms = refl;
+          asked = tt;
+        };
+        live = refl;
+        start = start_is m valid;
+        entry = e.startable;
+        own = e.own;
+      }
+
+  pub single_is : (hosts : Vec HostName Global) (answers : Vec Answer Global) → map host_name_of hosts.items ≡ imported_hosts checked.now checked.now.imports → answers.items ≡ []
+      → IsSingle (inside_of (core_of checked entry i) hosts answers)
+  unfolding opening
+  single_is hosts answers listed none =
+      let m = checked.now in
+      record {
+        hosts_are = listed;
+        core = λ e. core_is;
+        stands = λ e. (
+          module_run m (opening m entry i found is) answers.items 0,
+          record { found = refl; opening = opening m entry i found is; opens = opens m entry i found is; run = refl; real = tt; left = none },
+          record { units = sym (is.units entry); memory = refl; standing = (refl, refl) },
+        );
+      }

@@ -1,0 +1,156 @@
+-- A module in its run: its instance, the machine, and what is still to be called.
+use Rattle.std.specs.Prelude.{◌≡◌, ◌≢◌, ◌≤◌, ℕ, List, [], ◌∷◌, Some, None, Bool, true, false, IfSome, IsTrue}
+use Rattle.spec_runs.specs.Systems.{Status, Moving, Waits, Returned, Exited, Trapped}
+use Rattle.wasm_form.specs.declared.module.Module.{Module}
+use Rattle.wasm_form.specs.declared.runtime.Trap.{Trap}
+use Rattle.wasm_runtime.specs.declared.Answer.{Answer}
+use Rattle.spec_binary.specs.SmallForm.{nullary}
+use Rattle.spec_validation.specs.Faults.{type_of_function}
+use Rattle.spec_runtime.specs.Memories.{MemoryInstance}
+use Rattle.spec_runtime.specs.Hosts.{HostCall, fits_results}
+use Rattle.spec_execution.specs.Instances.{imported_count, function_named, module_view, module_hosts}
+use Rattle.spec_execution.specs.Runs.{Frame, Active, Marked, call}
+use Rattle.spec_execution.specs.Limits.{passes_limit}
+use Rattle.spec_execution.specs.OneModule.{Starting, ModuleState, module_next, module_step}
+use Rattle.wasm_step.specs.declared.done.Done.{Done}
+use Rattle.wasm_step.specs.declared.done.Done.TheVariants as done
+use Rattle.wasm_machine.specs.Machines.{MachineState, IsOver, Told}
+use Rattle.wasm_machine.specs.declared.machine.Standing.{Standing}
+use Rattle.wasm_machine.specs.declared.machine.Standing.TheVariants as standing
+use Rattle.wasm_machine.specs.declared.event.Event.{Event}
+use Rattle.wasm_machine.specs.declared.event.Event.TheVariants as event
+use Rattle.wasm_single.specs.declared.bare_run.Core.{Core}
+use Rattle.wasm_single.specs.declared.bare_run.Phase.{Phase}
+use Rattle.wasm_single.specs.declared.bare_run.Phase.TheVariants as phase
+
+-- ---- the call stack
+
+-- the machine's call stack, where a mark is what is still to be called
+abbrev pub seen : Starting → List (Frame ℕ) → List (Frame Starting)
+seen starting [] = []
+seen starting (Active a ∷ frames) = Active a ∷ seen starting frames
+seen starting (Marked tag ∷ frames) = Marked starting ∷ seen starting frames
+
+abbrev pub starting_of : Core → Starting
+starting_of c = record { start = c.start; entry = c.entry }
+
+-- the call stack of the run; what is to be called stands there before a mark is put
+abbrev pub stack_in : Phase → Starting → List (Frame ℕ) → List (Frame Starting)
+stack_in phase.Opened starting frames = Marked starting ∷ []
+stack_in phase.Marked starting frames = seen starting frames
+stack_in phase.Entered starting frames = seen starting frames
+
+abbrev pub stack_of : Core → List (Frame Starting)
+stack_of c = stack_in c.phase (starting_of c) c.machine.stack.frames
+
+-- ---- what is so of it
+
+-- whether a mark lies at the bottom, and no mark above it
+abbrev pub LiesOver : Bool → List (Frame ℕ) → Type 0
+LiesOver marked [] = marked ≡ false
+LiesOver marked (Active a ∷ frames) = LiesOver marked frames
+LiesOver true (Marked tag ∷ frames) = frames ≡ []
+LiesOver false (Marked tag ∷ frames) = ⊥
+
+abbrev pub IsInPhase : Phase → List (Frame ℕ) → Type 0
+IsInPhase phase.Opened frames = frames ≡ []
+IsInPhase phase.Marked frames = LiesOver true frames
+IsInPhase phase.Entered frames = (frames ≢ []) × LiesOver false frames
+
+-- a function that may be called first
+abbrev pub IsStartable : Module → ℕ → Type 0
+IsStartable m f = type_of_function m f ≡ Some nullary
+
+-- it goes on or waits: the call stack is there
+abbrev pub IsLive : Standing → List (Frame ℕ) → Phase → Type 0
+IsLive standing.Moving frames p = IsInPhase p frames
+IsLive (standing.Asking entry count) frames p = IsInPhase p frames × (p ≢ phase.Opened)
+IsLive standing.Loading frames p = ⊥
+IsLive standing.Lost frames p = ⊥
+IsLive _ frames p = Unit {0}
+
+-- What is so of it, until memory is wanting: the instance is one of the module, the machine names only what there is, and what is
+-- still to be called can be. The entry is a function of the module's own.
+pub record IsCore (c : Core) : Type 0 where
+  pub fixed : module_view c.instance.wasm ≡ module_view c.checked.now
+  pub over : IsOver (module_view c.checked.now) c.instance.parts c.machine
+  pub live : IsLive c.machine.standing c.machine.stack.frames c.phase
+  pub start : IfSome c.start (IsStartable c.checked.now)
+  pub entry : IsStartable c.checked.now c.entry
+  pub own : imported_count c.checked.now ≤ c.entry
+
+-- ---- where the run stands
+
+-- what a machine is at says how the run stands; code that is stuck has no step
+abbrev pub StandsAs : Core → ModuleState → Standing → Type 0
+StandsAs c s standing.Moving = (s.status ≡ Moving) × (s.stack ≡ stack_of c)
+StandsAs c s (standing.Asking entry count) = (call : HostCall) × (s.status ≡ Waits call) × (module_hosts c.checked.now entry ≡ Some call.host) × (s.stack ≡ stack_of c)
+StandsAs c s standing.Loading = ⊥
+StandsAs c s standing.Returned = s.status ≡ Returned
+StandsAs c s (standing.Trapped why) = s.status ≡ Trapped why
+StandsAs c s (standing.Exited code) = s.status ≡ Exited code
+StandsAs c s standing.Stuck = (s.status ≡ Moving) × (module_step c.checked.now s ≡ None)
+StandsAs c s standing.Lost = ⊥
+
+-- the run stands at this state
+pub record IsState (c : Core) (s : ModuleState) : Type 0 where
+  pub units : s.units ≡ c.instance.parts
+  pub memory : s.memory ≡ c.instance.memory
+  pub standing : StandsAs c s c.machine.standing
+
+-- ---- one step
+
+-- what is told of a step, by how the run stands after it
+abbrev pub TellsStatus : Module → Event → Status HostCall Trap → Type 0
+TellsStatus m event.Moved Moving = Unit {0}
+TellsStatus m (event.Waits asked) (Waits call) = (module_hosts m asked.entry ≡ Some call.host) × (asked.args ≡ call.args)
+TellsStatus m event.Returned Returned = Unit {0}
+TellsStatus m (event.Trapped why) (Trapped cause) = why ≡ cause
+TellsStatus m (event.Exited code) (Exited value) = code ≡ value
+TellsStatus m _ _ = ⊥
+
+-- whether the step after a state would pass a limit of depth
+abbrev pub is_too_deep : Module → ModuleState → Bool
+is_too_deep m s = passes_limit (module_view m) (module_next m s s.stack)
+
+-- A step was made from a state and is told, or there is none. Where it would be too deep the run stays.
+abbrev pub Steps : Event → ModuleState → Core → Type 0
+Steps event.Deep s new = (is_too_deep new.checked.now s ≡ true) × (new.machine.standing ≡ standing.Moving) × IsState new s
+Steps event.Stuck s new = (module_step new.checked.now s ≡ None) × (new.machine.standing ≡ standing.Stuck) × IsState new s
+Steps e s new = (is_too_deep new.checked.now s ≡ false) × ((t : ModuleState) × (module_step new.checked.now s ≡ Some t) × TellsStatus new.checked.now e t.status × IsState new t)
+
+-- the same of a step that the machine tells in few bytes; or it is left to be made with more care
+abbrev pub QuickSteps : Done → ModuleState → Core → Type 0
+QuickSteps done.Goes s new = (new.machine.standing ≡ standing.Moving) × Steps event.Moved s new
+QuickSteps done.Returned s new = Steps event.Returned s new
+QuickSteps (done.Trapped why) s new = Steps (event.Trapped why) s new
+QuickSteps done.Stuck s new = Steps event.Stuck s new
+QuickSteps (done.Exited code) s new = ⊥
+QuickSteps done.NoMemory s new = Unit {0}
+QuickSteps _ s new = (new.machine.standing ≡ standing.Moving) × IsState new s
+
+-- ---- calls and answers
+
+-- whether a call was begun: it isn't too deep
+abbrev pub is_begun : Event → Bool
+is_begun event.Deep = false
+is_begun _ = true
+
+abbrev pub is_mark : Event → Bool
+is_mark (event.Marked tag) = true
+is_mark _ = false
+
+-- a function is called over what is on the call stack
+abbrev pub Calls : ℕ → Core → Event → MachineState → Type 0
+Calls f old e new =
+    Told (module_view old.checked.now) e (call (module_view old.checked.now) old.instance.parts old.instance.memory (λ _. old.machine.stack.frames) [] (function_named old.checked.now f)) old.machine new
+    (record { old_units = old.instance.parts; old_memory = old.instance.memory; new_units = old.instance.parts; new_memory = old.instance.memory })
+
+-- an answer fits the host function that is waited for
+abbrev pub FitsHost : Module → MemoryInstance → Answer → Standing → Type 0
+FitsHost m memory a (standing.Asking entry count) = IfSome (module_hosts m entry) (λ h. IsTrue (fits_results h.ty.results memory a))
+FitsHost m memory a _ = ⊥
+
+-- the run waits for an answer, and this one fits
+abbrev pub MayTake : Core → Answer → Type 0
+MayTake c a = FitsHost c.checked.now c.instance.memory a c.machine.standing

@@ -1,0 +1,5 @@
+pub mod Starts
+pub mod Cores
+pub mod Singles
+pub mod Steps
+pub mod Kept

@@ -1,0 +1,12 @@
+//! The run of one ordinary module, which imports host functions alone (WebAssembly Core 2.0, sections 4.5.4 and 4.5.5).
+#![tactic(auto)]
+
+mod bare_run;
+mod fault;
+mod hosts;
+mod load;
+mod single;
+
+pub use fault::SingleFault;
+pub use single::Single;
+pub use wasm_machine::{Answer, Asked, Event};

@@ -1,0 +1,72 @@
+// The opening of a run (section 4.5.4).
+ghost use Rattle.std.specs.Prelude.{◌≡◌};
+ghost use Rattle.spec_binary.specs.Indices.{is_nullary};
+ghost use Rattle.spec_execution.specs.Instances.{imported_count};
+ghost use Rattle.spec_execution.specs.OneModule.{module_entry};
+ghost use Rattle.wasm_single.specs.Singles.{Loads};
+
+use crate::bare_run::{Core, Phase};
+use crate::fault::SingleFault;
+use crate::hosts::hosts_of;
+use crate::single::Single;
+use host_table::HostNames;
+use spec_safety::checked_code_is_in_range;
+use std::alloc::Global;
+use wasm_check::Checked;
+use wasm_form::FuncType;
+use wasm_instance::{Instance, exported_function};
+use wasm_machine::Machine;
+
+impl<'m> Single<'m> {
+    /// A module in its opening state, or why there is none. In order: the first import that isn't a declared host function
+    /// (`HostImport`) or is one of another type (`HostType`), no entry, an active segment out of bounds.
+    pub fn load(
+        alloc: Global,
+        checked: &'m Checked,
+        names: &HostNames,
+    ) -> Result<Single<'m>, SingleFault>
+        ensures { Loads checked.now names.now result }
+    {
+        checked_code_is_in_range();
+        let m = checked.module();
+        let hosts = hosts_of(alloc, m, names, m.imports.items())?;
+        let Some(entry) = entry_of(checked, hosts.len()) else {
+            return Err(SingleFault::NoEntry);
+        };
+        let instance = Instance::open(alloc, checked)?;
+        let core = Core {
+            checked,
+            instance,
+            machine: Machine::new(alloc),
+            start: m.start,
+            entry,
+            phase: Phase::Opened,
+        };
+        Ok(Single {
+            core,
+            hosts,
+            steps: 0,
+            answers: Vec::new(alloc),
+            answered: false,
+            lost: false,
+        })
+    }
+}
+
+/// The function without parameters and results that a module defines and exports as `_start`.
+fn entry_of(checked: &Checked, imported: usize) -> Option<u32>
+    requires { imported ≡ imported_count checked.now }
+    ensures { result ≡ module_entry checked.now }
+{
+    let f = exported_function(checked.module(), "_start")?;
+    if (f as usize) < imported || !is_nullary(checked.func_type(f)) {
+        return None;
+    }
+    Some(f)
+}
+
+fn is_nullary(ty: &FuncType) -> bool
+    ensures { result ≡ is_nullary ty.now }
+{
+    ty.params.items().is_empty() && ty.results.items().is_empty()
+}

@@ -1,0 +1,243 @@
+// The run of one module.
+ghost use Rattle.std.specs.Prelude.{◌≡◌, ◌≢◌, ◌<◌, ◌^◌, ◌++◌, [], ◌∷◌, map, All, Bool, true, false, IfOk, OnOk, OnErr, Err};
+ghost use Rattle.spec_runs.specs.Systems.{Ran};
+ghost use Rattle.spec_runtime.specs.Hosts.{hosts};
+ghost use Rattle.spec_execution.specs.Instances.{imported_hosts};
+ghost use Rattle.spec_execution.specs.OneModule.{ModuleState};
+ghost use Rattle.host_table.specs.Names.{host_name_of};
+ghost use Rattle.wasm_single.specs.Cores.{IsCore, IsState};
+ghost use Rattle.wasm_single.specs.Singles.{Stands, has_ended, is_waiting, RunStepped, ArgumentsFit, Advances, Awaits};
+ghost use Rattle.wasm_single.specs.Steps.{event_of, steps_told, AreNumbers, Counted};
+
+use crate::bare_run::{Core, Phase};
+use host_table::HostName;
+use std::alloc::Global;
+use std::marker::Model;
+use wasm_form::{List, Memory};
+use wasm_machine::{Answer, Done, Event, Standing, View};
+use wasm_space::Space;
+
+/// The run of one module with host imports alone: its steps, and the answers of its host. Contracts see it as a `SingleRun`.
+#[derive(Drop)]
+pub struct Single<'m> {
+    pub(crate) core: Core<'m>,
+    pub(crate) hosts: Vec<HostName>,
+    pub(crate) steps: u64,
+    pub(crate) answers: Vec<Answer>,
+    pub(crate) answered: bool,
+    pub(crate) lost: bool,
+}
+
+impl<'m> Model for Single<'m> {
+    ghost use Rattle.wasm_form.specs.contracts.module.Module as modules;
+    ghost use Rattle.std.specs.Coded.{codes};
+    ghost use Rattle.wasm_single.specs.Singles.{SingleRun};
+    ghost use Rattle.wasm_single.specs.Kept.{run_of, IsSingle};
+
+    ghost Value = { SingleRun };
+
+    ghost coded = { Prim.hlevel (codes, modules.the_row.coded) };
+
+    ghost view = { run_of };
+
+    ghost invariant = { IsSingle };
+}
+
+/// What is told of how a run stands after an answer, and of an end again.
+fn event_of(standing: Standing) -> Event
+    ensures { result ≡ event_of standing }
+{
+    match standing {
+        Standing::Returned => Event::Returned,
+        Standing::Trapped(trap) => Event::Trapped(trap),
+        Standing::Exited(code) => Event::Exited(code),
+        Standing::Moving
+        | Standing::Asking(..)
+        | Standing::Loading
+        | Standing::Stuck
+        | Standing::Lost => Event::Moved,
+    }
+}
+
+/// How many steps were made where this is told of a run that goes on by itself.
+fn steps_told(event: &Event) -> u64
+    ensures { result ≡ steps_told event.now }
+{
+    match event {
+        Event::Deep | Event::Stuck => 0,
+        _ => 1,
+    }
+}
+
+/// Numbers of 64 bits are in their range.
+fn are_in_range(numbers: &[u64])
+    ensures { All (λ n. n < 2 ^ 64) numbers.now }
+{}
+
+/// The arguments of a call that is told are numbers of 64 bits.
+fn are_numbers(event: &Event)
+    ensures { AreNumbers event.now }
+{
+    if let Event::Waits(asked) = event {
+        are_in_range(asked.args.items());
+    }
+}
+
+/// Makes one step of code, if the machine can tell it in few bytes, and counts it. Whether code goes on.
+#[inline(always)]
+fn quick_step(core: &mut Core, steps: &mut u64, lost: &mut bool) -> bool
+    requires core { IsCore core.old }
+    requires moving { core.old.machine.standing ≡ Standing.Moving }
+    requires called { core.old.phase ≢ Phase.Opened }
+    requires few { steps.old < 18446744073709551615 }
+    requires found { lost.old ≡ false }
+    ensures counted { (s : ModuleState) → IsState core.old s → Counted result s core.new steps.old steps.new lost.new }
+    ensures core { lost.new ≡ false → IsCore core.new }
+    ensures wasm { core.new.checked ≡ core.old.checked }
+    ensures phase { core.new.phase ≡ core.old.phase }
+{
+    match core.quick() {
+        Done::Goes => {
+            *steps += 1;
+            true
+        }
+        Done::Returned | Done::Trapped(_) => {
+            *steps += 1;
+            false
+        }
+        Done::NoMemory => {
+            *lost = true;
+            false
+        }
+        Done::Stuck | Done::Exited(_) | Done::Marked(_) | Done::Deep | Done::Outside => false,
+    }
+}
+
+impl<'m> Single<'m> {
+    /// Makes one step, which takes the answer that is recorded for a wait, and tells how the run stands then. An end is told again,
+    /// `Deep` where the step would pass a limit of depth, and `Stuck` where there is none, with nothing changed. It takes memory
+    /// where the next instruction calls or grows; a run that answered `Memory` answers it from then on.
+    pub fn run_step(&mut self, alloc: Global) -> Result<Event, Memory>
+        requires answered { (r : Ran hosts ModuleState) → Stands self.old r → is_waiting self.old r ≡ false }
+        requires few { self.old.steps < 18446744073709551615 }
+        ensures stepped { IfOk result (λ e. (r : Ran hosts ModuleState) × Stands self.old r × RunStepped e self.old r self.new) }
+        ensures lost { OnErr result (self.new ≡ record self.old { lost = true }) }
+        ensures again { self.old.lost ≡ true → result ≡ Err (record {}) }
+        ensures arguments { IfOk result (λ e. ArgumentsFit self.new.wasm e) }
+    {
+        if self.lost {
+            return Err(Memory);
+        }
+        match self.core.machine.standing() {
+            Standing::Moving => {
+                let Ok(event) = self.core.step(alloc) else {
+                    self.lost = true;
+                    return Err(Memory);
+                };
+                are_numbers(&event);
+                self.steps += steps_told(&event);
+                Ok(event)
+            }
+            Standing::Asking(..) => {
+                let Some(answer) = self.answers.last() else {
+                    unreachable!();
+                };
+                self.core.take(answer);
+                self.answered = false;
+                self.steps += 1;
+                Ok(event_of(self.core.machine.standing()))
+            }
+            Standing::Stuck => Ok(Event::Stuck),
+            end => Ok(event_of(end)),
+        }
+    }
+
+    /// Makes steps of code, up to so many in all, until one is left for `run_step`: a call of the module's start or entry, of a host
+    /// function, or one that is too deep; or the run has ended, waits or is stuck.
+    pub fn advance(&mut self, most: u64) -> Result<(), Memory>
+        ensures advances { Advances most self.old self.new }
+        ensures found { OnOk result (self.new.lost ≡ false) }
+        ensures lost { OnErr result (self.new.lost ≡ true) }
+    {
+        if self.lost {
+            return Err(Memory);
+        }
+        if self.core.phase == Phase::Opened {
+            return Ok(());
+        }
+        if !matches!(self.core.machine.standing(), Standing::Moving) {
+            return Ok(());
+        }
+        'code: while self.steps < most
+            && quick_step(&mut self.core, &mut self.steps, &mut self.lost)
+        {}
+        if self.lost { Err(Memory) } else { Ok(()) }
+    }
+
+    /// Records the answer that the next step takes.
+    pub fn answer(&mut self, alloc: Global, a: Answer) -> Result<(), Memory>
+        requires { Awaits self.old a }
+        ensures recorded { OnOk result (self.new ≡ record self.old { answers = self.old.answers ++ a ∷ []; answered = true }) }
+        ensures lost { OnErr result (self.new ≡ record self.old { lost = true }) }
+    {
+        let Ok(()) = self.answers.push(a) else {
+            self.lost = true;
+            return Err(Memory);
+        };
+        self.answered = true;
+        Ok(())
+    }
+
+    /// Whether it waits for an answer that isn't recorded.
+    pub fn waiting(&self) -> bool
+        ensures { (r : Ran hosts ModuleState) → Stands self.now r → result ≡ is_waiting self.now r }
+    {
+        !self.answered && matches!(self.core.machine.standing(), Standing::Asking(..))
+    }
+
+    /// Whether it has returned, exited or trapped.
+    pub fn has_ended(&self) -> bool
+        ensures { (r : Ran hosts ModuleState) → Stands self.now r → result ≡ has_ended r.state.status }
+    {
+        matches!(
+            self.core.machine.standing(),
+            Standing::Returned | Standing::Trapped(_) | Standing::Exited(_)
+        )
+    }
+
+    /// How many steps were made. The run stands where these lead.
+    pub fn steps(&self) -> u64
+        ensures value { result ≡ self.now.steps }
+        ensures stands { self.now.lost ≡ false → (r : Ran hosts ModuleState) × Stands self.now r }
+    {
+        self.steps
+    }
+
+    /// The answers that are recorded, in order.
+    pub fn answers(&self) -> &[Answer]
+        ensures { result.now ≡ self.now.answers }
+    {
+        &self.answers
+    }
+
+    /// The answers themselves.
+    pub fn into_answers(self) -> List<Answer>
+        ensures { result ≡ self.entry.answers }
+    {
+        List::of(self.answers)
+    }
+
+    /// The memory as the run stands.
+    pub fn memory(&self) -> &Space
+        ensures { (r : Ran hosts ModuleState) → Stands self.now r → result.now ≡ r.state.memory }
+    {
+        self.core.instance.memory()
+    }
+
+    /// The host functions that the module imports, in order.
+    pub fn hosts(&self) -> &[HostName]
+        ensures { map host_name_of result.now ≡ imported_hosts self.now.wasm self.now.wasm.imports }
+    {
+        &self.hosts
+    }
+}
