@@ -1,11 +1,11 @@
 -- At most one outcome is due.
-use Rattle.std.proofs.Common.{◌≡◌, ℕ, ◌≤◌, List, length, Option, Some, None, Result, Ok, Err, refl, sym, ap, ◌∙◌, subst, arith}
+use Rattle.std.proofs.Common.{◌≡◌, ℕ, List, Option, Some, None, Result, Ok, Err, refl, sym, ap, ◌∙◌, subst, arith}
 use Rattle.wasm_form.specs.declared.module.Module.{Module}
 use Rattle.spec_binary.specs.Answers.{Fault, Answers}
 use Rattle.spec_binary.specs.SmallForm.{IsSmall}
 use Rattle.spec_validation.specs.Faults as validation
 use Rattle.spec_validation.proofs.Valid.{small_valid}
-use Rattle.spec_linking.specs.Sets.{Files, ClosedSet, main_name, most_bytes}
+use Rattle.spec_linking.specs.Sets.{Files, ClosedSet, most_bytes}
 use Rattle.spec_linking.specs.Definitions.{entry_of}
 use Rattle.spec_linking.specs.Links.{LinkFault, NoEntry, set_entry, fault_without, link_fault}
 use Rattle.merge_whole.proofs.SmallBodies.{small_answer}
@@ -13,27 +13,21 @@ use Rattle.wasm_decode.specs.declared.fault.DecodeFault.{DecodeFault}
 use Rattle.dyl_section.specs.declared.fault.RecordFault.{RecordFault}
 use Rattle.dyl_section.proofs.RecordLaws.{one_answer}
 use Rattle.wasm_check.specs.declared.fault.CheckFault.{CheckFault}
+use Rattle.dyl_app.proofs.OneFile.{one_file, no_file, read_as, IsThere, there, not_too_long, FileOf, missing_is, too_long_is}
 use Rattle.dyl_app.proofs.SmallRecords.{small_recorded}
 use Rattle.dyl_app.specs.declared.outcome.SetFault.TheVariants.{Missing, ReadFault, Decode, Record, Check, SetSize}
 use Rattle.dyl_app.specs.declared.outcome.LinkFault.TheVariants as link
 use Rattle.dyl_app.specs.declared.outcome.Outcome.{Outcome}
-use Rattle.dyl_app.specs.declared.outcome.Outcome.TheVariants.{Done, Usage, Set, Unbuilt, Link, WriteFault, Memory}
+use Rattle.dyl_app.specs.declared.outcome.Outcome.TheVariants.{Done, Ran, Usage, Set, Unbuilt, Link, Single, WriteFault, Memory}
 use Rattle.dyl_app.specs.declared.outcome.SetFault.{SetFault}
 use Rattle.dyl_app.specs.declared.gather.InputFault.TheVariants as input
-use Rattle.dyl_app.specs.Due.{linked, GathersSmall, IsTooLong, IsRead, decode_fault, record_fault, check_fault, IsRecorded, HasRecordFault, HasCheckFault, IsNotSmall, LinksAt, DueAt, Yields}
+use Rattle.dyl_app.specs.Due.{linked, GathersSmall, decode_fault, record_fault, check_fault, IsRecorded, HasRecordFault, HasCheckFault, IsNotSmall, LinksAt, MergeDue, Yields}
 use Rattle.dyl_app.specs.Gathered.{IsInput, Gathered}
 
 -- the outcome by the entry
 abbrev pub verdict : Option ℕ → Outcome
 verdict None = Link link.NoEntry
 verdict (Some entry) = Done
-
--- what is at one path is one
-one_file : (files : Files) (path a b : List ℕ) → files path ≡ Some a → files path ≡ Some b → a ≡ b
-one_file files path a b p q = cc
-
-no_file : (files : Files) (path a : List ℕ) → files path ≡ None → files path ≡ Some a → ⊥
-no_file files path a p q = cc
 
 -- what is due by the module that is read
 abbrev ClassOf : Module → Outcome → Type 0
@@ -110,13 +104,10 @@ module _ (wasm : Module) where
   small_is small (Set (Check member other)) c = absurd (no_check_fault wasm other c.1 (small_valid wasm small))
   small_is small _ c = absurd c
 
-module _ (files : Files) (path : List ℕ) (answer : Result Module Fault) (input : IsInput files path answer) where
+module _ (files : Files) (path : List ℕ) (answer : Result Module Fault) (input : IsInput most_bytes files path answer) where
   -- what is due for one answer is due for the other
   by_answer : (other : Result Module Fault) (o : Outcome) → other ≡ answer → DueBy other o → DueBy answer o
   by_answer other o same due = subst (λ a. DueBy a o) same due
-
-  read_as : (other : Result Module Fault) → IsRead files path other → other ≡ answer
-  read_as other read = input.answers.only other (subst (λ bytes. Answers bytes other) (one_file files path _ _ read.file input.file) read.told)
 
   small_as : (S : ClosedSet) (g : GathersSmall files path S) → Ok g.gathered.main.wasm ≡ answer
   small_as S g =
@@ -128,123 +119,85 @@ module _ (files : Files) (path : List ℕ) (answer : Result Module Fault) (input
   small_link : (S : ClosedSet) (g : GathersSmall files path S) (fault : Option LinkFault) → link_fault (linked S) ≡ fault → fault_without (entry_of g.gathered.main.wasm) ≡ fault
   small_link S g fault e = sym (ap (λ ms. fault_without (set_entry ms)) g.gathered.members) ∙ e
 
-  due_by : (o : Outcome) → DueAt files path o → DueBy answer o
+  due_by : (o : Outcome) → MergeDue files path o → DueBy answer o
   due_by Done d = by_answer (Ok d.gathered.gathered.main.wasm) Done (small_as d.set d.gathered) (d.gathered.small, small_link d.set d.gathered None d.links)
   due_by (Usage kind) d = absurd d
   due_by (Set (Missing name)) d = absurd (no_file files path _ d.0 input.file)
   due_by (Set (ReadFault at)) d = absurd d
-  due_by (Set (Decode member fault)) d = by_answer (Err d.why) _ (read_as (Err d.why) d.read) (ap (λ n. Set (Decode n fault)) d.first ∙ ap (λ f. Set (Decode 0 f)) d.is)
-  due_by (Set (Record member fault)) d = by_answer (Ok d.wasm) (Set (Record member fault)) (read_as (Ok d.wasm) d.read) (d.first, d.is)
-  due_by (Set (Check member fault)) d = by_answer (Ok d.wasm) (Set (Check member fault)) (read_as (Ok d.wasm) d.read) (d.first, d.is)
-  due_by (Set SetSize) d = absurd (let same = ap length (one_file files path _ _ input.file d.file) in omega (arith, same, input.few, d.long))
-  due_by Unbuilt d = by_answer (Ok d.wasm) Unbuilt (read_as (Ok d.wasm) d.read) d.is
+  due_by (Set (Decode member fault)) d = by_answer (Err d.why) _ (read_as files path most_bytes answer input (Err d.why) d.read) (ap (λ n. Set (Decode n fault)) d.first ∙ ap (λ f. Set (Decode 0 f)) d.is)
+  due_by (Set (Record member fault)) d = by_answer (Ok d.wasm) (Set (Record member fault)) (read_as files path most_bytes answer input (Ok d.wasm) d.read) (d.first, d.is)
+  due_by (Set (Check member fault)) d = by_answer (Ok d.wasm) (Set (Check member fault)) (read_as files path most_bytes answer input (Ok d.wasm) d.read) (d.first, d.is)
+  due_by (Set SetSize) d = absurd (not_too_long files path most_bytes (input.bytes, input.file, input.few) d)
+  due_by Unbuilt d = by_answer (Ok d.wasm) Unbuilt (read_as files path most_bytes answer input (Ok d.wasm) d.read) d.is
   due_by (Link link.NoEntry) d = by_answer (Ok d.gathered.gathered.main.wasm) (Link link.NoEntry) (small_as d.set d.gathered) (d.gathered.small, small_link d.set d.gathered (Some NoEntry) d.fault)
   due_by WriteFault d = absurd d
   due_by Memory d = absurd d
+  due_by (Ran ran) d = absurd d
+  due_by (Single fault) d = absurd d
 
 -- by the module that is read
-class_of : (files : Files) (path : List ℕ) (wasm : Module) → IsInput files path (Ok wasm) → (o : Outcome) → DueAt files path o → ClassOf wasm o
+class_of : (files : Files) (path : List ℕ) (wasm : Module) → IsInput most_bytes files path (Ok wasm) → (o : Outcome) → MergeDue files path o → ClassOf wasm o
 class_of files path wasm input o d = due_by files path (Ok wasm) input o d
 
-pub due_input : (files : Files) (path : List ℕ) (wasm : Module) → IsInput files path (Ok wasm) → IsSmall wasm → (o : Outcome) → DueAt files path o → o ≡ verdict (entry_of wasm)
+pub due_input : (files : Files) (path : List ℕ) (wasm : Module) → IsInput most_bytes files path (Ok wasm) → IsSmall wasm → (o : Outcome) → MergeDue files path o → o ≡ verdict (entry_of wasm)
 due_input files path wasm input small o d = small_is wasm small o (class_of files path wasm input o d)
 
 -- where a file is not built
-pub unbuilt_due : (files : Files) (path : List ℕ) → ((wasm : Module) × IsInput files path (Ok wasm) × IsNotSmall wasm) → (o : Outcome) → DueAt files path o → o ≡ Unbuilt
+pub unbuilt_due : (files : Files) (path : List ℕ) → ((wasm : Module) × IsInput most_bytes files path (Ok wasm) × IsNotSmall wasm) → (o : Outcome) → MergeDue files path o → o ≡ Unbuilt
 unbuilt_due files path u o d = unbuilt_is u.0 u.2 o (class_of files path u.0 u.1 o d)
 
 module _ (files : Files) (path : List ℕ) where
   -- the file of a gathered set
-  set_file : (S : ClosedSet) → GathersSmall files path S → (bytes : List ℕ) × (files path ≡ Some bytes) × (length bytes ≤ most_bytes)
+  set_file : (S : ClosedSet) → GathersSmall files path S → IsThere files path most_bytes
   set_file S g =
       let found = g.gathered.found in
       (found.bytes, subst (λ p. files p ≡ Some found.bytes) g.gathered.path found.found, omega (arith, g.gathered.few_bytes, found.size))
 
-  abbrev FileOf : Outcome → Type 0
-  FileOf (Set (Missing name)) = (files path ≡ None) × (name ≡ main_name path)
-  FileOf (Set SetSize) = IsTooLong files path
-  FileOf o = (bytes : List ℕ) × (files path ≡ Some bytes) × (length bytes ≤ most_bytes)
-
   -- the file where this is due
-  file_of : (o : Outcome) → DueAt files path o → FileOf o
+  file_of : (o : Outcome) → MergeDue files path o → FileOf files path most_bytes o
   file_of Done d = set_file d.set d.gathered
   file_of (Usage kind) d = absurd d
   file_of (Set (Missing name)) d = d
   file_of (Set (ReadFault at)) d = absurd d
-  file_of (Set (Decode member fault)) d = (d.read.bytes, d.read.file, d.read.few)
-  file_of (Set (Record member fault)) d = (d.read.bytes, d.read.file, d.read.few)
-  file_of (Set (Check member fault)) d = (d.read.bytes, d.read.file, d.read.few)
+  file_of (Set (Decode member fault)) d = there files path most_bytes (Err d.why) d.read
+  file_of (Set (Record member fault)) d = there files path most_bytes (Ok d.wasm) d.read
+  file_of (Set (Check member fault)) d = there files path most_bytes (Ok d.wasm) d.read
   file_of (Set SetSize) d = d
-  file_of Unbuilt d = (d.read.bytes, d.read.file, d.read.few)
+  file_of Unbuilt d = there files path most_bytes (Ok d.wasm) d.read
   file_of (Link link.NoEntry) d = set_file d.set d.gathered
   file_of WriteFault d = absurd d
   file_of Memory d = absurd d
-
-  missing_due : (name : List ℕ) → (files path ≡ None) × (name ≡ main_name path) → (o : Outcome) → DueAt files path o → o ≡ Set (Missing name)
-  missing_due name none o d = go o (file_of o d)
-    where
-      go : (o : Outcome) → FileOf o → o ≡ Set (Missing name)
-      go (Set (Missing other)) f = ap (λ n. Set (Missing n)) (f.1 ∙ sym none.1)
-      go (Set SetSize) f = absurd (no_file files path _ none.0 f.file)
-      go (Set (ReadFault at)) f = absurd (no_file files path _ none.0 f.1)
-      go (Set (Decode member fault)) f = absurd (no_file files path _ none.0 f.1)
-      go (Set (Record member fault)) f = absurd (no_file files path _ none.0 f.1)
-      go (Set (Check member fault)) f = absurd (no_file files path _ none.0 f.1)
-      go Done f = absurd (no_file files path _ none.0 f.1)
-      go (Usage kind) f = absurd (no_file files path _ none.0 f.1)
-      go Unbuilt f = absurd (no_file files path _ none.0 f.1)
-      go (Link fault) f = absurd (no_file files path _ none.0 f.1)
-      go WriteFault f = absurd (no_file files path _ none.0 f.1)
-      go Memory f = absurd (no_file files path _ none.0 f.1)
-
-  too_long_due : IsTooLong files path → (o : Outcome) → DueAt files path o → o ≡ Set SetSize
-  too_long_due t o d = go o (file_of o d)
-    where
-      both : (bytes : List ℕ) × (files path ≡ Some bytes) × (length bytes ≤ most_bytes) → ⊥
-      both f = let same = ap length (one_file files path _ _ t.file f.1) in omega (arith, f.2, same, t.long)
-
-      go : (o : Outcome) → FileOf o → o ≡ Set SetSize
-      go (Set (Missing other)) f = absurd (no_file files path _ f.0 t.file)
-      go (Set SetSize) f = refl
-      go (Set (ReadFault at)) f = absurd (both f)
-      go (Set (Decode member fault)) f = absurd (both f)
-      go (Set (Record member fault)) f = absurd (both f)
-      go (Set (Check member fault)) f = absurd (both f)
-      go Done f = absurd (both f)
-      go (Usage kind) f = absurd (both f)
-      go Unbuilt f = absurd (both f)
-      go (Link fault) f = absurd (both f)
-      go WriteFault f = absurd (both f)
-      go Memory f = absurd (both f)
+  file_of (Ran ran) d = absurd d
+  file_of (Single fault) d = absurd d
 
   -- where a file is not decoded
-  fault_due : (member : ℕ) (fault : DecodeFault) → ((why : Fault) × IsInput files path (Err why) × (member ≡ 0) × (fault ≡ decode_fault why))
-      → (o : Outcome) → DueAt files path o → o ≡ Set (Decode member fault)
+  fault_due : (member : ℕ) (fault : DecodeFault) → ((why : Fault) × IsInput most_bytes files path (Err why) × (member ≡ 0) × (fault ≡ decode_fault why))
+      → (o : Outcome) → MergeDue files path o → o ≡ Set (Decode member fault)
   fault_due member fault u o d = due_by files path (Err u.0) u.1 o d ∙ sym (ap (λ n. Set (Decode n fault)) u.2 ∙ ap (λ f. Set (Decode 0 f)) u.3)
 
   -- where a module has no record
-  record_due : (member : ℕ) (fault : RecordFault) → ((wasm : Module) × IsInput files path (Ok wasm) × (member ≡ 0) × HasRecordFault wasm fault)
-      → (o : Outcome) → DueAt files path o → o ≡ Set (Record member fault)
+  record_due : (member : ℕ) (fault : RecordFault) → ((wasm : Module) × IsInput most_bytes files path (Ok wasm) × (member ≡ 0) × HasRecordFault wasm fault)
+      → (o : Outcome) → MergeDue files path o → o ≡ Set (Record member fault)
   record_due member fault u o d = record_is u.0 fault u.3 o (class_of files path u.0 u.1 o d) ∙ sym (ap (λ n. Set (Record n fault)) u.2)
 
   -- where a module has a fault
-  check_due : (member : ℕ) (fault : CheckFault) → ((wasm : Module) × IsInput files path (Ok wasm) × (member ≡ 0) × HasCheckFault wasm fault)
-      → (o : Outcome) → DueAt files path o → o ≡ Set (Check member fault)
+  check_due : (member : ℕ) (fault : CheckFault) → ((wasm : Module) × IsInput most_bytes files path (Ok wasm) × (member ≡ 0) × HasCheckFault wasm fault)
+      → (o : Outcome) → MergeDue files path o → o ≡ Set (Check member fault)
   check_due member fault u o d = check_is u.0 fault u.3 o (class_of files path u.0 u.1 o d) ∙ sym (ap (λ n. Set (Check n fault)) u.2)
 
   -- where there is no closed set
-  pub set_due : (fault : SetFault) → Gathered files path (Err (input.Set fault)) → (o : Outcome) → DueAt files path o → Yields o (Set fault)
-  set_due (Missing name) g o d = missing_due name g o d
-  set_due (ReadFault at) g o d = λ kind is. absurd (subst (DueAt files path) is d)
+  pub set_due : (fault : SetFault) → Gathered files path (Err (input.Set fault)) → (o : Outcome) → MergeDue files path o → Yields o (Set fault)
+  set_due (Missing name) g o d = missing_is files path most_bytes name g o (file_of o d)
+  set_due (ReadFault at) g o d = λ kind is. absurd (subst (MergeDue files path) is d)
   set_due (Decode member fault) g o d = fault_due member fault g o d
   set_due (Record member fault) g o d = record_due member fault g o d
   set_due (Check member fault) g o d = check_due member fault g o d
-  set_due SetSize g o d = too_long_due g o d
+  set_due SetSize g o d = too_long_is files path most_bytes g o (file_of o d)
 
   pub set_links : (fault : SetFault) → Gathered files path (Err (input.Set fault)) → LinksAt files path → ((at : List ℕ) → fault ≡ ReadFault at → ⊥) → ⊥
-  set_links (Missing name) g l read = let is = missing_due name g Done l in cc
+  set_links (Missing name) g l read = let is = missing_is files path most_bytes name g Done (file_of Done l) in cc
   set_links (ReadFault at) g l read = read at refl
   set_links (Decode member fault) g l read = let is = fault_due member fault g Done l in cc
   set_links (Record member fault) g l read = let is = record_due member fault g Done l in cc
   set_links (Check member fault) g l read = let is = check_due member fault g Done l in cc
-  set_links SetSize g l read = let is = too_long_due g Done l in cc
+  set_links SetSize g l read = let is = too_long_is files path most_bytes g Done (file_of Done l) in cc

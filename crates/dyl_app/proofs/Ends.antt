@@ -8,18 +8,17 @@ use Rattle.spec_binary.specs.SmallForm.{IsSmall}
 use Rattle.spec_binary.specs.Modules.{SpellsModule}
 use Rattle.spec_binary.specs.Answers.{Answers, spelled}
 use Rattle.spec_validation.proofs.Valid.{small_valid}
-use Rattle.spec_linking.specs.Sets.{Files, ClosedSet, main_name}
+use Rattle.spec_linking.specs.Sets.{Files, ClosedSet, main_name, most_bytes}
 use Rattle.spec_linking.specs.Definitions.{entry_of}
 use Rattle.spec_linking.specs.Links.{fault_without}
 use Rattle.merge_whole.specs.MergedModule.{main_member, set_alone}
 use Rattle.dyl_app.specs.declared.outcome.LinkFault.TheVariants as link
 use Rattle.dyl_app.specs.declared.outcome.Outcome.{Outcome}
-use Rattle.dyl_app.specs.declared.outcome.Outcome.TheVariants.{Done, Usage, Set, Unbuilt, Link, WriteFault, Memory}
-use Rattle.dyl_app.specs.Orders.{Order}
-use Rattle.dyl_app.specs.Due.{GathersSmall, LinksAt, DueAt, Yields, Tells}
+use Rattle.dyl_app.specs.declared.outcome.Outcome.TheVariants.{Done, Ran, Usage, Set, Unbuilt, Link, Single, WriteFault, Memory}
+use Rattle.dyl_app.specs.Due.{GathersSmall, LinksAt, MergeDue, Yields, MergeTells}
 use Rattle.dyl_app.specs.Gathered.{IsInput}
 use Rattle.dyl_app.specs.Finish.{HoldsMerged, LeavesWritten, ByEntry}
-use Rattle.dyl_app.specs.Files.{IsMerged, Leaves}
+use Rattle.dyl_app.specs.Files.{IsMerged, MergeLeaves}
 use Rattle.dyl_app.proofs.SmallRecords.{small_record}
 use Rattle.dyl_app.proofs.Dues.{verdict, due_input}
 
@@ -27,7 +26,7 @@ use Rattle.dyl_app.proofs.Dues.{verdict, due_input}
 pub is_spelled : {bytes : List ℕ} {m : Module} → Answers bytes (Ok m) → SpellsModule m bytes
 is_spelled (spelled s within agree) = s
 
-module _ (files : Files) (path : List ℕ) (wasm : Module) (input : IsInput files path (Ok wasm)) (small : IsSmall wasm) where
+module _ (files : Files) (path : List ℕ) (wasm : Module) (input : IsInput most_bytes files path (Ok wasm)) (small : IsSmall wasm) where
   abbrev set : ClosedSet
   set = set_alone (main_name path) path (length input.bytes) wasm
 
@@ -47,7 +46,7 @@ module _ (files : Files) (path : List ℕ) (wasm : Module) (input : IsInput file
     small = small;
   }
 
-  links : (o : Option ℕ) → entry_of wasm ≡ o → (answer : Outcome) → ByEntry o answer → Tells files path answer
+  links : (o : Option ℕ) → entry_of wasm ≡ o → (answer : Outcome) → ByEntry o answer → MergeTells files path answer
   links (Some entry) e Done h = record { set = set; gathered = gathers; links = ap fault_without e }
   links (Some entry) e WriteFault h = record { set = set; gathered = gathers; links = ap fault_without e }
   links None e (Link link.NoEntry) h = record { set = set; gathered = gathers; fault = ap fault_without e }
@@ -58,8 +57,10 @@ module _ (files : Files) (path : List ℕ) (wasm : Module) (input : IsInput file
   links o e (Usage kind) h = absurd h
   links o e (Set fault) h = absurd h
   links o e Unbuilt h = absurd h
+  links o e (Ran ran) h = absurd h
+  links o e (Single fault) h = absurd h
 
-  pub input_tells : (answer : Outcome) → ByEntry (entry_of wasm) answer → Tells files path answer
+  pub input_tells : (answer : Outcome) → ByEntry (entry_of wasm) answer → MergeTells files path answer
   input_tells answer h = links (entry_of wasm) refl answer h
 
   yields : (o : Option ℕ) (answer due : Outcome) → ByEntry o answer → due ≡ verdict o → Yields due answer
@@ -73,8 +74,10 @@ module _ (files : Files) (path : List ℕ) (wasm : Module) (input : IsInput file
   yields o (Usage kind) due h e = absurd h
   yields o (Set fault) due h e = absurd h
   yields o Unbuilt due h e = absurd h
+  yields o (Ran ran) due h e = absurd h
+  yields o (Single fault) due h e = absurd h
 
-  pub input_due : (answer : Outcome) → ByEntry (entry_of wasm) answer → (due : Outcome) → DueAt files path due → Yields due answer
+  pub input_due : (answer : Outcome) → ByEntry (entry_of wasm) answer → (due : Outcome) → MergeDue files path due → Yields due answer
   input_due answer h due d = yields (entry_of wasm) answer due h (due_input files path wasm input small due d)
 
 -- what is done has an entry
@@ -83,33 +86,35 @@ has_entry None h = absurd h
 has_entry (Some entry) h = refl
 
 -- what is written is merged
-pub input_leaves : (told : FileMap) (order : Order) (wasm : Module) → IsInput (get told) order.main (Ok wasm) → IsSmall wasm → (answer : Outcome) (after : Option FileMap) (before now : ℕ)
-    → ByEntry (entry_of wasm) answer → LeavesWritten wasm order.out told answer after → Leaves order told answer after before now
-input_leaves told order wasm input small Done after before now h leaves = holds after leaves
+pub input_leaves : (told : FileMap) (main out : List ℕ) (wasm : Module) → IsInput most_bytes (get told) main (Ok wasm) → IsSmall wasm → (answer : Outcome) (after : Option FileMap) (before now : ℕ)
+    → ByEntry (entry_of wasm) answer → LeavesWritten wasm out told answer after → MergeLeaves main out told answer after before now
+input_leaves told main out wasm input small Done after before now h leaves = holds after leaves
   where
-    holds : (a : Option FileMap) → IsSomeAnd a (HoldsMerged wasm order.out told) → IsSomeAnd a (IsMerged order told)
+    holds : (a : Option FileMap) → IsSomeAnd a (HoldsMerged wasm out told) → IsSomeAnd a (IsMerged main out told)
     holds None l = l
     holds (Some new) l =
         record {
-          set = set_alone (main_name order.main) order.main (length input.bytes) wasm;
-          gathered = gathers (get told) order.main wasm input small;
+          set = set_alone (main_name main) main (length input.bytes) wasm;
+          gathered = gathers (get told) main wasm input small;
           links = has_entry (entry_of wasm) h;
           entry = l.entry;
           entered = l.entered;
           output = l.output;
-          merged = (l.merged (main_name order.main) order.main (length input.bytes)).merged;
-          shape = (l.merged (main_name order.main) order.main (length input.bytes)).shape;
+          merged = (l.merged (main_name main) main (length input.bytes)).merged;
+          shape = (l.merged (main_name main) main (length input.bytes)).shape;
           written = l.written;
         }
-input_leaves told order wasm input small WriteFault after before now h leaves = leaves
-input_leaves told order wasm input small Memory after before now h leaves = inl leaves
-input_leaves told order wasm input small (Usage kind) after before now h leaves = absurd leaves
-input_leaves told order wasm input small (Set fault) after before now h leaves = absurd leaves
-input_leaves told order wasm input small Unbuilt after before now h leaves = absurd leaves
-input_leaves told order wasm input small (Link fault) after before now h leaves = leaves
+input_leaves told main out wasm input small WriteFault after before now h leaves = leaves
+input_leaves told main out wasm input small Memory after before now h leaves = inl leaves
+input_leaves told main out wasm input small (Usage kind) after before now h leaves = absurd leaves
+input_leaves told main out wasm input small (Set fault) after before now h leaves = absurd leaves
+input_leaves told main out wasm input small Unbuilt after before now h leaves = absurd leaves
+input_leaves told main out wasm input small (Ran ran) after before now h leaves = absurd leaves
+input_leaves told main out wasm input small (Single fault) after before now h leaves = absurd leaves
+input_leaves told main out wasm input small (Link fault) after before now h leaves = leaves
 
 -- where the set links, a module that is gathered is merged, unless a write failed or memory was wanted
-pub input_complete : (files : Files) (path : List ℕ) (wasm : Module) → IsInput files path (Ok wasm) → IsSmall wasm → (answer : Outcome) → ByEntry (entry_of wasm) answer → LinksAt files path
+pub input_complete : (files : Files) (path : List ℕ) (wasm : Module) → IsInput most_bytes files path (Ok wasm) → IsSmall wasm → (answer : Outcome) → ByEntry (entry_of wasm) answer → LinksAt files path
     → (answer ≡ WriteFault → ⊥) → (answer ≡ Done) ⊎ (answer ≡ Memory)
 input_complete files path wasm input small answer h links written = go (entry_of wasm) refl answer h written
   where
@@ -122,3 +127,5 @@ input_complete files path wasm input small answer h links written = go (entry_of
     go o e (Usage kind) h w = absurd h
     go o e (Set fault) h w = absurd h
     go o e Unbuilt h w = absurd h
+    go o e (Ran ran) h w = absurd h
+    go o e (Single fault) h w = absurd h

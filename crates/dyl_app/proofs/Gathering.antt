@@ -56,16 +56,21 @@ field_back field.Start = refl
 field_back field.Element = refl
 field_back field.Data = refl
 
-has_fault : (wasm : Module) → IsRecorded wasm → (why : validation.Fault) (fault : CheckFault) → validation.fault wasm ≡ Some why → fault ≡ check_fault why → HasCheckFault wasm fault
-has_fault wasm recorded why fault found is = record { recorded = recorded; why = why; found = found; is = is }
+-- the fault that was found
+pub found_fault : (wasm : Module) (fault : CheckFault) → IsFirst fault (validation.fault wasm) → (fault ≡ check.Memory → ⊥) → (why : validation.Fault) × (validation.fault wasm ≡ Some why) × (fault ≡ check_fault why)
+found_fault wasm (check.UnsupportedOp function opcode) first other = (validation.UnsupportedOp function opcode, first other, refl)
+found_fault wasm (check.UnsupportedType p) first other = (validation.UnsupportedType (place_of p), first other, ap check.UnsupportedType (sym (place_back p)))
+found_fault wasm (check.BadModule f) first other = (validation.BadModule (field_of f), first other, ap check.BadModule (sym (field_back f)))
+found_fault wasm (check.BadBody function) first other = (validation.BadBody function, first other, refl)
+found_fault wasm check.Memory first other = absurd (other refl)
+
+has_fault : (wasm : Module) (fault : CheckFault) → IsRecorded wasm → IsFirst fault (validation.fault wasm) → (fault ≡ check.Memory → ⊥) → HasCheckFault wasm fault
+has_fault wasm fault recorded first other = let found = found_fault wasm fault first other in record { recorded = recorded; why = found.0; found = found.1; is = found.2 }
 
 -- a fault of the module
 pub invalid : (wasm : Module) → IsRecorded wasm → (fault : CheckFault) → IsFirst fault (validation.fault wasm) → TellsValid wasm (Err (check_unless_memory fault))
-invalid wasm recorded (check.UnsupportedOp function opcode) first = (refl, has_fault wasm recorded (validation.UnsupportedOp function opcode) _ (first (λ is. cc)) refl)
-invalid wasm recorded (check.UnsupportedType p) first = (refl, has_fault wasm recorded (validation.UnsupportedType (place_of p)) _ (first (λ is. cc)) (ap check.UnsupportedType (sym (place_back p))))
-invalid wasm recorded (check.BadModule f) first = (refl, has_fault wasm recorded (validation.BadModule (field_of f)) _ (first (λ is. cc)) (ap check.BadModule (sym (field_back f))))
-invalid wasm recorded (check.BadBody function) first = (refl, has_fault wasm recorded (validation.BadBody function) _ (first (λ is. cc)) refl)
 invalid wasm recorded check.Memory first = tt
+invalid wasm recorded fault first = (refl, has_fault wasm fault recorded first (λ is. cc))
 
 -- a fault of decoding
 pub failed : (bytes : List ℕ) (fault : DecodeFault) → Decodes bytes (Err fault) → ((answer : Result Module Fault) → Answers bytes answer → Yields answer (Err fault)) → ComesTo (IsTheAnswer bytes) (Err (unless_memory fault))
@@ -83,7 +88,7 @@ small_input bytes (Err fault) few d = tt
 pub gathered : (files : Files) (path bytes : List ℕ) (r : Result Module InputFault) → files path ≡ Some bytes → length bytes ≤ most_bytes → ComesTo (IsTheAnswer bytes) r → Gathered files path r
 gathered files path bytes r file few = go r
   where
-    input : {answer : Result Module Fault} → IsTheAnswer bytes answer → IsInput files path answer
+    input : {answer : Result Module Fault} → IsTheAnswer bytes answer → IsInput most_bytes files path answer
     input a = record { bytes = bytes; file = file; few = few; answers = a }
 
     go : (r : Result Module InputFault) → ComesTo (IsTheAnswer bytes) r → Gathered files path r

@@ -1,7 +1,13 @@
 pub mod Slashes
+pub mod ToldLines
 pub mod Gathering
 pub mod Entries
 pub mod SmallRecords
+pub mod OneFile
 pub mod Dues
 pub mod Ends
 pub mod Telling
+pub mod Fetching
+pub mod ExecDues
+pub mod Executing
+pub mod Performing

@@ -7,7 +7,7 @@ use Rattle.spec_linking.specs.Definitions.{entry_of}
 use Rattle.merge_whole.specs.MergedModule.{linked_alone, merged_alone, MergedAs}
 use Rattle.dyl_app.specs.declared.outcome.LinkFault.TheVariants as link
 use Rattle.dyl_app.specs.declared.outcome.Outcome.{Outcome}
-use Rattle.dyl_app.specs.declared.outcome.Outcome.TheVariants.{Done, Usage, Set, Unbuilt, Link, WriteFault, Memory}
+use Rattle.dyl_app.specs.declared.outcome.Outcome.TheVariants.{Done, Ran, Usage, Set, Unbuilt, Link, Single, WriteFault, Memory}
 
 -- the path of the output holds bytes that merge the set of this module, and every other path is as it was
 pub record HoldsMerged (wasm : Module) (out : List ℕ) (files after : FileMap) : Type 0 where
@@ -26,6 +26,8 @@ LeavesWritten wasm out files (Link fault) after = after ≡ Some files
 LeavesWritten wasm out files (Usage kind) after = ⊥
 LeavesWritten wasm out files (Set fault) after = ⊥
 LeavesWritten wasm out files Unbuilt after = ⊥
+LeavesWritten wasm out files (Ran ran) after = ⊥
+LeavesWritten wasm out files (Single fault) after = ⊥
 
 -- an outcome by the entry of the module
 abbrev pub ByEntry : Option ℕ → Outcome → Type 0
@@ -39,3 +41,5 @@ ByEntry (Some entry) (Link fault) = ⊥
 ByEntry entry (Usage kind) = ⊥
 ByEntry entry (Set fault) = ⊥
 ByEntry entry Unbuilt = ⊥
+ByEntry entry (Ran ran) = ⊥
+ByEntry entry (Single fault) = ⊥

@@ -14,18 +14,18 @@ use Rattle.wasm_check.specs.declared.fault.CheckFault.TheVariants as check
 use Rattle.dyl_app.specs.declared.outcome.SetFault.TheVariants.{Missing, ReadFault, Decode, Record, Check, SetSize}
 use Rattle.dyl_app.specs.declared.gather.InputFault.{InputFault}
 use Rattle.dyl_app.specs.declared.gather.InputFault.TheVariants.{Set, Unbuilt, Memory}
-use Rattle.dyl_app.specs.Due.{IsMissing, IsTooLong, decode_fault, IsRecorded, HasRecordFault, HasCheckFault, IsNotSmall}
+use Rattle.dyl_app.specs.Due.{most_file, IsMissing, IsTooLong, decode_fault, check_fault, IsRecorded, HasRecordFault, HasCheckFault, IsNotSmall}
 
 -- this is to say of the bytes, and nothing else
 pub record IsTheAnswer (bytes : List ℕ) (answer : Result Module Fault) : Type 0 where
   pub told : Answers bytes answer
   pub only : (other : Result Module Fault) → Answers bytes other → other ≡ answer
 
--- the file at the path has no more bytes than a set may have, and this is to say of them, and nothing else
-pub record IsInput (files : Files) (path : List ℕ) (answer : Result Module Fault) : Type 0 where
+-- the file at the path has no more bytes than may be, and this is to say of them, and nothing else
+pub record IsInput (most : ℕ) (files : Files) (path : List ℕ) (answer : Result Module Fault) : Type 0 where
   pub bytes : List ℕ
   pub file : files path ≡ Some bytes
-  pub few : length bytes ≤ most_bytes
+  pub few : length bytes ≤ most
   pub answers : IsTheAnswer bytes answer
 
 -- what a file comes to, where this is what is known of what there is to say of it
@@ -79,8 +79,8 @@ check_unless_memory fault = Set (Check 0 fault)
 abbrev pub Gathered : Files → List ℕ → Result Module InputFault → Type 0
 Gathered files path (Err (Set (Missing name))) = IsMissing files path × (name ≡ main_name path)
 Gathered files path (Err (Set (ReadFault at))) = at ≡ path
-Gathered files path (Err (Set SetSize)) = IsTooLong files path
-Gathered files path result = ComesTo (IsInput files path) result
+Gathered files path (Err (Set SetSize)) = IsTooLong most_bytes files path
+Gathered files path result = ComesTo (IsInput most_bytes files path) result
 
 -- the main module at this path is missing, or there was no memory to say so
 abbrev pub IsMissingOf : List ℕ → InputFault → Type 0
@@ -103,3 +103,19 @@ IsReadFaultOf path (Set (Check member fault)) = ⊥
 IsReadFaultOf path (Set SetSize) = ⊥
 IsReadFaultOf path Unbuilt = ⊥
 IsReadFaultOf path Memory = Unit {0}
+
+-- ---- the module of one file
+
+-- what a file comes to that is run, where this is what is known of what there is to say of it
+abbrev pub ComesToChecked : (Result Module Fault → Type 0) → Result Module InputFault → Type 0
+ComesToChecked Known (Ok wasm) = Known (Ok wasm) × (validation.fault wasm ≡ None)
+ComesToChecked Known (Err (Set (Decode member fault))) = (why : Fault) × Known (Err why) × (member ≡ 0) × (fault ≡ decode_fault why)
+ComesToChecked Known (Err (Set (Check member fault))) = (wasm : Module) × Known (Ok wasm) × (member ≡ 0) × ((why : validation.Fault) × (validation.fault wasm ≡ Some why) × (fault ≡ check_fault why))
+ComesToChecked Known (Err Memory) = Unit {0}
+ComesToChecked Known (Err _) = ⊥
+
+abbrev pub Fetched : Files → List ℕ → Result Module InputFault → Type 0
+Fetched files path (Err (Set (Missing name))) = IsMissing files path × (name ≡ main_name path)
+Fetched files path (Err (Set (ReadFault at))) = at ≡ path
+Fetched files path (Err (Set SetSize)) = IsTooLong most_file files path
+Fetched files path result = ComesToChecked (IsInput most_file files path) result

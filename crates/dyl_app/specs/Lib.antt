@@ -6,3 +6,4 @@ pub mod Finish
 pub mod Files
 pub mod Lines
 pub mod Told
+pub mod Runs

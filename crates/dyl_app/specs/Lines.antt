@@ -1,4 +1,5 @@
 -- The line that is put to the errors for each outcome.
+use Rattle.std.specs.Option.{option_map}
 use Rattle.std.specs.Prelude.{ℕ, ◌+◌, ◌/◌, ◌%◌, List, [], ◌∷◌, ◌++◌, flat_map, codes, decimal, Bool, ◌&&◌, nat_eq, nat_lt, not, if◌then◌else◌, Option, Some, None}
 use Rattle.wasm_decode.specs.declared.fault.DecodeFault.{DecodeFault}
 use Rattle.wasm_decode.specs.declared.fault.DecodeFault.TheVariants as decode
@@ -10,13 +11,19 @@ use Rattle.wasm_check.specs.declared.fault.Field.{Field}
 use Rattle.wasm_check.specs.declared.fault.Field.TheVariants as field
 use Rattle.wasm_check.specs.declared.fault.CheckFault.{CheckFault}
 use Rattle.wasm_check.specs.declared.fault.CheckFault.TheVariants as check
+use Rattle.wasm_form.specs.declared.runtime.Trap.{Trap}
+use Rattle.wasm_form.specs.declared.runtime.Trap.TheVariants as trap
+use Rattle.wasm_single.specs.declared.fault.SingleFault.{SingleFault}
+use Rattle.wasm_single.specs.declared.fault.SingleFault.TheVariants as single
+use Rattle.wasm_exec.specs.declared.ran.RunEnd.{RunEnd}
+use Rattle.wasm_exec.specs.declared.ran.RunEnd.TheVariants as end
 use Rattle.dyl_app.specs.declared.outcome.UsageKind.{UsageKind}
 use Rattle.dyl_app.specs.declared.outcome.UsageKind.TheVariants.{NoCommand, UnknownCommand, Words}
 use Rattle.dyl_app.specs.declared.outcome.SetFault.{SetFault}
 use Rattle.dyl_app.specs.declared.outcome.SetFault.TheVariants.{Missing, ReadFault, Decode, Record, Check, SetSize}
 use Rattle.dyl_app.specs.declared.outcome.LinkFault.TheVariants as link
 use Rattle.dyl_app.specs.declared.outcome.Outcome.{Outcome}
-use Rattle.dyl_app.specs.declared.outcome.Outcome.TheVariants.{Done, Usage, Set, Unbuilt, Link, WriteFault, Memory}
+use Rattle.dyl_app.specs.declared.outcome.Outcome.TheVariants.{Done, Ran, Usage, Set, Unbuilt, Link, Single, WriteFault, Memory}
 
 -- a lower-case hexadecimal digit
 abbrev pub hex_digit : ℕ → ℕ
@@ -92,20 +99,51 @@ set_text (Record m fault) = record_text m fault
 set_text (Check m fault) = check_text m fault
 set_text SetSize = codes "files too long"
 
-abbrev pub outcome_text : Outcome → List ℕ
-outcome_text Done = []
-outcome_text (Usage kind) = usage_text kind
-outcome_text (Set fault) = set_text fault
-outcome_text Unbuilt = codes "unbuilt"
-outcome_text (Link link.NoEntry) = codes "no entry"
-outcome_text WriteFault = codes "write fault"
-outcome_text Memory = codes "out of memory"
+abbrev pub trap_text : Trap → List ℕ
+trap_text trap.Unreachable = codes "unreachable"
+trap_text trap.MemoryBounds = codes "memory bounds"
+trap_text trap.TableBounds = codes "table bounds"
+trap_text trap.NullEntry = codes "null entry"
+trap_text trap.WrongType = codes "wrong type"
+trap_text trap.DivideByZero = codes "divide by zero"
+trap_text trap.Overflow = codes "overflow"
+
+-- a run that returned or exited has no text
+abbrev pub end_text : RunEnd → Option (List ℕ)
+end_text end.Return = None
+end_text (end.Exit code) = None
+end_text (end.Trap why) = Some (codes "trap " ++ trap_text why)
+end_text end.StepLimit = Some (codes "step limit")
+end_text end.DepthLimit = Some (codes "depth limit")
+end_text end.HostCallLimit = Some (codes "host call limit")
+end_text end.Stuck = Some (codes "stuck")
+
+abbrev pub single_text : SingleFault → List ℕ
+single_text single.NoEntry = codes "no entry"
+single_text (single.HostImport from name) = codes "no host import " ++ escaped from ++ codes " " ++ escaped name
+single_text (single.HostType from name) = codes "ill-typed host import " ++ escaped from ++ codes " " ++ escaped name
+single_text single.SegmentTrap = codes "segment out of bounds"
+single_text single.Memory = codes "out of memory"
+
+abbrev pub memory_text : List ℕ
+memory_text = codes "out of memory"
+
+-- what is told of an outcome; none where the command is done, and of a run that returned or exited
+abbrev pub outcome_text : Outcome → Option (List ℕ)
+outcome_text Done = None
+outcome_text (Ran ran) = end_text ran.end
+outcome_text (Usage kind) = Some (usage_text kind)
+outcome_text (Set fault) = Some (set_text fault)
+outcome_text Unbuilt = Some (codes "unbuilt")
+outcome_text (Link link.NoEntry) = Some (codes "no entry")
+outcome_text (Single fault) = Some (single_text fault)
+outcome_text WriteFault = Some (codes "write fault")
+outcome_text Memory = Some memory_text
 
 -- the line of this text
 abbrev pub line_with : List ℕ → List ℕ
 line_with text = codes "wdyl: " ++ (text ++ 0x0A ∷ [])
 
--- the line of an outcome; none where the command is done
+-- the line of an outcome, if anything is told of it
 abbrev pub line_of : Outcome → Option (List ℕ)
-line_of Done = None
-line_of outcome = Some (line_with (outcome_text outcome))
+line_of outcome = option_map line_with (outcome_text outcome)

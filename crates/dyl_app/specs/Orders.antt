@@ -1,14 +1,13 @@
 -- What the words ask for.
-use Rattle.std.specs.Prelude.{◌≡◌, ℕ, List, [], ◌∷◌, Bool, false, ◌&&◌, nat_eq, not, Result, Ok, Err, String, string_bytes, codes, bytes_eq, if◌then◌else◌}
-use Rattle.std.specs.List.{list_any}
+use Rattle.std.specs.Prelude.{◌≡◌, ◌≤◌, ℕ, List, [], ◌∷◌, Bool, true, false, ◌&&◌, nat_eq, not, Result, Ok, Err, String, string_bytes, codes, bytes_eq, if◌then◌else◌}
+use Rattle.std.specs.List.{list_all, list_any}
 use Rattle.std.specs.declared.alloc.Global.{Global}
 use Rattle.dyl_app.specs.declared.outcome.UsageKind.{UsageKind}
 use Rattle.dyl_app.specs.declared.outcome.UsageKind.TheVariants.{NoCommand, UnknownCommand, Words}
-
--- `merge`: the path of the main module, and the path of what is written
-pub record Order : Type 0 where
-  pub main : List ℕ
-  pub out : List ℕ
+use Rattle.dyl_app.specs.declared.order.Order.{Order}
+use Rattle.dyl_app.specs.declared.order.Order.TheVariants.{Merge, Exec}
+use Rattle.dyl_app.specs.declared.words.WordFault.{WordFault}
+use Rattle.dyl_app.specs.declared.words.WordFault.TheVariants as word
 
 abbrev pub starts_with_hyphen : List ℕ → Bool
 starts_with_hyphen [] = false
@@ -22,17 +21,40 @@ abbrev pub is_plain : List ℕ → Bool
 is_plain word = not (starts_with_hyphen word) && not (has_zero word)
 
 abbrev pub merge_order : List (String Global) → Result Order UsageKind
-merge_order (main ∷ out ∷ []) =
-    if is_plain (string_bytes main) && is_plain (string_bytes out) then Ok (record { main = string_bytes main; out = string_bytes out }) else Err Words
+merge_order (main ∷ out ∷ []) = if is_plain (string_bytes main) && is_plain (string_bytes out) then Ok (Merge (string_bytes main) (string_bytes out)) else Err Words
 merge_order _ = Err Words
+
+-- the steps that are allowed where no number is given
+abbrev pub default_steps : ℕ
+default_steps = 1000000000
+
+abbrev pub exec_order : List (String Global) → Result Order UsageKind
+exec_order (file ∷ []) = if is_plain (string_bytes file) then Ok (Exec (string_bytes file) default_steps []) else Err Words
+exec_order _ = Err Words
 
 -- the first word is the program's own name
 abbrev pub order_of : List (String Global) → Result Order UsageKind
 order_of [] = Err NoCommand
 order_of (program ∷ []) = Err NoCommand
-order_of (program ∷ command ∷ words) = if bytes_eq (string_bytes command) (codes "merge") then merge_order words else Err UnknownCommand
+order_of (program ∷ command ∷ words) =
+    if bytes_eq (string_bytes command) (codes "merge") then merge_order words
+    else (if bytes_eq (string_bytes command) (codes "exec") then exec_order words else Err UnknownCommand)
 
--- these were read from the words, or this is what is wrong with them
-abbrev pub Reads : {W : Type 0} → (W → Order) → Result W UsageKind → Result Order UsageKind → Type 0
-Reads view (Ok read) order = order ≡ Ok (view read)
-Reads view (Err kind) order = order ≡ Err kind
+-- these were read from the words, or this is what is wrong with them, or memory was wanting
+abbrev pub Reads : Result Order WordFault → Result Order UsageKind → Type 0
+Reads (Ok read) order = order ≡ Ok read
+Reads (Err (word.Usage kind)) order = order ≡ Err kind
+Reads (Err word.Memory) order = Unit {0}
+
+-- the path of the module that is gathered or run
+abbrev pub path_of : Order → List ℕ
+path_of (Merge main out) = main
+path_of (Exec file steps args) = file
+
+abbrev pub has_no_zero : List ℕ → Bool
+has_no_zero text = not (has_zero text)
+
+-- an order whose numbers are in their ranges and whose texts have no zero character
+abbrev pub IsInRange : Order → Type 0
+IsInRange (Merge main out) = (has_no_zero main ≡ true) × (has_no_zero out ≡ true)
+IsInRange (Exec file steps args) = (has_no_zero file ≡ true) × (steps ≤ 9223372036854775807) × (list_all has_no_zero args ≡ true)

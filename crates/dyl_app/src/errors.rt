@@ -1,19 +1,18 @@
 // Telling what came of an order.
-ghost use Rattle.std.specs.Prelude.{◌≡◌, ◌≢◌, ◌≤◌, Some};
-ghost use Rattle.std.specs.Option.{ForSome};
-ghost use Rattle.dyl_app.specs.Lines.{line_of};
-ghost use Rattle.dyl_app.specs.Told.{IsTold, Told};
+ghost use Rattle.std.specs.Prelude.{◌≡◌, true, false, Some, None, IsSome};
+ghost use Rattle.dyl_app.specs.Lines.{line_of, outcome_text};
+ghost use Rattle.dyl_app.specs.Told.{IsTold, TellsErrors};
 
 use crate::line::line;
 use crate::outcome::Outcome;
 use dyl_outside::{IoFault, Sink};
 use std::alloc::Global;
+use wasm_exec::RunEnd;
 
 /// Puts the line of Memory, which is made without any.
 fn tell_memory<E: Sink>(alloc: Global, errors: &mut E) -> Outcome
     ensures answer { result ≡ Outcome.Memory }
-    ensures told { ForSome (E.held errors.old) (λ before. Told Outcome.Memory before (E.held errors.new) (E.faults errors.old) (E.faults errors.new)) }
-    ensures faults { E.faults errors.old ≤ E.faults errors.new }
+    ensures told { TellsErrors Outcome.Memory (record { held = E.held errors.old; faults = E.faults errors.old }) (record { held = E.held errors.new; faults = E.faults errors.new }) }
 {
     match errors.put(alloc, b"wdyl: out of memory\n") {
         Ok(()) | Err(IoFault::Failed | IoFault::Memory) => Outcome::Memory,
@@ -22,11 +21,9 @@ fn tell_memory<E: Sink>(alloc: Global, errors: &mut E) -> Outcome
 
 /// Puts the line of an outcome.
 fn tell_line<E: Sink>(alloc: Global, outcome: Outcome, line: &[u8], errors: &mut E) -> Outcome
-    requires line { line_of outcome ≡ Some line.now }
-    requires other { outcome ≢ Outcome.Done }
+    requires { line_of outcome ≡ Some line.now }
     ensures answer { IsTold outcome result }
-    ensures told { ForSome (E.held errors.old) (λ before. Told result before (E.held errors.new) (E.faults errors.old) (E.faults errors.new)) }
-    ensures faults { E.faults errors.old ≤ E.faults errors.new }
+    ensures told { TellsErrors result (record { held = E.held errors.old; faults = E.faults errors.old }) (record { held = E.held errors.new; faults = E.faults errors.new }) }
 {
     match errors.put(alloc, line) {
         Ok(()) => outcome,
@@ -37,10 +34,9 @@ fn tell_line<E: Sink>(alloc: Global, outcome: Outcome, line: &[u8], errors: &mut
 
 /// Makes the line of an outcome, and puts it.
 fn tell_other<E: Sink>(alloc: Global, outcome: Outcome, errors: &mut E) -> Outcome
-    requires { outcome ≢ Outcome.Done }
+    requires { IsSome (outcome_text outcome) }
     ensures answer { IsTold outcome result }
-    ensures told { ForSome (E.held errors.old) (λ before. Told result before (E.held errors.new) (E.faults errors.old) (E.faults errors.new)) }
-    ensures faults { E.faults errors.old ≤ E.faults errors.new }
+    ensures told { TellsErrors result (record { held = E.held errors.old; faults = E.faults errors.old }) (record { held = E.held errors.new; faults = E.faults errors.new }) }
 {
     match line(alloc, &outcome) {
         Ok(line) => tell_line(alloc, outcome, &line, errors),
@@ -48,15 +44,28 @@ fn tell_other<E: Sink>(alloc: Global, outcome: Outcome, errors: &mut E) -> Outco
     }
 }
 
-/// Tells of an outcome by its line, and answers it; or Memory, where none could be had for that.
-pub fn tell<E: Sink>(alloc: Global, outcome: Outcome, errors: &mut E) -> Outcome
-    ensures answer { IsTold outcome result }
-    ensures told { ForSome (E.held errors.old) (λ before. Told result before (E.held errors.new) (E.faults errors.old) (E.faults errors.new)) }
-    ensures faults { E.faults errors.old ≤ E.faults errors.new }
-    ensures quiet { result ≡ Outcome.Done → errors.new ≡ errors.old }
+/// Whether nothing is told of an outcome: the command is done, or the run returned or exited.
+fn is_silent(outcome: &Outcome) -> bool
+    ensures silent { result ≡ true → outcome_text outcome.now ≡ None }
+    ensures told { result ≡ false → IsSome (outcome_text outcome.now) }
 {
     match outcome {
-        Outcome::Done => Outcome::Done,
+        Outcome::Done => true,
+        Outcome::Ran(ran) => matches!(ran.end, RunEnd::Return | RunEnd::Exit(_)),
+        _ => false,
+    }
+}
+
+/// Tells of an outcome by its line, if it has one, and answers it; or Memory, where none could be had for that.
+pub fn tell<E: Sink>(alloc: Global, outcome: Outcome, errors: &mut E) -> Outcome
+    ensures answer { IsTold outcome result }
+    ensures told { TellsErrors result (record { held = E.held errors.old; faults = E.faults errors.old }) (record { held = E.held errors.new; faults = E.faults errors.new }) }
+    ensures quiet { line_of result ≡ None → errors.new ≡ errors.old }
+{
+    if is_silent(&outcome) {
+        return outcome;
+    }
+    match outcome {
         Outcome::Memory => tell_memory(alloc, errors),
         other => tell_other(alloc, other, errors),
     }

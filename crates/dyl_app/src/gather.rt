@@ -1,5 +1,5 @@
 // The closed set of a main module alone.
-ghost use Rattle.std.specs.Prelude.{◌≡◌, ◌≢◌, IfOk, List, ℕ, None};
+ghost use Rattle.std.specs.Prelude.{◌≡◌, ◌≢◌, IfOk, OnOk, List, ℕ, None};
 ghost use Rattle.std.specs.Option.{ForSome};
 ghost use Rattle.std.specs.FinMap.{get};
 ghost use Rattle.dyl_outside.specs.Faults.{Rises};
@@ -16,14 +16,15 @@ ghost use Rattle.dyl_app.specs.declared.outcome.SetFault.TheVariants as set;
 ghost use Rattle.dyl_app.specs.Due.{IsRecorded};
 ghost use Rattle.dyl_app.specs.Gathered.{Gathered, IsTheAnswer, ComesTo, IsTested, TellsRecord, TellsValid, unless_memory, record_unless_memory, check_unless_memory, IsMissingOf, IsReadFaultOf};
 
-use crate::outcome::{Outcome, SetFault};
+use crate::outcome::SetFault;
+use crate::words::owned;
 use dyl_outside::{FileFault, Files};
 use dyl_section::{RecordFault, read_dylink};
 use merge_whole::is_small;
 use std::alloc::{AllocError, Global};
 use wasm_check::{CheckFault, check};
 use wasm_decode::{DecodeFault, decode};
-use wasm_form::{Memory, Module, Text};
+use wasm_form::Module;
 
 /// The most bytes of the files of a set.
 pub const MOST_BYTES: usize = 16_777_216;
@@ -49,16 +50,8 @@ fn name_of(path: &str) -> &str
     &path[start..]
 }
 
-/// A text of its own.
-fn owned(alloc: Global, text: &str) -> Result<Text, Memory>
-    ensures { IfOk result (λ t. t ≡ text.now) }
-{
-    let text = String::from_str(alloc, text)?;
-    Ok(Text::of(text))
-}
-
 /// That the main module is missing, by its name.
-fn missing(alloc: Global, path: &str) -> InputFault
+pub fn missing(alloc: Global, path: &str) -> InputFault
     ensures { IsMissingOf path.now result }
 {
     match owned(alloc, name_of(path)) {
@@ -68,7 +61,7 @@ fn missing(alloc: Global, path: &str) -> InputFault
 }
 
 /// That a file can't be read, by its path.
-fn unread(alloc: Global, path: &str) -> InputFault
+pub fn unread(alloc: Global, path: &str) -> InputFault
     ensures { IsReadFaultOf path.now result }
 {
     match owned(alloc, path) {
@@ -78,7 +71,7 @@ fn unread(alloc: Global, path: &str) -> InputFault
 }
 
 /// That the main module is not decoded, or no memory could be had.
-fn not_decoded(fault: DecodeFault) -> InputFault
+pub fn not_decoded(fault: DecodeFault) -> InputFault
     ensures { result ≡ unless_memory fault }
 {
     match fault {
@@ -98,7 +91,7 @@ fn not_recorded(fault: RecordFault) -> InputFault
 }
 
 /// That the main module has a fault, or no memory could be had.
-fn not_valid(fault: CheckFault) -> InputFault
+pub fn not_valid(fault: CheckFault) -> InputFault
     ensures { result ≡ check_unless_memory fault }
 {
     match fault {

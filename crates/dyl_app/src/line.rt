@@ -1,5 +1,5 @@
 // The line that is put to the errors for an outcome.
-ghost use Rattle.std.specs.Prelude.{◌≡◌, ◌<◌, ◌++◌, IfOk, OnOk, string_bytes};
+ghost use Rattle.std.specs.Prelude.{◌≡◌, ◌<◌, ◌++◌, [], codes, unwrap_or, Some, IsSome, IfOk, OnOk, string_bytes};
 ghost use Rattle.wasm_check.specs.declared.fault.CheckFault.TheVariants as check;
 ghost use Rattle.dyl_app.specs.Lines.{
   hex_digit,
@@ -15,8 +15,11 @@ ghost use Rattle.dyl_app.specs.Lines.{
   field_text,
   check_text,
   set_text,
+  trap_text,
+  end_text,
+  single_text,
   outcome_text,
-  line_with,
+  line_of,
 };
 
 use crate::outcome::{LinkFault, Outcome, SetFault, UsageKind};
@@ -24,7 +27,9 @@ use dyl_section::RecordFault;
 use std::alloc::Global;
 use wasm_check::{CheckFault, Field, Place};
 use wasm_decode::DecodeFault;
-use wasm_form::Memory;
+use wasm_exec::RunEnd;
+use wasm_form::{Memory, Text, Trap};
+use wasm_single::SingleFault;
 
 /// The digit of a number below 16.
 fn digit(n: u8) -> u8
@@ -246,24 +251,87 @@ fn put_set(alloc: Global, fault: &SetFault, to: &mut Vec<u8>) -> Result<(), Memo
     }
 }
 
-/// Puts the text of an outcome.
+/// Why code trapped.
+fn cause_text(trap: Trap) -> &'static str
+    ensures { result.now ≡ trap_text trap }
+{
+    match trap {
+        Trap::Unreachable => "unreachable",
+        Trap::MemoryBounds => "memory bounds",
+        Trap::TableBounds => "table bounds",
+        Trap::NullEntry => "null entry",
+        Trap::WrongType => "wrong type",
+        Trap::DivideByZero => "divide by zero",
+        Trap::Overflow => "overflow",
+    }
+}
+
+/// Puts how a run ended that neither returned nor exited.
+fn put_end(end: RunEnd, to: &mut Vec<u8>) -> Result<(), Memory>
+    ensures { OnOk result (to.new.items ≡ to.old.items ++ unwrap_or (end_text end) []) }
+{
+    match end {
+        RunEnd::Return | RunEnd::Exit(_) => Ok(()),
+        RunEnd::Trap(trap) => {
+            put_text("trap ", to)?;
+            put_text(cause_text(trap), to)
+        }
+        RunEnd::StepLimit => put_text("step limit", to),
+        RunEnd::DepthLimit => put_text("depth limit", to),
+        RunEnd::HostCallLimit => put_text("host call limit", to),
+        RunEnd::Stuck => put_text("stuck", to),
+    }
+}
+
+/// Puts which import is at fault.
+fn put_import(text: &str, module: &Text, name: &Text, to: &mut Vec<u8>) -> Result<(), Memory>
+    ensures { OnOk result (to.new.items ≡ to.old.items ++ (text.now ++ escaped «module».now ++ codes " " ++ escaped name.now)) }
+{
+    put_text(text, to)?;
+    put_escaped(module.as_str(), to)?;
+    put_text(" ", to)?;
+    put_escaped(name.as_str(), to)
+}
+
+/// Puts why a module isn't run.
+fn put_single(fault: &SingleFault, to: &mut Vec<u8>) -> Result<(), Memory>
+    ensures { OnOk result (to.new.items ≡ to.old.items ++ single_text fault.now) }
+{
+    match fault {
+        SingleFault::NoEntry => put_text("no entry", to),
+        SingleFault::HostImport { module, name } => put_import("no host import ", module, name, to),
+        SingleFault::HostType { module, name } => put_import(
+            "ill-typed host import ",
+            module,
+            name,
+            to,
+        ),
+        SingleFault::SegmentTrap => put_text("segment out of bounds", to),
+        SingleFault::Memory => put_text("out of memory", to),
+    }
+}
+
+/// Puts the text of an outcome, if there is one.
 fn put_outcome(alloc: Global, outcome: &Outcome, to: &mut Vec<u8>) -> Result<(), Memory>
-    ensures { OnOk result (to.new.items ≡ to.old.items ++ outcome_text outcome.now) }
+    ensures { OnOk result (to.new.items ≡ to.old.items ++ unwrap_or (outcome_text outcome.now) []) }
 {
     match outcome {
         Outcome::Done => Ok(()),
+        Outcome::Ran(ran) => put_end(ran.end, to),
         Outcome::Usage(kind) => put_text(words_text(*kind), to),
         Outcome::Set(fault) => put_set(alloc, fault, to),
         Outcome::Unbuilt => put_text("unbuilt", to),
         Outcome::Link(LinkFault::NoEntry) => put_text("no entry", to),
+        Outcome::Single(fault) => put_single(fault, to),
         Outcome::WriteFault => put_text("write fault", to),
         Outcome::Memory => put_text("out of memory", to),
     }
 }
 
-/// The line of an outcome that is not Done.
+/// The line of an outcome of which something is told.
 pub fn line(alloc: Global, outcome: &Outcome) -> Result<Vec<u8>, Memory>
-    ensures { IfOk result (λ line. line.items ≡ line_with (outcome_text outcome.now)) }
+    requires { IsSome (outcome_text outcome.now) }
+    ensures { IfOk result (λ line. line_of outcome.now ≡ Some line.items) }
 {
     let mut line = Vec::new(alloc);
     put_text("wdyl: ", &mut line)?;

@@ -1,11 +1,13 @@
 // What a call of the program comes to.
 ghost use Rattle.std.specs.Prelude.{◌≡◌};
-ghost use Rattle.dyl_app.specs.Status.{status_of};
+ghost use Rattle.dyl_app.specs.Status.{end_status, status_of};
 
 use dyl_section::RecordFault;
 use wasm_check::CheckFault;
 use wasm_decode::DecodeFault;
+use wasm_exec::{Ran, RunEnd};
 use wasm_form::Text;
+use wasm_single::SingleFault;
 
 /// What is wrong with the words.
 #[derive(Clone, Copy, Debug, PartialEq, Eq)]
@@ -47,6 +49,8 @@ pub enum LinkFault {
 pub enum Outcome {
     /// The command is done.
     Done,
+    /// The module was run.
+    Ran(Ran),
     /// The words are no order.
     Usage(UsageKind),
     /// The order's files are no closed set.
@@ -55,10 +59,28 @@ pub enum Outcome {
     Unbuilt,
     /// The set does not link.
     Link(LinkFault),
+    /// The module is not run. The fault is never `Memory`.
+    Single(SingleFault),
     /// The output could not be written.
     WriteFault,
     /// No memory could be had.
     Memory,
+}
+
+/// The exit status of a run by its end: that of a shell's `timeout` where steps are used up, and of a process that aborted where it
+/// trapped.
+fn end_status(end: RunEnd) -> u8
+    ensures { result ≡ end_status end }
+{
+    match end {
+        RunEnd::Return => 0,
+        RunEnd::Exit(code) => (code % 256) as u8,
+        RunEnd::Stuck => 70,
+        RunEnd::StepLimit => 124,
+        RunEnd::DepthLimit => 125,
+        RunEnd::HostCallLimit => 126,
+        RunEnd::Trap(_) => 134,
+    }
 }
 
 /// The exit status of an outcome, by sysexits.h where that has one.
@@ -67,9 +89,10 @@ pub fn status(outcome: &Outcome) -> u8
 {
     match outcome {
         Outcome::Done => 0,
+        Outcome::Ran(ran) => end_status(ran.end),
         Outcome::Usage(_) => 64,
         Outcome::Set(SetFault::ReadFault { .. }) => 66,
-        Outcome::Set(_) | Outcome::Unbuilt | Outcome::Link(_) => 65,
+        Outcome::Set(_) | Outcome::Unbuilt | Outcome::Link(_) | Outcome::Single(_) => 65,
         Outcome::Memory => 71,
         Outcome::WriteFault => 74,
     }

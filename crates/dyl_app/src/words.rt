@@ -1,8 +1,31 @@
 // Words to an order.
-ghost use Rattle.std.specs.Prelude.{◌≡◌};
-ghost use Rattle.dyl_app.specs.Orders.{starts_with_hyphen, has_zero, is_plain, merge_order, order_of, Reads};
+ghost use Rattle.std.specs.Prelude.{◌≡◌, IfOk};
+ghost use Rattle.dyl_app.specs.Orders.{starts_with_hyphen, is_plain, merge_order, exec_order, order_of, Reads, IsInRange};
+ghost use Rattle.dyl_app.specs.declared.words.WordFault.TheVariants as word;
 
+use crate::order::{Order, holds_zero};
 use crate::outcome::UsageKind;
+use std::alloc::Global;
+use wasm_form::{List, Memory, Text};
+
+/// Why words are no order.
+#[derive(Clone, Copy, Debug, PartialEq, Eq)]
+pub enum WordFault {
+    Usage(UsageKind),
+    /// No memory could be had.
+    Memory,
+}
+
+impl From<Memory> for WordFault {
+    ghost from_gives = { λ _ e. e ≡ word.Memory };
+
+    fn from(_: Memory) -> WordFault {
+        WordFault::Memory
+    }
+}
+
+/// The steps that are allowed where no number is given.
+const DEFAULT_STEPS: u64 = 1_000_000_000;
 
 /// Whether a word begins as an option does.
 fn begins_option(word: &str) -> bool
@@ -11,45 +34,67 @@ fn begins_option(word: &str) -> bool
     matches!(word.as_bytes(), [b'-', ..])
 }
 
-/// Whether a word holds a zero character, which no path can.
-fn holds_zero(word: &str) -> bool
-    ensures { result ≡ has_zero word.now }
-{
-    word.as_bytes().iter().any(|b| *b == 0)
-}
-
 fn is_path(word: &str) -> bool
     ensures { result ≡ is_plain word.now }
 {
     !begins_option(word) && !holds_zero(word)
 }
 
-/// The paths of the main module and of the output, from the words of `merge`. The first word is the program's name.
-pub fn read_words(words: &[String]) -> Result<(&str, &str), UsageKind>
-    ensures { Reads (λ p. record { main = p.0.now; out = p.1.now }) result (order_of words.now) }
+/// A text of its own.
+pub(crate) fn owned(alloc: Global, text: &str) -> Result<Text, Memory>
+    ensures { IfOk result (λ t. t ≡ text.now) }
+{
+    let text = String::from_str(alloc, text)?;
+    Ok(Text::of(text))
+}
+
+/// The order that words are, of which the first one is the program's name.
+pub fn read_words(alloc: Global, words: &[String]) -> Result<Order, WordFault>
+    ensures reads { Reads result (order_of words.now) }
+    ensures range { IfOk result IsInRange }
 {
     match words {
-        [] | [_] => Err(UsageKind::NoCommand),
-        [_, command, rest @ ..] => {
-            if command.as_str() != "merge" {
-                return Err(UsageKind::UnknownCommand);
-            }
-            merge_words(rest)
-        }
+        [] | [_] => Err(WordFault::Usage(UsageKind::NoCommand)),
+        [_, command, rest @ ..] => match command.as_str() {
+            "merge" => merge_words(alloc, rest),
+            "exec" => exec_words(alloc, rest),
+            _ => Err(WordFault::Usage(UsageKind::UnknownCommand)),
+        },
     }
 }
 
 /// Exactly two words, which are paths.
-fn merge_words(words: &[String]) -> Result<(&str, &str), UsageKind>
-    ensures { Reads (λ p. record { main = p.0.now; out = p.1.now }) result (merge_order words.now) }
+fn merge_words(alloc: Global, words: &[String]) -> Result<Order, WordFault>
+    ensures reads { Reads result (merge_order words.now) }
+    ensures range { IfOk result IsInRange }
 {
     let [main, out] = words else {
-        return Err(UsageKind::Words);
+        return Err(WordFault::Usage(UsageKind::Words));
     };
     let (main, out) = (main.as_str(), out.as_str());
-    if is_path(main) && is_path(out) {
-        Ok((main, out))
-    } else {
-        Err(UsageKind::Words)
+    if !is_path(main) || !is_path(out) {
+        return Err(WordFault::Usage(UsageKind::Words));
     }
+    Ok(Order::Merge {
+        main: owned(alloc, main)?,
+        out: owned(alloc, out)?,
+    })
+}
+
+/// Exactly one word, which is a path.
+fn exec_words(alloc: Global, words: &[String]) -> Result<Order, WordFault>
+    ensures reads { Reads result (exec_order words.now) }
+    ensures range { IfOk result IsInRange }
+{
+    let [file] = words else {
+        return Err(WordFault::Usage(UsageKind::Words));
+    };
+    if !is_path(file.as_str()) {
+        return Err(WordFault::Usage(UsageKind::Words));
+    }
+    Ok(Order::Exec {
+        file: owned(alloc, file.as_str())?,
+        steps: DEFAULT_STEPS,
+        args: List::of(Vec::new(alloc)),
+    })
 }

@@ -1,7 +1,8 @@
 mod lines;
 
 use dyl_app::{LinkFault, Outcome, SetFault, UsageKind, serve, status};
-use dyl_outside::{Files, MemFiles, MemSink};
+use dyl_outside::{Files, MemAmbient, MemFiles, MemSink, MemSource};
+use host_table::HostTable;
 use std::alloc::Global;
 use std::test::Fail;
 use wasm_check::check;
@@ -56,12 +57,31 @@ fn words(alloc: Global, texts: &[&str]) -> Result<Vec<String>, Fail> {
     Ok(words)
 }
 
+/// The outcome of a call with these words, over an empty input, outputs in memory, a clock without times and an empty table.
+fn serve_with(
+    alloc: Global,
+    words: &[String],
+    files: &mut MemFiles,
+    errors: &mut MemSink,
+) -> Outcome {
+    serve(
+        alloc,
+        words,
+        files,
+        &mut MemSource::new(alloc, Vec::new(alloc)),
+        &mut MemSink::new(alloc),
+        errors,
+        &mut MemAmbient::new(alloc, Vec::new(alloc), Vec::new(alloc)),
+        &HostTable::new(alloc),
+    )
+}
+
 /// The outcome of merging a file, and whether the output was written.
 fn merged(alloc: Global, file: &[u8]) -> Result<(Outcome, bool), Fail> {
     let mut files = MemFiles::new(alloc);
     files.add(alloc, "main.wasm", file)?;
     let words = words(alloc, &["wdyl", "merge", "main.wasm", "out.wasm"])?;
-    let outcome = serve(alloc, &words, &mut files, &mut MemSink::new(alloc));
+    let outcome = serve_with(alloc, &words, &mut files, &mut MemSink::new(alloc));
     let written = files.fetch(alloc, "out.wasm", 1_000_000_000).is_ok();
     Ok((outcome, written))
 }
@@ -95,7 +115,7 @@ fn what_is_merged_is_valid(rt: HostRuntime) -> Result<(), Fail> {
         let mut files = MemFiles::new(alloc);
         files.add(alloc, "main.wasm", file)?;
         let words = words(alloc, &["wdyl", "merge", "main.wasm", "out.wasm"])?;
-        let outcome = serve(alloc, &words, &mut files, &mut MemSink::new(alloc));
+        let outcome = serve_with(alloc, &words, &mut files, &mut MemSink::new(alloc));
         assert_eq!(rt; status(&outcome), 0);
         let output = files
             .fetch(alloc, "out.wasm", 1_000_000_000)
@@ -142,7 +162,7 @@ fn failing(alloc: Global, call: u64) -> Result<(Outcome, bool), Fail> {
     files.add(alloc, "main.wasm", SMALLEST)?;
     files.fail_at(alloc, call)?;
     let words = words(alloc, &["wdyl", "merge", "main.wasm", "out.wasm"])?;
-    let outcome = serve(alloc, &words, &mut files, &mut MemSink::new(alloc));
+    let outcome = serve_with(alloc, &words, &mut files, &mut MemSink::new(alloc));
     let written = files.fetch(alloc, "out.wasm", 1_000_000_000).is_ok();
     Ok((outcome, written))
 }
@@ -164,7 +184,7 @@ fn missing_files(rt: HostRuntime) -> Result<(), Fail> {
     let alloc = rt.alloc();
     let mut files = MemFiles::new(alloc);
     let words = words(alloc, &["wdyl", "merge", "set/app/main.wasm", "out.wasm"])?;
-    let outcome = serve(alloc, &words, &mut files, &mut MemSink::new(alloc));
+    let outcome = serve_with(alloc, &words, &mut files, &mut MemSink::new(alloc));
     assert_eq!(rt; status(&outcome), 65);
     match &outcome {
         Outcome::Set(SetFault::Missing { name }) => assert_eq!(rt; name.as_str(), "main.wasm"),
@@ -202,7 +222,7 @@ fn words_that_are_no_order(rt: HostRuntime) -> Result<(), Fail> {
         (["wdyl", "merge", "a", "b\0"].as_slice(), UsageKind::Words),
     ] {
         let words = words(alloc, texts)?;
-        let outcome = serve(
+        let outcome = serve_with(
             alloc,
             &words,
             &mut MemFiles::new(alloc),

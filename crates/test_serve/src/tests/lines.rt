@@ -1,13 +1,13 @@
 // The lines of faults.
-use super::{SMALLEST, words};
-use dyl_app::{LinkFault, Outcome, SetFault, UsageKind, serve, status, tell};
+use super::{SMALLEST, serve_with, words};
+use dyl_app::{LinkFault, Outcome, Ran, RunEnd, SetFault, SingleFault, UsageKind, status, tell};
 use dyl_outside::{MemFiles, MemSink};
 use dyl_section::RecordFault;
 use std::alloc::Global;
 use std::test::Fail;
 use wasm_check::{CheckFault, Field, Place};
 use wasm_decode::DecodeFault;
-use wasm_form::Text;
+use wasm_form::{List, Text, Trap};
 
 /// Whether an outcome is told by this line.
 fn tells(alloc: Global, outcome: Outcome, text: &str) -> Result<bool, Fail> {
@@ -32,6 +32,67 @@ fn lines_of_outcomes(rt: HostRuntime) -> Result<(), Fail> {
     assert!(rt; tells(alloc, Outcome::Unbuilt, "wdyl: unbuilt\n")?);
     assert!(rt; tells(alloc, Outcome::WriteFault, "wdyl: write fault\n")?);
     assert!(rt; tells(alloc, Outcome::Memory, "wdyl: out of memory\n")?);
+    Ok(())
+}
+
+#[test]
+fn lines_of_runs(rt: HostRuntime) -> Result<(), Fail> {
+    let alloc = rt.alloc();
+    for (end, text) in [
+        (RunEnd::Return, ""),
+        (RunEnd::Exit(7), ""),
+        (RunEnd::Trap(Trap::Unreachable), "wdyl: trap unreachable\n"),
+        (
+            RunEnd::Trap(Trap::MemoryBounds),
+            "wdyl: trap memory bounds\n",
+        ),
+        (RunEnd::Trap(Trap::TableBounds), "wdyl: trap table bounds\n"),
+        (RunEnd::Trap(Trap::NullEntry), "wdyl: trap null entry\n"),
+        (RunEnd::Trap(Trap::WrongType), "wdyl: trap wrong type\n"),
+        (
+            RunEnd::Trap(Trap::DivideByZero),
+            "wdyl: trap divide by zero\n",
+        ),
+        (RunEnd::Trap(Trap::Overflow), "wdyl: trap overflow\n"),
+        (RunEnd::StepLimit, "wdyl: step limit\n"),
+        (RunEnd::DepthLimit, "wdyl: depth limit\n"),
+        (RunEnd::HostCallLimit, "wdyl: host call limit\n"),
+        (RunEnd::Stuck, "wdyl: stuck\n"),
+    ] {
+        let ran = Ran {
+            end,
+            steps: 0,
+            answers: List::of(Vec::new(alloc)),
+        };
+        assert!(rt; tells(alloc, Outcome::Ran(ran), text)?);
+    }
+    Ok(())
+}
+
+#[test]
+fn lines_of_refused_modules(rt: HostRuntime) -> Result<(), Fail> {
+    let alloc = rt.alloc();
+    let import = |name: &str| Text::of(String::from_str(alloc, name).unwrap_or(String::new(alloc)));
+    for (fault, text) in [
+        (SingleFault::NoEntry, "wdyl: no entry\n"),
+        (SingleFault::SegmentTrap, "wdyl: segment out of bounds\n"),
+        (
+            SingleFault::HostImport {
+                module: import("e v"),
+                name: import("f"),
+            },
+            "wdyl: no host import e\\20v f\n",
+        ),
+        (
+            SingleFault::HostType {
+                module: import("env"),
+                name: import("f"),
+            },
+            "wdyl: ill-typed host import env f\n",
+        ),
+    ] {
+        assert!(rt; tells(alloc, Outcome::Single(fault), text)?);
+    }
     Ok(())
 }
 
@@ -237,7 +298,7 @@ fn answers(
     text: &str,
 ) -> Result<bool, Fail> {
     let words = words(alloc, &["wdyl", "merge", "main.wasm", "out.wasm"])?;
-    let outcome = serve(alloc, &words, files, errors);
+    let outcome = serve_with(alloc, &words, files, errors);
     Ok(status(&outcome) == code && errors.held() == text.as_bytes())
 }
 

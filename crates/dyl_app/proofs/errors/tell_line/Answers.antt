@@ -1,13 +1,12 @@
-use Rattle.std.proofs.Common.{inl, inr}
-use Rattle.dyl_app.proofs.Telling.{told_line}
+use Rattle.dyl_app.proofs.ToldLines.{put_tells, then_tells}
 use Rattle.dyl_app.proofs.errors.tell_line.Goals as goal
 
 pub returns-in-Ok-clause-told : goal.returns-in-Ok-clause-told
-returns-in-Ok-clause-told g c = λ before is. told_line c.args.outcome c.args.line.now before _ _ _ c.requires.line (inl (c.in-Ok.ensures.answer before is))
+returns-in-Ok-clause-told g c = put_tells c.args.outcome c.args.line.now c.put.result _ _ c.requires (λ none. cc) (record { answer = c.put.ensures.answer; count = c.put.ensures.count })
 
 pub returns-in-Err-Failed-clause-told : goal.returns-in-Err-Failed-clause-told
-returns-in-Err-Failed-clause-told g c = λ before is.
-    told_line c.args.outcome c.args.line.now before _ _ _ c.requires.line (inr ((rw c.in-Err-Failed.field-0-is at c.in-Err-Failed.ensures.count), (rw c.in-Err-Failed.field-0-is at c.in-Err-Failed.ensures.answer) before is))
+returns-in-Err-Failed-clause-told g c = put_tells c.args.outcome c.args.line.now c.put.result _ _ c.requires (λ none. cc) (record { answer = c.put.ensures.answer; count = c.put.ensures.count })
 
 pub returns-in-Err-Memory-clause-told : goal.returns-in-Err-Memory-clause-told
-returns-in-Err-Memory-clause-told g c = λ before is. rw c.tell_memory.ensures.answer (c.tell_memory.ensures.told before ((rw c.in-Err-Memory.field-0-is at c.in-Err-Memory.ensures.answer) before is))
+returns-in-Err-Memory-clause-told g c =
+    rw c.tell_memory.ensures.answer (then_tells c.args.line.now c.put.result _ _ _ (cc) (record { answer = c.put.ensures.answer; count = c.put.ensures.count }) c.tell_memory.ensures.told)

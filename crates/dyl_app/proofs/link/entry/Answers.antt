@@ -6,4 +6,4 @@ pub returns-in-Some : goal.returns-in-Some
 returns-in-Some c = entry_at_start c.args.wasm.now c.requires c.in-Some.f (sym c.in-Some.ensures)
 
 pub returns-in-None : goal.returns-in-None
-returns-in-None c = c.exported-in-None.ensures ∙ entry_at_main c.args.wasm.now c.requires (sym c.in-None.ensures)
+returns-in-None c = c.exported_function-in-None.ensures ∙ entry_at_main c.args.wasm.now c.requires (sym c.in-None.ensures)

@@ -1,16 +1,15 @@
-use Rattle.dyl_app.proofs.Telling.{told_due, told_tells, told_leaves, told_done}
+use Rattle.std.proofs.Common.{◌≡◌, refl}
+use Rattle.dyl_app.specs.declared.outcome.Outcome.TheVariants.{Memory}
+use Rattle.dyl_app.proofs.Telling.{told_keeps}
+use Rattle.dyl_app.proofs.Performing.{order_due, memory_tells, memory_does}
 use Rattle.dyl_app.proofs.service.serve.Goals as goal
 
-pub returns-clause-due : goal.returns-clause-due
-returns-clause-due g c = λ told is due at. told_due due c.perform-outcome.result c.tell.result c.tell.ensures.answer (c.perform-outcome.ensures.due told is due at)
+pub returns-in-Ok-clause-due : goal.returns-in-Ok-clause-due
+returns-in-Ok-clause-due g c = λ told is. order_due _ _ _ c.perform.result c.in-Ok.order c.in-Ok.ensures.reads (c.perform.ensures.due told is)
 
-pub returns-clause-tells : goal.returns-clause-tells
-returns-clause-tells g c = λ told is. told_tells _ _ c.perform-outcome.result c.tell.result c.tell.ensures.answer (c.perform-outcome.ensures.tells told is)
+pub returns-in-Err-Memory-clause-tells : goal.returns-in-Err-Memory-clause-tells
+returns-in-Err-Memory-clause-tells g c = λ told is. memory_tells _ _ _ c.tell-in-Err-Memory.result (told_keeps (λ o. o ≡ Memory) Memory c.tell-in-Err-Memory.result refl c.tell-in-Err-Memory.ensures.answer refl)
 
-pub returns-clause-files : goal.returns-clause-files
-returns-clause-files g c = λ told is.
-    told_leaves _ told c.perform-outcome.result c.tell.result _ _ _ c.tell.ensures.answer c.perform-outcome.ensures.write_fault (c.perform-outcome.ensures.files told is)
-
-pub returns-clause-complete : goal.returns-clause-complete
-returns-clause-complete g c = λ told is order ordered links reads writes.
-    told_done c.perform-outcome.result c.tell.result c.tell.ensures.answer (c.perform-outcome.ensures.complete told is order ordered links reads writes)
+pub returns-in-Err-Memory-clause-does : goal.returns-in-Err-Memory-clause-does
+returns-in-Err-Memory-clause-does g c =
+    memory_does _ _ _ _ c.tell-in-Err-Memory.result _ _ (told_keeps (λ o. o ≡ Memory) Memory c.tell-in-Err-Memory.result refl c.tell-in-Err-Memory.ensures.answer refl) c.tell-in-Err-Memory.ensures.told

@@ -1,5 +1,5 @@
 use Rattle.std.proofs.Common.{refl}
-use Rattle.dyl_app.proofs.service.write_merged.Goals as goal
+use Rattle.dyl_app.proofs.merge.write_merged.Goals as goal
 
 pub returns-in-Ok-store-clause-files : goal.returns-in-Ok-store-clause-files
 returns-in-Ok-store-clause-files g c = λ told is.

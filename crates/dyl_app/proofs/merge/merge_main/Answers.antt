@@ -2,7 +2,7 @@ use Rattle.std.proofs.Common.{refl, ◌∙◌}
 use Rattle.dyl_app.specs.declared.outcome.Outcome.TheVariants.{Done}
 use Rattle.dyl_app.proofs.Dues.{unbuilt_due, set_due, set_links}
 use Rattle.dyl_app.proofs.Ends.{input_due, input_tells, input_leaves, input_complete}
-use Rattle.dyl_app.proofs.service.merge_main.Goals as goal
+use Rattle.dyl_app.proofs.merge.merge_main.Goals as goal
 
 pub returns-in-Ok-clause-due : goal.returns-in-Ok-clause-due
 returns-in-Ok-clause-due g c = λ told is. (let at = c.in-Ok.ensures.answer told is in input_due _ c.args.main.now c.in-Ok.wasm at.0 at.1) c.finish.result c.finish.ensures.entry
@@ -12,7 +12,7 @@ returns-in-Ok-clause-tells g c = λ told is. (let at = c.in-Ok.ensures.answer to
 
 pub returns-in-Ok-clause-files : goal.returns-in-Ok-clause-files
 returns-in-Ok-clause-files g c = λ told is.
-    (let at = c.in-Ok.ensures.answer told is in input_leaves told (record { main = c.args.main.now; out = c.args.out.now }) c.in-Ok.wasm at.0 at.1) c.finish.result _ _ _ c.finish.ensures.entry (c.finish.ensures.files told (c.gather.ensures.files ∙ is))
+    (let at = c.in-Ok.ensures.answer told is in input_leaves told c.args.main.now c.args.out.now c.in-Ok.wasm at.0 at.1) c.finish.result _ _ _ c.finish.ensures.entry (c.finish.ensures.files told (c.gather.ensures.files ∙ is))
 
 pub returns-in-Ok-clause-complete : goal.returns-in-Ok-clause-complete
 returns-in-Ok-clause-complete g c = λ told is links reads writes.
