@@ -1,0 +1,69 @@
+// Small modules, by their bytes.
+
+/// The smallest main module of a set: one function without parameters and results, which is `_start` and does nothing.
+pub const SMALLEST: &[u8] =
+    b"\0asm\x01\0\0\0\0\x0f\x08dylink.0\x01\x04\0\0\0\0\x01\x04\x01`\0\0\x03\x02\x01\0\x07\n\x01\x06_start\0\0\n\x04\x01\x02\0\x0b";
+
+/// The same with `unreachable` as its body.
+pub const TRAPS: &[u8] =
+    b"\0asm\x01\0\0\0\0\x0f\x08dylink.0\x01\x04\0\0\0\0\x01\x04\x01`\0\0\x03\x02\x01\0\x07\n\x01\x06_start\0\0\n\x05\x01\x03\0\0\x0b";
+
+/// The smallest main module under another name, and so without an entry.
+pub const NO_ENTRY: &[u8] =
+    b"\0asm\x01\0\0\0\0\x0f\x08dylink.0\x01\x04\0\0\0\0\x01\x04\x01`\0\0\x03\x02\x01\0\x07\n\x01\x06_stars\0\0\n\x04\x01\x02\0\x0b";
+
+/// One empty function, `_start`, and no memory.
+pub const PLAIN: &[u8] =
+    b"\0asm\x01\0\0\0\x01\x04\x01`\0\0\x03\x02\x01\0\x07\n\x01\x06_start\0\0\n\x04\x01\x02\0\x0b";
+
+/// The same with `drop` as its body, which takes a value that isn't there.
+pub const DROPS: &[u8] =
+    b"\0asm\x01\0\0\0\x01\x04\x01`\0\0\x03\x02\x01\0\x07\n\x01\x06_start\0\0\n\x05\x01\x03\0\x1a\x0b";
+
+/// A start function sets a global, and `_start` traps where that is 0.
+pub const STARTS: &[u8] =
+    b"\0asm\x01\0\0\0\x01\x04\x01`\0\0\x03\x03\x02\0\0\x06\x06\x01\x7f\x01A\0\x0b\x07\n\x01\x06_start\0\x01\x08\x01\0\n\x12\x02\x06\0A\x01$\0\x0b\x09\0#\0E\x04@\0\x0b\x0b";
+
+/// Puts `Hello, module!` and a line feed to the output.
+pub const SAYS: &[u8] =
+    b"\0asm\x01\0\0\0\x01\x0c\x02`\x04\x7f\x7f\x7f\x7f\x01\x7f`\0\0\x02#\x01\x16wasi_snapshot_preview1\x08fd_write\0\0\x03\x02\x01\x01\x05\x03\x01\0\x01\x07\n\x01\x06_start\0\x01\n\x0f\x01\x0d\0A\x01A\0A\x01A \x10\0\x1a\x0b\x0b\x1d\x01\0A\0\x0b\x17\x08\0\0\0\x0f\0\0\0Hello, module!\n";
+
+/// Reads at most 64 bytes, and puts what it read to the output.
+pub const ECHOES: &[u8] =
+    b"\0asm\x01\0\0\0\x01\x0c\x02`\x04\x7f\x7f\x7f\x7f\x01\x7f`\0\0\x02D\x02\x16wasi_snapshot_preview1\x07fd_read\0\0\x16wasi_snapshot_preview1\x08fd_write\0\0\x03\x02\x01\x01\x05\x03\x01\0\x01\x07\n\x01\x06_start\0\x02\n$\x01\x22\0A\0A\0A\x01A\x08\x10\0\x1aA\x04A\x08(\x02\06\x02\0A\x01A\0A\x01A\x08\x10\x01\x1a\x0b\x0b\x0e\x01\0A\0\x0b\x08\x10\0\0\0@\0\0\0";
+
+/// Exits with 300.
+pub const EXITS: &[u8] =
+    b"\0asm\x01\0\0\0\x01\x08\x02`\x01\x7f\0`\0\0\x02$\x01\x16wasi_snapshot_preview1\x09proc_exit\0\0\x03\x02\x01\x01\x07\n\x01\x06_start\0\x01\n\n\x01\x08\0A\xac\x02\x10\0\0\x0b";
+
+/// Puts `bad` to the errors, and traps.
+pub const BLAMES: &[u8] =
+    b"\0asm\x01\0\0\0\x01\x0c\x02`\x04\x7f\x7f\x7f\x7f\x01\x7f`\0\0\x02#\x01\x16wasi_snapshot_preview1\x08fd_write\0\0\x03\x02\x01\x01\x05\x03\x01\0\x01\x07\n\x01\x06_start\0\x01\n\x10\x01\x0e\0A\x02A\0A\x01A\x10\x10\0\x1a\0\x0b\x0b\x11\x01\0A\0\x0b\x0b\x08\0\0\0\x03\0\0\0bad";
+
+/// `_start` calls itself.
+pub const RECURSES: &[u8] =
+    b"\0asm\x01\0\0\0\x01\x04\x01`\0\0\x03\x02\x01\0\x07\n\x01\x06_start\0\0\n\x06\x01\x04\0\x10\0\x0b";
+
+/// Calls `fd_close(0)` for ever.
+pub const CLOSES: &[u8] =
+    b"\0asm\x01\0\0\0\x01\x09\x02`\x01\x7f\x01\x7f`\0\0\x02#\x01\x16wasi_snapshot_preview1\x08fd_close\0\0\x03\x02\x01\x01\x07\n\x01\x06_start\0\x01\n\x0e\x01\x0c\0\x03@A\0\x10\0\x1a\x0c\0\x0b\x0b";
+
+/// Exits with what `env.twice` answers to 21.
+pub const TWICE: &[u8] =
+    b"\0asm\x01\0\0\0\x01\x0d\x03`\x01\x7f\x01\x7f`\x01\x7f\0`\0\0\x020\x02\x03env\x05twice\0\0\x16wasi_snapshot_preview1\x09proc_exit\0\x01\x03\x02\x01\x02\x07\n\x01\x06_start\0\x02\n\n\x01\x08\0A\x15\x10\0\x10\x01\x0b";
+
+/// Imports `env.twice` as a function from an i64 to an i64.
+pub const TWICE_WIDE: &[u8] =
+    b"\0asm\x01\0\0\0\x01\x09\x02`\x01~\x01~`\0\0\x02\x0d\x01\x03env\x05twice\0\0\x03\x02\x01\x01\x07\n\x01\x06_start\0\x01\n\x09\x01\x07\0B\x15\x10\0\x1a\x0b";
+
+/// Its `_start` has a result.
+pub const RESULT: &[u8] =
+    b"\0asm\x01\0\0\0\x01\x09\x02`\x01\x7f\0`\0\x01\x7f\x03\x03\x02\0\x01\x07\n\x01\x06_start\0\x01\n\x09\x02\x02\0\x0b\x04\0A\x01\x0b";
+
+/// An active segment of two bytes at the last byte of the memory.
+pub const OUTSIDE: &[u8] =
+    b"\0asm\x01\0\0\0\x01\x04\x01`\0\0\x03\x02\x01\0\x05\x03\x01\0\x01\x07\n\x01\x06_start\0\0\n\x04\x01\x02\0\x0b\x0b\n\x01\0A\xff\xff\x03\x0b\x02ab";
+
+/// Exits with 100 times the number of its arguments and the number of their bytes together.
+pub const COUNTS: &[u8] =
+    b"\0asm\x01\0\0\0\x01\x0e\x03`\x02\x7f\x7f\x01\x7f`\x01\x7f\0`\0\0\x02L\x02\x16wasi_snapshot_preview1\x0eargs_sizes_get\0\0\x16wasi_snapshot_preview1\x09proc_exit\0\x01\x03\x02\x01\x02\x05\x03\x01\0\x01\x07\n\x01\x06_start\0\x02\n\x1c\x01\x1a\0A\0A\x04\x10\0\x1aA\xe4\0A\0(\x02\0lA\x04(\x02\0j\x10\x01\x0b";

@@ -1,0 +1,3 @@
+mod Bottom
+mod Phases
+mod Opened
