@@ -1,13 +1,14 @@
 # make        builds bin/wdyl
-# make demo   builds it, merges the examples and runs what was merged
+# make demo   builds it, merges the examples, runs what was merged, and runs one that prints
 # make bench  builds it and measures it
+# make speed  measures runs of whole programs beside other engines
 # make codec  measures decoding, encoding and checking beside wabt
 # make inner  measures the memories and integer operators of a run beside C
 # make test   proves, builds and tests everything
 
 SOURCES := crates.txt $(shell find crates -name out -prune -o -type f \( -name '*.rt' -o -name '*.antt' \) -print)
 
-.PHONY: all demo bench codec inner test clean
+.PHONY: all demo bench speed codec inner test clean
 
 all: bin/wdyl
 
@@ -24,6 +25,9 @@ bench: bin/wdyl
 	python3 bench/merge.py bin/wdyl
 	@if command -v node >/dev/null; then node bench/recursion.mjs bin/wdyl; \
 	else echo "node is missing: the merged module that recurses for ever isn't run"; fi
+
+speed: bin/wdyl
+	python3 bench/exec.py bin/wdyl
 
 codec:
 	python3 bench/codec.py

@@ -3,8 +3,8 @@
 
     python3 examples/make_examples.py
 
-The modules have the form that wdyl reads today (docs/FORMATS.md, "The input form"). Each function here is given by the
-bytes of its body, without the byte 0B that ends it.
+The main modules of sets have the form that wdyl merges today (docs/FORMATS.md, "The input form"). Each function of
+theirs is given by the bytes of its body, without the byte 0B that ends it. `says` is an ordinary module.
 """
 
 import os
@@ -56,10 +56,6 @@ def parts(bodies, exports):
     ]
 
 
-def module(bodies, exports):
-    return b"".join(parts(bodies, exports))
-
-
 def code_in_words(code):
     """A body in words. It calls functions below 128 alone, whose numbers take one byte."""
     words = []
@@ -86,14 +82,34 @@ def words_of(bodies, exports):
     ]
 
 
-def listing(bodies, exports):
+def says(text):
+    """The parts of a module that puts a text of fewer than 48 bytes to the output by one call of WASI, each with its words."""
+    data = text.encode("utf-8")
+    # The vector at 0 is the address and the length of the text, which stands at 8.
+    memory = (8).to_bytes(4, "little") + len(data).to_bytes(4, "little") + data
+    zero = b"\x41\x00"
+    written = unsigned(8 + len(data) + 3 & ~3)
+    write = b"\x41\x01" + zero + b"\x41\x01" + b"\x41" + written + b"\x10\x00" + b"\x1a"
+    return [
+        ("header: the magic bytes and version 1", b"\x00asm\x01\x00\x00\x00"),
+        ("type section: type 0 is [i32 i32 i32 i32] -> [i32], type 1 is [] -> []", section(1, b"\x02\x60\x04\x7f\x7f\x7f\x7f\x01\x7f\x60\x00\x00")),
+        ("import section: function 0 is fd_write of wasi_snapshot_preview1, of type 0", section(2, b"\x01" + name("wasi_snapshot_preview1") + name("fd_write") + b"\x00\x00")),
+        ("function section: function 1 is of type 1", section(3, b"\x01\x01")),
+        ("memory section: one page at least", section(5, b"\x01\x00\x01")),
+        ("export section: _start is function 1", section(7, b"\x01" + name("_start") + b"\x00\x01")),
+        ("code section: fd_write(1, 0, 1, the first word after the text), drop", section(10, b"\x01" + body(write))),
+        ("data section: at 0 the vector, and the text", section(11, b"\x01\x00" + zero + b"\x0b" + unsigned(len(memory)) + memory)),
+    ]
+
+
+def listing(described):
     """Each part as a line of words, and below it its bytes, sixteen in a line."""
     lines = []
-    for words, data in zip(words_of(bodies, exports), parts(bodies, exports)):
+    for words, data in described:
         lines.append(words)
         for at in range(0, len(data), 16):
             lines.append("    " + " ".join(f"{b:02X}" for b in data[at:at + 16]))
-    lines.append(f"{len(module(bodies, exports))} bytes in all")
+    lines.append(f"{sum(len(data) for _, data in described)} bytes in all")
     return "\n".join(lines) + "\n"
 
 
@@ -105,14 +121,20 @@ EXAMPLES = {
 }
 
 
+def write(folder, described):
+    """Writes a module, and beside it its listing."""
+    here = os.path.join(os.path.dirname(os.path.abspath(__file__)), folder)
+    os.makedirs(here, exist_ok=True)
+    with open(os.path.join(here, "main.wasm"), "wb") as out:
+        out.write(b"".join(data for _, data in described))
+    with open(os.path.join(here, "main.txt"), "w", encoding="utf-8") as out:
+        out.write(listing(described))
+
+
 def main():
-    here = os.path.dirname(os.path.abspath(__file__))
     for folder, (bodies, exports) in EXAMPLES.items():
-        os.makedirs(os.path.join(here, folder), exist_ok=True)
-        with open(os.path.join(here, folder, "main.wasm"), "wb") as out:
-            out.write(module(bodies, exports))
-        with open(os.path.join(here, folder, "main.txt"), "w", encoding="utf-8") as out:
-            out.write(listing(bodies, exports))
+        write(folder, list(zip(words_of(bodies, exports), parts(bodies, exports))))
+    write("says", says("Hello from one module.\n"))
 
 
 if __name__ == "__main__":
