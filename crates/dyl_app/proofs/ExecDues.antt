@@ -8,20 +8,18 @@ use Rattle.spec_runtime.specs.Names.{HostNames}
 use Rattle.spec_execution.specs.OneModule.{ModuleState, OpeningFault, module_opening}
 use Rattle.spec_execution.specs.OneModule as opening
 use Rattle.spec_linking.specs.Sets.{Files}
-use Rattle.wasm_decode.specs.declared.fault.DecodeFault.{DecodeFault}
 use Rattle.wasm_check.specs.declared.fault.CheckFault.{CheckFault}
 use Rattle.wasm_single.specs.Starts.{cause_of}
 use Rattle.wasm_single.specs.declared.fault.SingleFault.{SingleFault}
 use Rattle.wasm_single.specs.declared.fault.SingleFault.TheVariants as single
 use Rattle.wasm_exec.specs.declared.ran.RunEnd.TheVariants as end
-use Rattle.dyl_app.specs.declared.outcome.SetFault.TheVariants.{Missing, ReadFault, Decode, Record, Check, SetSize}
-use Rattle.dyl_app.specs.declared.outcome.SetFault.{SetFault}
+use Rattle.dyl_app.specs.declared.outcome.SetFault.TheVariants.{Missing, Decode, Check, SetSize}
 use Rattle.dyl_app.specs.declared.outcome.Outcome.{Outcome}
 use Rattle.dyl_app.specs.declared.outcome.Outcome.TheVariants.{Ran, Set, Single}
 use Rattle.dyl_app.specs.declared.gather.InputFault.TheVariants as input
-use Rattle.dyl_app.specs.Due.{most_file, IsRead, OpensAt, decode_fault, check_fault, ExecDue, Yields, is_run}
-use Rattle.dyl_app.specs.Gathered.{IsInput, Fetched}
-use Rattle.dyl_app.proofs.OneFile.{no_file, read_as, there, not_too_long, FileOf, missing_is, too_long_is}
+use Rattle.dyl_app.specs.Due.{most_file, IsRead, decode_fault, check_fault, ExecDue, is_run}
+use Rattle.dyl_app.specs.Gathered.{IsInput}
+use Rattle.dyl_app.proofs.OneFile.{no_file, read_as, not_too_long}
 
 -- ---- why a module has no opening state
 
@@ -94,16 +92,6 @@ module _ (names : HostNames) (wasm : Module) where
   refused_is valid fault refused (Set (Check member other)) c = absurd (no_fault wasm other c.1 valid)
   refused_is valid fault refused _ c = absurd c
 
-  fault_is : (fault : CheckFault) → IsFault wasm fault → (o : Outcome) → ClassOf o → o ≡ Set (Check 0 fault)
-  fault_is fault h (Ran ran) c = absurd (no_fault wasm fault h c.0)
-  fault_is fault h (Single other) c = absurd (no_fault wasm fault h c.0)
-  fault_is fault h (Set (Check member other)) c =
-      let found = h.1 in
-      let again = c.1.1 in
-      let why : c.1.0 ≡ h.0 = cc in
-      ap (λ n. Set (Check n other)) c.0 ∙ ap (λ f. Set (Check 0 f)) (c.1.2 ∙ ap check_fault why ∙ sym h.2)
-  fault_is fault h _ c = absurd c
-
 -- ---- by the file
 
 -- what is due by what is to say of it
@@ -139,40 +127,3 @@ module _ (names : HostNames) (files : Files) (path : List ℕ) where
   pub refused_due : (wasm : Module) → IsInput most_file files path (Ok wasm) → validation.fault wasm ≡ None → (fault : SingleFault) → IsRefused names wasm fault
       → (o : Outcome) → ExecDue names files path o → o ≡ Single fault
   refused_due wasm file valid fault refused o d = refused_is names wasm valid fault refused o (due_by (Ok wasm) file o d)
-
-  -- the file where this is due
-  file_of : (o : Outcome) → ExecDue names files path o → FileOf files path most_file o
-  file_of (Ran ran) d = there files path most_file (Ok d.wasm) d.file.read
-  file_of (Single fault) d = there files path most_file (Ok d.wasm) d.file.read
-  file_of (Set (Missing name)) d = d
-  file_of (Set (Decode member fault)) d = there files path most_file (Err d.why) d.read
-  file_of (Set (Check member fault)) d = there files path most_file (Ok d.wasm) d.read
-  file_of (Set SetSize) d = d
-  file_of _ d = absurd d
-
-  -- where a file is not decoded
-  undecoded_due : (member : ℕ) (fault : DecodeFault) → ((why : Fault) × IsInput most_file files path (Err why) × (member ≡ 0) × (fault ≡ decode_fault why))
-      → (o : Outcome) → ExecDue names files path o → o ≡ Set (Decode member fault)
-  undecoded_due member fault u o d = due_by (Err u.0) u.1 o d ∙ sym (ap (λ n. Set (Decode n fault)) u.2 ∙ ap (λ f. Set (Decode 0 f)) u.3)
-
-  -- where a module has a fault
-  faulty_due : (member : ℕ) (fault : CheckFault) → ((wasm : Module) × IsInput most_file files path (Ok wasm) × (member ≡ 0) × IsFault wasm fault)
-      → (o : Outcome) → ExecDue names files path o → o ≡ Set (Check member fault)
-  faulty_due member fault u o d = fault_is names u.0 fault u.3 o (due_by (Ok u.0) u.1 o d) ∙ sym (ap (λ n. Set (Check n fault)) u.2)
-
-  -- where there is no module without a fault
-  pub fetched_due : (fault : SetFault) → Fetched files path (Err (input.Set fault)) → (o : Outcome) → ExecDue names files path o → Yields o (Set fault)
-  fetched_due (Missing name) f o d = missing_is files path most_file name f o (file_of o d)
-  fetched_due (ReadFault at) f o d = λ kind is. absurd (subst (ExecDue names files path) is d)
-  fetched_due (Decode member fault) f o d = undecoded_due member fault f o d
-  fetched_due (Record member fault) f o d = absurd f
-  fetched_due (Check member fault) f o d = faulty_due member fault f o d
-  fetched_due SetSize f o d = too_long_is files path most_file f o (file_of o d)
-
-  pub fetched_opens : (fault : SetFault) → Fetched files path (Err (input.Set fault)) → OpensAt names files path → ((at : List ℕ) → fault ≡ ReadFault at → ⊥) → ⊥
-  fetched_opens (Missing name) f opens read = let is = missing_is files path most_file name f any_run (file_of any_run opens) in cc
-  fetched_opens (ReadFault at) f opens read = read at refl
-  fetched_opens (Decode member fault) f opens read = let is = undecoded_due member fault f any_run opens in cc
-  fetched_opens (Record member fault) f opens read = f
-  fetched_opens (Check member fault) f opens read = let is = faulty_due member fault f any_run opens in cc
-  fetched_opens SetSize f opens read = let is = too_long_is files path most_file f any_run (file_of any_run opens) in cc

@@ -123,15 +123,15 @@ fn valid(alloc: Global, wasm: Module) -> Result<Module, InputFault>
 }
 
 /// A module with a record and without a fault that is of the form that is built.
-fn of_form(alloc: Global, wasm: Module) -> Result<Module, InputFault>
+fn of_form(wasm: Module) -> Result<Module, InputFault>
     requires recorded { IsRecorded wasm }
     requires valid { validation.fault wasm ≡ None }
     ensures { IsTested wasm result }
 {
-    match is_small(alloc, &wasm) {
-        Ok(true) => Ok(wasm),
-        Ok(false) => Err(InputFault::Unbuilt),
-        Err(_) => Err(InputFault::Memory),
+    if is_small(&wasm) {
+        Ok(wasm)
+    } else {
+        Err(InputFault::Unbuilt)
     }
 }
 
@@ -142,7 +142,7 @@ fn tested(alloc: Global, wasm: Module) -> Result<Module, InputFault>
 {
     recorded(alloc, &wasm)?;
     let wasm = valid(alloc, wasm)?;
-    of_form(alloc, wasm)
+    of_form(wasm)
 }
 
 /// The module of a file.

@@ -12,6 +12,6 @@ pub mod SmallBodies
 pub mod ChainTexts
 pub mod Fits
 pub mod FormedMerged
-pub mod Distinct
+mod Names
 pub mod CustomTest
 pub mod Rows

@@ -1,5 +1,5 @@
 // Whether a module is of the form that is built so far.
-ghost use Rattle.std.specs.Prelude.{◌≡◌, ℕ, ◌<◌, ◌≤◌, ◌↔◌, ◌∷◌, [], length, map, All, IsTrue, IfOk, None};
+ghost use Rattle.std.specs.Prelude.{◌≡◌, ℕ, ◌<◌, ◌≤◌, ◌↔◌, ◌∷◌, [], length, All, IsTrue, None};
 ghost use Rattle.spec_binary.specs.SmallForm.{
   nullary,
   small_custom,
@@ -7,19 +7,16 @@ ghost use Rattle.spec_binary.specs.SmallForm.{
   no_memory_info,
   relocations_name,
   constructors_name,
-  name_of,
   most_exports,
-  AllDistinct,
   IsSmallInstr,
   IsSmallCode,
   IsSmallExport,
   IsSmall,
 };
+ghost use Rattle.spec_validation.specs.Faults.{fault};
 ghost use Rattle.merge_whole.specs.SmallParts.{HasNoMore, HasSmallParts};
 
-use std::alloc::Global;
-use std::collections::BTreeSet;
-use wasm_form::{Code, Custom, Export, ExportDesc, FuncType, Instr, Memory, Module};
+use wasm_form::{Code, Custom, Export, ExportDesc, FuncType, Instr, Module};
 
 // The most exports.
 const MOST_EXPORTS: usize = 65_536;
@@ -123,20 +120,7 @@ fn has_no_more(m: &Module) -> bool
         && m.datas.items().is_empty()
 }
 
-// Whether each name is told once.
-fn are_distinct(alloc: Global, exports: &[Export]) -> Result<bool, Memory>
-    ensures { IfOk result (λ distinct. IsTrue distinct ↔ AllDistinct (map name_of exports.now)) }
-{
-    let mut names = BTreeSet::new(alloc);
-    for export in exports {
-        if !names.insert(export.name.as_str())? {
-            return Ok(false);
-        }
-    }
-    Ok(true)
-}
-
-// All tests but that of the names.
+// Types, functions, exports, bodies and custom sections of the form.
 fn has_small_parts(m: &Module) -> bool
     ensures { IsTrue result ↔ HasSmallParts m.now }
 {
@@ -151,10 +135,12 @@ fn has_small_parts(m: &Module) -> bool
         && are_small_customs(m.customs.items())
 }
 
-/// Whether a module is of the form that is built so far: functions without parameters and results, whose bodies are
-/// of unreachable, nop and calls of each other, exports of them, and memory information of four zeros.
-pub fn is_small(alloc: Global, m: &Module) -> Result<bool, Memory>
-    ensures { IfOk result (λ small. IsTrue small ↔ IsSmall m.now) }
+/// Whether a module without a fault is of the form that is built so far: functions without parameters and results, whose bodies
+/// are of unreachable, nop and calls of each other, exports of them, and memory information of four zeros.
+#[tactic(auto, using(crate::proofs::Names::valid_names))]
+pub fn is_small(m: &Module) -> bool
+    requires valid { fault m.now ≡ None }
+    ensures { IsTrue result ↔ IsSmall m.now }
 {
-    Ok(has_no_more(m) && has_small_parts(m) && are_distinct(alloc, m.exports.items())?)
+    has_no_more(m) && has_small_parts(m)
 }

@@ -20,7 +20,8 @@ use Rattle.spec_execution.specs.Ranges.{AreInRange, Exists}
 use Rattle.spec_execution.specs.Instances.{imported_count, function_named, module_target, module_function, hosts_in, named_host, imported_hosts, module_hosts, host_type, module_counts, module_view}
 use Rattle.spec_safety.specs.Laws.{IsFunctionImport, IsAlone}
 use Rattle.spec_safety.proofs.Lookups.{went_on, got}
-use Rattle.spec_safety.proofs.Validity.{IsFit, fields_fit, body_has_height}
+use Rattle.spec_validation.proofs.Parts.{AreFit, parts_fit}
+use Rattle.spec_safety.proofs.Validity.{body_has_height}
 use Rattle.spec_safety.proofs.Spaces.{ImportsFunctions, body_numbered, function_has_type}
 use Rattle.spec_safety.proofs.TypedCode.{body_in_range}
 
@@ -41,8 +42,8 @@ all_hosts m (i ∷ is) alone fit =
     one_host m i i.desc (All-head (λ i. IsFunctionImport i.desc) i is alone) fits.0 (imported_hosts m is) (imports_of functions_in is) (all_hosts m is (All-tail (λ i. IsFunctionImport i.desc) i is alone) fits.1)
 
 module _ (m : Module) (alone : IsAlone m) where
-  fit : IsFit m
-  fit = fields_fit m alone.valid
+  fit : AreFit m
+  fit = parts_fit m alone.valid
 
   host_there : (f : ℕ) → f < imported_count m → is_some (host_type (module_hosts m f)) ≡ true
   host_there f lt =

@@ -20,7 +20,7 @@ use Rattle.spec_execution.specs.Instances.{module_view, constant_value, number_i
 use Rattle.spec_execution.specs.OneModule.{opened_table, elem_applied, elems_applied, opened_state}
 use Rattle.spec_safety.specs.Laws.{IsAlone}
 use Rattle.spec_safety.proofs.Lookups.{went_on, got, passes_at, holds_at}
-use Rattle.spec_safety.proofs.Validity.{IsFit, fields_fit}
+use Rattle.spec_validation.proofs.Parts.{AreFit, parts_fit}
 use Rattle.spec_safety.proofs.Constants.{global_exists, segment_exists, kept_exist}
 
 mapped_at : {A B : Type 0} (f : A → B) (xs : List A) (i : ℕ) (x : A) → slice_get xs i ≡ Some x → slice_get (map f xs) i ≡ Some (f x)
@@ -83,8 +83,8 @@ module _ (m : Module) (alone : IsAlone m) where
       let rest = all_applied es one.0 new both.1 kept.0 one.2 in
       (rest.0, rest.1 ∙ kept.1)
 
-  fit : IsFit m
-  fit = fields_fit m alone.valid
+  fit : AreFit m
+  fit = parts_fit m alone.valid
 
   pub opened_holds : (entry : ℕ) (tables : List TableInstance) (memory : MemoryInstance) → elems_applied m m.elems (map opened_table m.tables) ≡ Some tables
       → HoldsAll (module_view m) (opened_state m entry tables memory).units

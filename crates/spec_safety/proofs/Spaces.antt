@@ -1,11 +1,10 @@
 -- What a module that imports functions alone numbers: its own tables and globals, and its functions behind the imported ones.
 use Rattle.std.proofs.Common.{◌≡◌, ℕ, ◌<◌, true, List, [], ◌∷◌, length, map, Option, Some, refl, ap, ◌∙◌}
 use Rattle.std.specs.Prelude.{slice_get, nat_lt}
-use Rattle.std.specs.List.{All, list_all}
+use Rattle.std.specs.List.{All}
 use Rattle.std.proofs.lemmas.Bool.{lt-ltb, ltb-true, and_parts}
 use Rattle.std.proofs.lemmas.List.{length-map}
 use Rattle.std.proofs.lemmas.List.Elements.{All-head, All-tail}
-use Rattle.std.proofs.lemmas.List.Folds.{list_all-append}
 use Rattle.std.proofs.lemmas.Option.{slice_get_within}
 use Rattle.wasm_form.specs.declared.types.FuncType.{FuncType}
 use Rattle.wasm_form.specs.declared.module.ImportDesc.{ImportDesc}
@@ -14,12 +13,12 @@ use Rattle.wasm_form.specs.declared.module.Import.{Import}
 use Rattle.wasm_form.specs.declared.module.Code.{Code}
 use Rattle.wasm_form.specs.declared.module.Module.{Module}
 use Rattle.spec_binary.specs.Options.{◌>>=◌}
-use Rattle.spec_binary.specs.IndexSpaces.{functions_in, tables_in, globals_in, imports_of, function_space, table_space, type_of_global, global_space}
-use Rattle.spec_validation.specs.Faults.{is_type, desc_fits, import_fits, type_of_function, is_function, elem_of_table, type_of_elem, body_context}
+use Rattle.spec_binary.specs.IndexSpaces.{tables_in, globals_in, imports_of, function_space, table_space, type_of_global, global_space}
+use Rattle.spec_validation.specs.Faults.{is_type, type_of_function, is_function, elem_of_table, type_of_elem, body_context}
+use Rattle.spec_validation.proofs.Parts.{AreFit, function_types}
 use Rattle.spec_execution.specs.Instances.{module_counts}
 use Rattle.spec_safety.specs.Laws.{IsFunctionImport}
 use Rattle.spec_safety.proofs.Lookups.{went_on, got, passes_at}
-use Rattle.spec_safety.proofs.Validity.{IsFit}
 use Rattle.spec_safety.proofs.TypedCode.{IsNumbered}
 
 -- ---- no other imports
@@ -73,22 +72,9 @@ body_numbered m alone f c = record {
 
 -- ---- types of functions
 
-desc_types : (m : Module) (d : ImportDesc) → desc_fits m d ≡ true → list_all (is_type m) (functions_in d) ≡ true
-desc_types m (imported.Func t) e = rw e refl
-desc_types m (imported.Table ty) e = refl
-desc_types m (imported.Space limits) e = refl
-desc_types m (imported.Global ty) e = refl
-
-import_types : (m : Module) (is : List Import) → list_all (import_fits m) is ≡ true → list_all (is_type m) (imports_of functions_in is) ≡ true
-import_types m [] e = refl
-import_types m (i ∷ is) e =
-    let b = and_parts (import_fits m i) (list_all (import_fits m) is) e in
-    list_all-append (is_type m) (functions_in i.desc) (imports_of functions_in is) ∙ rw (desc_types m i.desc b.0, import_types m is b.1) refl
-
 -- each function has a type
-pub function_has_type : (m : Module) → IsFit m → (f : ℕ) → f < length (function_space m) → (ty : FuncType) × (type_of_function m f ≡ Some ty)
+pub function_has_type : (m : Module) → AreFit m → (f : ℕ) → f < length (function_space m) → (ty : FuncType) × (type_of_function m f ≡ Some ty)
 function_has_type m fit f lt =
-    let types : list_all (is_type m) (function_space m) ≡ true = list_all-append (is_type m) (imports_of functions_in m.imports) m.funcs ∙ rw (import_types m m.imports fit.imports, fit.funcs) refl in
     let t = got (function_space m) f lt in
-    let ty = got m.types t.0 (ltb-true t.0 (length m.types) (passes_at (is_type m) (function_space m) f t.0 types t.1)) in
+    let ty = got m.types t.0 (ltb-true t.0 (length m.types) (passes_at (is_type m) (function_space m) f t.0 (function_types m fit) t.1)) in
     (ty.0, rw (t.1) ty.1)

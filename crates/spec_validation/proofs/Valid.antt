@@ -1,5 +1,5 @@
 -- A small module is valid.
-use Rattle.std.proofs.Common.{◌≡◌, ◌≢◌, ℕ, zero, suc, ◌+◌, ◌<◌, ◌≤◌, List, [], ◌∷◌, length, map, max, Some, None, Bool, true, false, refl, ◌∙◌, arith, ◌&&◌, is_some, nat_le}
+use Rattle.std.proofs.Common.{◌≡◌, ℕ, zero, suc, ◌+◌, ◌<◌, ◌≤◌, List, [], ◌∷◌, length, max, Some, None, Bool, true, refl, ◌∙◌, arith, is_some, nat_le}
 use Rattle.std.specs.List.{All, list_all}
 use Rattle.std.proofs.lemmas.List.Elements.{All-head, All-tail}
 use Rattle.std.proofs.lemmas.Bool.{lt-ltb}
@@ -14,14 +14,15 @@ use Rattle.wasm_form.specs.declared.module.Code.{Code}
 use Rattle.wasm_form.specs.declared.module.Module.{Module}
 use Rattle.wasm_opcode.specs.Index.{index_form}
 use Rattle.spec_binary.specs.Options.{◌>>=◌}
-use Rattle.spec_binary.specs.SmallForm.{nullary, IsSmallStep, IsSmallInstr, IsSmallCode, IsSmallExport, ExportsFunction, AllDistinct, name_of, IsSmall}
+use Rattle.spec_binary.specs.SmallForm.{nullary, IsSmallStep, IsSmallInstr, IsSmallCode, IsSmallExport, ExportsFunction, IsSmall}
 use Rattle.spec_validation.specs.Stacks.{Stack, holding, unreachable, ends_with}
 use Rattle.spec_binary.specs.IndexSpaces.{function_space, memory_space}
 use Rattle.spec_validation.specs.Context.{Context, Labels, index_shape}
 use Rattle.spec_validation.specs.Typing.{Reach, plainly, after, afters, height}
-use Rattle.spec_validation.specs.Faults.{Fault, Finding, ◌or_else◌, first_in, unless, type_supported, import_supported, function_supported, table_supported, global_supported, elem_supported, unsupported, unsupported_of, body_supported, is_type, import_fits, table_bounded, memory_bounded, global_fits, start_fits, elem_fits, data_fits, type_of_function, contains_name, names_distinct, is_there, export_fits, type_of_body, body_context, body_typed, support_fault, module_fault, fault}
+use Rattle.spec_validation.specs.Faults.{Fault, Finding, ◌or_else◌, first_in, unless, type_supported, import_supported, function_supported, table_supported, global_supported, elem_supported, unsupported, unsupported_of, body_supported, is_type, import_fits, table_bounded, memory_bounded, global_fits, start_fits, elem_fits, data_fits, type_of_function, is_there, export_fits, type_of_body, body_context, body_typed, support_fault, module_fault, fault}
 use Rattle.spec_validation.proofs.Levels.{after_plain, after_index, supported_plain, supported_index}
-use Rattle.spec_validation.proofs.Small.{got, holds_at, small_type, bytes_differ}
+use Rattle.spec_validation.proofs.Small.{got, holds_at, small_type}
+use Rattle.spec_validation.proofs.Names.{distinct_tested}
 
 -- ---- lists of functions and bodies
 
@@ -116,15 +117,6 @@ bodies_typed m k functions own n (c ∷ cs) le all =
 
 -- ---- exports of a small module
 
-not_contained : (name : List ℕ) (es : List Export) → All (λ y. name ≢ y) (map name_of es) → contains_name name es ≡ false
-not_contained name [] all = refl
-not_contained name (e ∷ es) all =
-    rw (bytes_differ name e.name (All-head (λ y. name ≢ y) e.name (map name_of es) all)) (not_contained name es (All-tail (λ y. name ≢ y) e.name (map name_of es) all))
-
-distinct : (es : List Export) → AllDistinct (map name_of es) → names_distinct es ≡ true
-distinct [] all = refl
-distinct (e ∷ es) all = rw (not_contained e.name es all.0) (distinct es all.1)
-
 function_there : (m : Module) → m.imports ≡ [] → (d : ExportDesc) → ExportsFunction (length m.funcs) d → is_there m d ≡ true
 function_there m none (desc.Func f) h = rw none (lt-ltb f (length m.funcs) h)
 function_there m none (desc.Table x) h = absurd h
@@ -142,9 +134,6 @@ neither a b p q = rw p q
 
 pub held : (b : Bool) (f : Fault) → b ≡ true → unless b f ≡ None
 held b f e = rw e refl
-
-pub both_hold : (a b : Bool) → a ≡ true → b ≡ true → (a && b) ≡ true
-both_hold a b p q = rw (p, q) refl
 
 small_support : (m : Module) → IsSmall m → support_fault m ≡ None
 small_support m small =
@@ -164,7 +153,7 @@ small_parts m small =
     let start : start_fits m m.start ≡ true = rw small.start refl in
     let elems : list_all (elem_fits m) m.elems ≡ true = rw small.elems refl in
     let datas : list_all (data_fits m) m.datas ≡ true = rw small.datas refl in
-    rw (imports, functions_typed m m.funcs small.funcs, tables, few, memories, globals, distinct m.exports small.distinct_names, functions_there m small.imports m.exports small.exports, start, elems, datas)
+    rw (imports, functions_typed m m.funcs small.funcs, tables, few, memories, globals, distinct_tested m.exports small.distinct_names, functions_there m small.imports m.exports small.exports, start, elems, datas)
     refl
 
 -- a small module is valid

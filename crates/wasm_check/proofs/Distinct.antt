@@ -1,19 +1,20 @@
 -- Names that are told once.
 use Rattle.std.proofs.Common.{◌≡◌, ◌≢◌, ℕ, ◌+◌, ◌<◌, ◌≤◌, Bool, true, false, cond, List, [], ◌∷◌, ◌++◌, length, get_or, take, drop, map, refl, sym, ap, subst, ◌∙◌, inl, inr, add-one}
-use Rattle.std.specs.Prelude.{◌⊎◌, ◌&&◌, ◌||◌, All, not}
+use Rattle.std.specs.Prelude.{◌⊎◌, ◌||◌, All, not}
 use Rattle.std.specs.List.{list_any}
 use Rattle.std.specs.Str.{bytes_eq}
 use Rattle.std.specs.Ordering.{nat_cmp, is_eq}
 use Rattle.std.specs.Cmp.Lexicographic.{slice_cmp}
 use Rattle.std.proofs.Math.Seq.{take-suc, drop-cons}
 use Rattle.std.proofs.lemmas.List.{take-append-drop, take_all, map-append}
-use Rattle.std.proofs.lemmas.List.Elements.{All-nil, All-cons, All-push, All-head, All-tail}
+use Rattle.std.proofs.lemmas.List.Elements.{All-nil, All-push, All-head, All-tail}
 use Rattle.std.proofs.lemmas.List.Folds.{list_any-append}
 use Rattle.std.proofs.lemmas.Map.Text.{is_eq-slice_cmp}
 use Rattle.std.proofs.lemmas.Slice.Eq.{bytes_eq-Decides}
 use Rattle.wasm_form.specs.declared.module.Export.{Export}
 use Rattle.spec_binary.specs.SmallForm.{AllDistinct, name_of}
-use Rattle.spec_validation.specs.Faults.{contains_name, names_distinct}
+use Rattle.spec_validation.specs.Faults.{names_distinct}
+use Rattle.spec_validation.proofs.Names.{distinct_tested, tested_distinct}
 
 -- how a test of two texts ends
 tells : (x y : List ℕ) → ((bytes_eq x y ≡ true) × (x ≡ y)) ⊎ ((bytes_eq x y ≡ false) × (x ≢ y))
@@ -104,39 +105,6 @@ not_true true told e f h = absurd cc
 not_true false told e f h = sym h
 
 -- ---- the same, by test
-
-not_contained : (name : List ℕ) (es : List Export) → All (λ y. name ≢ y) (map name_of es) → contains_name name es ≡ false
-not_contained name [] all = refl
-not_contained name (e ∷ es) all = elim (tells name e.name) [
-  | inl p ↦ absurd (All-head (λ y. name ≢ y) e.name (map name_of es) all p.1)
-  | inr p ↦ rw p.0 (not_contained name es (All-tail (λ y. name ≢ y) e.name (map name_of es) all))
-]
-
-none_contained : (name : List ℕ) (es : List Export) → contains_name name es ≡ false → All (λ y. name ≢ y) (map name_of es)
-none_contained name [] e = All-nil (λ y. name ≢ y)
-none_contained name (x ∷ es) e =
-    let n = neither (bytes_eq name x.name) (contains_name name es) e in
-    let apart : name ≢ x.name = elim (tells name x.name) [ inl p ↦ absurd (let h = p.0 in let k = n.0 in cc) | inr p ↦ p.1 ] in
-    All-cons (λ y. name ≢ y) x.name (map name_of es) apart (none_contained name es n.1)
-
-pub distinct_tested : (es : List Export) → AllDistinct (map name_of es) → names_distinct es ≡ true
-distinct_tested [] all = refl
-distinct_tested (e ∷ es) all = rw (not_contained e.name es all.0) (distinct_tested es all.1)
-
-both_true : (a b : Bool) → (a && b) ≡ true → (a ≡ true) × (b ≡ true)
-both_true true true e = (refl, refl)
-both_true true false e = absurd cc
-both_true false b e = absurd cc
-
-was_false : (a : Bool) → not a ≡ true → a ≡ false
-was_false true e = absurd cc
-was_false false e = refl
-
-pub tested_distinct : (es : List Export) → names_distinct es ≡ true → AllDistinct (map name_of es)
-tested_distinct [] e = tt
-tested_distinct (x ∷ es) e =
-    let b = both_true (not (contains_name x.name es)) (names_distinct es) e in
-    (none_contained x.name es (was_false (contains_name x.name es) b.0), tested_distinct es b.1)
 
 pub not_distinct : (es : List Export) → (AllDistinct (map name_of es) → ⊥) → names_distinct es ≡ false
 not_distinct es never = go (names_distinct es) refl

@@ -8,8 +8,9 @@ use Rattle.wasm_form.specs.declared.module.ImportDesc.TheVariants as imported
 use Rattle.wasm_form.specs.declared.module.Module.{Module}
 use Rattle.spec_runtime.specs.Names.{HostName, HostNames, HostMatch, Unknown, Fits, OtherType, host_match}
 use Rattle.spec_execution.specs.Instances.{hosts_in, named_host, imported_hosts}
-use Rattle.spec_execution.specs.OneModule.{ModuleState, OpeningFault, import_matched, import_met, met_then, imports_met, opened_after, module_opening}
+use Rattle.spec_execution.specs.OneModule.{ModuleState, OpeningFault, import_matched, import_met, imports_met, opened_after, module_opening}
 use Rattle.wasm_single.specs.Starts.{opened}
+use Rattle.wasm_single.proofs.Imports.{both_met}
 use Rattle.wasm_exec.specs.Driving.{HaveIntegers, AreDeclared}
 
 -- there is at most one opening state
@@ -23,10 +24,6 @@ opening_parts m names opening opens = by (imports_met m names m.imports) refl op
     by : (met : Result (Unit {0}) OpeningFault) → imports_met m names m.imports ≡ met → opened_after m met ≡ Ok opening → (imports_met m names m.imports ≡ Ok tt) × (opened m ≡ Ok opening)
     by (Ok u) e opens = (e, opens)
     by (Err fault) e opens = absurd cc
-
-met_both : (a b : Result (Unit {0}) OpeningFault) → met_then a b ≡ Ok tt → (a ≡ Ok tt) × (b ≡ Ok tt)
-met_both (Ok u) b e = (refl, e)
-met_both (Err fault) b e = absurd cc
 
 module _ (m : Module) (names : HostNames) where
   -- a host function is declared with its type
@@ -62,7 +59,7 @@ module _ (m : Module) (names : HostNames) where
   each_declared : (is : List Import) (k : ℕ) (h : HostName) → imports_met m names is ≡ Ok tt → slice_get (imported_hosts m is) k ≡ Some h → IsDeclared h
   each_declared [] k h met at = absurd cc
   each_declared (i ∷ is) k h met at =
-      let both = met_both (import_met m names i) (imports_met m names is) met in
+      let both = both_met (import_met m names i) (imports_met m names is) met in
       one_declared i (imported_hosts m is) k h both.0 at (λ j there. each_declared is j h both.1 there)
 
   -- each host function of a module that has an opening state is declared

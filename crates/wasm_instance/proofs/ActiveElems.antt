@@ -20,7 +20,7 @@ use Rattle.wasm_instance.specs.Imports.{imports_functions}
 use Rattle.wasm_instance.specs.Constants.{offset_of}
 use Rattle.wasm_instance.specs.Opening.{Applies}
 use Rattle.wasm_instance.proofs.Alone.{no_tables}
-use Rattle.wasm_instance.proofs.Valid.{both_true}
+use Rattle.std.proofs.lemmas.Bool.{and_parts}
 
 within : (types : List TableType) (t : ℕ) (found : Option TableType) → slice_get types t ≡ found → has_functions found ≡ true → t < length types
 within types t (Some ty) is e = slice_get_within types t ty is
@@ -30,8 +30,8 @@ within types t None is e = absurd cc
 module _ (m : Module) (s : Elem) (t : ℕ) (offset : Expr) (active : s.mode ≡ Active t offset) (fits : elem_fits m s ≡ true) where
   parts : (has_functions (slice_get (table_space m) t) ≡ true) × (is_constant m I32 offset ≡ true)
   parts =
-      let mode : elem_mode_fits m (Active t offset) ≡ true = ap (elem_mode_fits m) (sym active) ∙ (both_true (elem_mode_fits m s.mode) (items_fit m s.items) fits).0 in
-      both_true (has_functions (slice_get (table_space m) t)) (is_constant m I32 offset) mode
+      let mode : elem_mode_fits m (Active t offset) ≡ true = ap (elem_mode_fits m) (sym active) ∙ (and_parts (elem_mode_fits m s.mode) (items_fit m s.items) fits).0 in
+      and_parts (has_functions (slice_get (table_space m) t)) (is_constant m I32 offset) mode
 
   pub offset_is_number : is_constant m I32 offset ≡ true
   offset_is_number = parts.1

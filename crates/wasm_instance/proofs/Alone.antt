@@ -14,7 +14,7 @@ use Rattle.wasm_opcode.specs.declared.index.IndexForm.TheVariants as form
 use Rattle.spec_binary.specs.IndexSpaces.{imports_of, functions_in, globals_in, tables_in}
 use Rattle.wasm_check.specs.Constants.{gets_reference, gets_reference_with, gets_reference_step}
 use Rattle.wasm_instance.specs.Imports.{is_function_import, imports_functions}
-use Rattle.wasm_instance.proofs.Valid.{both_true}
+use Rattle.std.proofs.lemmas.Bool.{and_parts}
 
 -- what an import of a function gives in another kind
 desc_gives : {A : Type 0} (in_desc : ImportDesc → List A) (i : Import) → ((t : ℕ) → in_desc (imported.Func t) ≡ []) → is_function_import i ≡ true → in_desc i.desc ≡ []
@@ -29,7 +29,7 @@ desc_gives {A} in_desc i none = go i.desc
 imports_give : {A : Type 0} (in_desc : ImportDesc → List A) → ((t : ℕ) → in_desc (imported.Func t) ≡ []) → (is : List Import) → list_all is_function_import is ≡ true → imports_of in_desc is ≡ []
 imports_give in_desc none [] e = refl
 imports_give in_desc none (i ∷ is) e =
-    let b = both_true (is_function_import i) (list_all is_function_import is) e in
+    let b = and_parts (is_function_import i) (list_all is_function_import is) e in
     rw (desc_gives in_desc i none b.0, imports_give in_desc none is b.1) refl
 
 module _ (m : Module) (alone : imports_functions m ≡ true) where

@@ -20,7 +20,7 @@ use Rattle.wasm_check.specs.Heights.{height_of}
 use Rattle.wasm_instance.specs.Rooms.{saturated, room_in, HaveRooms}
 use Rattle.wasm_instance.proofs.Lists.{all_at}
 use Rattle.wasm_instance.proofs.FunctionTypes.{IsOwn, is_own}
-use Rattle.wasm_instance.proofs.Valid.{valid_parts}
+use Rattle.spec_validation.proofs.Parts.{parts_fit}
 
 at_last : (rs : List ℕ) (r n : ℕ) → length rs ≡ n → slice_get (rs ++ r ∷ []) n ≡ Some r
 at_last [] r n e = rw (← e) refl
@@ -83,7 +83,7 @@ pub room_kept : (m : Module) (n : ℕ) (types : List FuncType) (funcs : List ℕ
 room_kept m n types funcs codes ty c groups params locals both h room formed valid inside is_types is_funcs is_codes is_ty is_groups is_params is_locals is_both high is =
     let t : ℕ = get_or m.funcs n 0 in
     let declared : n < length m.funcs = omega (arith, formed.counts.bodies) in
-    let low : nat_lt t (length m.types) ≡ true = all_at (is_type m) m.funcs n t declared (get_or_default m.funcs n 0 t declared) (valid_parts m valid).functions in
+    let low : nat_lt t (length m.types) ≡ true = all_at (is_type m) m.funcs n t declared (get_or_default m.funcs n 0 t declared) (parts_fit m valid).functions in
     let found : ty ≡ get_or m.types t ty = is_ty ∙ rw (is_types, is_funcs) refl in
     let type : slice_get m.types t ≡ Some ty = slice_get-get_or m.types t ty (ltb-true t (length m.types) low) ∙ ap (λ (x : FuncType). Some x) (sym found) in
     let code : slice_get m.codes n ≡ Some (get_or m.codes n c) = slice_get-get_or m.codes n c inside in

@@ -2,8 +2,7 @@
 use Rattle.std.proofs.Common.{◌≡◌, ℕ, zero, suc, ◌-◌, ◌<◌, ◌≤◌, Bool, true, false, List, [], ◌∷◌, ◌++◌, length, get_or, refl, ap, ◌∙◌, sym, subst}
 use Rattle.std.specs.Prelude.{None, Some, Option, slice_get, nat_lt, is_some, IsSome, map}
 use Rattle.std.specs.List.{list_all}
-use Rattle.std.proofs.lemmas.Bool.{ltb-true, ltb-false}
-use Rattle.std.proofs.lemmas.List.Folds.{list_all-append}
+use Rattle.std.proofs.lemmas.Bool.{ltb-true, ltb-false, and_parts}
 use Rattle.std.proofs.lemmas.List.{get_or_default}
 use Rattle.std.proofs.lemmas.Option.{slice_get-get_or, slice_get_within, get_or_from_slice_get}
 use Rattle.wasm_form.specs.declared.types.FuncType.{FuncType}
@@ -18,25 +17,13 @@ use Rattle.wasm_form.specs.declared.runtime.Ref.TheVariants.{Host, Loader, Stub}
 use Rattle.spec_binary.specs.Options.{◌>>=◌}
 use Rattle.spec_binary.specs.IndexSpaces.{imports_of, functions_in, function_space}
 use Rattle.spec_validation.specs.Faults.{fault, is_type, import_fits, desc_fits, type_of_function}
+use Rattle.spec_validation.proofs.Parts.{parts_fit, function_types}
 use Rattle.spec_execution.specs.Instances.{imported_count, function_named, module_target, module_function, hosts_in, named_host, imported_hosts, module_hosts, host_type, module_view}
 use Rattle.spec_execution.specs.Views.{type_of}
 use Rattle.wasm_instance.specs.Imports.{function_after}
 use Rattle.wasm_instance.proofs.Lists.{all_at}
-use Rattle.wasm_instance.proofs.Valid.{valid_parts, both_true}
 
 -- ---- imports
-
-desc_types : (m : Module) (desc : ImportDesc) → desc_fits m desc ≡ true → list_all (is_type m) (functions_in desc) ≡ true
-desc_types m (imported.Func t) e = rw e refl
-desc_types m (imported.Table ty) e = refl
-desc_types m (imported.Space limits) e = refl
-desc_types m (imported.Global ty) e = refl
-
-import_types : (m : Module) (is : List Import) → list_all (import_fits m) is ≡ true → list_all (is_type m) (imports_of functions_in is) ≡ true
-import_types m [] e = refl
-import_types m (i ∷ is) e =
-    let b = both_true (import_fits m i) (list_all (import_fits m) is) e in
-    list_all-append (is_type m) (functions_in i.desc) (imports_of functions_in is) ∙ rw (desc_types m i.desc b.0, import_types m is b.1) refl
 
 nullary : FuncType
 nullary = record { params = []; results = [] }
@@ -66,7 +53,7 @@ typed_next m i is later (imported.Global ty) fits k = later k
 are_typed : (m : Module) (is : List Import) → list_all (import_fits m) is ≡ true → AreTyped m is
 are_typed m [] fits = λ k. refl
 are_typed m (i ∷ is) fits =
-    let b = both_true (import_fits m i) (list_all (import_fits m) is) fits in
+    let b = and_parts (import_fits m i) (list_all (import_fits m) is) fits in
     typed_next m i is (are_typed m is b.1) i.desc b.0
 
 -- ---- functions
@@ -88,15 +75,11 @@ is_own m f some = imported (nat_lt f (imported_count m)) refl
     imported false q = defined q (slice_get m.codes (f - imported_count m)) refl
 
 module _ (m : Module) (valid : fault m ≡ None) where
-  function_types : list_all (is_type m) (function_space m) ≡ true
-  function_types =
-      list_all-append (is_type m) (imports_of functions_in m.imports) m.funcs ∙ rw (import_types m m.imports (valid_parts m valid).imports, (valid_parts m valid).functions) refl
-
   typed : (f : ℕ) → f < length (function_space m) → (ty : FuncType) × (type_of_function m f ≡ Some ty)
   typed f inside =
       let t : ℕ = get_or (function_space m) f 0 in
       let one : slice_get (function_space m) f ≡ Some t = slice_get-get_or (function_space m) f 0 inside in
-      let two = type_at m t (all_at (is_type m) (function_space m) f t inside (get_or_default (function_space m) f 0 t inside) function_types) in
+      let two = type_at m t (all_at (is_type m) (function_space m) f t inside (get_or_default (function_space m) f 0 t inside) (function_types m (parts_fit m valid))) in
       let three : type_of_function m f ≡ Some two.0 = rw one two.1 in
       (two.0, three)
 
@@ -110,7 +93,7 @@ module _ (m : Module) (valid : fault m ≡ None) where
       subst P same named inside
 
   pub host_is : (e : ℕ) → host_type (module_hosts m e) ≡ type_in m (slice_get (imports_of functions_in m.imports) e)
-  host_is e = are_typed m m.imports (valid_parts m valid).imports e
+  host_is e = are_typed m m.imports (parts_fit m valid).imports e
 
 -- ---- the types of host functions
 

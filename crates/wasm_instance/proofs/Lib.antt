@@ -1,5 +1,4 @@
 pub mod Lists
-pub mod Valid
 pub mod Alone
 pub mod Offsets
 pub mod ActiveElems

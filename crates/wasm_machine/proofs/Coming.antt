@@ -17,7 +17,7 @@ use Rattle.spec_execution.specs.Ranges.{index_in_range, in_range, AreInRange, Is
 use Rattle.spec_execution.specs.Runs.{Frame, Active, carried_out}
 use Rattle.wasm_step.specs.Primitives.{first_of, with_rest}
 use Rattle.wasm_step.specs.Named.{named_here, is_call, is_call_form}
-use Rattle.wasm_machine.specs.Machines.{next_of, calls_outside, calls_outside_here, call_is_outside, names_outside, entry_is_outside, some_outside}
+use Rattle.wasm_machine.specs.Machines.{next_of, calls_outside, calls_outside_here, call_is_outside, names_outside, some_outside}
 use Rattle.wasm_machine.specs.Outside.{callee_form, callee_of, IsOutsideCall}
 use Rattle.wasm_machine.specs.declared.calls.Callee.{Callee}
 use Rattle.wasm_machine.specs.declared.calls.Callee.TheVariants as callee
@@ -140,6 +140,3 @@ module _ {Units : Type 0} (V : View Units) (us : Units) where
       pub entry_step : (memory : MemoryInstance) (frames : List (Frame ℕ)) → next_of V us memory (Active a ∷ frames) ≡ carried_out V us memory frames (indirect ty table a)
       entry_step memory frames =
           step_is memory frames ∙ ap (λ (x : Open.Instr-F Instr Expr). carried_out V us memory frames (instr_move (V.declared a.unit) x (with_rest a (drop 1 a.rest)))) (entry_called (out-Instr i) ty table q)
-
-      pub entry_outside : calls_outside V us a ≡ entry_is_outside V us a ty table
-      entry_outside = outside_at a.rest a i e ∙ ap (calls_outside_here V us a) (entry_called (out-Instr i) ty table q)

@@ -74,10 +74,6 @@ module _ {Units : Type 0} (V : View Units) where
   none_in = All-nil (ValueExists V)
 
   module _ (us : Units) (w : IsWhole V) (h : HoldsAll V us) where
-    value_in : (memory : MemoryInstance) (o : Option Value) (why : Trap) → IfSome o (ValueExists V) → IsEffectedInRange V (value_done us memory o why)
-    value_in memory None why e = tt
-    value_in memory (Some v) why e = (one_in v e, h)
-
     number_in : (memory : MemoryInstance) (o : Option ℕ) (why : Trap) → IsEffectedInRange V (value_done us memory (as_number o) why)
     number_in memory None why = tt
     number_in memory (Some n) why = (one_in (Num n) tt, h)

@@ -1,40 +1,26 @@
 -- The call stack over the flat lists, with an activation more.
-use Rattle.std.proofs.Common.{arith, ◌≡◌, ℕ, ◌+◌, ◌≤◌, List, [], ◌∷◌, ◌++◌, length, take, drop, map, refl, ◌∙◌, true, false}
+use Rattle.std.proofs.Common.{arith, ◌≡◌, ℕ, ◌+◌, ◌≤◌, List, [], ◌∷◌, ◌++◌, length, drop, map, refl, ◌∙◌, true, false}
 use Rattle.std.specs.Prelude.{reverse}
 use Rattle.std.proofs.lemmas.List.{reverse-append}
 use Rattle.wasm_form.specs.declared.module.Code.{Code}
-use Rattle.wasm_runtime.specs.declared.Value.{Value}
 use Rattle.spec_execution.specs.Activations.{Activation, with_values}
 use Rattle.spec_execution.specs.Views.{View}
 use Rattle.spec_execution.specs.Runs.{Active}
 use Rattle.spec_execution.specs.Limits.{most_activations, most_values, room_of, activations}
 use Rattle.wasm_step.specs.Tops.{Top, with_act}
 use Rattle.wasm_step.specs.Primitives.{with_rest, begun, Opened, Started}
-use Rattle.wasm_machine.specs.Stacks.{rooms_at, total, most_blocks, LieWell, is_live, under_of, joined, IsJoined}
+use Rattle.wasm_machine.specs.Stacks.{rooms_at, total, most_blocks, is_live, under_of, joined, IsJoined}
 use Rattle.wasm_machine.specs.Machines.{RoomsAre, past_call}
-use Rattle.wasm_step.specs.declared.current.Label.{Label}
 use Rattle.wasm_step.specs.declared.current.Place.{Place}
 use Rattle.wasm_machine.specs.declared.callers.Caller.{Caller}
 use Rattle.wasm_machine.specs.declared.callers.Caller.TheVariants as caller
-use Rattle.wasm_step.proofs.Openings.{HasRoom_more}
-
-pub LieWell_more : (cs : List Caller) (vs : List Value) (ls : List Label) (cap lcap cap' lcap' : ℕ) → LieWell cs vs ls cap lcap → cap ≤ cap' → lcap ≤ lcap' → LieWell cs vs ls cap' lcap'
-LieWell_more [] vs ls cap lcap cap' lcap' h p q = tt
-LieWell_more (caller.Active f ∷ cs) vs ls cap lcap cap' lcap' h p q =
-    (record { laid = h.0.laid; kept = HasRoom_more f cap lcap cap' lcap' h.0.kept p q; live = h.0.live }, LieWell_more cs (take f.base vs) (take f.outer ls) cap lcap cap' lcap' h.1 p q)
-LieWell_more (caller.Mark tag ∷ cs) vs ls cap lcap cap' lcap' h p q = (omega (arith, h.0), LieWell_more cs vs ls cap lcap cap' lcap' h.1 p q)
+use Rattle.wasm_machine.proofs.OnTop.{LieWell_more, live_is}
 
 -- ---- what is on top
-
-live_at : (t : Top) → t.nesting ≡ most_blocks → is_live t ≡ true
-live_at t e = rw e refl
 
 module _ (cs : List Caller) (t : Top) (live : is_live t ≡ true) where
   pub frames_live : (joined cs t).frames ≡ Active t.act ∷ under_of cs t
   frames_live = rw live refl
-
-  pub rooms_live : (joined cs t).rooms ≡ t.room ∷ rooms_at (reverse cs)
-  rooms_live = rw live refl
 
   pub nesting_live : IsJoined cs t → t.nesting ≡ most_blocks
   nesting_live j = rw live at j.top
@@ -43,12 +29,6 @@ module _ (cs : List Caller) (t : Top) (live : is_live t ≡ true) where
   RoomsAre_live V h = rw live at h
 
 module _ (cs : List Caller) (t : Top) (idle : is_live t ≡ false) where
-  pub frames_idle : (joined cs t).frames ≡ under_of cs t
-  frames_idle = rw idle refl
-
-  pub rooms_idle : (joined cs t).rooms ≡ rooms_at (reverse cs)
-  rooms_idle = rw idle refl
-
   pub RoomsAre_idle : {Units : Type 0} (V : View Units) → RoomsAre V (joined cs t) → rooms_at (reverse cs) ≡ map (λ (a : Activation). room_of V a.unit a.func) (activations (under_of cs t))
   RoomsAre_idle V h = rw idle at h
 
@@ -64,17 +44,17 @@ module _ (cs ds : List Caller) (t u new : Top) (a : Activation) (unit func room 
 
   pub frames_opened : (joined ds new).frames ≡ Active (begun unit func params results c a.values) ∷ Active (with_values a (drop params a.values)) ∷ under_of cs t
   frames_opened =
-      let q : is_live new ≡ true = live_at new opened.nesting_taken in
+      let q : is_live new ≡ true = live_is new opened.nesting_taken in
       rw (q, ed, reverse-append, opened.act, opened.saved.caller, opened.saved.under, opened.saved.outer) refl
 
   pub rooms_opened : (joined ds new).rooms ≡ room ∷ t.room ∷ rooms_at (reverse cs)
   rooms_opened =
-      let q : is_live new ≡ true = live_at new opened.nesting_taken in
+      let q : is_live new ≡ true = live_is new opened.nesting_taken in
       rw (q, ed, reverse-append, opened.room_taken, opened.saved.place_room) refl
 
   pub joined_opened : IsJoined cs t → length (rooms_at (reverse cs)) + 2 ≤ most_activations → total (rooms_at (reverse cs)) + t.room + room ≤ most_values → IsJoined ds new
   joined_opened j m n =
-      let q : is_live new ≡ true = live_at new opened.nesting_taken in
+      let q : is_live new ≡ true = live_is new opened.nesting_taken in
       record {
         lies = rw (ed, reverse-append) (
           record {
@@ -92,17 +72,17 @@ module _ (cs ds : List Caller) (t u new : Top) (a : Activation) (unit func room 
 module _ (cs : List Caller) (t new : Top) (unit func room results : ℕ) (c : Code) (idle : is_live t ≡ false) (o : Started t new unit func room results c) where
   pub frames_started : (joined cs new).frames ≡ Active (begun unit func 0 results c []) ∷ under_of cs t
   frames_started =
-      let q : is_live new ≡ true = live_at new o.nesting_taken in
+      let q : is_live new ≡ true = live_is new o.nesting_taken in
       rw (q, o.act, o.under, o.outer) refl
 
   pub rooms_started : (joined cs new).rooms ≡ room ∷ rooms_at (reverse cs)
   rooms_started =
-      let q : is_live new ≡ true = live_at new o.nesting_taken in
+      let q : is_live new ≡ true = live_is new o.nesting_taken in
       rw (q, o.room_taken) refl
 
   pub joined_started : IsJoined cs t → length (rooms_at (reverse cs)) + 1 ≤ most_activations → total (rooms_at (reverse cs)) + room ≤ most_values → IsJoined cs new
   joined_started j m n =
-      let q : is_live new ≡ true = live_at new o.nesting_taken in
+      let q : is_live new ≡ true = live_is new o.nesting_taken in
       record {
         lies = rw (o.under, o.outer) (LieWell_more (reverse cs) t.under t.outer t.capacity t.label_capacity new.capacity new.label_capacity j.lies o.more o.more_labels);
         top = rw q o.nesting_taken;

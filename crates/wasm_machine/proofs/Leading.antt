@@ -65,13 +65,6 @@ module _ (cs : List Caller) (t new : Top) (b : Activation) (live : is_live t ≡
   frames_kept : (joined cs new).frames ≡ Active b ∷ under_of cs t
   frames_kept = rw (e, live) refl
 
-  pub joined_kept : IsJoined cs t → IsJoined cs new
-  joined_kept j = rw e (record {
-    lies = j.lies;
-    top = rw live (nesting_live cs t live j);
-    bounded = record { activations = j.bounded.activations; values = j.bounded.values };
-  })
-
   rooms_kept : {Units : Type 0} (V : View Units) → RoomsAre V (joined cs t) → b.unit ≡ t.act.unit → b.func ≡ t.act.func → RoomsAre V (joined cs new)
   rooms_kept V h eu ef = rw (e, live, eu, ef) (RoomsAre_live cs t live V h)
 

@@ -2,12 +2,10 @@
 use Rattle.std.proofs.Common.{◌≡◌, Bool, true, false, ◌&&◌, List, [], ◌∷◌, map, refl, sym, ap, ◌∙◌, Option, None, Some}
 use Rattle.std.specs.Prelude.{IsTrue}
 use Rattle.std.proofs.lemmas.List.Elements.{All-nil, All-cons}
-use Rattle.wasm_form.specs.declared.instr.BlockType.{BlockType}
 use Rattle.wasm_form.specs.declared.instr.Instr.{Instr, fold-roll-Instr, roll-Instr, out-Instr, roll-out-Instr}
 use Rattle.wasm_form.specs.declared.instr.Instr.TheOpen as Open
 use Rattle.wasm_form.specs.declared.instr.Expr.{Expr, fold-Expr, fold_out-Expr}
 use Rattle.spec_execution.specs.Views.{Counts}
-use Rattle.spec_execution.specs.Activations.{else_of}
 use Rattle.spec_execution.specs.Ranges.{block_in_range, in_range_here, in_range_inside, in_range, all_true, or_true, AreInRange}
 use Rattle.wasm_step.specs.Named.{named_here}
 
@@ -95,21 +93,3 @@ named_in_range c i h = named_at c (out-Instr i) (sym (in_range_level c i) ∙ h)
 pub all_in_range : (c : Counts) (is : List Instr) → list_in_range c is ≡ true → AreInRange c is
 all_in_range c [] h = All-nil (λ i. IsTrue (in_range c i))
 all_in_range c (i ∷ is) h = All-cons (λ j. IsTrue (in_range c j)) i is (and_first (in_range c i) (list_in_range c is) h) (all_in_range c is (and_second (in_range c i) (list_in_range c is) h))
-
-module _ (c : Counts) (i : Instr) (h : IsTrue (in_range c i)) where
-  level_holds : (x : Open.Instr-F Instr Expr) → out-Instr i ≡ x → in_range_here c (level c x) ≡ true
-  level_holds x e = ap (λ y. in_range_here c (level c y)) (sym e) ∙ sym (in_range_level c i) ∙ h
-
-  pub block_inside : (t : BlockType) (e : Expr) → out-Instr i ≡ Open.Block t e → AreInRange c e.list
-  block_inside t e q = all_in_range c e.list (and_second (block_in_range c t) (list_in_range c e.list) (level_holds (Open.Block t e) q))
-
-  pub loop_inside : (t : BlockType) (e : Expr) → out-Instr i ≡ Open.Loop t e → AreInRange c e.list
-  loop_inside t e q = all_in_range c e.list (and_second (block_in_range c t) (list_in_range c e.list) (level_holds (Open.Loop t e) q))
-
-  pub if_inside : (t : BlockType) (e : Expr) (other : Option Expr) → out-Instr i ≡ Open.If t e other → AreInRange c e.list
-  if_inside t e other q =
-      all_in_range c e.list (and_second (block_in_range c t) (list_in_range c e.list) (and_first (block_in_range c t && list_in_range c e.list) (or_true (else_in_range c other)) (level_holds (Open.If t e other) q)))
-
-  pub else_inside : (t : BlockType) (e : Expr) (other : Option Expr) → out-Instr i ≡ Open.If t e other → AreInRange c (else_of other)
-  else_inside t e None q = All-nil (λ j. IsTrue (in_range c j))
-  else_inside t e (Some o) q = all_in_range c o.list (and_second (block_in_range c t && list_in_range c e.list) (list_in_range c o.list) (level_holds (Open.If t e (Some o)) q))

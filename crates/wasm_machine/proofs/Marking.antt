@@ -1,5 +1,5 @@
 -- Marks that are put and taken away, over callers that stand with the latest last.
-use Rattle.std.proofs.Common.{◌≡◌, ℕ, List, [], ◌∷◌, ◌++◌, drop, refl, ap, sym, ◌∙◌, Option, Some, None, Result, Ok, Err, Bool, true, false}
+use Rattle.std.proofs.Common.{◌≡◌, ℕ, List, [], ◌∷◌, ◌++◌, refl, ap, sym, ◌∙◌, Option, Some, None, Result, Ok, Err, Bool, true, false}
 use Rattle.std.specs.Prelude.{reverse, IfSome, IfNone, OnOk, is_err, if◌then◌else◌}
 use Rattle.std.proofs.lemmas.Bool.{true≢false}
 use Rattle.spec_execution.specs.Runs.{Active}
@@ -32,10 +32,6 @@ parked_joined cs cs' cs'' t t' t'' p tag h w s e k c c' =
     to_joined cs'' (caller.Mark tag ∷ caller.Active p ∷ reverse cs) t'' r (parked (reverse cs) t' t'' p tag (widened (reverse cs) t t' w (from_joined cs (reverse cs) t refl h)) e s k)
 
 -- ---- a mark is taken away
-
-latest_of : (rs : List Caller) (c : Caller) → latest rs ≡ Some c → rs ≡ c ∷ drop 1 rs
-latest_of [] c e = cc
-latest_of (r ∷ rs) c e = cc
 
 -- the latest is taken away
 pub popped : (cs cs' : List Caller) (o : Option Caller) (c : Caller) → latest (reverse cs) ≡ Some c → IfSome o (λ x. cs ≡ cs' ++ x ∷ []) → IfNone o (cs ≡ []) → reverse cs ≡ c ∷ reverse cs'

@@ -8,7 +8,7 @@ use Rattle.spec_execution.specs.Activations.{Activation}
 use Rattle.spec_execution.specs.Runs.{Active, Marked}
 use Rattle.wasm_step.specs.Tops.{Top, with_act, below_count, height_of, levels_at, activation_at, IsLaidOut}
 use Rattle.wasm_step.specs.Primitives.{IsIdle, Parked, Widened, HasSpare, resumed}
-use Rattle.wasm_machine.specs.Stacks.{CallStack, empty_stack, frames_at, rooms_at, most_blocks, LiesWell, LieWell, IsTopOf, is_live, joined, IsBounded, IsJoined}
+use Rattle.wasm_machine.specs.Stacks.{CallStack, frames_at, rooms_at, most_blocks, LiesWell, LieWell, IsTopOf, is_live, IsBounded, IsJoined}
 use Rattle.wasm_step.specs.declared.current.Label.{Label}
 use Rattle.wasm_step.specs.declared.current.Place.{Place}
 use Rattle.wasm_machine.specs.declared.callers.Caller.{Caller}
@@ -50,9 +50,6 @@ from_joined cs rs t e h = rw (← e) (record { lies = h.lies; top = h.top; bound
 pub to_joined : (cs rs : List Caller) (t : Top) → reverse cs ≡ rs → IsOnTop rs t → IsJoined cs t
 to_joined cs rs t e h = let h' : IsOnTop (reverse cs) t = rw e h in record { lies = h'.lies; top = h'.top; bounded = h'.bounded }
 
-pub joined_is : (cs rs : List Caller) (t : Top) → reverse cs ≡ rs → joined cs t ≡ stack_on rs t
-joined_is cs rs t e = ap (λ (rs' : List Caller). stack_on rs' t) e
-
 pub added : (cs cs' : List Caller) (c : Caller) → cs' ≡ cs ++ c ∷ [] → reverse cs' ≡ c ∷ reverse cs
 added cs cs' c e = rw (e, reverse-append cs (c ∷ [])) refl
 
@@ -80,14 +77,6 @@ stack_live rs t e = rw e refl
 
 pub stack_idle : (rs : List Caller) (t : Top) → is_live t ≡ false → stack_on rs t ≡ record { frames = frames_at rs t.under t.outer; rooms = rooms_at rs }
 stack_idle rs t e = rw e refl
-
--- nothing is left
-module _ (t : Top) (h : IsIdle t) where
-  pub cleared_is : joined [] t ≡ empty_stack
-  cleared_is = stack_idle [] t (idle_is t h)
-
-  pub cleared : IsJoined [] t
-  cleared = to_joined [] [] t refl (record { lies = tt; top = rw (idle_is t h) h; bounded = rw (stack_idle [] t (idle_is t h)) (record { activations = omega arith; values = omega arith }) })
 
 -- ---- more room
 
@@ -117,9 +106,6 @@ module _ (rs : List Caller) (t : Top) (tag : ℕ) (h : IsOnTop rs t) (e : is_liv
   marked =
       let b = rw (stack_idle rs t e) at h.bounded in
       record { lies = (omega (arith, s), h.lies); top = rw e (is_idle rs t h e); bounded = rw (stack_idle (caller.Mark tag ∷ rs) t e) (record { activations = b.activations; values = b.values }) }
-
-  pub marked_is : stack_on (caller.Mark tag ∷ rs) t ≡ record (stack_on rs t) { frames = Marked tag ∷ (stack_on rs t).frames }
-  marked_is = rw e refl
 
 -- what was on top lies under a mark
 module _ (rs : List Caller) (t t' : Top) (p : Place) (tag : ℕ) (h : IsOnTop rs t) (e : is_live t ≡ true) (s : HasSpare t 1) (k : Parked t t' p) where
@@ -153,15 +139,6 @@ module _ (rs : List Caller) (t t' : Top) (p : Place) (tag : ℕ) (h : IsOnTop rs
 
 -- ---- what was under a mark
 
-module _ (rs : List Caller) (t : Top) (tag : ℕ) (h : IsOnTop (caller.Mark tag ∷ rs) t) (e : is_live t ≡ false) where
-  pub unmarked_is : stack_on rs t ≡ record (stack_on (caller.Mark tag ∷ rs) t) { frames = drop 1 (stack_on (caller.Mark tag ∷ rs) t).frames }
-  unmarked_is = rw e refl
-
-  pub unmarked : IsTopOf t false rs → IsOnTop rs t
-  unmarked k =
-      let b = rw (stack_idle (caller.Mark tag ∷ rs) t e) at h.bounded in
-      record { lies = h.lies.1; top = rw e k; bounded = rw (stack_idle rs t e) (record { activations = b.activations; values = b.values }) }
-
 module _ (rs : List Caller) (t : Top) (tag : ℕ) (p : Place) (h : IsOnTop (caller.Mark tag ∷ caller.Active p ∷ rs) t) (e : is_live t ≡ false) where
   pub under_lies : LiesWell p t.under t.outer t.capacity t.label_capacity
   under_lies = h.lies.1.0
@@ -171,12 +148,6 @@ module _ (rs : List Caller) (t : Top) (tag : ℕ) (p : Place) (h : IsOnTop (call
 
   pub resumed_live : is_live (resumed p t) ≡ true
   resumed_live = live_is (resumed p t) under_lies.live
-
-  resumed_act : (resumed p t).act ≡ activation_at p t.under t.outer
-  resumed_act = rw idle.values refl
-
-  pub resumed_is : stack_on rs (resumed p t) ≡ record (stack_on (caller.Mark tag ∷ caller.Active p ∷ rs) t) { frames = drop 1 (stack_on (caller.Mark tag ∷ caller.Active p ∷ rs) t).frames }
-  resumed_is = stack_live rs (resumed p t) resumed_live ∙ rw (idle.values, e) refl
 
   pub resumed_top : IsOnTop rs (resumed p t)
   resumed_top =

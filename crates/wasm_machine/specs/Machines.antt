@@ -306,14 +306,19 @@ IsCallingOutside V us m = (m.standing ≡ standing.Moving) × go m.stack.frames
     go (Active a ∷ frames) = calls_outside V us a ≡ true
     go _ = ⊥
 
--- the same of a step that is told in few bytes
+-- the program has exited
+abbrev pub IsExited : Standing → Type 0
+IsExited (standing.Exited code) = Unit {0}
+IsExited _ = ⊥
+
+-- the same of a step that is told in few bytes: of an exit and a mark it isn't told which
 abbrev pub QuickStepped : {Units : Type 0} → View Units → Done → MachineState → MachineState → Changes Units → Type 0
 QuickStepped V done.Goes old new c = Stepped V event.Moved old new c
 QuickStepped V (done.Trapped why) old new c = Stepped V (event.Trapped why) old new c
 QuickStepped V done.Stuck old new c = Stepped V event.Stuck old new c
 QuickStepped V done.Returned old new c = Stepped V event.Returned old new c
-QuickStepped V (done.Exited code) old new c = Stepped V (event.Exited code) old new c
-QuickStepped V (done.Marked tag) old new c = Stepped V (event.Marked tag) old new c
+QuickStepped V done.Exited old new c = IsExited old.standing × (new ≡ old) × AreSame c
+QuickStepped V done.Marked old new c = IsMarked old × (new ≡ old) × AreSame c
 QuickStepped V done.Deep old new c = Stepped V event.Deep old new c
 QuickStepped V done.Outside old new c = IsCallingOutside V c.old_units old × (new ≡ old) × AreSame c
 QuickStepped V done.NoMemory old new c = IsWanting V old × (new.standing ≡ standing.Lost) × AreSame c

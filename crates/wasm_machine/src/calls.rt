@@ -219,6 +219,7 @@ fn named_callee(i: &Instr) -> Option<Callee>
 }
 
 /// One step of the code on top.
+#[inline(always)]
 pub(crate) fn advance<'m, V: View<'m>>(
     callers: &mut Callers<'m>,
     top: &mut Current<'m>,

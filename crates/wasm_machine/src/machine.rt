@@ -10,7 +10,7 @@ ghost use Rattle.wasm_step.specs.Tops.{with_act};
 ghost use Rattle.wasm_step.specs.Primitives.{HasSpare, IsIdle, Widened, with_rest};
 ghost use Rattle.wasm_machine.specs.Stacks.{empty_stack};
 ghost use Rattle.wasm_step.specs.Moves.{AreSame};
-ghost use Rattle.wasm_machine.specs.Machines.{IsOver, IsReady, IsStart, Stepped, QuickStepped, Told, IsWanting, FitsAnswer, Answered, IsCallingOutside, next_of, MayMark, Marks, IsMarked, Unmarks, IsExpecting, Received, IsEnd};
+ghost use Rattle.wasm_machine.specs.Machines.{IsOver, IsReady, IsStart, Stepped, QuickStepped, Told, IsWanting, FitsAnswer, Answered, IsCallingOutside, next_of, MayMark, Marks, IsMarked, IsExited, IsAtMark, Unmarks, IsExpecting, Received, IsEnd};
 
 use crate::callers::{Caller, Callers};
 use crate::calls::{advance, begin_own, outside_call};
@@ -122,7 +122,8 @@ impl<'m> Machine<'m> {
         }
     }
 
-    /// Makes one step, as `step` does, and answers in few bytes: `Outside` and `NoMemory` in place of what takes more.
+    /// Makes one step, as `step` does, and answers in few bytes: `Outside`, `Exited` and `Marked` don't tell what takes more.
+    #[inline(always)]
     pub fn quick<V: View<'m>>(&mut self, view: &mut V) -> Done
         requires over { IsOver (V.fixed view.old) (V.units view.old) self.old }
         requires ready { IsReady self.old }
@@ -134,16 +135,13 @@ impl<'m> Machine<'m> {
             Standing::Moving => {}
             Standing::Returned => return Done::Returned,
             Standing::Trapped(trap) => return Done::Trapped(trap),
-            Standing::Exited(code) => return Done::Exited(code),
+            Standing::Exited(_) => return Done::Exited,
             Standing::Stuck => return Done::Stuck,
             Standing::Lost => return Done::NoMemory,
             Standing::Asking(..) | Standing::Loading => unreachable!(),
         }
         if !self.top.is_live() {
-            return match self.callers.last() {
-                Some(Caller::Mark(tag)) => Done::Marked(tag),
-                _ => unreachable!(),
-            };
+            return Done::Marked;
         }
         let done = advance(&mut self.callers, &mut self.top, view);
         match done {
@@ -171,8 +169,8 @@ impl<'m> Machine<'m> {
             Done::Trapped(trap) => Ok(Event::Trapped(trap)),
             Done::Stuck => Ok(Event::Stuck),
             Done::Returned => Ok(Event::Returned),
-            Done::Exited(code) => Ok(Event::Exited(code)),
-            Done::Marked(tag) => Ok(Event::Marked(tag)),
+            Done::Exited => Ok(Event::Exited(self.exit_code())),
+            Done::Marked => Ok(Event::Marked(self.mark_on_top())),
             Done::Deep => Ok(Event::Deep),
             Done::NoMemory => Err(Memory),
             Done::Outside => self.ask(alloc, view),
@@ -183,6 +181,28 @@ impl<'m> Machine<'m> {
 // ---- what is outside, marks and answers
 
 impl<'m> Machine<'m> {
+    /// The code that the program exited with.
+    fn exit_code(&self) -> u32
+        requires { IsExited self.now.standing }
+        ensures { self.now.standing ≡ Standing.Exited result }
+    {
+        match self.standing {
+            Standing::Exited(code) => code,
+            _ => unreachable!(),
+        }
+    }
+
+    /// The mark on top.
+    fn mark_on_top(&self) -> u32
+        requires { IsMarked self.now }
+        ensures { IsAtMark (Event.Marked result) self.now.stack.frames }
+    {
+        match self.callers.last() {
+            Some(Caller::Mark(tag)) => tag,
+            _ => unreachable!(),
+        }
+    }
+
     /// Asks what is outside: the next step is a call of it.
     fn ask<V: View<'m>>(&mut self, alloc: Global, view: &V) -> Result<Event, Memory>
         requires over { IsOver (V.fixed view.now) (V.units view.now) self.old }

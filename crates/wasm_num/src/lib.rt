@@ -40,6 +40,7 @@ pub fn unary(op: u8, a: u64) -> u64
 
 /// Computes with two numbers: arithmetic, bits, shifts and rotations. Division and remainder trap at a divisor of 0,
 /// as `DivideByZero`, and signed division where the quotient doesn't fit, as `Overflow`.
+#[inline(always)]
 pub fn binary(op: u8, a: u64, b: u64) -> Result<u64, Trap>
     requires operator { IsSome (binary_of op) }
     requires first { IfSome (binary_of op) (λ o. FitsWidth o.0 a) }

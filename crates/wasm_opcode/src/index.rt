@@ -19,6 +19,7 @@ pub enum IndexForm {
 }
 
 /// The instruction with this opcode and one index, if there is one.
+#[inline(always)]
 pub fn index_form(op: u8) -> Option<IndexForm>
     ensures { result ≡ specs.index_form op }
 {

@@ -1,5 +1,5 @@
 -- What further steps of code make of the run.
-use Rattle.std.proofs.Common.{◌≡◌, ◌≢◌, ◌⊎◌, ℕ, suc, ◌<◌, ◌≤◌, Some, Ok, Bool, true, false, refl, sym, ap, ◌∙◌, subst, inl, inr, ⊎_elim, arith}
+use Rattle.std.proofs.Common.{◌≡◌, ◌≢◌, ◌⊎◌, ℕ, suc, ◌<◌, ◌≤◌, Some, Ok, Bool, true, false, sym, ap, ◌∙◌, subst, inl, inr, ⊎_elim, arith}
 use Rattle.std.specs.Borrow.{Bor}
 use Rattle.std.proofs.lemmas.Bool.{false≢true, cases_lt}
 use Rattle.wasm_form.specs.declared.module.Module.{Module}
@@ -31,10 +31,6 @@ pub record GoesOn (most : ℕ) (v : SingleRun) (i : Inside) : Type 0 where
   pub found : i.lost ≡ false
   pub moving : i.core.machine.standing ≡ standing.Moving
   pub called : i.core.phase ≢ phase.Opened
-
--- no step was made
-pub none_advances : (most : ℕ) (v : SingleRun) → Advances most v v
-none_advances most v = record { same = refl; more = omega arith; few = inl refl; free = λ k r from before after. absurd (omega arith); unasked = λ r stands made. absurd (omega arith) }
 
 -- the parts of a run after a step of code
 abbrev pub counted : Inside → Core → ℕ → Bool → Inside

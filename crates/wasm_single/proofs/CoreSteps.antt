@@ -15,7 +15,7 @@ use Rattle.wasm_step.specs.Moves.{Changes, AreSame}
 use Rattle.wasm_step.specs.declared.done.Done.{Done}
 use Rattle.wasm_step.specs.declared.done.Done.TheVariants as done
 use Rattle.wasm_instance.specs.States.{InstanceState}
-use Rattle.wasm_machine.specs.Machines.{MachineState, IsOver, is_code, next_of, Told, Repeats, IsAtMark, Stepped, QuickStepped, FitsAnswer}
+use Rattle.wasm_machine.specs.Machines.{MachineState, IsOver, is_code, next_of, Told, Repeats, IsAtMark, IsExited, Stepped, QuickStepped, FitsAnswer}
 use Rattle.wasm_machine.specs.declared.machine.Standing.{Standing}
 use Rattle.wasm_machine.specs.declared.machine.Standing.TheVariants as standing
 use Rattle.wasm_machine.specs.declared.event.Event.{Event}
@@ -151,16 +151,6 @@ module _ (c : Core) (i : InstanceState) (n : MachineState) (h : IsCore c) (fixed
           go (inr (inl t)) = absurd (let wrong : true ≡ false = sym (at_mark c.machine.stack.frames t.1) ∙ plain in cc)
           go (inr (inr t)) = absurd (repeats_nothing e t.0)
 
-    -- at a mark nothing changes
-    mark_told : (e : Event) (next : Option (Next ModuleParts ℕ)) → is_mark e ≡ true → Told (module_view c.checked.now) e next c.machine n (changes c.instance i) → ⊥
-    mark_told (event.Marked tag) next marked t = t
-    mark_told e next marked t = absurd cc
-
-    step_marked : (e : Event) → is_mark e ≡ true → Stepped (module_view c.checked.now) e c.machine n (changes c.instance i) → (n ≡ c.machine) × AreSame (changes c.instance i)
-    step_marked e marked (inl t) = absurd (mark_told e _ marked t.2)
-    step_marked e marked (inr (inl t)) = (t.2, t.3)
-    step_marked e marked (inr (inr t)) = absurd (repeats_nothing e t.0)
-
 -- ---- the step of a machine over the instance
 
 module _ (c : Core) (i : InstanceState) (n : MachineState) (h : IsCore c) (moving : c.machine.standing ≡ standing.Moving) (called : c.phase ≢ phase.Opened) (fixed : module_view i.wasm ≡ module_view c.instance.wasm) where
@@ -192,11 +182,6 @@ module _ (c : Core) (i : InstanceState) (n : MachineState) (h : IsCore c) (movin
   goes_on (inr (inl t)) = absurd t.1
   goes_on (inr (inr t)) = absurd (repeats_nothing c i n h fixed moving called event.Moved t.0)
 
-  never_exits : (code : ℕ) → Stepped (module_view c.instance.wasm) (event.Exited code) c.machine n (changes c.instance i) → ⊥
-  never_exits code (inl t) = t.2
-  never_exits code (inr (inl t)) = t.1
-  never_exits code (inr (inr t)) = repeats_nothing c i n h fixed moving called (event.Exited code) t.0
-
   stays_deep : Stepped (module_view c.instance.wasm) event.Deep c.machine n (changes c.instance i) → (n ≡ c.machine) × AreSame (changes c.instance i)
   stays_deep (inl t) = deep_same (module_view c.instance.wasm) (next_of (module_view c.instance.wasm) c.instance.parts c.instance.memory c.machine.stack.frames) c.machine n (changes c.instance i) t.2
   stays_deep (inr (inl t)) = absurd t.1
@@ -211,8 +196,8 @@ module _ (c : Core) (i : InstanceState) (n : MachineState) (h : IsCore c) (movin
   quick_steps (done.Trapped why) t o s k = steps_after (event.Trapped why) t (o (λ e. cc)) refl s k
   quick_steps done.Stuck t o s k = steps_after event.Stuck t (o (λ e. cc)) refl s k
   quick_steps done.Returned t o s k = steps_after event.Returned t (o (λ e. cc)) refl s k
-  quick_steps (done.Exited code) t o s k = never_exits code t
-  quick_steps (done.Marked tag) t o s k = stays_as (step_marked c i n h fixed moving called (event.Marked tag) refl (by_module (event.Marked tag) t)) s k
+  quick_steps done.Exited t o s k = subst IsExited moving t.0
+  quick_steps done.Marked t o s k = stays_as (t.1, t.2) s k
   quick_steps done.Deep t o s k = stays_as (stays_deep t) s k
   quick_steps done.Outside t o s k = stays_as (t.1, t.2) s k
   quick_steps done.NoMemory t o s k = tt
@@ -222,8 +207,8 @@ module _ (c : Core) (i : InstanceState) (n : MachineState) (h : IsCore c) (movin
   quick_core (done.Trapped why) t o found = core_after (event.Trapped why) t (o found)
   quick_core done.Stuck t o found = core_after event.Stuck t (o found)
   quick_core done.Returned t o found = core_after event.Returned t (o found)
-  quick_core (done.Exited code) t o found = core_after (event.Exited code) t (o found)
-  quick_core (done.Marked tag) t o found = core_after (event.Marked tag) t (o found)
+  quick_core done.Exited t o found = same_core c i n h fixed t.1 t.2
+  quick_core done.Marked t o found = same_core c i n h fixed t.1 t.2
   quick_core done.Deep t o found = core_after event.Deep t (o found)
   quick_core done.Outside t o found = same_core c i n h fixed t.1 t.2
   quick_core done.NoMemory t o found = absurd (found refl)

@@ -1,5 +1,5 @@
 -- What a step of code that is told in few bytes makes of the count of steps.
-use Rattle.std.proofs.Common.{◌≡◌, ◌≢◌, ◌⊎◌, ℕ, false, refl, inl, inr, subst}
+use Rattle.std.proofs.Common.{◌≡◌, ◌≢◌, ◌⊎◌, false, refl, inl, inr, subst}
 use Rattle.wasm_form.specs.declared.module.Module.{Module}
 use Rattle.wasm_form.specs.declared.runtime.Trap.{Trap}
 use Rattle.spec_runs.specs.Systems.{Status, Moving, Waits, Returned, Exited, Trapped}
@@ -37,17 +37,17 @@ module _ (s : ModuleState) (new : Core) where
 
   -- none was made
   pub left_state : (d : Done)
-      → (d ≡ done.Stuck) ⊎ ((code : ℕ) × (d ≡ done.Exited code)) ⊎ ((tag : ℕ) × (d ≡ done.Marked tag)) ⊎ (d ≡ done.Deep) ⊎ (d ≡ done.Outside)
+      → (d ≡ done.Stuck) ⊎ (d ≡ done.Exited) ⊎ (d ≡ done.Marked) ⊎ (d ≡ done.Deep) ⊎ (d ≡ done.Outside)
       → QuickSteps d s new → IsState new s
   left_state d (inl e) q = let h : Steps event.Stuck s new = subst (λ x. QuickSteps x s new) e q in h.2
-  left_state d (inr (inl e)) q = absurd (subst (λ x. QuickSteps x s new) e.1 q)
-  left_state d (inr (inr (inl e))) q = (subst (λ x. QuickSteps x s new) e.1 q).1
+  left_state d (inr (inl e)) q = absurd (subst (λ x. QuickSteps x s new) e q)
+  left_state d (inr (inr (inl e))) q = (subst (λ x. QuickSteps x s new) e q).1
   left_state d (inr (inr (inr (inl e)))) q = (subst (λ x. QuickSteps x s new) e q).1
   left_state d (inr (inr (inr (inr e)))) q = (subst (λ x. QuickSteps x s new) e q).1
 
 -- and memory wasn't wanting
 pub left_found : (d : Done)
-    → (d ≡ done.Stuck) ⊎ ((code : ℕ) × (d ≡ done.Exited code)) ⊎ ((tag : ℕ) × (d ≡ done.Marked tag)) ⊎ (d ≡ done.Deep) ⊎ (d ≡ done.Outside)
+    → (d ≡ done.Stuck) ⊎ (d ≡ done.Exited) ⊎ (d ≡ done.Marked) ⊎ (d ≡ done.Deep) ⊎ (d ≡ done.Outside)
     → d ≢ done.NoMemory
 left_found d (inl e) none = cc
 left_found d (inr (inl e)) none = cc

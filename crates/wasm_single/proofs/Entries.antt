@@ -16,7 +16,7 @@ use Rattle.spec_binary.specs.SmallForm.{nullary}
 use Rattle.spec_validation.specs.Faults.{fault, is_there, export_fits, start_fits, type_of_function}
 use Rattle.spec_execution.specs.Instances.{imported_count}
 use Rattle.spec_execution.specs.OneModule.{start_name, module_entry}
-use Rattle.wasm_instance.proofs.Valid.{valid_parts}
+use Rattle.spec_validation.proofs.Parts.{parts_fit}
 use Rattle.wasm_single.specs.Cores.{IsStartable}
 
 -- ---- exports
@@ -39,7 +39,7 @@ own_is_function m name f valid = go (exported_as name m.exports) refl
     go : (d : Option ExportDesc) → exported_as name m.exports ≡ d → (d >>= exported_function) ≡ Some f → f < length (function_space m)
     go (Some (exported.Func n)) q e =
         let same : n ≡ f = cc in
-        rw (← same) (ltb-true n (length (function_space m)) (is_exported m name m.exports (exported.Func n) (valid_parts m valid).exports q))
+        rw (← same) (ltb-true n (length (function_space m)) (is_exported m name m.exports (exported.Func n) (parts_fit m valid).exports q))
     go (Some (exported.Table n)) q e = absurd cc
     go (Some (exported.Space n)) q e = absurd cc
     go (Some (exported.Global n)) q e = absurd cc
@@ -69,7 +69,7 @@ startable m f = go (type_of_function m f)
 -- ---- the start function and the entry
 
 pub start_is : (m : Module) → fault m ≡ None → IfSome m.start (IsStartable m)
-start_is m valid = go m.start (valid_parts m valid).start
+start_is m valid = go m.start (parts_fit m valid).start
   where
     go : (start : Option ℕ) → start_fits m start ≡ true → IfSome start (IsStartable m)
     go None e = tt

@@ -16,7 +16,7 @@ use Rattle.spec_execution.specs.OneModule.{OpeningFault, import_met, met_then, i
 use Rattle.spec_safety.specs.Laws.{IsFunctionImport}
 use Rattle.wasm_instance.specs.Imports.{is_function_import}
 
-both_met : (a b : Result (Unit {0}) OpeningFault) → met_then a b ≡ Ok tt → (a ≡ Ok tt) × (b ≡ Ok tt)
+pub both_met : (a b : Result (Unit {0}) OpeningFault) → met_then a b ≡ Ok tt → (a ≡ Ok tt) × (b ≡ Ok tt)
 both_met (Err why) b e = absurd cc
 both_met (Ok met) b e = (refl, e)
 

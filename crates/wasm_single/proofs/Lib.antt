@@ -4,7 +4,7 @@ mod Functions
 mod Telling
 mod Calling
 mod CoreSteps
-mod Imports
+pub mod Imports
 mod Entries
 mod Openings
 mod Running

@@ -125,7 +125,7 @@ QuickSteps done.Goes s new = (new.machine.standing ≡ standing.Moving) × Steps
 QuickSteps done.Returned s new = Steps event.Returned s new
 QuickSteps (done.Trapped why) s new = Steps (event.Trapped why) s new
 QuickSteps done.Stuck s new = Steps event.Stuck s new
-QuickSteps (done.Exited code) s new = ⊥
+QuickSteps done.Exited s new = ⊥
 QuickSteps done.NoMemory s new = Unit {0}
 QuickSteps _ s new = (new.machine.standing ≡ standing.Moving) × IsState new s
 

@@ -109,7 +109,7 @@ fn quick_step(core: &mut Core, steps: &mut u64, lost: &mut bool) -> bool
             *lost = true;
             false
         }
-        Done::Stuck | Done::Exited(_) | Done::Marked(_) | Done::Deep | Done::Outside => false,
+        Done::Stuck | Done::Exited | Done::Marked | Done::Deep | Done::Outside => false,
     }
 }
 

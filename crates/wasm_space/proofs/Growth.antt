@@ -5,7 +5,7 @@ use Rattle.std.proofs.lemmas.List.{take_all}
 use Rattle.std.proofs.Math.Seq.{take-nil}
 use Rattle.wasm_form.specs.declared.runtime.Ref.{Ref}
 use Rattle.spec_runtime.specs.Memories.{MemoryInstance, zeros, new_memory, pages, grown}
-use Rattle.spec_runtime.specs.Tables.{TableInstance, nulls, new_table, entries_grown}
+use Rattle.spec_runtime.specs.Tables.{nulls, new_table}
 use Rattle.wasm_space.specs.Access.{GrowsOrStays}
 
 pub new_memory_is : (bytes : List ℕ) (pages max : ℕ) → bytes ≡ replicate (pages * 65536) 0 → record { bytes = bytes; max = max } ≡ new_memory pages max

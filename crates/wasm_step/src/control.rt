@@ -130,6 +130,7 @@ fn land(top: &mut Current)
 }
 
 /// Branches with so many blocks between.
+#[inline(always)]
 pub(crate) fn branch(top: &mut Current, k: u32) -> Done
     ensures took { Took result (branch_move top.old.act k) top.old top.new }
     ensures rest { top.new ≡ with_act top.old top.new.act }

@@ -3,7 +3,7 @@ use Rattle.std.proofs.Common.{◌≡◌, ℕ, ℤ, List, [], ◌∷◌, sym, ap,
 use Rattle.wasm_form.specs.declared.types.ValType.{ValType}
 use Rattle.wasm_form.specs.declared.types.ValType.TheVariants.{I32, I64, FuncRef}
 use Rattle.wasm_form.specs.declared.instr.BlockType.{BlockType}
-use Rattle.wasm_form.specs.declared.instr.Instr.{Instr, Plain, Index, Block, Loop, If, BrTable, CallIndirect, Select, Access, MemorySize, MemoryGrow, I32Const, I64Const, F32Const, F64Const, RefNull, Prefixed, fold-roll-Instr, roll-Instr, out-Instr, roll-out-Instr}
+use Rattle.wasm_form.specs.declared.instr.Instr.{Instr, Plain, Index, Block, Loop, If, BrTable, CallIndirect, Select, Access, MemorySize, MemoryGrow, I32Const, I64Const, F32Const, F64Const, RefNull, Prefixed, fold-roll-Instr, roll-Instr}
 use Rattle.wasm_form.specs.declared.instr.Instr.TheOpen as Open
 use Rattle.wasm_form.specs.declared.instr.Instr.TheVariants.{rolls-Plain, rolls-Index, rolls-Block, rolls-Loop, rolls-If, rolls-BrTable, rolls-CallIndirect, rolls-Select, rolls-Access, rolls-MemorySize, rolls-MemoryGrow, rolls-I32Const, rolls-I64Const, rolls-F32Const, rolls-F64Const, rolls-RefNull, rolls-Prefixed}
 use Rattle.wasm_form.specs.declared.instr.Expr.{Expr, fold-Expr, fold_out-Expr}
@@ -57,9 +57,6 @@ rolled c (Open.If t e (Some o)) =
     ∙ ap (λ m. typed_here c (Open.If t m (Some (fold-Expr Meaning Meaning (typed_here c) typed_expr o)))) (expr_is c e)
     ∙ ap (λ m. typed_here c (Open.If t (afters c e.list) (Some m))) (expr_is c o)
 rolled c x = fold-roll-Instr Meaning Meaning (typed_here c) typed_expr x
-
-pub after_level : (c : Context) (i : Instr) → after c i ≡ typed_here c (level c (out-Instr i))
-after_level c i = ap (after c) (sym (roll-out-Instr i)) ∙ rolled c (out-Instr i)
 
 typed : (c : Context) (i : Instr) (x : Open.Instr-F Instr Expr) (labels : Labels) (s : Stack) → roll-Instr x ≡ i → after c i labels s ≡ typed_here c (level c x) labels s
 typed c i x labels s e = ap (λ (j : Instr). after c j labels s) (sym e) ∙ ap (λ (m : Meaning). m labels s) (rolled c x)

@@ -3,10 +3,10 @@ use Rattle.std.proofs.Common.{arith, ◌≡◌, ℕ, zero, suc, ◌+◌, ◌-◌
 use Rattle.std.specs.Prelude.{min}
 use Rattle.std.proofs.lemmas.Bool.{cases_lt}
 use Rattle.std.proofs.lemmas.List.{length-replicate, get_or-replicate, take_all}
-use Rattle.std.proofs.lemmas.Option.{slice_get-get_or, slice_get_past, get_or_from_slice_get}
+use Rattle.std.proofs.lemmas.Option.{slice_get-get_or, slice_get_past}
 use Rattle.wasm_form.specs.declared.module.Group.{Group}
 use Rattle.spec_binary.specs.Indices.{declared_locals}
-use Rattle.wasm_typing.specs.GroupEnds.{locals_before, end_of, AreEnds}
+use Rattle.wasm_typing.specs.GroupEnds.{locals_before, end_of}
 
 -- ---- elements of lists that are put together
 
@@ -79,12 +79,6 @@ ends_more groups ends i end count each is k h = elim (cases_lt k i) [
       let same : i ≡ k = omega arith in
       rw (slice_get-append-right ends (end ∷ []) k l, z, is, same) refl)
 ]
-
--- an end by the number of groups up to it
-pub end_at : (groups : List Group) (ends : List ℕ) (m d : ℕ) → AreEnds groups ends → 0 < m → m ≤ length groups → get_or ends (m - 1) d ≡ min (locals_before groups m) (2 ^ 64 - 1)
-end_at groups ends m d are some within =
-    let e : m - 1 + 1 ≡ m = omega arith in
-    get_or_from_slice_get ends (m - 1) (min (locals_before groups m) (2 ^ 64 - 1)) d (rw (are.each (m - 1) (omega arith), e) refl)
 
 -- a group's end is the end before it and what the group declares, in 64 bits
 pub end_next : (groups : List Group) (i : ℕ) (d : Group) (end count new : ℕ) → i < length groups → end ≡ min (locals_before groups i) (2 ^ 64 - 1) → count ≡ (get_or groups i d).count

@@ -1,11 +1,11 @@
 use Rattle.std.proofs.Common.{◌<◌, length, arith}
 use Rattle.spec_validation.specs.Faults.{elem_fits}
 use Rattle.wasm_instance.proofs.Lists.{all_at}
-use Rattle.wasm_instance.proofs.Valid.{valid_parts}
+use Rattle.spec_validation.proofs.Parts.{parts_fit}
 use Rattle.wasm_instance.proofs.segments.apply_elems.Goals as goal
 
 pub apply-requires-clause-fits : goal.apply-requires-clause-fits
 apply-requires-clause-fits c =
     let m = c.args.m.now in
     let inside : c.loop-segment.segment-index < length m.elems = grind arith in
-    all_at (elem_fits m) m.elems c.loop-segment.segment-index c.segment-item.result inside (cc) (valid_parts m c.requires.source.valid).elems
+    all_at (elem_fits m) m.elems c.loop-segment.segment-index c.segment-item.result inside (cc) (parts_fit m c.requires.source.valid).elems
