@@ -11,7 +11,7 @@ use Rattle.spec_execution.specs.Runs.{Frame, Next, Goes, Asks, Loads, Ends, Trap
 use Rattle.wasm_step.specs.Tops.{Top}
 use Rattle.wasm_machine.specs.Stacks.{CallStack, empty_stack, IsJoined, under_of, is_live, joined, IsBounded}
 use Rattle.wasm_step.specs.Moves.{Changes, AreSame}
-use Rattle.wasm_machine.specs.Machines.{MachineState, RoomsAre, IsOver, IsAsked, IsEnd, MayWant, Led, Told, QuickStepped, IsCallingOutside, is_code, calls_outside, next_of}
+use Rattle.wasm_machine.specs.Machines.{MachineState, RoomsAre, IsOver, IsAsked, IsEnd, MayWant, LeavesCode, Led, Told, QuickStepped, IsCallingOutside, is_code, calls_outside, next_of}
 use Rattle.wasm_machine.specs.declared.machine.Standing.{Standing}
 use Rattle.wasm_machine.specs.declared.machine.Standing.TheVariants as standing
 use Rattle.wasm_machine.specs.declared.callers.Caller.{Caller}
@@ -167,13 +167,16 @@ module _ {Units : Type 0} (V : View Units) (c : Changes Units) (cs cs' : List Ca
       inl (moving, code_at, k.0)
 
   outside_kept : d ≡ done.Outside → (joined cs' t' ≡ joined cs t) × AreSame c
-  outside_kept e = rw e at led
+  outside_kept e = let l = rw e at led in (l.0, l.1)
+
+  outside_leaves : d ≡ done.Outside → LeavesCode (next_of V c.old_units c.old_memory (joined cs t).frames)
+  outside_leaves e = let l = rw e at led in l.2
 
   outside_stepped : d ≡ done.Outside → calls_outside V c.old_units t.act ≡ true → QuickStepped V done.Outside at to c
   outside_stepped e q =
       let k = outside_kept e in
       let calls : IsCallingOutside V c.old_units at = rw live (moving, q) in
-      (calls, at_same k.0, k.1)
+      (calls, at_same k.0, k.1, outside_leaves e)
 
   module _ (outside : d ≡ done.Outside → calls_outside V c.old_units t.act ≡ true) (lies : d ≢ done.NoMemory → IsJoined cs' t') (rooms : d ≡ done.Goes → RoomsAre V (joined cs' t')) (which : (d ≡ done.Goes) ⊎ ((d ≡ done.Deep) ⊎ (d ≡ done.Outside))) where
     pub stays_stepped : QuickStepped V d old to c

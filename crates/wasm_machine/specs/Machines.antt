@@ -68,6 +68,11 @@ next_of V us memory [] = None
 next_of V us memory (Active a ∷ frames) = carried_out V us memory frames (move (V.declared a.unit) a)
 next_of V us memory (Marked tag ∷ frames) = None
 
+-- a step after which no code goes on by itself
+abbrev pub LeavesCode : {Units : Type 0} → Option (Next Units ℕ) → Type 0
+LeavesCode (Some (Goes us memory frames)) = ⊥
+LeavesCode _ = Unit {0}
+
 -- What is answered in few bytes, and what has changed. What is outside is told by a slower call.
 abbrev pub Led : {Units : Type 0} → View Units → Done → Option (Next Units ℕ) → Type 0 → CallStack → CallStack → Changes Units → Type 0
 Led V done.Goes (Some (Goes us memory frames)) Wanting old new c = (new.frames ≡ frames) × (c.new_units ≡ us) × (c.new_memory ≡ memory)
@@ -75,7 +80,7 @@ Led V done.Deep (Some (Goes us memory frames)) Wanting old new c = (is_deep V fr
 Led V done.Returned (Some Ends) Wanting old new c = AreSame c
 Led V (done.Trapped why) (Some (Traps cause)) Wanting old new c = (why ≡ cause) × AreSame c
 Led V done.Stuck None Wanting old new c = AreSame c
-Led V done.Outside next Wanting old new c = (new ≡ old) × AreSame c
+Led V done.Outside next Wanting old new c = (new ≡ old) × AreSame c × LeavesCode next
 Led V done.NoMemory next Wanting old new c = Wanting × AreSame c
 Led V _ next Wanting old new c = ⊥
 
@@ -320,5 +325,5 @@ QuickStepped V done.Returned old new c = Stepped V event.Returned old new c
 QuickStepped V done.Exited old new c = IsExited old.standing × (new ≡ old) × AreSame c
 QuickStepped V done.Marked old new c = IsMarked old × (new ≡ old) × AreSame c
 QuickStepped V done.Deep old new c = Stepped V event.Deep old new c
-QuickStepped V done.Outside old new c = IsCallingOutside V c.old_units old × (new ≡ old) × AreSame c
+QuickStepped V done.Outside old new c = IsCallingOutside V c.old_units old × (new ≡ old) × AreSame c × LeavesCode (next_of V c.old_units c.old_memory old.stack.frames)
 QuickStepped V done.NoMemory old new c = IsWanting V old × (new.standing ≡ standing.Lost) × AreSame c

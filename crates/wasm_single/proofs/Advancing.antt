@@ -16,15 +16,17 @@ use Rattle.wasm_single.specs.Starts.{opened}
 use Rattle.wasm_single.specs.Steps.{IsMade, Counted}
 use Rattle.wasm_single.specs.Kept.{run_of, IsSingle}
 use Rattle.wasm_single.proofs.Running.{stands_after, stands_moved}
+use Rattle.wasm_single.proofs.Stopping.{HasNoneLeft, none_left}
 use Rattle.wasm_single.proofs.Calling.{state_moving}
 use Rattle.wasm_single.proofs.Stepping.{with_core, same_hosts, stands_at, stays}
 
--- what is so of a run that makes steps of code, of which so many may be made in all
+-- what is so of a run that has made steps of code, of which so many may be made in all, until none was left
 pub record IsAdvanced (most : ℕ) (v : SingleRun) (i : Inside) : Type 0 where
   pub single : IsSingle i
   pub advances : Advances most v (run_of i)
+  pub left : HasNoneLeft most (run_of i)
 
--- and the next step is one of code
+-- what is so of one that makes them
 pub record GoesOn (most : ℕ) (v : SingleRun) (i : Inside) : Type 0 where
   pub single : IsSingle i
   pub advances : Advances most v (run_of i)
@@ -133,9 +135,14 @@ module _ (most : ℕ) (v : SingleRun) (i : Inside) (core : Core) (steps : ℕ) (
   -- a step after which it doesn't
   stops_so : (q : Ran hosts ModuleState) → Stands (run_of i) q → IsState i.core q.state → (lost ≡ false → IsCore core) → Counted false q.state core i.steps steps lost
       → IsAdvanced most v (counted i core steps lost)
-  stops_so q stands at is_core (inl o) = record { single = made_single q stands at o.0 o.1 (is_core o.1) o.2; advances = made_advances q stands at o.0 o.2 }
-  stops_so q stands at is_core (inr (inl o)) = record { single = kept_single q stands o.2 o.0 o.1 (is_core o.1); advances = kept_advances o.0 }
-  stops_so q stands at is_core (inr (inr o)) = record { single = lost_single o.1; advances = kept_advances o.0 }
+  stops_so q stands at is_core (inl o) =
+      let single = made_single q stands at o.0 o.1 (is_core o.1) o.2 in
+      record { single = single; advances = made_advances q stands at o.0 o.2; left = none_left most (counted i core steps lost) single (λ found. o.3) }
+  stops_so q stands at is_core (inr (inl o)) =
+      let single = kept_single q stands o.2 o.0 o.1 (is_core o.1) in
+      record { single = single; advances = kept_advances o.0; left = none_left most (counted i core steps lost) single (λ found. o.3) }
+  stops_so q stands at is_core (inr (inr o)) =
+      record { single = lost_single o.1; advances = kept_advances o.0; left = λ r stands few code. absurd (false≢true (sym stands.found ∙ o.1)) }
 
   pub stops : (lost ≡ false → IsCore core) → ((s : ModuleState) → IsState i.core s → Counted false s core i.steps steps lost) → IsAdvanced most v (counted i core steps lost)
   stops is_core outcome = let q = g.single.stands g.found in stops_so q.0 q.1 q.2 is_core (outcome q.0.state q.2)

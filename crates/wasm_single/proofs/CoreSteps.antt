@@ -1,5 +1,5 @@
 -- The steps of the machine and the answers that it takes are those of the run.
-use Rattle.std.proofs.Common.{◌≡◌, ◌≢◌, inl, inr, ℕ, List, Option, Some, None, refl, ap, sym, ◌∙◌, subst, Bool, true, false}
+use Rattle.std.proofs.Common.{◌≡◌, ◌≢◌, inl, inr, ℕ, List, [], ◌∷◌, Option, Some, None, refl, ap, sym, ◌∙◌, subst, Bool, true, false}
 use Rattle.std.specs.Prelude.{IfSome, IsTrue}
 use Rattle.std.specs.Option.{option_map}
 use Rattle.wasm_form.specs.declared.module.Module.{Module}
@@ -8,25 +8,38 @@ use Rattle.spec_runtime.specs.Memories.{MemoryInstance}
 use Rattle.spec_runtime.specs.Names.{HostName}
 use Rattle.spec_runtime.specs.Hosts.{fits_results}
 use Rattle.spec_execution.specs.Views.{View}
-use Rattle.spec_execution.specs.Runs.{Frame, Next, Goes, Asks, Loads, Ends, Traps}
+use Rattle.spec_execution.specs.Runs.{Frame, Active, Marked, Next, Goes, Asks, Loads, Ends, Traps}
 use Rattle.spec_execution.specs.Instances.{ModuleParts, module_view, module_hosts, host_type}
 use Rattle.spec_execution.specs.OneModule.{Starting, ModuleState, module_next}
 use Rattle.wasm_step.specs.Moves.{Changes, AreSame}
 use Rattle.wasm_step.specs.declared.done.Done.{Done}
 use Rattle.wasm_step.specs.declared.done.Done.TheVariants as done
 use Rattle.wasm_instance.specs.States.{InstanceState}
-use Rattle.wasm_machine.specs.Machines.{MachineState, IsOver, is_code, next_of, Told, Repeats, IsAtMark, IsExited, Stepped, QuickStepped, FitsAnswer}
+use Rattle.wasm_machine.specs.Machines.{MachineState, IsOver, is_code, next_of, LeavesCode, Told, Repeats, IsAtMark, IsMarked, IsCallingOutside, IsExited, Stepped, QuickStepped, FitsAnswer}
 use Rattle.wasm_machine.specs.declared.machine.Standing.{Standing}
 use Rattle.wasm_machine.specs.declared.machine.Standing.TheVariants as standing
 use Rattle.wasm_machine.specs.declared.event.Event.{Event}
 use Rattle.wasm_machine.specs.declared.event.Event.TheVariants as event
 use Rattle.wasm_single.specs.declared.bare_run.Core.{Core}
 use Rattle.wasm_single.specs.declared.bare_run.Phase.TheVariants as phase
-use Rattle.wasm_single.specs.Cores.{seen, starting_of, IsLive, IsCore, IsState, StandsAs, Steps, QuickSteps, FitsHost, MayTake, is_begun, is_mark}
+use Rattle.wasm_single.specs.Cores.{seen, starting_of, IsLive, IsCore, IsState, StandsAs, Steps, QuickSteps, is_running, IsCodeNext, FitsHost, MayTake, is_begun, is_mark}
 use Rattle.wasm_single.proofs.Seen.{seen_next, seen_step}
 use Rattle.wasm_single.proofs.Under.{KeepsUnder, step_under}
-use Rattle.wasm_single.proofs.Telling.{is_marked, under_phase, stack_called, steps_told, deep_told, live_told}
+use Rattle.wasm_single.proofs.Telling.{is_marked, under_phase, stack_called, steps_told, deep_told, leaves_moving, live_told}
 use Rattle.wasm_single.proofs.Calling.{live_moving, state_moving, deep_same, is_deep_event}
+
+-- ---- what is on top
+
+marked_idle : (starting : Starting) (st : Standing) (rooms : List ℕ) (frames : List (Frame ℕ)) → IsMarked (record { stack = record { frames = frames; rooms = rooms }; standing = st }) → is_running (seen starting frames) ≡ false
+marked_idle starting st rooms [] h = refl
+marked_idle starting st rooms (Active a ∷ frames) h = absurd h.1
+marked_idle starting st rooms (Marked tag ∷ frames) h = refl
+
+calling_code : {Units : Type 0} (V : View Units) (us : Units) (st : Standing) (rooms : List ℕ) (frames : List (Frame ℕ)) → IsCallingOutside V us (record { stack = record { frames = frames; rooms = rooms }; standing = st })
+    → is_code frames ≡ true
+calling_code V us st rooms [] h = absurd h.1
+calling_code V us st rooms (Active a ∷ frames) h = refl
+calling_code V us st rooms (Marked tag ∷ frames) h = absurd h.1
 
 abbrev changes : InstanceState → InstanceState → Changes ModuleParts
 changes old new = record { old_units = old.parts; old_memory = old.memory; new_units = new.parts; new_memory = new.memory }
@@ -61,11 +74,13 @@ module _ (c : Core) (i : InstanceState) (n : MachineState) (h : IsCore c) (fixed
   -- ---- a step
 
   module _ (moving : c.machine.standing ≡ standing.Moving) (called : c.phase ≢ phase.Opened) where
+    stack_seen : (s : ModuleState) → IsState c s → s.stack ≡ seen (starting_of c) c.machine.stack.frames
+    stack_seen s k = (state_moving c s k moving).1 ∙ stack_called c.phase (starting_of c) c.machine.stack.frames called
+
     code_next : (s : ModuleState) → IsState c s → is_code c.machine.stack.frames ≡ true
         → module_next c.checked.now s s.stack ≡ option_map (seen_next (starting_of c)) (next_of (module_view c.checked.now) c.instance.parts c.instance.memory c.machine.stack.frames)
     code_next s k code =
-        let stack : s.stack ≡ seen (starting_of c) c.machine.stack.frames = (state_moving c s k moving).1 ∙ stack_called c.phase (starting_of c) c.machine.stack.frames called in
-        ap (λ (fs : List (Frame Starting)). module_next c.checked.now s fs) stack ∙ seen_step c.checked.now s (starting_of c) c.machine.stack.frames code
+        ap (λ (fs : List (Frame Starting)). module_next c.checked.now s fs) (stack_seen s k) ∙ seen_step c.checked.now s (starting_of c) c.machine.stack.frames code
         ∙ ap (λ (us : ModuleParts). option_map (seen_next (starting_of c)) (next_of (module_view c.checked.now) us s.memory c.machine.stack.frames)) k.units
         ∙ ap (λ (space : MemoryInstance). option_map (seen_next (starting_of c)) (next_of (module_view c.checked.now) c.instance.parts space c.machine.stack.frames)) k.memory
 
@@ -182,13 +197,27 @@ module _ (c : Core) (i : InstanceState) (n : MachineState) (h : IsCore c) (movin
   goes_on (inr (inl t)) = absurd t.1
   goes_on (inr (inr t)) = absurd (repeats_nothing c i n h fixed moving called event.Moved t.0)
 
-  stays_deep : Stepped (module_view c.instance.wasm) event.Deep c.machine n (changes c.instance i) → (n ≡ c.machine) × AreSame (changes c.instance i)
-  stays_deep (inl t) = deep_same (module_view c.instance.wasm) (next_of (module_view c.instance.wasm) c.instance.parts c.instance.memory c.machine.stack.frames) c.machine n (changes c.instance i) t.2
-  stays_deep (inr (inl t)) = absurd t.1
-  stays_deep (inr (inr t)) = absurd (repeats_nothing c i n h fixed moving called event.Deep t.0)
+  -- no step is made, and the next isn't one of code
+  stays_as : (n ≡ c.machine) × AreSame (changes c.instance i) → (s : ModuleState) → IsState c s → (IsCodeNext c.checked.now s → ⊥)
+      → (n.standing ≡ standing.Moving) × IsState (with_both c i n) s × (IsCodeNext c.checked.now s → ⊥)
+  stays_as same s k none = (ap (λ (x : MachineState). x.standing) same.0 ∙ moving, same_state c i n h fixed same.0 same.1 s k, none)
 
-  stays_as : (n ≡ c.machine) × AreSame (changes c.instance i) → (s : ModuleState) → IsState c s → (n.standing ≡ standing.Moving) × IsState (with_both c i n) s
-  stays_as same s k = (ap (λ (x : MachineState). x.standing) same.0 ∙ moving, same_state c i n h fixed same.0 same.1 s k)
+  deep_none : (s : ModuleState) → Steps event.Deep s (with_both c i n) → (n.standing ≡ standing.Moving) × IsState (with_both c i n) s × (IsCodeNext c.checked.now s → ⊥)
+  deep_none s k = (k.1, k.2, λ code. let clash : true ≡ false = sym k.0 ∙ code.2 in cc)
+
+  marked_none : (s : ModuleState) → IsState c s → IsMarked c.machine → IsCodeNext c.checked.now s → ⊥
+  marked_none s k marked code =
+      let idle : is_running s.stack ≡ false = ap is_running (stack_seen c i n h fixed moving called s k) ∙ marked_idle (starting_of c) c.machine.standing c.machine.stack.rooms c.machine.stack.frames marked in
+      let clash : false ≡ true = sym idle ∙ code.1 in
+      cc
+
+  outside_none : (s : ModuleState) → IsState c s → IsCallingOutside (module_view c.instance.wasm) c.instance.parts c.machine
+      → LeavesCode (next_of (module_view c.instance.wasm) c.instance.parts c.instance.memory c.machine.stack.frames) → IsCodeNext c.checked.now s → ⊥
+  outside_none s k calling leaves code =
+      let on_top = calling_code (module_view c.instance.wasm) c.instance.parts c.machine.standing c.machine.stack.rooms c.machine.stack.frames calling in
+      leaves_moving c.checked.now s (starting_of c) (next_of (module_view c.checked.now) c.instance.parts c.instance.memory c.machine.stack.frames) (code_next c i n h fixed moving called s k on_top)
+      (subst (λ (V : View ModuleParts). LeavesCode (next_of V c.instance.parts c.instance.memory c.machine.stack.frames)) h.fixed leaves)
+      code.3.0 code.3.1 code.3.2
 
   pub quick_steps : (d : Done) → QuickStepped (module_view c.instance.wasm) d c.machine n (changes c.instance i) → (d ≢ done.NoMemory → IsOver (module_view c.instance.wasm) i.parts n)
       → (s : ModuleState) → IsState c s → QuickSteps d s (with_both c i n)
@@ -197,9 +226,9 @@ module _ (c : Core) (i : InstanceState) (n : MachineState) (h : IsCore c) (movin
   quick_steps done.Stuck t o s k = steps_after event.Stuck t (o (λ e. cc)) refl s k
   quick_steps done.Returned t o s k = steps_after event.Returned t (o (λ e. cc)) refl s k
   quick_steps done.Exited t o s k = subst IsExited moving t.0
-  quick_steps done.Marked t o s k = stays_as (t.1, t.2) s k
-  quick_steps done.Deep t o s k = stays_as (stays_deep t) s k
-  quick_steps done.Outside t o s k = stays_as (t.1, t.2) s k
+  quick_steps done.Marked t o s k = stays_as (t.1, t.2) s k (marked_none s k t.0)
+  quick_steps done.Deep t o s k = deep_none s (steps_after event.Deep t (o (λ e. cc)) refl s k)
+  quick_steps done.Outside t o s k = stays_as (t.1, t.2) s k (outside_none s k t.0 t.3)
   quick_steps done.NoMemory t o s k = tt
 
   pub quick_core : (d : Done) → QuickStepped (module_view c.instance.wasm) d c.machine n (changes c.instance i) → (d ≢ done.NoMemory → IsOver (module_view c.instance.wasm) i.parts n) → d ≢ done.NoMemory → IsCore (with_both c i n)

@@ -1,5 +1,5 @@
 -- What a step of code that is told in few bytes makes of the count of steps.
-use Rattle.std.proofs.Common.{◌≡◌, ◌≢◌, ◌⊎◌, false, refl, inl, inr, subst}
+use Rattle.std.proofs.Common.{◌≡◌, ◌≢◌, ◌⊎◌, Some, None, false, refl, sym, ◌∙◌, inl, inr, subst}
 use Rattle.wasm_form.specs.declared.module.Module.{Module}
 use Rattle.wasm_form.specs.declared.runtime.Trap.{Trap}
 use Rattle.spec_runs.specs.Systems.{Status, Moving, Waits, Returned, Exited, Trapped}
@@ -12,7 +12,8 @@ use Rattle.wasm_machine.specs.declared.event.Event.TheVariants as event
 use Rattle.wasm_single.specs.declared.bare_run.Core.{Core}
 use Rattle.wasm_single.specs.Cores.{IsState, TellsStatus, Steps, QuickSteps}
 use Rattle.wasm_single.specs.Singles.{waits}
-use Rattle.wasm_single.specs.Steps.{IsMade}
+use Rattle.wasm_single.specs.Steps.{IsMade, HasStopped}
+use Rattle.wasm_single.proofs.Stopping.{stopped_at}
 
 -- what is told of a run that waits for a host function tells that alone
 not_waiting : (m : Module) (e : Event) (status : Status HostCall Trap) → ((call : HostCall) → TellsStatus m e (Waits call) → ⊥) → TellsStatus m e status → waits status ≡ false
@@ -27,23 +28,29 @@ module _ (s : ModuleState) (new : Core) where
   moved_made h = (h.0, (h.1.0, h.1.1, h.1.3, not_waiting new.checked.now event.Moved h.1.0.status (λ call tells. tells) h.1.2))
 
   -- it was the last step
-  pub ended_made : (d : Done) → (d ≡ done.Returned) ⊎ ((why : Trap) × (d ≡ done.Trapped why)) → QuickSteps d s new → IsMade s new
+  pub ended_made : (d : Done) → (d ≡ done.Returned) ⊎ ((why : Trap) × (d ≡ done.Trapped why)) → QuickSteps d s new → IsMade s new × HasStopped new
   ended_made d (inl e) q =
-      let h : Steps event.Returned s new = subst (λ x. QuickSteps x s new) e q in
-      (h.0, (h.1.0, h.1.1, h.1.3, not_waiting new.checked.now event.Returned h.1.0.status (λ call tells. tells) h.1.2))
+      let h : Steps event.Returned s new = subst (λ x. QuickSteps x s new) e q in (
+        (h.0, (h.1.0, h.1.1, h.1.3, not_waiting new.checked.now event.Returned h.1.0.status (λ call tells. tells) h.1.2)),
+        stopped_at new h.1.0 h.1.3 (λ code. subst (TellsStatus new.checked.now event.Returned) code.0 h.1.2),
+      )
   ended_made d (inr e) q =
-      let h : Steps (event.Trapped e.0) s new = subst (λ x. QuickSteps x s new) e.1 q in
-      (h.0, (h.1.0, h.1.1, h.1.3, not_waiting new.checked.now (event.Trapped e.0) h.1.0.status (λ call tells. tells) h.1.2))
+      let h : Steps (event.Trapped e.0) s new = subst (λ x. QuickSteps x s new) e.1 q in (
+        (h.0, (h.1.0, h.1.1, h.1.3, not_waiting new.checked.now (event.Trapped e.0) h.1.0.status (λ call tells. tells) h.1.2)),
+        stopped_at new h.1.0 h.1.3 (λ code. subst (TellsStatus new.checked.now (event.Trapped e.0)) code.0 h.1.2),
+      )
 
   -- none was made
   pub left_state : (d : Done)
       → (d ≡ done.Stuck) ⊎ (d ≡ done.Exited) ⊎ (d ≡ done.Marked) ⊎ (d ≡ done.Deep) ⊎ (d ≡ done.Outside)
-      → QuickSteps d s new → IsState new s
-  left_state d (inl e) q = let h : Steps event.Stuck s new = subst (λ x. QuickSteps x s new) e q in h.2
+      → QuickSteps d s new → IsState new s × HasStopped new
+  left_state d (inl e) q =
+      let h : Steps event.Stuck s new = subst (λ x. QuickSteps x s new) e q in
+      (h.2, stopped_at new s h.2 (λ code. let clash : None ≡ Some code.3.0 = sym h.0 ∙ code.3.1 in cc))
   left_state d (inr (inl e)) q = absurd (subst (λ x. QuickSteps x s new) e q)
-  left_state d (inr (inr (inl e))) q = (subst (λ x. QuickSteps x s new) e q).1
-  left_state d (inr (inr (inr (inl e)))) q = (subst (λ x. QuickSteps x s new) e q).1
-  left_state d (inr (inr (inr (inr e)))) q = (subst (λ x. QuickSteps x s new) e q).1
+  left_state d (inr (inr (inl e))) q = let h = subst (λ x. QuickSteps x s new) e q in (h.1, stopped_at new s h.1 h.2)
+  left_state d (inr (inr (inr (inl e)))) q = let h = subst (λ x. QuickSteps x s new) e q in (h.1, stopped_at new s h.1 h.2)
+  left_state d (inr (inr (inr (inr e)))) q = let h = subst (λ x. QuickSteps x s new) e q in (h.1, stopped_at new s h.1 h.2)
 
 -- and memory wasn't wanting
 pub left_found : (d : Done)

@@ -8,6 +8,7 @@ pub mod Imports
 mod Entries
 mod Openings
 mod Running
+mod Stopping
 mod Stepping
 mod Arguments
 mod Counting

@@ -2,6 +2,7 @@
 use Rattle.std.proofs.Common.{◌≡◌, ◌≢◌, ℕ, List, [], ◌∷◌, Option, Some, None, refl, ap, sym, ◌∙◌, subst, Bool, true, false}
 use Rattle.std.specs.Prelude.{IfSome}
 use Rattle.std.specs.Option.{option_map}
+use Rattle.std.proofs.lemmas.Option.{same_Some}
 use Rattle.wasm_form.specs.declared.types.FuncType.{FuncType}
 use Rattle.wasm_form.specs.declared.runtime.Trap.{Trap}
 use Rattle.wasm_form.specs.declared.module.Module.{Module}
@@ -17,7 +18,7 @@ use Rattle.spec_execution.specs.Runs.{Frame, Next, Goes, Asks, Loads, Ends, Trap
 use Rattle.spec_execution.specs.Instances.{ModuleParts, module_view, module_hosts, host_type}
 use Rattle.spec_execution.specs.OneModule.{Starting, ModuleState, module_next, module_step}
 use Rattle.wasm_step.specs.Moves.{Changes}
-use Rattle.wasm_machine.specs.Machines.{MachineState, IsAsked, Told, StandsAt}
+use Rattle.wasm_machine.specs.Machines.{MachineState, LeavesCode, IsAsked, Told, StandsAt}
 use Rattle.wasm_machine.specs.declared.machine.Standing.{Standing}
 use Rattle.wasm_machine.specs.declared.machine.Standing.TheVariants as standing
 use Rattle.wasm_machine.specs.declared.event.Event.{Event}
@@ -137,6 +138,26 @@ deep_told new s starting (Some (Loads which args frames)) old c comes t moving s
 deep_told new s starting (Some Ends) old c comes t moving stays = absurd t
 deep_told new s starting (Some (Traps why)) old c comes t moving stays = absurd t
 deep_told new s starting None old c comes t moving stays = absurd t
+
+-- a step that leaves the code isn't followed by one that the run makes by itself
+pub leaves_moving : (m : Module) (s : ModuleState) (starting : Starting) (next : Option (Next ModuleParts ℕ)) → Comes m s starting next → LeavesCode next
+    → (t : ModuleState) → module_step m s ≡ Some t → t.status ≡ Moving → ⊥
+leaves_moving m s starting next comes leaves t step moving = go next leaves (sym (ap (λ (o : Option (Next ModuleParts Starting)). o >>= became (module_hosts m) s) comes) ∙ step)
+  where
+    status_of : (u : ModuleState) → Some u ≡ Some t → u.status ≡ Moving
+    status_of u e = ap (λ (x : ModuleState). x.status) (same_Some u t e) ∙ moving
+
+    asked_host : (o : Option HostName) (args : List ℕ) (frames : List (Frame Starting)) → (o >>= λ h. Some (stands s frames (Waits (record { host = h; args = args })))) ≡ Some t → ⊥
+    asked_host None args frames e = cc
+    asked_host (Some h) args frames e = let waits = status_of (stands s frames (Waits (record { host = h; args = args }))) e in cc
+
+    go : (o : Option (Next ModuleParts ℕ)) → LeavesCode o → (option_map (seen_next starting) o >>= became (module_hosts m) s) ≡ Some t → ⊥
+    go None leaves e = cc
+    go (Some (Goes us memory frames)) leaves e = leaves
+    go (Some (Asks entry args frames)) leaves e = asked_host (module_hosts m entry) args (seen starting frames) e
+    go (Some (Loads which args frames)) leaves e = cc
+    go (Some Ends) leaves e = let ended = status_of (stands s [] Returned) e in cc
+    go (Some (Traps why)) leaves e = let ended = status_of (stands s [] (Trapped why)) e in cc
 
 abbrev since : ModuleParts → MemoryInstance → Core → Changes ModuleParts
 since us memory new = record { old_units = us; old_memory = memory; new_units = new.instance.parts; new_memory = new.instance.memory }

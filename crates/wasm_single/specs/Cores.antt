@@ -113,13 +113,22 @@ TellsStatus m _ _ = ⊥
 abbrev pub is_too_deep : Module → ModuleState → Bool
 is_too_deep m s = passes_limit (module_view m) (module_next m s s.stack)
 
+-- an activation is on top
+abbrev pub is_running : List (Frame Starting) → Bool
+is_running (Active a ∷ frames) = true
+is_running _ = false
+
+-- The next step is one of code that is on top: it passes no limit of depth, and the run goes on by itself after it.
+abbrev pub IsCodeNext : Module → ModuleState → Type 0
+IsCodeNext m s = (s.status ≡ Moving) × (is_running s.stack ≡ true) × (is_too_deep m s ≡ false) × ((t : ModuleState) × (module_step m s ≡ Some t) × (t.status ≡ Moving))
+
 -- A step was made from a state and is told, or there is none. Where it would be too deep the run stays.
 abbrev pub Steps : Event → ModuleState → Core → Type 0
 Steps event.Deep s new = (is_too_deep new.checked.now s ≡ true) × (new.machine.standing ≡ standing.Moving) × IsState new s
 Steps event.Stuck s new = (module_step new.checked.now s ≡ None) × (new.machine.standing ≡ standing.Stuck) × IsState new s
 Steps e s new = (is_too_deep new.checked.now s ≡ false) × ((t : ModuleState) × (module_step new.checked.now s ≡ Some t) × TellsStatus new.checked.now e t.status × IsState new t)
 
--- the same of a step that the machine tells in few bytes; or it is left to be made with more care
+-- the same of a step that the machine tells in few bytes; or it is left to be made with more care, and isn't one of code
 abbrev pub QuickSteps : Done → ModuleState → Core → Type 0
 QuickSteps done.Goes s new = (new.machine.standing ≡ standing.Moving) × Steps event.Moved s new
 QuickSteps done.Returned s new = Steps event.Returned s new
@@ -127,7 +136,7 @@ QuickSteps (done.Trapped why) s new = Steps (event.Trapped why) s new
 QuickSteps done.Stuck s new = Steps event.Stuck s new
 QuickSteps done.Exited s new = ⊥
 QuickSteps done.NoMemory s new = Unit {0}
-QuickSteps _ s new = (new.machine.standing ≡ standing.Moving) × IsState new s
+QuickSteps _ s new = (new.machine.standing ≡ standing.Moving) × IsState new s × (IsCodeNext new.checked.now s → ⊥)
 
 -- ---- calls and answers
 

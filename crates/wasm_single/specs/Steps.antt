@@ -7,7 +7,7 @@ use Rattle.wasm_machine.specs.declared.machine.Standing.TheVariants as standing
 use Rattle.wasm_machine.specs.declared.event.Event.{Event}
 use Rattle.wasm_machine.specs.declared.event.Event.TheVariants as event
 use Rattle.wasm_single.specs.declared.bare_run.Core.{Core}
-use Rattle.wasm_single.specs.Cores.{IsState, is_too_deep}
+use Rattle.wasm_single.specs.Cores.{IsState, is_too_deep, IsCodeNext}
 use Rattle.wasm_single.specs.Singles.{waits}
 
 -- what is told of a machine after an answer, and of an end again
@@ -32,10 +32,14 @@ AreNumbers _ = Unit {0}
 abbrev pub IsMade : ModuleState → Core → Type 0
 IsMade s new = (is_too_deep new.checked.now s ≡ false) × ((t : ModuleState) × (module_step new.checked.now s ≡ Some t) × IsState new t × (waits t.status ≡ false))
 
+-- no step of code is next from where the core stands
+abbrev pub HasStopped : Core → Type 0
+HasStopped c = (s : ModuleState) → IsState c s → IsCodeNext c.checked.now s → ⊥
+
 -- A step of code was made and counted, and code goes on. Or it doesn't: a step was made and counted, the run stays, or memory was wanting.
 abbrev pub Counted : Bool → ModuleState → Core → ℕ → ℕ → Bool → Type 0
 Counted true s new before steps lost = (steps ≡ suc before) × (lost ≡ false) × (new.machine.standing ≡ standing.Moving) × IsMade s new
 Counted false s new before steps lost =
-    ((steps ≡ suc before) × (lost ≡ false) × IsMade s new)
-    ⊎ ((steps ≡ before) × (lost ≡ false) × IsState new s)
+    ((steps ≡ suc before) × (lost ≡ false) × IsMade s new × HasStopped new)
+    ⊎ ((steps ≡ before) × (lost ≡ false) × IsState new s × HasStopped new)
     ⊎ ((steps ≡ before) × (lost ≡ true))

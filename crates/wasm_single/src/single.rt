@@ -5,7 +5,7 @@ ghost use Rattle.spec_runtime.specs.Hosts.{hosts};
 ghost use Rattle.spec_execution.specs.Instances.{imported_hosts};
 ghost use Rattle.spec_execution.specs.OneModule.{ModuleState};
 ghost use Rattle.host_table.specs.Names.{host_name_of};
-ghost use Rattle.wasm_single.specs.Cores.{IsCore, IsState};
+ghost use Rattle.wasm_single.specs.Cores.{IsCore, IsState, IsCodeNext};
 ghost use Rattle.wasm_single.specs.Singles.{Stands, has_ended, is_waiting, RunStepped, ArgumentsFit, Advances, Awaits};
 ghost use Rattle.wasm_single.specs.Steps.{event_of, steps_told, AreNumbers, Counted};
 
@@ -156,6 +156,7 @@ impl<'m> Single<'m> {
     /// function, or one that is too deep; or the run has ended, waits or is stuck.
     pub fn advance(&mut self, most: u64) -> Result<(), Memory>
         ensures advances { Advances most self.old self.new }
+        ensures left { OnOk result ((r : Ran hosts ModuleState) → Stands self.new r → self.new.steps < most → IsCodeNext self.new.wasm r.state → ⊥) }
         ensures found { OnOk result (self.new.lost ≡ false) }
         ensures lost { OnErr result (self.new.lost ≡ true) }
     {

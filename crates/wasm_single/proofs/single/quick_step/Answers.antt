@@ -8,11 +8,15 @@ returns-in-Goes-clause-counted c = λ s at.
     (omega arith, c.requires.found, h.0, moved_made s c.quick.new.self h.1)
 
 pub returns-in-Returned-clause-counted : goal.returns-in-Returned-clause-counted
-returns-in-Returned-clause-counted c = λ s at. inl (omega arith, c.requires.found, ended_made s c.quick.new.self c.quick.result c.in-Returned.is (c.quick.ensures.stepped s at))
+returns-in-Returned-clause-counted c = λ s at.
+    let h = ended_made s c.quick.new.self c.quick.result c.in-Returned.is (c.quick.ensures.stepped s at) in
+    inl (omega arith, c.requires.found, h.0, h.1)
 
 pub returns-in-Stuck : goal.returns-in-Stuck
 returns-in-Stuck c = record {
-  counted = λ s at. inr (inl (refl, c.requires.found, left_state s c.quick.new.self c.quick.result c.in-Stuck.is (c.quick.ensures.stepped s at)));
+  counted = λ s at.
+      let h = left_state s c.quick.new.self c.quick.result c.in-Stuck.is (c.quick.ensures.stepped s at) in
+      inr (inl (refl, c.requires.found, h.0, h.1));
   core = λ found. c.quick.ensures.core (left_found c.quick.result c.in-Stuck.is);
   wasm = c.quick.ensures.wasm;
   phase = c.quick.ensures.phase;

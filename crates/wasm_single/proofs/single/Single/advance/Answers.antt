@@ -1,9 +1,22 @@
-use Rattle.std.proofs.Common.{arith, subst, sym, ◌≡◌, suc}
+use Rattle.std.proofs.Common.{arith, rules, subst, sym, ◌∙◌, ◌≡◌, suc, true, false}
+use Rattle.wasm_single.specs.declared.bare_run.Phase.TheVariants as phase
 use Rattle.wasm_single.specs.Singles.{Advances}
 use Rattle.wasm_single.specs.Kept.{run_of, IsSingle}
+use Rattle.wasm_single.proofs.Stopping.{HasNoneLeft, stopped_idle, stopped_opened, none_left, on_either}
 use Rattle.wasm_single.proofs.Advancing.{goes_on, is_nearer, stops}
 use Rattle.wasm_single.proofs.single.Single.advance.Goals as goal
-use Rattle.wasm_single.proofs.single.Single.advance.Goals.{then-code-test+else-quick_step, else-code-test}
+use Rattle.wasm_single.proofs.single.Single.advance.Goals.{in-Moving, in_default, then-code-test+else-quick_step, else-code-test}
+
+pub returns-then-eq-clause-left : goal.returns-then-eq-clause-left
+returns-then-eq-clause-left c =
+    let opened : c.self.inside.core.phase ≡ phase.Opened = search rules in
+    subst (HasNoneLeft c.args.most) c.self.view_is (none_left c.args.most c.self.inside c.self.invariant (λ found. stopped_opened c.self.inside.core opened))
+
+pub returns-then-not-matches-clause-left : goal.returns-then-not-matches-clause-left
+returns-then-not-matches-clause-left c = elim c.match-matches.branch [
+  | in-Moving w ↦ absurd (let clash : true ≡ false = sym w.matches-is ∙ c.if-not-matches.true in cc)
+  | in_default w ↦ subst (HasNoneLeft c.args.most) c.self.view_is (none_left c.args.most c.self.inside c.self.invariant (λ found. stopped_idle c.self.inside.core (λ moving. w.in_default.not-Moving (c.standing.ensures ∙ moving))))
+]
 
 pub code-smaller : goal.code-smaller
 code-smaller c =
@@ -19,6 +32,12 @@ invariant_of-self c = elim c.code-test.branch [
   | then-code-test+else-quick_step w ↦ subst IsSingle (sym w.self-inside-is) (stops c.args.most c.args.self.now c.code.self-inside w.quick_step.new.core w.quick_step.new.steps w.quick_step.new.lost c.code.invariant w.code-test.true w.quick_step.ensures.wasm w.quick_step.ensures.core w.if-quick_step.ensures.counted).single
   | else-code-test w ↦ subst IsSingle (sym w.self-inside-is) c.code.invariant.single
 ]
+
+pub returns-clause-left : goal.returns-clause-left
+returns-clause-left c = on_either c.if-self-2.result _ (elim c.code-test.branch [
+  | then-code-test+else-quick_step w ↦ subst (λ i. HasNoneLeft c.args.most (run_of i)) (sym w.self-inside-is) (stops c.args.most c.args.self.now c.code.self-inside w.quick_step.new.core w.quick_step.new.steps w.quick_step.new.lost c.code.invariant w.code-test.true w.quick_step.ensures.wasm w.quick_step.ensures.core w.if-quick_step.ensures.counted).left
+  | else-code-test w ↦ subst (λ i. HasNoneLeft c.args.most (run_of i)) (sym w.self-inside-is) (λ r stands few code. let k = w.code-test.false in omega arith)
+])
 
 pub returns-clause-advances : goal.returns-clause-advances
 returns-clause-advances c = elim c.code-test.branch [
