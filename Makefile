@@ -4,11 +4,12 @@
 # make speed  measures runs of whole programs beside other engines
 # make codec  measures decoding, encoding and checking beside wabt
 # make inner  measures the memories and integer operators of a run beside C
+# make compare  runs random modules by wdyl and by node, and validates changed ones by wdyl and by wabt
 # make test   proves, builds and tests everything
 
 SOURCES := crates.txt $(shell find crates -name out -prune -o -type f \( -name '*.rt' -o -name '*.antt' \) -print)
 
-.PHONY: all demo bench speed codec inner test clean
+.PHONY: all demo bench speed codec inner compare test clean
 
 all: bin/wdyl
 
@@ -34,6 +35,9 @@ codec:
 
 inner:
 	python3 bench/inner.py
+
+compare: bin/wdyl
+	python3 compare/compare.py bin/wdyl
 
 test:
 	rt ci
