@@ -148,7 +148,7 @@ impl<'m> Driver<'m> {
         requires running { (names : HostNames) × (opening : ModuleState) × IsRunning names opening self.old }
         requires few { self.old.single.steps < 18446744073709551615 }
         ensures ended { (names : HostNames) (opening : ModuleState) → IsRunning names opening self.old → IfOk result (λ end. HasEnded opening self.old.single.steps end self.old.single) }
-        ensures same { OnOk result (self.new.single ≡ self.old.single) }
+        ensures same { OnOk result (self.new ≡ self.old) }
     {
         if !self.single.has_ended() {
             return Ok(RunEnd::StepLimit);

@@ -4,6 +4,7 @@ use Rattle.std.proofs.lemmas.Result.{err_from_is_err_and}
 use Rattle.wasm_exec.specs.Driving.{ran_of}
 use Rattle.wasm_exec.proofs.Hosting.{driven_fronts}
 use Rattle.wasm_exec.proofs.Openings.{one_opening}
+use Rattle.wasm_exec.specs.declared.driver.Driver.{Driver}
 use Rattle.wasm_exec.proofs.Proceeding.{finished, same_run}
 use Rattle.wasm_exec.proofs.exec.drive.Goals as goal
 
@@ -39,5 +40,5 @@ returns g c = λ opening opens.
     let driven = before.driven.1 in
     let d = c.loop-driver.driver in
     let all : d.single.steps ≡ c.args.most = omega arith in
-    same_run before.wasm (one_opening (rw before.wasm at driven.running.opens) opens) c.finish-2.result (ran_of c.in_ok-end-2.end d.single) (c.finish-2.ensures ∙ ap (ran_of c.in_ok-end-2.end) c.in_ok-end-2.ensures.same)
+    same_run before.wasm (one_opening (rw before.wasm at driven.running.opens) opens) c.finish-2.result (ran_of c.in_ok-end-2.end d.single) (c.finish-2.ensures ∙ ap (λ (x : Driver). ran_of c.in_ok-end-2.end x.single) c.in_ok-end-2.ensures.same)
     (finished driven c.args.most all c.in_ok-end-2.end (c.in_ok-end-2.ensures.ended _ before.driven.0 driven.running))
