@@ -5,7 +5,13 @@ and at last a checksum of its memory, to the standard output, eight bytes each. 
 fuel the code is unreachable: so every run ends. Sizes are kept small where engines have limits of their own.
 """
 
+import os
 import random
+import sys
+
+sys.path.insert(0, os.path.join(os.path.dirname(os.path.abspath(__file__)), "..", "examples"))
+
+from make_examples import name, section, unsigned
 
 I32, I64, FUNCREF = 0x7F, 0x7E, 0x70
 NUMBERS = (I32, I64)
@@ -38,15 +44,6 @@ FUEL = 8_000
 VECTOR, WRITTEN, BUFFER = 65_472, 65_484, 65_488
 
 
-def unsigned(n):
-    out = bytearray()
-    while n >= 128:
-        out.append(n % 128 + 128)
-        n //= 128
-    out.append(n)
-    return bytes(out)
-
-
 def signed(n):
     out = bytearray()
     while not -64 <= n < 64:
@@ -59,14 +56,6 @@ def signed(n):
 def vector(items):
     items = list(items)
     return unsigned(len(items)) + b"".join(items)
-
-
-def name(text):
-    return unsigned(len(text)) + text.encode()
-
-
-def section(number, contents):
-    return bytes([number]) + unsigned(len(contents)) + contents
 
 
 def i32(n):
