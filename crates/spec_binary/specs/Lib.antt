@@ -1,4 +1,5 @@
 pub mod Options
+pub mod Saturated
 pub mod SameTypes
 pub mod Types
 pub mod Operands
@@ -10,6 +11,6 @@ pub mod Sections
 pub mod Modules
 pub mod IndexSpaces
 pub mod Indices
+pub mod Exports
 pub mod WellFormed
-pub mod Answers
-pub mod SmallForm
+pub mod DecodeAnswers

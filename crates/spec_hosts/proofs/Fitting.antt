@@ -9,10 +9,11 @@ use Rattle.wasm_runtime.specs.declared.Answer.{Answer}
 use Rattle.spec_runtime.specs.Names.{is_rest_type, is_one_i32}
 use Rattle.spec_runtime.specs.Memories.{MemoryInstance, little}
 use Rattle.spec_runtime.specs.Hosts.{numbers_fit, fits_results}
-use Rattle.spec_hosts.specs.Devices.{Outside, Clock}
+use Rattle.dyl_outside.specs.Ambient.{AmbientState}
+use Rattle.spec_hosts.specs.Devices.{Devices}
 use Rattle.spec_hosts.specs.Calls as calls
 use Rattle.spec_hosts.specs.Calls.{WasiCall, ArgsSizesGet, ArgsGet, EnvironSizesGet, EnvironGet, FdWrite, FdRead, FdClose, FdSeek, FdFdstatGet, FdPrestatGet, FdPrestatDirName, ClockTimeGet, RandomGet, ProcExit}
-use Rattle.spec_hosts.specs.Hosted.{Answers, Draws, AfterWord, IsAnswered}
+use Rattle.spec_hosts.specs.Hosted.{AfterUse, Draws, AfterWord, IsAnswered}
 use Rattle.spec_hosts.specs.Laws.{IsWasiType}
 use Rattle.spec_hosts.proofs.Types.{one_i32}
 use Rattle.spec_hosts.proofs.Inside.{two_inside, bytes_inside, word_inside, pointers_inside, texts_inside, filled_inside}
@@ -28,24 +29,24 @@ module _ (Holds : Answer → Type 0) where
   HoldsOfEach (calls.Times go) = Holds (calls.refused calls.io) × ((time : ℕ) → Holds (go time))
   HoldsOfEach (calls.Draws n go) = Holds (calls.refused calls.io) × ((words : List ℕ) → Holds (go words))
 
-  holds_after : {A : Type 0} (go : A → Answer) (answer : Answer) (result : Result A IoFault) → Holds (calls.refused calls.io) → ((value : A) → Holds (go value)) → Answers go answer result → Holds answer
+  holds_after : {A : Type 0} (go : A → Answer) (answer : Answer) (result : Result A IoFault) → Holds (calls.refused calls.io) → ((value : A) → Holds (go value)) → AfterUse go answer result → Holds answer
   holds_after go answer (Ok value) failed each h = subst Holds (sym h) (each value)
   holds_after go answer (Err Failed) failed each h = subst Holds (sym h) failed
   holds_after go answer (Err Memory) failed each h = absurd h
 
-  holds_after_word : (more : ℕ → Clock → Type 0) (answer : Answer) (middle new : Clock) (result : Result ℕ IoFault)
+  holds_after_word : (more : ℕ → AmbientState → Type 0) (answer : Answer) (middle new : AmbientState) (result : Result ℕ IoFault)
       → Holds (calls.refused calls.io) → ((word : ℕ) → more word middle → Holds answer) → AfterWord more answer middle new result → Holds answer
   holds_after_word more answer middle new (Ok word) failed later h = later word h
   holds_after_word more answer middle new (Err Failed) failed later h = subst Holds (sym h.0) failed
   holds_after_word more answer middle new (Err Memory) failed later h = absurd h
 
-  holds_after_words : (n : ℕ) (words : List ℕ) (go : List ℕ → Answer) (answer : Answer) (old new : Clock)
+  holds_after_words : (n : ℕ) (words : List ℕ) (go : List ℕ → Answer) (answer : Answer) (old new : AmbientState)
       → Holds (calls.refused calls.io) → ((words : List ℕ) → Holds (go words)) → Draws n words go answer old new → Holds answer
   holds_after_words zero words go answer old new failed each h = subst Holds (sym h.0) (each words)
   holds_after_words (suc n) words go answer old new failed each h =
       holds_after_word (λ word clock. Draws n (words ++ word ∷ []) go answer clock new) answer h.1 new h.0 failed (λ word later. holds_after_words n (words ++ word ∷ []) go answer h.1 new failed each later) h.3
 
-  pub holds_of_answer : (wanted : calls.Wanted) (answer : Answer) (old new : Outside) → HoldsOfEach wanted → IsAnswered wanted answer old new → Holds answer
+  pub holds_of_answer : (wanted : calls.Wanted) (answer : Answer) (old new : Devices) → HoldsOfEach wanted → IsAnswered wanted answer old new → Holds answer
   holds_of_answer (calls.Says said) answer old new each h = subst Holds (sym h.0) each
   holds_of_answer (calls.PutsOut bytes said) answer old new each h = holds_after (λ _. said) answer h.0 each.0 (λ _. each.1) h.4
   holds_of_answer (calls.PutsError bytes said) answer old new each h = holds_after (λ _. said) answer h.0 each.0 (λ _. each.1) h.4
@@ -67,18 +68,18 @@ module _ (memory : MemoryInstance) where
   unless_errnos true errno go known next = known
   unless_errnos false errno go known next = next refl
 
-  unless_outside : (at len : ℕ) (go : calls.Wanted) → (at + len ≤ length memory.bytes → AreErrnos go) → AreErrnos (calls.unless (calls.outside_of memory at len) calls.fault go)
-  unless_outside at len go next =
-      unless_errnos (calls.outside_of memory at len) calls.fault go refl (λ e. next (leb-true (at + len) (length memory.bytes) (not-false (calls.is_in memory at len) e)))
+  unless_past : (at len : ℕ) (go : calls.Wanted) → (at + len ≤ length memory.bytes → AreErrnos go) → AreErrnos (calls.unless (calls.is_past memory at len) calls.fault go)
+  unless_past at len go next =
+      unless_errnos (calls.is_past memory at len) calls.fault go refl (λ e. next (leb-true (at + len) (length memory.bytes) (not-false (calls.is_in memory at len) e)))
 
   sizes_errnos : (texts : List (List ℕ)) (count size : ℕ) → AreErrnos (calls.sizes_wanted texts memory count size)
   sizes_errnos texts count size =
-      unless_outside count 4 _ (λ first. unless_outside size 4 _ (λ second.
+      unless_past count 4 _ (λ first. unless_past size 4 _ (λ second.
       two_inside memory (calls.word_at count (length texts)) (calls.word_at size (calls.texts_size texts)) (word_inside memory count (length texts) first) (word_inside memory size (calls.texts_size texts) second)))
 
   texts_errnos : (texts : List (List ℕ)) (argv buf : ℕ) → AreErrnos (calls.texts_wanted texts memory argv buf)
   texts_errnos texts argv buf =
-      unless_outside argv (4 * length texts) _ (λ first. unless_outside buf (calls.texts_size texts) _ (λ second.
+      unless_past argv (4 * length texts) _ (λ first. unless_past buf (calls.texts_size texts) _ (λ second.
       two_inside memory (calls.pointers_at argv buf texts) (calls.texts_at buf texts) (pointers_inside memory argv buf texts first) (texts_inside memory buf texts second)))
 
   buffers_errnos : (vectors n out : ℕ) (go : List (ℕ × ℕ) → calls.Wanted)
@@ -86,9 +87,9 @@ module _ (memory : MemoryInstance) where
   buffers_errnos vectors n out go next =
       let buffers : List (ℕ × ℕ) = calls.vectors_at memory vectors n in
       unless_errnos (nat_lt calls.most_vectors n) calls.inval _ refl (λ few.
-      unless_outside vectors (8 * n) _ (λ within.
+      unless_past vectors (8 * n) _ (λ within.
       unless_errnos (not (calls.are_in memory buffers)) calls.fault _ refl (λ inside.
-      unless_outside out 4 _ (λ room. next buffers (not-false (calls.are_in memory buffers) inside) room))))
+      unless_past out 4 _ (λ room. next buffers (not-false (calls.are_in memory buffers) inside) room))))
 
   out_errnos : (fd out : ℕ) (bytes : List ℕ) → out + 4 ≤ length memory.bytes → AreErrnos (calls.written_out fd out bytes)
   out_errnos fd out [] room = word_inside memory out 0 room
@@ -119,16 +120,16 @@ module _ (memory : MemoryInstance) where
   fdstat_errnos : (fd out : ℕ) → AreErrnos (calls.fdstat_wanted memory fd out)
   fdstat_errnos fd out =
       unless_errnos (not (calls.is_open fd)) calls.badf _ refl (λ there.
-      unless_outside out 24 _ (λ room. bytes_inside memory out (calls.fdstat fd) room))
+      unless_past out 24 _ (λ room. bytes_inside memory out (calls.fdstat fd) room))
 
   time_errnos : (id out : ℕ) → AreErrnos (calls.time_wanted memory id out)
   time_errnos id out =
       unless_errnos (not (nat_lt id 2)) calls.inval _ refl (λ known.
-      unless_outside out 8 _ (λ room. (refl, λ time. bytes_inside memory out (little 8 time) room)))
+      unless_past out 8 _ (λ room. (refl, λ time. bytes_inside memory out (little 8 time) room)))
 
   random_errnos : (buf len : ℕ) → AreErrnos (calls.random_wanted memory buf len)
   random_errnos buf len =
-      unless_outside buf len _ (λ room.
+      unless_past buf len _ (λ room.
       unless_errnos (nat_lt calls.most_bytes len) calls.inval _ refl (λ few.
       (refl, λ words. bytes_inside memory buf (take len (calls.word_bytes words)) (omega (arith, length-take len (calls.word_bytes words))))))
 
@@ -155,7 +156,7 @@ module _ (memory : MemoryInstance) where
 
 -- ---- what is answered
 
-pub answer_fits : (texts : List (List ℕ)) (memory : MemoryInstance) (name : List ℕ) (ty : FuncType) (args : List ℕ) (answer : Answer) (old new : Outside)
+pub answer_fits : (texts : List (List ℕ)) (memory : MemoryInstance) (name : List ℕ) (ty : FuncType) (args : List ℕ) (answer : Answer) (old new : Devices)
     → IsWasiType name ty → IsTrue (numbers_fit ty.params args) → IsAnswered (calls.wanted texts memory name args) answer old new → IsTrue (fits_results ty.results memory answer)
 answer_fits texts memory name ty args answer old new typed fit answered = by (calls.call_named name) refl
   where

@@ -3,4 +3,5 @@ mod Modules
 mod Declared
 mod Inside
 mod Fitting
-mod Fronts
+pub mod Begun
+pub mod Fronts

@@ -126,8 +126,8 @@ unless false errno go = go
 abbrev pub is_in : MemoryInstance → ℕ → ℕ → Bool
 is_in memory at len = nat_le (at + len) (length memory.bytes)
 
-abbrev pub outside_of : MemoryInstance → ℕ → ℕ → Bool
-outside_of memory at len = not (is_in memory at len)
+abbrev pub is_past : MemoryInstance → ℕ → ℕ → Bool
+is_past memory at len = not (is_in memory at len)
 
 -- ---- arguments of the program: texts, each with a zero byte after it
 
@@ -139,7 +139,7 @@ texts_size texts = sum (map (λ t. length t + 1) texts)
 
 abbrev pub sizes_wanted : List (List ℕ) → MemoryInstance → ℕ → ℕ → Wanted
 sizes_wanted texts memory count size =
-    unless (outside_of memory count 4) fault (unless (outside_of memory size 4) fault (Says (success (word_at count (length texts) ++ word_at size (texts_size texts)))))
+    unless (is_past memory count 4) fault (unless (is_past memory size 4) fault (Says (success (word_at count (length texts) ++ word_at size (texts_size texts)))))
 
 -- the pointers to texts that lie one after the other from a place on
 abbrev pub pointers_at : ℕ → ℕ → List (List ℕ) → List Write
@@ -152,7 +152,7 @@ texts_at place (t ∷ ts) = bytes_at place (with_zero t) ++ texts_at (place + (l
 
 abbrev pub texts_wanted : List (List ℕ) → MemoryInstance → ℕ → ℕ → Wanted
 texts_wanted texts memory argv buf =
-    unless (outside_of memory argv (4 * length texts)) fault (unless (outside_of memory buf (texts_size texts)) fault (Says (success (pointers_at argv buf texts ++ texts_at buf texts))))
+    unless (is_past memory argv (4 * length texts)) fault (unless (is_past memory buf (texts_size texts)) fault (Says (success (pointers_at argv buf texts ++ texts_at buf texts))))
 
 -- ---- vectors: pairs of a pointer and a length
 
@@ -177,9 +177,9 @@ most_bytes = 65536
 abbrev pub with_buffers : MemoryInstance → ℕ → ℕ → ℕ → (List (ℕ × ℕ) → Wanted) → Wanted
 with_buffers memory vectors n out go =
     unless (nat_lt most_vectors n) inval
-    (unless (outside_of memory vectors (8 * n)) fault
+    (unless (is_past memory vectors (8 * n)) fault
     (unless (not (are_in memory (vectors_at memory vectors n))) fault
-    (unless (outside_of memory out 4) fault
+    (unless (is_past memory out 4) fault
     (go (vectors_at memory vectors n)))))
 
 -- the bytes of buffers, joined
@@ -224,12 +224,12 @@ abbrev pub fdstat : ℕ → List ℕ
 fdstat fd = 2 ∷ replicate 7 0 ++ little 8 (rights fd) ++ little 8 0
 
 abbrev pub fdstat_wanted : MemoryInstance → ℕ → ℕ → Wanted
-fdstat_wanted memory fd out = unless (not (is_open fd)) badf (unless (outside_of memory out 24) fault (Says (success (bytes_at out (fdstat fd)))))
+fdstat_wanted memory fd out = unless (not (is_open fd)) badf (unless (is_past memory out 24) fault (Says (success (bytes_at out (fdstat fd)))))
 
 -- ---- the clock and random words
 
 abbrev pub time_wanted : MemoryInstance → ℕ → ℕ → Wanted
-time_wanted memory id out = unless (not (nat_lt id 2)) inval (unless (outside_of memory out 8) fault (Times (λ t. success (bytes_at out (little 8 t)))))
+time_wanted memory id out = unless (not (nat_lt id 2)) inval (unless (is_past memory out 8) fault (Times (λ t. success (bytes_at out (little 8 t)))))
 
 -- words by their bytes, the lowest first
 abbrev pub word_bytes : List ℕ → List ℕ
@@ -237,7 +237,7 @@ word_bytes words = flat_map (little 8) words
 
 abbrev pub random_wanted : MemoryInstance → ℕ → ℕ → Wanted
 random_wanted memory buf len =
-    unless (outside_of memory buf len) fault (unless (nat_lt most_bytes len) inval (Draws ((len + 7) / 8) (λ words. success (bytes_at buf (take len (word_bytes words))))))
+    unless (is_past memory buf len) fault (unless (nat_lt most_bytes len) inval (Draws ((len + 7) / 8) (λ words. success (bytes_at buf (take len (word_bytes words))))))
 
 -- ---- a call
 
@@ -259,10 +259,10 @@ wanted_of texts memory RandomGet (buf ∷ len ∷ []) = random_wanted memory buf
 wanted_of texts memory ProcExit (code ∷ []) = Says (Exit code)
 wanted_of texts memory _ args = Says (refused nosys)
 
--- the same by a name; any other name of the module is not there
+-- the same of a name that may be that of a call; any other is not there
+abbrev pub wanted_where : List (List ℕ) → MemoryInstance → Option WasiCall → List ℕ → Wanted
+wanted_where texts memory None args = Says (refused nosys)
+wanted_where texts memory (Some c) args = wanted_of texts memory c args
+
 abbrev pub wanted : List (List ℕ) → MemoryInstance → List ℕ → List ℕ → Wanted
-wanted texts memory name args = go (call_named name)
-  where
-    go : Option WasiCall → Wanted
-    go None = Says (refused nosys)
-    go (Some c) = wanted_of texts memory c args
+wanted texts memory name args = wanted_where texts memory (call_named name) args

@@ -3,16 +3,14 @@ use Rattle.std.specs.Prelude.{◌≡◌, ◌≤◌, ◌<◌, ◌-◌, ℕ, List,
 use Rattle.wasm_form.specs.declared.runtime.Trap.{Trap}
 use Rattle.wasm_runtime.specs.declared.Answer.{Answer}
 use Rattle.wasm_runtime.specs.declared.Answer.TheVariants as answers
-use Rattle.spec_runs.specs.Systems.{Status, Moving, Waits, Returned, Exited, Trapped, System, Ran, run, event, IsReal}
+use Rattle.spec_runs.specs.Systems.{Status, Moving, Waits, Returned, Exited, Trapped, System, run, event, IsReal}
 use Rattle.spec_runtime.specs.Memories.{MemoryInstance}
 use Rattle.spec_runtime.specs.Hosts.{HostCall, hosts}
-use Rattle.spec_hosts.specs.Devices.{Outside}
-use Rattle.spec_hosts.specs.Hosted.{Hosted}
-
-pub data End : Type 0 where
-  Return StepLimit DepthLimit HostCallLimit Stuck : End
-  Exit : ℕ → End
-  Trapping : Trap → End
+use Rattle.spec_hosts.specs.declared.ran.Ran.{Ran}
+use Rattle.spec_hosts.specs.declared.ran.RunEnd.{RunEnd}
+use Rattle.spec_hosts.specs.declared.ran.RunEnd.TheVariants as end
+use Rattle.spec_hosts.specs.Devices.{Devices}
+use Rattle.spec_hosts.specs.Hosted.{Embedder, Hosted, BreaksOff}
 
 -- the most answers, and the most bytes that they may have written
 abbrev pub most_answers : ℕ
@@ -49,23 +47,46 @@ goes_on (Waits call) = true
 goes_on _ = false
 
 -- A run of at most so many steps that made these, and stands at this state after these answers, ends so. The limit of steps goes first.
-abbrev pub EndsAs : (S : System hosts) → (S.State → Bool) → ℕ → ℕ → S.State → List Answer → End → Type 0
-EndsAs S deep most steps s given Return = S.status s ≡ Returned
-EndsAs S deep most steps s given (Exit code) = S.status s ≡ Exited code
-EndsAs S deep most steps s given (Trapping why) = S.status s ≡ Trapped why
-EndsAs S deep most steps s given StepLimit = (steps ≡ most) × (goes_on (S.status s) ≡ true)
-EndsAs S deep most steps s given DepthLimit = (steps < most) × (S.status s ≡ Moving) × (deep s ≡ true)
-EndsAs S deep most steps s given HostCallLimit = (steps < most) × ((call : HostCall) × (S.status s ≡ Waits call)) × (are_many given ≡ true)
-EndsAs S deep most steps s given Stuck = (steps < most) × (S.status s ≡ Moving) × (S.step s ≡ None)
+abbrev pub EndsAs : (S : System hosts) → (S.State → Bool) → ℕ → ℕ → S.State → List Answer → RunEnd → Type 0
+EndsAs S deep most steps s taken end.Return = S.status s ≡ Returned
+EndsAs S deep most steps s taken (end.Exit code) = S.status s ≡ Exited code
+EndsAs S deep most steps s taken (end.Trap why) = S.status s ≡ Trapped why
+EndsAs S deep most steps s taken end.StepLimit = (steps ≡ most) × (goes_on (S.status s) ≡ true)
+EndsAs S deep most steps s taken end.DepthLimit = (steps < most) × (S.status s ≡ Moving) × (deep s ≡ true)
+EndsAs S deep most steps s taken end.HostCallLimit = (steps < most) × ((call : HostCall) × (S.status s ≡ Waits call)) × (are_many taken ≡ true)
+EndsAs S deep most steps s taken end.Stuck = (steps < most) × (S.status s ≡ Moving) × (S.step s ≡ None)
 
--- Each of the steps is a real one, before which no limit was due, and the run ends so.
-pub record RunsTo (S : System hosts) (deep : S.State → Bool) (opening : S.State) (most steps : ℕ) (given : List Answer) (end : End) : Type 0 where
+-- the answers that so many steps of a run took
+abbrev pub taken_by : (S : System hosts) → ℕ → S.State → List Answer → List Answer
+taken_by S steps opening given = taken_of given (run S steps opening given).left
+
+-- Each of the steps is a real one, before which no limit was due.
+pub record Makes (S : System hosts) (deep : S.State → Bool) (opening : S.State) (most steps : ℕ) (given : List Answer) : Type 0 where
   pub few : steps ≤ most
   pub real : IsReal S steps opening given
-  pub free : (k : ℕ) → k < steps → is_due S deep (run S k opening given).state (taken_of given (run S k opening given).left) ≡ false
-  pub ends : EndsAs S deep most steps (run S steps opening given).state given end
+  pub free : (k : ℕ) → k < steps → is_due S deep (run S k opening given).state (taken_by S k opening given) ≡ false
 
--- The events of a run, but for the one that it waits at, are host calls with these answers, which do this to the outside.
-abbrev pub AreHosted : (S : System hosts) → List (List ℕ) → (HostCall → MemoryInstance → Answer → Type 0) → Ran hosts S.State → List Answer → Outside → Outside → Type 0
-AreHosted S texts callback r given old new =
-    (calls : List (HostCall × MemoryInstance)) × (r.events ≡ calls ++ event S r.state) × Hosted texts callback calls given old new
+-- The run makes its steps and ends so.
+pub record RunsTo (S : System hosts) (deep : S.State → Bool) (opening : S.State) (most : ℕ) (ran : Ran) : Type 0 where
+  pub made : Makes S deep opening most ran.steps ran.answers
+  pub ends : EndsAs S deep most ran.steps (run S ran.steps opening ran.answers).state (taken_by S ran.steps opening ran.answers) ran.end
+
+-- The events of so many steps, but for the one that the run then waits at, are host calls with these answers, which do this to the devices.
+abbrev pub AreHosted : (S : System hosts) → Embedder → S.State → ℕ → List Answer → Devices → Devices → Type 0
+AreHosted S embedder opening steps given old new =
+    (calls : List (HostCall × MemoryInstance)) × ((run S steps opening given).events ≡ calls ++ event S (run S steps opening given).state) × Hosted embedder calls given old new
+
+-- The run from an opening state made its steps and ended so, and its host calls did this to the devices.
+pub record IsRunOf (S : System hosts) (deep : S.State → Bool) (embedder : Embedder) (opening : S.State) (most : ℕ) (ran : Ran) (old new : Devices) : Type 0 where
+  pub runs : RunsTo S deep opening most ran
+  pub hosted : AreHosted S embedder opening ran.steps ran.answers old new
+
+-- Some steps of a run were made, and its host calls did to the devices what these are in the middle. Then at most the one use was begun
+-- that the host call wants which it waits for, if it waits.
+pub record IsCutShort (S : System hosts) (deep : S.State → Bool) (embedder : Embedder) (opening : S.State) (most : ℕ) (old new : Devices) : Type 0 where
+  pub steps : ℕ
+  pub given : List Answer
+  pub middle : Devices
+  pub made : Makes S deep opening most steps given
+  pub hosted : AreHosted S embedder opening steps given old middle
+  pub broken : BreaksOff embedder (event S (run S steps opening given).state) middle new

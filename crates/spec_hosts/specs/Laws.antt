@@ -5,7 +5,7 @@ use Rattle.wasm_runtime.specs.declared.Answer.{Answer}
 use Rattle.spec_runtime.specs.Memories.{MemoryInstance}
 use Rattle.spec_runtime.specs.Names.{HostName, HostNames, Fits, no_names, with_names, host_match, is_rest_type}
 use Rattle.spec_runtime.specs.Hosts.{numbers_fit, fits_results}
-use Rattle.spec_hosts.specs.Devices.{Outside, KeepsFronts}
+use Rattle.spec_hosts.specs.Devices.{Devices}
 use Rattle.spec_hosts.specs.Calls.{WasiCall, wasi_name, call_named, type_of_call, with_wasi, wanted}
 use Rattle.spec_hosts.specs.Hosted.{IsAnswered}
 
@@ -18,13 +18,13 @@ abbrev pub host_called : List ℕ → List ℕ → List HostName → Option Host
 host_called from name [] = None
 host_called from name (h ∷ hs) = if bytes_eq h.module_name from && bytes_eq h.name name then Some h else host_called from name hs
 
--- A name of WASI has this type: that of its call, or for another name integer parameters and the one result i32.
+-- A name of WASI has this type: that of its call, if it is that of one, or else integer parameters and the one result i32.
+abbrev pub IsTypeWhere : Option WasiCall → FuncType → Type 0
+IsTypeWhere (Some c) ty = ty ≡ type_of_call c
+IsTypeWhere None ty = IsTrue (is_rest_type ty)
+
 abbrev pub IsWasiType : List ℕ → FuncType → Type 0
-IsWasiType name ty = go (call_named name)
-  where
-    go : Option WasiCall → Type 0
-    go (Some c) = ty ≡ type_of_call c
-    go None = IsTrue (is_rest_type ty)
+IsWasiType name ty = IsTypeWhere (call_named name) ty
 
 -- a name of WASI that is declared with a type has it by WASI
 abbrev pub WasiGoesFirst : Type 0
@@ -37,10 +37,5 @@ OthersAreOfTheTable = (table : List HostName) (from name : List ℕ) (ty : FuncT
 
 -- what WASI answers fits the type of the call and the memory
 abbrev pub WasiAnswersFit : Type 0
-WasiAnswersFit = (texts : List (List ℕ)) (memory : MemoryInstance) (name : List ℕ) (ty : FuncType) (args : List ℕ) (answer : Answer) (old new : Outside)
+WasiAnswersFit = (texts : List (List ℕ)) (memory : MemoryInstance) (name : List ℕ) (ty : FuncType) (args : List ℕ) (answer : Answer) (old new : Devices)
     → IsWasiType name ty → IsTrue (numbers_fit ty.params args) → IsAnswered (wanted texts memory name args) answer old new → IsTrue (fits_results ty.results memory answer)
-
--- a call of WASI keeps what the sinks held in front of what they hold
-abbrev pub WasiKeepsFronts : Type 0
-WasiKeepsFronts = (texts : List (List ℕ)) (memory : MemoryInstance) (name : List ℕ) (args : List ℕ) (answer : Answer) (old new : Outside)
-    → IsAnswered (wanted texts memory name args) answer old new → KeepsFronts old new

@@ -1,7 +1,11 @@
-//! What host functions answer: the calls of WASI preview 1 by their table, and others by their callbacks.
+//! What host functions answer: the calls of WASI preview 1 by their table, and others by their callbacks. How a run over them ends.
 #![tactic(auto)]
 
-ghost use Rattle.spec_hosts.specs.Laws.{WasiGoesFirst, OthersAreOfTheTable, WasiAnswersFit, WasiKeepsFronts};
+ghost use Rattle.spec_hosts.specs.Laws.{WasiGoesFirst, OthersAreOfTheTable, WasiAnswersFit};
+
+mod ran;
+
+pub use ran::{Ran, RunEnd};
 
 /// Where WASI is declared before the host functions of a table, each declared type is that of its call or of its entry.
 pub fn names_have_their_types()
@@ -9,8 +13,7 @@ pub fn names_have_their_types()
     ensures others { OthersAreOfTheTable }
 {}
 
-/// What WASI answers fits the type of the call and the memory, and no byte that a sink held is lost.
+/// What WASI answers fits the type of the call and the memory.
 pub fn wasi_answers_fit()
-    ensures fits { WasiAnswersFit }
-    ensures fronts { WasiKeepsFronts }
+    ensures { WasiAnswersFit }
 {}

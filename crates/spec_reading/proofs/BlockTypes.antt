@@ -12,7 +12,7 @@ use Rattle.spec_reading.specs.Steps.{Break, ◌>>=◌}
 use Rattle.spec_reading.specs.Values.{signed_at}
 use Rattle.spec_reading.specs.Types.{val_type_of}
 use Rattle.spec_reading.specs.Instructions.{indexed_type, type_index_at, block_type_at}
-use Rattle.spec_reading.proofs.Steps.{bind_ok, chosen, ok_is, Plainly, plain_ok, plain_broken, plain_choice, plain_bind, Takes, IsComplete, IsSound, given, IsPlain, plain_is, is_plain, got}
+use Rattle.spec_reading.proofs.Steps.{bind_ok, chosen, ok_is, Plainly, plain_ok, plain_broken, plain_choice, plain_bind, Takes, IsSound, given, IsPlain, plain_is, is_plain, got}
 use Rattle.spec_reading.proofs.Values.{signed_again, signed_sound, signed_plain}
 use Rattle.spec_reading.proofs.Types.{val_type_told, val_type_tells}
 
@@ -54,9 +54,6 @@ block_type_again (value f64) rest = refl
 block_type_again (value (reference func_ref)) rest = refl
 block_type_again (value (reference extern_ref)) rest = refl
 block_type_again (index {w} s) rest = begins_index w rest (begun s refl) ∙ type_index_again s rest
-
-pub block_type_complete : IsComplete SpellsBlockType block_type_at
-block_type_complete t w s rest = block_type_again s rest
 
 index_told : (v : ℤ) (t : BlockType) → indexed_type v ≡ Ok t → (n : ℕ) × (v ≡ pos n) × (TypeIndex n ≡ t)
 index_told (pos n) t e = (n, refl, ok_is Break _ _ e)

@@ -7,7 +7,7 @@ use Rattle.wasm_form.specs.Number.{SpellsUnsigned}
 use Rattle.spec_binary.specs.Trees.{nesting_all}
 use Rattle.spec_binary.specs.BodyLimits.{local_count, most_locals, most_nested}
 use Rattle.spec_binary.specs.Parts.{SpellsFunc, func, SpellsCode, code}
-use Rattle.spec_binary.specs.Answers.{GetsTooDeep, PassesLocals, PassesNesting}
+use Rattle.spec_binary.specs.DecodeAnswers.{GetsTooDeep, PassesLocals, PassesNesting}
 use Rattle.spec_reading.specs.Steps.{Break, Broken, TooDeep, TooManyLocals, whole}
 use Rattle.spec_reading.specs.Values.{cut_at}
 use Rattle.spec_reading.specs.Instructions.{expr_at}

@@ -5,14 +5,14 @@ use Rattle.std.proofs.lemmas.List.Elements.{All-nil, All-cons, recursion_from_Al
 use Rattle.wasm_form.specs.declared.module.Code.{Code}
 use Rattle.wasm_form.specs.Sequence.{SpellsEach, none, next}
 use Rattle.spec_binary.specs.Parts.{SpellsCode}
-use Rattle.spec_binary.specs.Answers.{Fault}
+use Rattle.spec_binary.specs.declared.fault.DecodeFault.{DecodeFault}
 use Rattle.spec_reading.specs.Steps.{Break, Broken, TooDeep, TooManyLocals}
 use Rattle.spec_reading.specs.Bodies.{Room, code_at, in_body, bodies_at}
 use Rattle.spec_reading.proofs.Steps.{bind_ok, bind_err, ok_is}
 use Rattle.spec_reading.proofs.Bodies.{Keeps, code_complete, code_sound}
 
 -- bodies that are spelled and have room, and then fewer than k in all
-pub record BodiesEnd (room : Room) (sections k function : ℕ) (text : List ℕ) (fault : Fault) : Type 0 where
+pub record BodiesEnd (room : Room) (sections k function : ℕ) (text : List ℕ) (fault : DecodeFault) : Type 0 where
   pub front : List Code
   pub front_word : List ℕ
   pub spelled_front : SpellsEach SpellsCode front front_word
@@ -32,7 +32,7 @@ pub record TakesBodies (room : Room) (k : ℕ) (text : List ℕ) (cs : List Code
 
 -- what a body gave
 in_body_ok : {A : Type 0} (sections function : ℕ) (r : Result A Break) (x : A) → in_body sections function r ≡ Ok x → r ≡ Ok x
-in_body_ok sections function (Ok y) x e = ap (λ (z : _). Ok z) (ok_is Fault y x e)
+in_body_ok sections function (Ok y) x e = ap (λ (z : _). Ok z) (ok_is DecodeFault y x e)
 in_body_ok sections function (Err Broken) x e = absurd cc
 in_body_ok sections function (Err TooDeep) x e = absurd cc
 in_body_ok sections function (Err TooManyLocals) x e = absurd cc
@@ -50,7 +50,7 @@ module _ (room : Room) (sections : ℕ) where
   bodies_complete cs w s keeps function rest = bodies_again cs w s (recursion_from_All (Keeps room) cs keeps) function rest
 
   not_read_after : (cs : List Code) (w : List ℕ) → SpellsEach SpellsCode cs w → AllByRecursion (Keeps room) cs → (k function at : ℕ) → length cs < k → at ≡ function + length cs
-      → (rest : List ℕ) (e : Fault) → in_body sections at (code_at room rest) ≡ Err e → bodies_at room sections k function (w ++ rest) ≡ Err e
+      → (rest : List ℕ) (e : DecodeFault) → in_body sections at (code_at room rest) ≡ Err e → bodies_at room sections k function (w ++ rest) ≡ Err e
   unfolding bodies_at
   not_read_after cs w s keeps zero function at more same rest e h = absurd (omega arith)
   not_read_after cs w none keeps (suc k) function at more same rest e h =
@@ -61,20 +61,20 @@ module _ (room : Room) (sections : ℕ) where
       rw (append_assoc w v rest, code_complete room x w p keeps.0 (v ++ rest), not_read_after xs v q keeps.1 k (suc function) at (omega arith) (omega arith) rest e h) refl
 
   pub bodies_not_read : (cs : List Code) (w : List ℕ) → SpellsEach SpellsCode cs w → All (Keeps room) cs → (k function at : ℕ) → length cs < k → at ≡ function + length cs
-      → (rest : List ℕ) (e : Fault) → in_body sections at (code_at room rest) ≡ Err e → bodies_at room sections k function (w ++ rest) ≡ Err e
+      → (rest : List ℕ) (e : DecodeFault) → in_body sections at (code_at room rest) ≡ Err e → bodies_at room sections k function (w ++ rest) ≡ Err e
   bodies_not_read cs w s keeps k function at more same rest e h = not_read_after cs w s (recursion_from_All (Keeps room) cs keeps) k function at more same rest e h
 
   pub bodies_sound : (k function : ℕ) (text : List ℕ) (cs : List Code) (rest : List ℕ) → bodies_at room sections k function text ≡ Ok (cs, rest) → TakesBodies room k text cs rest
   unfolding bodies_at
   bodies_sound zero function text cs rest e =
-      subst (λ (p : List Code × List ℕ). TakesBodies room zero text p.0 p.1) (ok_is Fault ([], text) (cs, rest) e)
+      subst (λ (p : List Code × List ℕ). TakesBodies room zero text p.0 p.1) (ok_is DecodeFault ([], text) (cs, rest) e)
       (record { word = []; spelled = none; parts = refl; count = refl; limits = All-nil (Keeps room) })
   bodies_sound (suc k) function text cs rest e =
       let a = bind_ok (in_body sections function (code_at room text)) _ (cs, rest) e in
       let b = bind_ok (bodies_at room sections k (suc function) a.0.1) _ (cs, rest) a.2 in
       let c = code_sound room text a.0.0 a.0.1 (in_body_ok sections function (code_at room text) a.0 a.1) in
       let others = bodies_sound k (suc function) a.0.1 b.0.0 b.0.1 b.1 in
-      subst (λ (p : List Code × List ℕ). TakesBodies room (suc k) text p.0 p.1) (ok_is Fault (a.0.0 ∷ b.0.0, b.0.1) (cs, rest) b.2)
+      subst (λ (p : List Code × List ℕ). TakesBodies room (suc k) text p.0 p.1) (ok_is DecodeFault (a.0.0 ∷ b.0.0, b.0.1) (cs, rest) b.2)
       (record {
         word = c.0.word ++ others.word;
         spelled = next c.0.spelled others.spelled;
@@ -83,7 +83,7 @@ module _ (room : Room) (sections : ℕ) where
         limits = All-cons (Keeps room) a.0.0 b.0.0 c.1 others.limits;
       })
 
-  pub bodies_end : (k function : ℕ) (text : List ℕ) (e : Fault) → bodies_at room sections k function text ≡ Err e → BodiesEnd room sections k function text e
+  pub bodies_end : (k function : ℕ) (text : List ℕ) (e : DecodeFault) → bodies_at room sections k function text ≡ Err e → BodiesEnd room sections k function text e
   unfolding bodies_at
   bodies_end zero function text e h = absurd cc
   bodies_end (suc k) function text e h = elim (bind_err (in_body sections function (code_at room text)) _ e h) [

@@ -3,7 +3,8 @@ use Rattle.std.proofs.Common.{◌≡◌, ◌≢◌, ℕ, zero, suc, ◌+◌, ◌
 use Rattle.std.specs.List.{All}
 use Rattle.wasm_form.specs.declared.module.Code.{Code}
 use Rattle.spec_binary.specs.Sections.{Progress, Contents, custom, types, imports, funcs, tables, memories, globals, exports, start, elems, data_count, codes, datas, IsSection, section, Chain, done, next}
-use Rattle.spec_binary.specs.Answers.{Fault, told}
+use Rattle.spec_binary.specs.declared.fault.DecodeFault.{DecodeFault}
+use Rattle.spec_binary.specs.Saturated.{saturated}
 use Rattle.spec_reading.specs.Bodies.{Room}
 use Rattle.spec_reading.specs.Sections.{section_at, chain_at}
 use Rattle.spec_reading.proofs.Steps.{bind_ok, bind_err, ok_is}
@@ -57,7 +58,7 @@ module _ (room : Room) where
   chain_complete (next p c q) h count total fuel zero e f rest = absurd (omega arith)
   chain_complete {s} {t = u} (next {t} {k} {id} {contents} {w} {v} (section {size} n) c q) h count total fuel (suc more) e f rest =
       let keeps : 11 ≤ t.last → HasRoom room t = had_room room t k v u q h in
-      rw (append_assoc (size ++ contents) v rest, section_complete (told count) room s id contents (id ∷ size ++ contents) t (section n) c keeps (v ++ rest))
+      rw (append_assoc (size ++ contents) v rest, section_complete (saturated count) room s id contents (id ∷ size ++ contents) t (section n) c keeps (v ++ rest))
       (chain_complete q h (suc count) total fuel more (omega arith) (omega arith) rest)
 
 -- sections that take all of a text
@@ -68,16 +69,16 @@ pub record TakesChain (room : Room) (s : Progress) (text : List ℕ) (t : Progre
 
 pub chain_sound : (room : Room) (fuel count : ℕ) (s : Progress) (text : List ℕ) (t : Progress) → chain_at room fuel count s text ≡ Ok t → TakesChain room s text t
 unfolding chain_at
-chain_sound room fuel count s [] t e = subst (TakesChain room s []) (ok_is Fault s t e) (record { count = 0; chain = done; keeps = λ h. h })
+chain_sound room fuel count s [] t e = subst (TakesChain room s []) (ok_is DecodeFault s t e) (record { count = 0; chain = done; keeps = λ h. h })
 chain_sound room zero count s (b ∷ bs) t e = absurd cc
 chain_sound room (suc fuel) count s (b ∷ bs) t e =
-    let a = bind_ok (section_at room (told count) s (b ∷ bs)) _ t e in
-    let c = section_sound (told count) room s (b ∷ bs) a.0.0 a.0.1 a.1 in
+    let a = bind_ok (section_at room (saturated count) s (b ∷ bs)) _ t e in
+    let c = section_sound (saturated count) room s (b ∷ bs) a.0.0 a.0.1 a.1 in
     let others = chain_sound room fuel (suc count) a.0.0 a.0.1 t a.2 in
     record { count = suc others.count; chain = subst (λ l. Chain s (suc others.count) l t) (sym c.parts) (next c.framed c.means.0 others.chain); keeps = λ h. others.keeps (c.means.1 h) }
 
 -- sections in front of a place where no section is read
-pub record ChainEnds (room : Room) (count : ℕ) (s : Progress) (text : List ℕ) (e : Fault) : Type 0 where
+pub record ChainEnds (room : Room) (count : ℕ) (s : Progress) (text : List ℕ) (e : DecodeFault) : Type 0 where
   pub more : ℕ
   pub word : List ℕ
   pub rest : List ℕ
@@ -86,18 +87,18 @@ pub record ChainEnds (room : Room) (count : ℕ) (s : Progress) (text : List ℕ
   pub parts : text ≡ word ++ rest
   pub some : rest ≢ []
   pub keeps : HasRoom room s → HasRoom room end
-  pub ends : section_at room (told (count + more)) end rest ≡ Err e
+  pub ends : section_at room (saturated (count + more)) end rest ≡ Err e
 
 shorter : (text word rest : List ℕ) (id fuel : ℕ) (contents : List ℕ) → IsSection id contents word → text ≡ word ++ rest → length text ≤ suc fuel → length rest ≤ fuel
 shorter text _ rest id fuel _ (section {size} {contents} n) e l =
     let same : length text ≡ suc (length ((size ++ contents) ++ rest)) = ap length e in
     omega (arith, length-append (size ++ contents) rest)
 
-pub chain_end : (room : Room) (fuel count : ℕ) (s : Progress) (text : List ℕ) (e : Fault) → length text ≤ fuel → chain_at room fuel count s text ≡ Err e → ChainEnds room count s text e
+pub chain_end : (room : Room) (fuel count : ℕ) (s : Progress) (text : List ℕ) (e : DecodeFault) → length text ≤ fuel → chain_at room fuel count s text ≡ Err e → ChainEnds room count s text e
 unfolding chain_at
 chain_end room fuel count s [] e l h = absurd cc
 chain_end room zero count s (b ∷ bs) e l h = absurd (omega arith)
-chain_end room (suc fuel) count s (b ∷ bs) e l h = elim (bind_err (section_at room (told count) s (b ∷ bs)) _ e h) [
+chain_end room (suc fuel) count s (b ∷ bs) e l h = elim (bind_err (section_at room (saturated count) s (b ∷ bs)) _ e h) [
   | inl p ↦
       let same : count ≡ count + 0 = omega arith in
       record {
@@ -109,10 +110,10 @@ chain_end room (suc fuel) count s (b ∷ bs) e l h = elim (bind_err (section_at 
         parts = refl;
         some = λ q. absurd cc;
         keeps = λ h. h;
-        ends = subst (λ n. section_at room (told n) s (b ∷ bs) ≡ Err e) same p;
+        ends = subst (λ n. section_at room (saturated n) s (b ∷ bs) ≡ Err e) same p;
       }
   | inr a ↦
-      let c = section_sound (told count) room s (b ∷ bs) a.0.0 a.0.1 a.1 in
+      let c = section_sound (saturated count) room s (b ∷ bs) a.0.0 a.0.1 a.1 in
       let others = chain_end room fuel (suc count) a.0.0 a.0.1 e (shorter (b ∷ bs) c.word a.0.1 c.id fuel c.contents c.framed c.parts l) a.2 in
       let same : suc count + others.more ≡ count + suc others.more = omega arith in
       record {
@@ -124,6 +125,6 @@ chain_end room (suc fuel) count s (b ∷ bs) e l h = elim (bind_err (section_at 
         parts = c.parts ∙ ap (λ l. c.word ++ l) others.parts ∙ sym (append_assoc c.word others.word others.rest);
         some = others.some;
         keeps = λ h. others.keeps (c.means.1 h);
-        ends = subst (λ n. section_at room (told n) others.end others.rest ≡ Err e) same others.ends;
+        ends = subst (λ n. section_at room (saturated n) others.end others.rest ≡ Err e) same others.ends;
       }
 ]

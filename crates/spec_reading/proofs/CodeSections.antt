@@ -6,8 +6,9 @@ use Rattle.wasm_form.specs.declared.module.Code.{Code}
 use Rattle.wasm_form.specs.Number.{SpellsUnsigned}
 use Rattle.wasm_form.specs.Sequence.{SpellsEach, SpellsVec, vec}
 use Rattle.spec_binary.specs.Parts.{SpellsCode}
-use Rattle.spec_binary.specs.Answers.{PassesLocals, PassesNesting, Fault}
-use Rattle.spec_binary.specs.Answers as fault
+use Rattle.spec_binary.specs.DecodeAnswers.{PassesLocals, PassesNesting}
+use Rattle.spec_binary.specs.declared.fault.DecodeFault.{DecodeFault}
+use Rattle.spec_binary.specs.declared.fault.DecodeFault.TheVariants as fault
 use Rattle.spec_reading.specs.Steps.{Break, Broken, TooDeep, TooManyLocals, Read}
 use Rattle.spec_reading.specs.Values.{number_at}
 use Rattle.spec_reading.specs.Bodies.{Room, usual_room, code_at, in_body, bodies_at}
@@ -34,26 +35,26 @@ pub record HoldsBody (contents : List ℕ) (function : ℕ) (text : List ℕ) : 
   pub parts : contents ≡ number ++ (front_word ++ (size ++ (text ++ others)))
 
 -- why the bodies of a section aren't read
-pub data CodesEnd (sections : ℕ) (contents : List ℕ) : Fault → Type 0 where
+pub data CodesEnd (sections : ℕ) (contents : List ℕ) : DecodeFault → Type 0 where
   malformed : CodesEnd sections contents (fault.Malformed sections)
   many_locals : {function : ℕ} {text : List ℕ} → HoldsBody contents function text → PassesLocals text → CodesEnd sections contents (fault.TooManyLocals function)
   deep : {function : ℕ} {text : List ℕ} → HoldsBody contents function text → PassesNesting text → CodesEnd sections contents (fault.TooDeep function)
 
 pub in_section_ok : {A : Type 0} (sections : ℕ) (r : Result A Break) (x : A) → in_section sections r ≡ Ok x → r ≡ Ok x
-in_section_ok sections (Ok y) x e = ap (λ (z : _). Ok z) (ok_is Fault y x e)
+in_section_ok sections (Ok y) x e = ap (λ (z : _). Ok z) (ok_is DecodeFault y x e)
 in_section_ok sections (Err d) x e = absurd cc
 
-pub in_section_err : {A : Type 0} (sections : ℕ) (r : Result A Break) (e : Fault) → in_section sections r ≡ Err e → e ≡ fault.Malformed sections
+pub in_section_err : {A : Type 0} (sections : ℕ) (r : Result A Break) (e : DecodeFault) → in_section sections r ≡ Err e → e ≡ fault.Malformed sections
 in_section_err sections (Ok y) e h = absurd cc
-in_section_err sections (Err d) e h = sym (err_is Fault _ _ h)
+in_section_err sections (Err d) e h = sym (err_is DecodeFault _ _ h)
 
 all_of_ok : {A : Type 0} (sections : ℕ) (p : A × List ℕ) (x : A) → all_of sections p ≡ Ok x → (p.0 ≡ x) × (p.1 ≡ [])
-all_of_ok sections (y, []) x e = (ok_is Fault y x e, refl)
+all_of_ok sections (y, []) x e = (ok_is DecodeFault y x e, refl)
 all_of_ok sections (y, b ∷ bs) x e = absurd cc
 
-all_of_err : {A : Type 0} (sections : ℕ) (p : A × List ℕ) (e : Fault) → all_of sections p ≡ Err e → e ≡ fault.Malformed sections
+all_of_err : {A : Type 0} (sections : ℕ) (p : A × List ℕ) (e : DecodeFault) → all_of sections p ≡ Err e → e ≡ fault.Malformed sections
 all_of_err sections (y, []) e h = absurd cc
-all_of_err sections (y, b ∷ bs) e h = sym (err_is Fault _ _ h)
+all_of_err sections (y, b ∷ bs) e h = sym (err_is DecodeFault _ _ h)
 
 all_taken : (text mid rest word others : List ℕ) → text ≡ word ++ mid → mid ≡ others ++ rest → rest ≡ [] → text ≡ word ++ others
 all_taken text mid rest word others p q r = p ∙ ap (λ l. word ++ l) (q ∙ ap (λ l. others ++ l) r ∙ append-nil others)
@@ -82,15 +83,15 @@ module _ (room : Room) (sections : ℕ) where
       subst (λ cs. SpellsVec SpellsCode cs w × All (Keeps room) cs) last.0 (spelled, t.limits)
 
 -- the fault of a body that isn't read
-fault_is : (sections function : ℕ) (r : Read Code) (d : Break) (e told : Fault) → r ≡ Err d → in_body {A = Code × List ℕ} sections function (Err d) ≡ Err told
+fault_is : (sections function : ℕ) (r : Read Code) (d : Break) (e told : DecodeFault) → r ≡ Err d → in_body {A = Code × List ℕ} sections function (Err d) ≡ Err told
     → in_body sections function r ≡ Err e → told ≡ e
-fault_is sections function r d e told p q h = err_is Fault _ _ (sym q ∙ sym (ap (in_body sections function) p) ∙ h)
+fault_is sections function r d e told p q h = err_is DecodeFault _ _ (sym q ∙ sym (ap (in_body sections function) p) ∙ h)
 
 place : (contents number after front rest size inner others : List ℕ) → contents ≡ number ++ after → after ≡ front ++ rest → rest ≡ size ++ (inner ++ others)
     → contents ≡ number ++ (front ++ (size ++ (inner ++ others)))
 place contents number after front rest size inner others p q r = p ∙ ap (λ l. number ++ l) (q ∙ ap (λ l. front ++ l) r)
 
-module _ (sections : ℕ) (contents : List ℕ) (k : ℕ) (number after : List ℕ) (n : SpellsUnsigned 32 k number) (parts : contents ≡ number ++ after) (e : Fault) where
+module _ (sections : ℕ) (contents : List ℕ) (k : ℕ) (number after : List ℕ) (n : SpellsUnsigned 32 k number) (parts : contents ≡ number ++ after) (e : DecodeFault) where
   module _ (b : BodiesEnd usual_room sections k 0 after e) where
     held : (Passes : List ℕ → Type 0) (s : SizedThat Passes b.rest) → HoldsBody contents (0 + length b.front) s.inner
     held Passes s = record {
@@ -119,7 +120,7 @@ module _ (sections : ℕ) (contents : List ℕ) (k : ℕ) (number after : List �
     bodies_stop (Ok x) h q = absurd cc
     bodies_stop (Err d) h q = body_ends d h (code_ends b.rest d h)
 
-pub codes_end : (sections : ℕ) (contents : List ℕ) (e : Fault) → codes_at usual_room sections contents ≡ Err e → CodesEnd sections contents e
+pub codes_end : (sections : ℕ) (contents : List ℕ) (e : DecodeFault) → codes_at usual_room sections contents ≡ Err e → CodesEnd sections contents e
 unfolding codes_at
 codes_end sections contents e h = elim (bind_err (in_section sections (number_at 32 contents)) _ e h) [
   | inl p ↦ subst (CodesEnd sections contents) (sym (in_section_err sections (number_at 32 contents) e p)) malformed
@@ -135,7 +136,7 @@ codes_end sections contents e h = elim (bind_err (in_section sections (number_at
 
 module _ (sections : ℕ) (contents : List ℕ) (function : ℕ) (text : List ℕ) (b : HoldsBody contents function text) where
   -- the body of this text isn't read
-  held_not_read : (d : Break) (e : Fault) → code_at usual_room (b.size ++ (text ++ b.others)) ≡ Err d → in_body {A = Code × List ℕ} sections function (Err d) ≡ Err e
+  held_not_read : (d : Break) (e : DecodeFault) → code_at usual_room (b.size ++ (text ++ b.others)) ≡ Err d → in_body {A = Code × List ℕ} sections function (Err d) ≡ Err e
       → codes_at usual_room sections contents ≡ Err e
   unfolding codes_at
   held_not_read d e h q =

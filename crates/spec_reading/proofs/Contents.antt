@@ -9,7 +9,8 @@ use Rattle.wasm_form.specs.Sequence.{SpellsVec}
 use Rattle.spec_binary.specs.Types.{SpellsFuncType, SpellsLimits, SpellsTableType}
 use Rattle.spec_binary.specs.Parts.{SpellsImport, SpellsGlobal, SpellsExport, SpellsElem, SpellsCode, SpellsData}
 use Rattle.spec_binary.specs.Sections.{Progress, with_custom, with_types, with_imports, with_funcs, with_tables, with_memories, with_globals, with_exports, with_start, with_elems, with_data_count, with_codes, with_datas, Contents, custom, types, imports, funcs, tables, memories, globals, exports, start, elems, data_count, codes, datas}
-use Rattle.spec_binary.specs.Answers.{Fault, Malformed}
+use Rattle.spec_binary.specs.declared.fault.DecodeFault.{DecodeFault}
+use Rattle.spec_binary.specs.declared.fault.DecodeFault.TheVariants.{Malformed}
 use Rattle.spec_reading.specs.Steps.{Read, whole}
 use Rattle.spec_reading.specs.Values.{number_at, name_at, vec_at}
 use Rattle.spec_reading.specs.Types.{func_type_at, table_type_at, limits_at}
@@ -43,9 +44,9 @@ module _ (sections : ℕ) where
   custom_sound room s w t e =
       let n = bind_ok (in_section sections (name_at w)) _ t e in
       let name = name_sound w n.0.0 n.0.1 (in_section_ok sections (name_at w) n.0 n.1) in
-      subst (Means room s 0 w) (ok_is Fault (with_custom s n.0.0 n.0.1) t n.2) (subst (λ w. Contents s 0 w (with_custom s n.0.0 n.0.1)) (sym name.parts) (custom n.0.1 name.spelled), λ h. h)
+      subst (Means room s 0 w) (ok_is DecodeFault (with_custom s n.0.0 n.0.1) t n.2) (subst (λ w. Contents s 0 w (with_custom s n.0.0 n.0.1)) (sym name.parts) (custom n.0.1 name.spelled), λ h. h)
 
-  custom_end : (s : Progress) (w : List ℕ) (e : Fault) → custom_at sections s w ≡ Err e → e ≡ Malformed sections
+  custom_end : (s : Progress) (w : List ℕ) (e : DecodeFault) → custom_at sections s w ≡ Err e → e ≡ Malformed sections
   unfolding custom_at
   custom_end s w e h = elim (bind_err (in_section sections (name_at w)) _ e h) [
     | inl p ↦ in_section_err sections (name_at w) e p
@@ -62,16 +63,16 @@ module _ (sections : ℕ) where
     field_sound sound M make t e =
         let l = chosen_first (ltb s.last rank) _ _ t e in
         let x = bind_ok (in_section sections (whole (read w))) _ t l.1 in
-        subst M (ok_is Fault (put s x.0) t x.2) (make x.0 (ltb-true _ _ l.0) (whole_sound Spells read sound w x.0 (in_section_ok sections (whole (read w)) x.0 x.1)))
+        subst M (ok_is DecodeFault (put s x.0) t x.2) (make x.0 (ltb-true _ _ l.0) (whole_sound Spells read sound w x.0 (in_section_ok sections (whole (read w)) x.0 x.1)))
 
-    field_end : (e : Fault) → field_at read put rank sections s w ≡ Err e → e ≡ Malformed sections
+    field_end : (e : DecodeFault) → field_at read put rank sections s w ≡ Err e → e ≡ Malformed sections
     unfolding field_at
     field_end e h = elim (chosen (ltb s.last rank) _ _ _ h) [
       | inl l ↦ elim (bind_err (in_section sections (whole (read w))) _ e l.1) [
         | inl p ↦ in_section_err sections (whole (read w)) e p
         | inr x ↦ absurd (let q = x.2 in cc)
       ]
-      | inr l ↦ sym (err_is Fault _ _ l.1)
+      | inr l ↦ sym (err_is DecodeFault _ _ l.1)
     ]
 
   module _ {A : Type 0} (Spells : A → List ℕ → Type 0) (read : List ℕ → Read A) (put : Progress → List A → Progress) (rank : ℕ) (s : Progress) (w : List ℕ) where
@@ -83,7 +84,7 @@ module _ (sections : ℕ) where
     vec_field_sound sound M make t e = field_sound (SpellsVec Spells) (vec_at read) put rank s w (vec_sound Spells read sound) M make t e
 
 -- what of `Contents` a section of this number says
-pick : (id k : ℕ) (x y z : Result Progress Fault) (M : ℕ → Type 0) → cond (eqb id k) x y ≡ z → (x ≡ z → M k) → (y ≡ z → M id) → M id
+pick : (id k : ℕ) (x y z : Result Progress DecodeFault) (M : ℕ → Type 0) → cond (eqb id k) x y ≡ z → (x ≡ z → M k) → (y ≡ z → M id) → M id
 pick id k x y z M e f g = elim (chosen (eqb id k) x y z e) [ inl p ↦ subst M (sym (eqb-true id k p.0)) (f p.1) | inr p ↦ g p.1 ]
 
 module _ (room : Room) (sections : ℕ) (s : Progress) (w : List ℕ) where
@@ -97,7 +98,7 @@ module _ (room : Room) (sections : ℕ) (s : Progress) (w : List ℕ) where
       let l = chosen_first (ltb s.last 11) _ _ t e in
       let cs = bind_ok (codes_at room sections w) _ t l.1 in
       let p = codes_sound room sections w cs.0 cs.1 in
-      subst (Means room s 10 w) (ok_is Fault (with_codes s cs.0) t cs.2) (codes (ltb-true _ _ l.0) p.0, λ h. p.1)
+      subst (Means room s 10 w) (ok_is DecodeFault (with_codes s cs.0) t cs.2) (codes (ltb-true _ _ l.0) p.0, λ h. p.1)
 
   -- every section writes its field as it is spelled
   pub contents_sound : (id : ℕ) (t : Progress) → contents_at room sections s id w ≡ Ok t → Means room s id w t
@@ -136,11 +137,11 @@ contents_complete room n _ _ w _ (codes {s} {xs} l p) keeps = code_section_compl
 contents_complete room n _ _ w _ (datas {s} {xs} l p) keeps = vec_field_complete n SpellsData data_at with_datas 12 s w data_complete xs l p
 
 -- why contents aren't read: they are malformed, or of a code section in which reading ends
-pub data ContentsEnd (sections : ℕ) (s : Progress) (w : List ℕ) (e : Fault) : ℕ → Type 0 where
+pub data ContentsEnd (sections : ℕ) (s : Progress) (w : List ℕ) (e : DecodeFault) : ℕ → Type 0 where
   malformed : {id : ℕ} → e ≡ Malformed sections → ContentsEnd sections s w e id
   bodies : s.last < 11 → CodesEnd sections w e → ContentsEnd sections s w e 10
 
-module _ (sections : ℕ) (s : Progress) (w : List ℕ) (e : Fault) where
+module _ (sections : ℕ) (s : Progress) (w : List ℕ) (e : DecodeFault) where
   code_section_end : code_section_at usual_room sections s w ≡ Err e → ContentsEnd sections s w e 10
   unfolding code_section_at
   code_section_end h = elim (chosen (ltb s.last 11) _ _ _ h) [
@@ -148,7 +149,7 @@ module _ (sections : ℕ) (s : Progress) (w : List ℕ) (e : Fault) where
       | inl p ↦ bodies (ltb-true _ _ l.0) (codes_end sections w e p)
       | inr x ↦ absurd (let q = x.2 in cc)
     ]
-    | inr l ↦ malformed (sym (err_is Fault _ _ l.1))
+    | inr l ↦ malformed (sym (err_is DecodeFault _ _ l.1))
   ]
 
   field_ends : {A : Type 0} (read : List ℕ → Read A) (put : Progress → A → Progress) (rank : ℕ) {id : ℕ} → field_at read put rank sections s w ≡ Err e → ContentsEnd sections s w e id
@@ -170,4 +171,4 @@ module _ (sections : ℕ) (s : Progress) (w : List ℕ) (e : Fault) where
       pick id 9 _ _ (Err e) Here h (field_ends _ _ _) (λ h.
       pick id 10 _ _ (Err e) Here h code_section_end (λ h.
       pick id 11 _ _ (Err e) Here h (field_ends _ _ _) (λ h.
-      pick id 12 _ _ (Err e) Here h (field_ends _ _ _) (λ h. malformed (sym (err_is Fault _ _ h)))))))))))))))
+      pick id 12 _ _ (Err e) Here h (field_ends _ _ _) (λ h. malformed (sym (err_is DecodeFault _ _ h)))))))))))))))

@@ -3,16 +3,12 @@ use Rattle.std.proofs.Common.{◌≡◌, ℕ, Bool, true, false, ◌&&◌, eqb, 
 use Rattle.std.specs.Prelude.{IsTrue}
 use Rattle.std.specs.List.{AllByRecursion, list_all}
 use Rattle.std.proofs.lemmas.List.Elements.{All-from_recursion, recursion_from_All}
-use Rattle.std.proofs.lemmas.Bool.{eqb-true, eq-eqb}
+use Rattle.std.proofs.lemmas.Bool.{and_parts, eqb-true, eq-eqb}
 use Rattle.wasm_form.specs.declared.module.Code.{Code}
 use Rattle.wasm_form.specs.declared.module.Module.{Module}
 use Rattle.spec_binary.specs.Trees.{every_of}
 use Rattle.spec_binary.specs.WellFormed.{names_no_data, IsDataCounted, CountsAgree}
 use Rattle.spec_reading.specs.Sections.{leaves_data, is_data_counted, counts_agree}
-
-both_true : (a b : Bool) → (a && b) ≡ true → (a ≡ true) × (b ≡ true)
-both_true true b e = (refl, e)
-both_true false b e = absurd cc
 
 both : (a b : Bool) → a ≡ true → b ≡ true → (a && b) ≡ true
 both a b p q = rw (p, q) refl
@@ -23,7 +19,7 @@ LeavesData c = IsTrue (every_of names_no_data c.body.list)
 
 each_leaves : (cs : List Code) → list_all leaves_data cs ≡ true → AllByRecursion LeavesData cs
 each_leaves [] e = tt
-each_leaves (c ∷ cs) e = let h = both_true (leaves_data c) (list_all leaves_data cs) e in (h.0, each_leaves cs h.1)
+each_leaves (c ∷ cs) e = let h = and_parts (leaves_data c) (list_all leaves_data cs) e in (h.0, each_leaves cs h.1)
 
 all_leave : (cs : List Code) → AllByRecursion LeavesData cs → list_all leaves_data cs ≡ true
 all_leave [] h = refl
@@ -39,7 +35,7 @@ data_counted None m e = all_leave m.codes (recursion_from_All LeavesData m.codes
 
 pub agree : (m : Module) → counts_agree m ≡ true → CountsAgree m
 agree m e =
-    let h = both_true (eqb (length m.codes) (length m.funcs)) (is_data_counted m.data_count m) e in
+    let h = and_parts (eqb (length m.codes) (length m.funcs)) (is_data_counted m.data_count m) e in
     record { bodies = eqb-true _ _ h.0; datas = counted_data m.data_count m h.1 }
 
 pub agrees : (m : Module) → CountsAgree m → counts_agree m ≡ true

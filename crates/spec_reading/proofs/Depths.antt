@@ -8,7 +8,7 @@ use Rattle.wasm_form.specs.declared.instr.Expr.{Expr}
 use Rattle.spec_binary.specs.Operands.{Operands, NoOperand, OneIndex, BlockBody, LoopBody, IfBodies, Labels, TypeAndTable, ValueTypes, OneRefType, MemoryArgument, MemorySizeByte, MemoryGrowByte, OneI32, OneI64, OneF32, OneF64, SecondOpcode, NoOpcode, operands, opens_block}
 use Rattle.spec_binary.specs.Instructions.{SpellsBlockType, SpellsInstr, SpellsInstrs, done, next}
 use Rattle.spec_binary.specs.Trees.{nesting, nesting_all}
-use Rattle.spec_binary.specs.Answers.{IsTooDeep, GetsTooDeep, opens, inside, in_else, after}
+use Rattle.spec_binary.specs.DecodeAnswers.{IsTooDeep, GetsTooDeep, opens, inside, in_else, after}
 use Rattle.spec_reading.specs.Steps.{Break, Broken, TooDeep, TooManyLocals, ◌>>=◌, Read}
 use Rattle.spec_reading.specs.Values.{byte_at}
 use Rattle.spec_reading.specs.Instructions.{Inner, expr_of, block_type_at, body_at, else_at, arms_at, if_at, operands_at, instr_at, ends, instrs_at, expr_within, expr_at}

@@ -10,7 +10,10 @@ use Rattle.wasm_form.specs.declared.module.Code.{Code}
 use Rattle.spec_binary.specs.BodyLimits.{IsWithinLimits}
 use Rattle.spec_binary.specs.Sections.{Progress, at_start, IsSection, section, Chain, done, next}
 use Rattle.spec_binary.specs.Modules.{header}
-use Rattle.spec_binary.specs.Answers.{Reaches, ReachesBody, PassesLocals, PassesNesting, Fault, Malformed, TooDeep, TooManyLocals, told, Answers, too_many_locals, too_deep, malformed}
+use Rattle.spec_binary.specs.Saturated.{saturated}
+use Rattle.spec_binary.specs.DecodeAnswers.{Reaches, ReachesBody, PassesLocals, PassesNesting, DecodeAnswer, too_many_locals, too_deep, malformed}
+use Rattle.spec_binary.specs.declared.fault.DecodeFault.{DecodeFault}
+use Rattle.spec_binary.specs.declared.fault.DecodeFault.TheVariants.{Malformed, TooDeep, TooManyLocals}
 use Rattle.spec_reading.specs.Bodies.{Room, usual_room}
 use Rattle.spec_reading.specs.Sections.{codes_at, code_section_at, contents_at, section_at, chain_at, sections_at, answer_of}
 use Rattle.spec_reading.proofs.Values.{cut_again}
@@ -63,7 +66,7 @@ behind room bytes sections rest count end e chain h =
     }
 
 -- a code section in its order, whose bodies aren't read, isn't read
-section_not_read : (sections : ℕ) (s : Progress) (contents word : List ℕ) (e : Fault) → s.last < 11 → IsSection 0x0A contents word → codes_at usual_room sections contents ≡ Err e
+section_not_read : (sections : ℕ) (s : Progress) (contents word : List ℕ) (e : DecodeFault) → s.last < 11 → IsSection 0x0A contents word → codes_at usual_room sections contents ≡ Err e
     → (rest : List ℕ) → section_at usual_room sections s (word ++ rest) ≡ Err e
 unfolding section_at contents_at code_section_at
 section_not_read sections s c w e order (section {size} {contents} n) h rest = rw (append_assoc size contents rest, cut_again size contents rest n, lt-ltb _ _ order, h) refl
@@ -86,7 +89,7 @@ module _ (bytes : List ℕ) (function : ℕ) (text : List ℕ) (b : ReachesBody 
     parts = b.parts;
   }
 
-  chain_stops : (fuel count : ℕ) (s : Progress) (rest : List ℕ) (e : Fault) → length rest < fuel → rest ≢ [] → section_at usual_room (told count) s rest ≡ Err e
+  chain_stops : (fuel count : ℕ) (s : Progress) (rest : List ℕ) (e : DecodeFault) → length rest < fuel → rest ≢ [] → section_at usual_room (saturated count) s rest ≡ Err e
       → chain_at usual_room fuel count s rest ≡ Err e
   unfolding chain_at
   chain_stops fuel count s [] e l some h = absurd (some refl)
@@ -96,27 +99,27 @@ module _ (bytes : List ℕ) (function : ℕ) (text : List ℕ) (b : ReachesBody 
   not_empty : (contents word rest : List ℕ) → IsSection 0x0A contents word → word ++ rest ≢ []
   not_empty _ _ rest (section n) e = cc
 
-  body_not_read : (e : Fault) → codes_at usual_room (told b.count) b.contents ≡ Err e → answer_of bytes ≡ Err e
+  body_not_read : (e : DecodeFault) → codes_at usual_room (saturated b.count) b.contents ≡ Err e → answer_of bytes ≡ Err e
   unfolding answer_of
   body_not_read e h =
       let on = behind usual_room bytes b.reached.sections b.reached.rest b.count b.reached.end b.reached.parts b.reached.chain (have_room b.reached.end.fields.codes b.reached.limits) in
-      let here = section_not_read (told b.count) b.reached.end b.contents b.section e b.order b.framed h b.after in
+      let here = section_not_read (saturated b.count) b.reached.end b.contents b.section e b.order b.framed h b.after in
       let stop = chain_stops on.fuel b.count b.reached.end (b.section ++ b.after) e (subst (λ l. length l < on.fuel) b.follows on.enough) (not_empty b.contents b.section b.after b.framed) here in
       let all : sections_at usual_room bytes ≡ Err e = on.goes_on ∙ ap (chain_at usual_room on.fuel b.count b.reached.end) b.follows ∙ stop in
       rw all refl
 
   pub passes_locals : PassesLocals text → answer_of bytes ≡ Err (TooManyLocals function)
-  passes_locals p = body_not_read (TooManyLocals function) (codes_passed (told b.count) b.contents function text holds p)
+  passes_locals p = body_not_read (TooManyLocals function) (codes_passed (saturated b.count) b.contents function text holds p)
 
   pub passes_nesting : PassesNesting text → answer_of bytes ≡ Err (TooDeep function)
-  passes_nesting p = body_not_read (TooDeep function) (codes_deep (told b.count) b.contents function text holds p)
+  passes_nesting p = body_not_read (TooDeep function) (codes_deep (saturated b.count) b.contents function text holds p)
 
 module _ (bytes : List ℕ) where
   -- sections are reached, and then one in which reading ends
   abbrev pub reaches : (count : ℕ) (word rest : List ℕ) (end : Progress) → bytes ≡ header ++ (word ++ rest) → Chain at_start count word end → HasRoom usual_room end → Reaches bytes count
   reaches count word rest end parts chain h = record { sections = word; rest = rest; parts = parts; end = end; chain = chain; limits = are_within end.fields.codes h }
 
-  pub reaches_body : (function : ℕ) (text : List ℕ) (count : ℕ) (r : Reaches bytes count) (e : Fault) (c : EndsInCode (told count) r.end r.rest e) → HoldsBody c.contents function text
+  pub reaches_body : (function : ℕ) (text : List ℕ) (count : ℕ) (r : Reaches bytes count) (e : DecodeFault) (c : EndsInCode (saturated count) r.end r.rest e) → HoldsBody c.contents function text
       → ReachesBody bytes function text
   reaches_body function text count r e c b = record {
     count = count;
@@ -143,7 +146,7 @@ module _ (bytes : List ℕ) where
   }
 
   -- behind a place where no section is read there is no chain
-  no_chain : (sections : ℕ) (s t : Progress) (k : ℕ) (w rest : List ℕ) (e : Fault) → Chain s k w t → HasRoom usual_room t → section_at usual_room sections s (w ++ rest) ≡ Err e → k ≡ 0
+  no_chain : (sections : ℕ) (s t : Progress) (k : ℕ) (w rest : List ℕ) (e : DecodeFault) → Chain s k w t → HasRoom usual_room t → section_at usual_room sections s (w ++ rest) ≡ Err e → k ≡ 0
   no_chain sections s t _ _ rest e done h stop = refl
   no_chain sections s u _ _ rest e (next {t} {k} {id} {contents} {w} {v} f c p) h stop =
       let read = section_complete sections usual_room s id contents w t f c (had_room usual_room t k v u p h) (v ++ rest) in
@@ -154,32 +157,32 @@ module _ (bytes : List ℕ) where
   same_text x y p q = ap (drop 8) (sym p ∙ q)
 
   -- no section more is reached than those behind which none is read
-  no_more : (count : ℕ) (r : Reaches bytes count) (e : Fault) → section_at usual_room (told count) r.end r.rest ≡ Err e → (more : ℕ) → Reaches bytes more → more ≤ count
+  no_more : (count : ℕ) (r : Reaches bytes count) (e : DecodeFault) → section_at usual_room (saturated count) r.end r.rest ≡ Err e → (more : ℕ) → Reaches bytes more → more ≤ count
   no_more count r e h more q = elim (leb_tells more count) [
     | inl p ↦ p.1
     | inr p ↦
         let room = have_room q.end.fields.codes q.limits in
         let on = goes_on usual_room r.chain (have_room r.end.fields.codes r.limits) q.chain room (omega arith) r.rest q.rest (same_text (r.sections ++ r.rest) (q.sections ++ q.rest) r.parts q.parts) in
-        let none : on.more ≡ 0 = no_chain (told count) r.end q.end on.more on.word q.rest e on.chain room (ap (section_at usual_room (told count) r.end) (sym on.parts) ∙ h) in
+        let none : on.more ≡ 0 = no_chain (saturated count) r.end q.end on.more on.word q.rest e on.chain room (ap (section_at usual_room (saturated count) r.end) (sym on.parts) ∙ h) in
         let sum = on.sum in
         absurd (omega arith)
   ]
 
   -- the answer where no section is read
   module _ (count : ℕ) (r : Reaches bytes count) (some : r.rest ≢ []) where
-    ends_malformed : (e : Fault) → section_at usual_room (told count) r.end r.rest ≡ Err e → answer_of bytes ≡ Err (Malformed (told count)) → Answers bytes (Err (Malformed (told count)))
+    ends_malformed : (e : DecodeFault) → section_at usual_room (saturated count) r.end r.rest ≡ Err e → answer_of bytes ≡ Err (Malformed (saturated count)) → DecodeAnswer bytes (Err (Malformed (saturated count)))
     ends_malformed e h a =
         malformed r some (no_more count r e h) (λ function text b p. absurd (let q = passes_locals bytes function text b p in cc))
         (λ function text b p. absurd (let q = passes_nesting bytes function text b p in cc))
 
-    ends_in_body : (e : Fault) (c : EndsInCode (told count) r.end r.rest e) → CodesEnd (told count) c.contents e → section_at usual_room (told count) r.end r.rest ≡ Err e → answer_of bytes ≡ Err e
-        → Answers bytes (Err e)
+    ends_in_body : (e : DecodeFault) (c : EndsInCode (saturated count) r.end r.rest e) → CodesEnd (saturated count) c.contents e → section_at usual_room (saturated count) r.end r.rest ≡ Err e → answer_of bytes ≡ Err e
+        → DecodeAnswer bytes (Err e)
     ends_in_body _ c broken_codes h a = ends_malformed _ h a
     ends_in_body _ c (many_locals {function} {text} b p) h a = too_many_locals (reaches_body function text count r _ c b) p
     ends_in_body _ c (deep {function} {text} b p) h a = too_deep (reaches_body function text count r _ c b) p
 
-    pub ends_so : (e : Fault) → section_at usual_room (told count) r.end r.rest ≡ Err e → answer_of bytes ≡ Err e → Answers bytes (Err e)
-    ends_so e h a = elim (section_end (told count) r.end r.rest e h) [
-      | inl p ↦ subst (λ (e : Fault). Answers bytes (Err e)) (sym p) (ends_malformed e h (a ∙ ap (λ (e : Fault). Err e) p))
+    pub ends_so : (e : DecodeFault) → section_at usual_room (saturated count) r.end r.rest ≡ Err e → answer_of bytes ≡ Err e → DecodeAnswer bytes (Err e)
+    ends_so e h a = elim (section_end (saturated count) r.end r.rest e h) [
+      | inl p ↦ subst (λ (e : DecodeFault). DecodeAnswer bytes (Err e)) (sym p) (ends_malformed e h (a ∙ ap (λ (e : DecodeFault). Err e) p))
       | inr c ↦ ends_in_body e c c.ends h a
     ]

@@ -1,40 +1,26 @@
 -- What is spelled has one of the forms of the binary format: numbers, vectors, instructions and expressions.
-use Rattle.std.proofs.Common.{◌≡◌, ℕ, ◌+◌, ◌-◌, ◌*◌, ◌^◌, ◌<◌, true, List, length, refl, ap, ◌∙◌, arith}
+use Rattle.std.proofs.Common.{◌≡◌, ℕ, ◌^◌, true, List, length, refl, ◌∙◌}
 use Rattle.std.specs.Prelude.{All, IsTrue, nat_lt}
-use Rattle.std.proofs.lemmas.Nat.{pow-add}
 use Rattle.std.proofs.lemmas.Bool.{lt-ltb}
-use Rattle.std.proofs.lemmas.List.Elements.{All-nil, All-cons}
 use Rattle.wasm_form.specs.declared.types.ValType.{ValType}
 use Rattle.wasm_form.specs.declared.instr.Instr.{Instr}
 use Rattle.wasm_form.specs.declared.instr.Instr.TheOpen as Open
 use Rattle.wasm_form.specs.declared.instr.Expr.{Expr}
-use Rattle.wasm_form.specs.Number.{SpellsUnsigned, last, more}
 use Rattle.wasm_form.specs.Name.{SpellsName, name}
-use Rattle.wasm_form.specs.Sequence.{SpellsEach, none, next, SpellsVec, vec}
+use Rattle.wasm_form.specs.Sequence.{SpellsVec, vec}
+use Rattle.wasm_form.proofs.UnsignedSpelling.{unsigned_small}
+use Rattle.wasm_form.proofs.Joined.{each_all}
 use Rattle.spec_binary.specs.Types.{SpellsRefType, func_ref, extern_ref}
 use Rattle.spec_binary.specs.Instructions.{SpellsSecond, no_number, one_number, two_numbers, number_and_zero, one_zero, two_zeros, SpellsInstr, plain, index, block, loop, if_alone, if_else, labels, type_and_table, value_types, ref_type, memory_argument, memory_size, memory_grow, i32_const, i64_const, f32_const, f64_const, second, SpellsInstrs, done, next as next_instr, SpellsExpr, expr}
 use Rattle.spec_binary.specs.Trees.{every, every_of}
 use Rattle.spec_binary.specs.WellFormed.{IsShort, is_reference_type, has_form, IsFormedBody}
 use Rattle.spec_reading.proofs.Trees.{every-Plain, every-Index, every-Block, every-Loop, every-If-alone, every-If-else, every-BrTable, every-CallIndirect, every-Select, every-Access, every-MemorySize, every-MemoryGrow, every-I32Const, every-I64Const, every-F32Const, every-F64Const, every-RefNull, every-Prefixed}
 
--- a spelling of n bits is of a number below 2 ^ n
-pub unsigned_small : {n v : ℕ} {w : List ℕ} → SpellsUnsigned n v w → v < 2 ^ n
-unsigned_small (last h k) = k
-unsigned_small (more {n} {b} {v} {high} h l k e s) =
-    let small : high < 2 ^ (n - 7) = unsigned_small s in
-    let split : 2 ^ (7 + (n - 7)) ≡ 128 * 2 ^ (n - 7) = pow-add 2 7 (n - 7) in
-    let same : 2 ^ (7 + (n - 7)) ≡ 2 ^ n = ap (λ k. 2 ^ k) (omega arith) in
-    omega arith
-
 pub name_short : {text w : List ℕ} → SpellsName text w → IsShort text
 name_short (name n u) = unsigned_small n
 
 pub vec_short : {A : Type 0} {S : A → List ℕ → Type 0} {xs : List A} {w : List ℕ} → SpellsVec S xs w → IsShort xs
 vec_short (vec n s) = unsigned_small n
-
-each_all : {A : Type 0} {S : A → List ℕ → Type 0} (P : A → Type 0) → ((x : A) (w : List ℕ) → S x w → P x) → {xs : List A} {w : List ℕ} → SpellsEach S xs w → All P xs
-each_all P formed none = All-nil P
-each_all P formed (next {x} {xs} {w} s others) = All-cons P x xs (formed x w s) (each_all P formed others)
 
 pub vec_all : {A : Type 0} {S : A → List ℕ → Type 0} (P : A → Type 0) → ((x : A) (w : List ℕ) → S x w → P x) → {xs : List A} {w : List ℕ} → SpellsVec S xs w → All P xs
 vec_all P formed (vec n s) = each_all P formed s

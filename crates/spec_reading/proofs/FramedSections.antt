@@ -2,7 +2,8 @@
 use Rattle.std.proofs.Common.{◌≡◌, ℕ, ◌<◌, ◌≤◌, List, [], ◌∷◌, ◌++◌, Ok, Err, refl, sym, ap, subst, ◌∙◌, append_assoc, inl, inr}
 use Rattle.std.specs.Prelude.{◌⊎◌}
 use Rattle.spec_binary.specs.Sections.{Progress, Contents, IsSection, section}
-use Rattle.spec_binary.specs.Answers.{Fault, Malformed}
+use Rattle.spec_binary.specs.declared.fault.DecodeFault.{DecodeFault}
+use Rattle.spec_binary.specs.declared.fault.DecodeFault.TheVariants.{Malformed}
 use Rattle.spec_reading.specs.Values.{cut_at}
 use Rattle.spec_reading.specs.Bodies.{Room, usual_room}
 use Rattle.spec_reading.specs.Sections.{in_section, contents_at, section_at}
@@ -21,7 +22,7 @@ pub record TakesSection (room : Room) (s : Progress) (text : List ℕ) (t : Prog
   pub parts : text ≡ word ++ rest
 
 -- why no section is read: what stands there is malformed, or a code section in which reading ends
-pub record EndsInCode (sections : ℕ) (s : Progress) (text : List ℕ) (e : Fault) : Type 0 where
+pub record EndsInCode (sections : ℕ) (s : Progress) (text : List ℕ) (e : DecodeFault) : Type 0 where
   pub order : s.last < 11
   pub contents : List ℕ
   pub word : List ℕ
@@ -44,7 +45,7 @@ module _ (sections : ℕ) where
       let c = bind_ok (in_section sections (cut_at text)) _ (t, rest) e in
       let u = bind_ok (contents_at room sections s id c.0.0) _ (t, rest) c.2 in
       let cuts = cut_sound text c.0.0 c.0.1 (in_section_ok sections (cut_at text) c.0 c.1) in
-      subst (λ (p : Progress × List ℕ). TakesSection room s (id ∷ text) p.0 p.1) (ok_is Fault (u.0, c.0.1) (t, rest) u.2)
+      subst (λ (p : Progress × List ℕ). TakesSection room s (id ∷ text) p.0 p.1) (ok_is DecodeFault (u.0, c.0.1) (t, rest) u.2)
       (record {
         id = id;
         contents = c.0.0;
@@ -54,7 +55,7 @@ module _ (sections : ℕ) where
         parts = ap (λ l. id ∷ l) (cuts.parts ∙ sym (append_assoc cuts.size c.0.0 c.0.1));
       })
 
-  ends_in_code : (s : Progress) (id : ℕ) (text contents rest : List ℕ) → Cuts text contents rest → (e : Fault) → ContentsEnd sections s contents e id
+  ends_in_code : (s : Progress) (id : ℕ) (text contents rest : List ℕ) → Cuts text contents rest → (e : DecodeFault) → ContentsEnd sections s contents e id
       → (e ≡ Malformed sections) ⊎ EndsInCode sections s (id ∷ text) e
   ends_in_code s id text contents rest cuts e (malformed p) = inl p
   ends_in_code s id text contents rest cuts e (bodies order p) = inr (record {
@@ -67,9 +68,9 @@ module _ (sections : ℕ) where
     ends = p;
   })
 
-  pub section_end : (s : Progress) (text : List ℕ) (e : Fault) → section_at usual_room sections s text ≡ Err e → (e ≡ Malformed sections) ⊎ EndsInCode sections s text e
+  pub section_end : (s : Progress) (text : List ℕ) (e : DecodeFault) → section_at usual_room sections s text ≡ Err e → (e ≡ Malformed sections) ⊎ EndsInCode sections s text e
   unfolding section_at
-  section_end s [] e h = inl (sym (err_is Fault _ _ h))
+  section_end s [] e h = inl (sym (err_is DecodeFault _ _ h))
   section_end s (id ∷ text) e h = elim (bind_err (in_section sections (cut_at text)) _ e h) [
     | inl p ↦ inl (in_section_err sections (cut_at text) e p)
     | inr c ↦

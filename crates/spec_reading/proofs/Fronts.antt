@@ -1,7 +1,7 @@
 -- Sections at the front of a text are the first of any sections there.
 use Rattle.std.proofs.Common.{◌≡◌, ℕ, ◌+◌, ◌≤◌, List, ◌++◌, sym, ap, subst, ◌∙◌, append_assoc, arith}
 use Rattle.spec_binary.specs.Sections.{Progress, Contents, IsSection, Chain, done, next}
-use Rattle.spec_binary.specs.Answers.{Fault}
+use Rattle.spec_binary.specs.declared.fault.DecodeFault.{DecodeFault}
 use Rattle.spec_reading.specs.Bodies.{Room}
 use Rattle.spec_reading.specs.Sections.{section_at}
 use Rattle.spec_reading.proofs.Steps.{ok_is}
@@ -24,7 +24,7 @@ module _ (room : Room) where
   one_section s t u i j c d w v f p h g q k x y e =
       let left = section_complete 0 room s i c w t f p h x in
       let right = section_complete 0 room s j d v u g q k y in
-      let same = ok_is Fault (t, x) (u, y) (sym left ∙ ap (section_at room 0 s) e ∙ right) in
+      let same = ok_is DecodeFault (t, x) (u, y) (sym left ∙ ap (section_at room 0 s) e ∙ right) in
       (ap (λ (p : Progress × List ℕ). p.0) same, ap (λ (p : Progress × List ℕ). p.1) same)
 
   pub goes_on : {s t u : Progress} {k n : ℕ} {w v : List ℕ} → Chain s k w t → HasRoom room t → Chain s n v u → HasRoom room u → k ≤ n → (x y : List ℕ) → w ++ x ≡ v ++ y

@@ -7,7 +7,7 @@ use Rattle.wasm_form.specs.Number.{SpellsUnsigned}
 use Rattle.wasm_form.specs.Sequence.{SpellsEach, none, next, SpellsVec, vec}
 use Rattle.spec_binary.specs.BodyLimits.{local_count, most_locals}
 use Rattle.spec_binary.specs.Parts.{SpellsGroup, group}
-use Rattle.spec_binary.specs.Answers.{PassesLocals}
+use Rattle.spec_binary.specs.DecodeAnswers.{PassesLocals}
 use Rattle.spec_reading.specs.Steps.{Break, Broken, TooManyLocals}
 use Rattle.spec_reading.specs.Values.{number_at}
 use Rattle.spec_reading.specs.Types.{val_type_at}

@@ -7,7 +7,7 @@ use Rattle.wasm_form.specs.declared.module.Module.{Module}
 use Rattle.spec_binary.specs.BodyLimits.{local_count}
 use Rattle.spec_binary.specs.Trees.{nesting_all}
 use Rattle.spec_binary.specs.Sections.{Progress}
-use Rattle.spec_binary.specs.Answers.{Fault}
+use Rattle.spec_binary.specs.declared.fault.DecodeFault.{DecodeFault}
 use Rattle.spec_reading.specs.Bodies.{Room}
 use Rattle.spec_reading.specs.Laws.{OneModule}
 use Rattle.spec_reading.proofs.Steps.{ok_is}
@@ -36,5 +36,5 @@ one_module one other bytes s t =
     let room : Room = room_for one other in
     let left = module_read room one bytes s (All-from_recursion (Keeps room) one.codes (keep_room room one.codes (omega arith) (omega arith))) in
     let right = module_read room other bytes t (All-from_recursion (Keeps room) other.codes (keep_room room other.codes (omega arith) (omega arith))) in
-    let same = ok_is Fault s.end t.end (sym left ∙ right) in
+    let same = ok_is DecodeFault s.end t.end (sym left ∙ right) in
     sym s.fields ∙ ap (λ (p : Progress). p.fields) same ∙ t.fields

@@ -16,10 +16,10 @@ use Rattle.spec_reading.specs.Steps.{Break, Broken, TooDeep, TooManyLocals}
 use Rattle.spec_reading.specs.Values.{number_at, name_at}
 use Rattle.spec_reading.specs.Types.{limits_at, table_type_at, global_type_at}
 use Rattle.spec_reading.specs.Instructions.{expr_at}
-use Rattle.spec_reading.specs.Parts.{without_blocks, constant_at, described_import_at, import_desc_at, import_at, global_at, described_export, export_desc_at, export_at}
-use Rattle.spec_reading.proofs.Steps.{bind_ok, chosen, chosen_first, ok_is, Plainly, plain_ok, plain_broken, plain_choice, plain_bind, Takes, IsComplete, IsSound, IsPlain, plain_is, is_plain, given, One, one_sound, one_plain}
-use Rattle.spec_reading.proofs.Values.{number_complete, number_sound, number_plain, name_complete, name_sound, name_plain}
-use Rattle.spec_reading.proofs.Types.{limits_complete, limits_sound, limits_plain, table_type_complete, table_type_sound, table_type_plain, global_type_complete, global_type_sound, global_type_plain}
+use Rattle.spec_reading.specs.Parts.{without_blocks, constant_at, import_desc_at, import_at, global_at, described_export, export_desc_at, export_at}
+use Rattle.spec_reading.proofs.Steps.{bind_ok, chosen, chosen_first, ok_is, Takes, IsComplete, IsSound, IsPlain, given, One, one_sound}
+use Rattle.spec_reading.proofs.Values.{number_complete, number_sound, name_complete, name_sound}
+use Rattle.spec_reading.proofs.Types.{limits_complete, limits_sound, table_type_complete, table_type_sound, global_type_complete, global_type_sound}
 use Rattle.spec_reading.proofs.Instructions.{expr_complete}
 use Rattle.spec_reading.proofs.InstructionsFound.{expr_sound}
 use Rattle.spec_reading.proofs.Depths.{expr_locals}
@@ -91,17 +91,6 @@ import_desc_sound (b ∷ bs) x rest e = elim (chosen (eqb b 0x00) _ _ _ e) [
   ]
 ]
 
-import_desc_tells : (b : ℕ) (bs : List ℕ) → Plainly (described_import_at b bs)
-import_desc_tells b bs =
-    plain_choice (eqb b 0x00) _ _ (one_plain (number_at 32) (number_plain 32) imported.Func bs)
-    (plain_choice (eqb b 0x01) _ _ (one_plain table_type_at table_type_plain imported.Table bs)
-    (plain_choice (eqb b 0x02) _ _ (one_plain limits_at limits_plain imported.Space bs) (plain_choice (eqb b 0x03) _ _ (one_plain global_type_at global_type_plain imported.Global bs) plain_broken)))
-
-pub import_desc_plain : IsPlain import_desc_at
-unfolding import_desc_at
-import_desc_plain [] e h = cc
-import_desc_plain (b ∷ bs) e h = (import_desc_tells b bs).broken e h
-
 -- three words one after the other
 pub three_parts : (text a b rest u v w : List ℕ) → text ≡ u ++ a → a ≡ v ++ b → b ≡ w ++ rest → text ≡ (u ++ (v ++ w)) ++ rest
 three_parts text a b rest u v w p q r = p ∙ ap (λ l. u ++ l) (q ∙ ap (λ l. v ++ l) r ∙ sym (append_assoc v w rest)) ∙ sym (append_assoc u (v ++ w) rest)
@@ -129,11 +118,6 @@ import_sound text x rest e =
     given SpellsImport text (record { «module» = m.0.0; field = f.0.0; desc = d.0.0 }) x d.0.1 rest d.2
     (record { word = p.word ++ (q.word ++ r.word); spelled = import p.spelled q.spelled r.spelled; parts = three_parts text m.0.1 f.0.1 d.0.1 p.word q.word r.word p.parts q.parts r.parts })
 
-pub import_plain : IsPlain import_at
-unfolding import_at
-import_plain = plain_is import_at (λ text. plain_bind (name_at text) _ (is_plain name_at name_plain text) (λ from. plain_bind (name_at from.1) _ (is_plain name_at name_plain from.1)
-    (λ field. plain_bind (import_desc_at field.1) _ (is_plain import_desc_at import_desc_plain field.1) (λ desc. plain_ok _))))
-
 -- globals
 
 global_again : {g : GlobalDef} {x : List ℕ} → SpellsGlobal g x → (rest : List ℕ) → global_at (x ++ rest) ≡ Ok (g, rest)
@@ -152,10 +136,6 @@ global_sound text x rest e =
     let q = constant_sound t.0.1 c.0.0 c.0.1 c.1 in
     given SpellsGlobal text (record { ty = t.0.0; init = c.0.0 }) x c.0.1 rest c.2
     (record { word = p.word ++ q.word; spelled = spells.global p.spelled q.spelled; parts = two_parts text t.0.1 c.0.1 p.word q.word p.parts q.parts })
-
-pub global_plain : IsPlain global_at
-unfolding global_at
-global_plain = plain_is global_at (λ text. plain_bind (global_type_at text) _ (is_plain global_type_at global_type_plain text) (λ ty. plain_bind (constant_at ty.1) _ (is_plain constant_at constant_plain ty.1) (λ init. plain_ok _)))
 
 -- exports
 
@@ -194,15 +174,6 @@ export_desc_sound (b ∷ bs) d rest e =
     let t = number_sound 32 bs n.0.0 n.0.1 n.1 in
     given SpellsExportDesc (b ∷ bs) x.0 d n.0.1 rest x.2 (record { word = b ∷ t.word; spelled = desc_spelled b n.0.0 t.word x.0 t.spelled x.1; parts = ap (λ l. b ∷ l) t.parts })
 
-export_desc_tells : (b n : ℕ) → Plainly (described_export b n)
-export_desc_tells b n = plain_choice (eqb b 0x00) _ _ (plain_ok _) (plain_choice (eqb b 0x01) _ _ (plain_ok _) (plain_choice (eqb b 0x02) _ _ (plain_ok _) (plain_choice (eqb b 0x03) _ _ (plain_ok _) plain_broken)))
-
-pub export_desc_plain : IsPlain export_desc_at
-unfolding export_desc_at
-export_desc_plain [] e h = cc
-export_desc_plain (b ∷ bs) e h =
-    (plain_bind (number_at 32 bs) _ (is_plain (number_at 32) (number_plain 32) bs) (λ n. plain_bind (described_export b n.0) _ (export_desc_tells b n.0) (λ d. plain_ok _))).broken e h
-
 export_again : {x : Export} {z : List ℕ} → SpellsExport x z → (rest : List ℕ) → export_at (z ++ rest) ≡ Ok (x, rest)
 unfolding export_at
 export_again (export {e} {w} {v} p q) rest = rw (append_assoc w v rest, name_complete e.name w p (v ++ rest), export_desc_complete e.desc v q rest) refl
@@ -219,7 +190,3 @@ export_sound text x rest e =
     let q = export_desc_sound n.0.1 d.0.0 d.0.1 d.1 in
     given SpellsExport text (record { name = n.0.0; desc = d.0.0 }) x d.0.1 rest d.2
     (record { word = p.word ++ q.word; spelled = export p.spelled q.spelled; parts = two_parts text n.0.1 d.0.1 p.word q.word p.parts q.parts })
-
-pub export_plain : IsPlain export_at
-unfolding export_at
-export_plain = plain_is export_at (λ text. plain_bind (name_at text) _ (is_plain name_at name_plain text) (λ name. plain_bind (export_desc_at name.1) _ (is_plain export_desc_at export_desc_plain name.1) (λ desc. plain_ok _)))

@@ -21,11 +21,11 @@ use Rattle.spec_reading.specs.Steps.{Break, ◌>>=◌}
 use Rattle.spec_reading.specs.Values.{number_at, byte_at, cut_at, vec_at}
 use Rattle.spec_reading.specs.Types.{ref_type_at}
 use Rattle.spec_reading.specs.Parts.{constant_at, place_at, elem_mode_at, functions_at, expressions_at, elem_items_at, elem_at, data_mode_at, data_at}
-use Rattle.spec_reading.proofs.Steps.{bind_ok, chosen, chosen_first, ok_is, Plainly, plain_ok, plain_broken, plain_choice, plain_bind, Takes, IsComplete, IsSound, IsPlain, plain_is, is_plain, given, got, One, Two, one_sound, two_sound, one_plain, two_plain}
-use Rattle.spec_reading.proofs.Values.{number_complete, number_sound, number_plain, byte_again, byte_sound, byte_plain, cut_plain}
-use Rattle.spec_reading.proofs.Vectors.{vec_complete, vec_sound, vec_plain, bytes_complete, bytes_sound}
-use Rattle.spec_reading.proofs.Types.{ref_type_complete, ref_type_sound, ref_type_plain}
-use Rattle.spec_reading.proofs.Parts.{constant_complete, constant_sound, constant_plain, three_parts, two_parts}
+use Rattle.spec_reading.proofs.Steps.{bind_ok, chosen, chosen_first, ok_is, Takes, IsComplete, IsSound, given, got, One, Two, one_sound, two_sound}
+use Rattle.spec_reading.proofs.Values.{number_complete, number_sound, byte_again, byte_sound}
+use Rattle.spec_reading.proofs.Vectors.{vec_complete, vec_sound, bytes_complete, bytes_sound}
+use Rattle.spec_reading.proofs.Types.{ref_type_complete, ref_type_sound}
+use Rattle.spec_reading.proofs.Parts.{constant_complete, constant_sound, three_parts, two_parts}
 
 -- a segment's place, and the mode that it gives
 
@@ -53,9 +53,6 @@ module _ {C : Type 0} (make : ℕ → Expr → C) where
         parts = t.parts ∙ ap (λ (p : C × List ℕ). (t.word ++ t.end) ++ p.1) same;
         is = ap (λ (p : ℕ × Expr). make p.0 p.1) t.is ∙ ap (λ (p : C × List ℕ). p.0) same;
       }
-
-  place_plain : (text : List ℕ) → Plainly (place_at text >>= λ place. got (make place.0.0 place.0.1) place.1)
-  place_plain text = plain_bind (place_at text) _ (two_plain (number_at 32) (number_plain 32) constant_at constant_plain pair text) (λ p. plain_ok _)
 
 -- a word that is read as one thing, or as two, spells what is made of them
 module _ {A B C : Type 0} (Spells : A → List ℕ → Type 0) (After : B → List ℕ → Type 0) (To : C → List ℕ → Type 0) where
@@ -98,11 +95,6 @@ elem_mode_sound low small text m rest e = elim (chosen (eqb low 0) _ _ _ e) [
     ]
   ]
 ]
-
-pub elem_mode_plain : (low : ℕ) → IsPlain (elem_mode_at low)
-unfolding elem_mode_at
-elem_mode_plain low = plain_is (elem_mode_at low) (λ text. plain_choice (eqb low 0) _ _ (one_plain constant_at constant_plain (element.Active 0) text)
-    (plain_choice (eqb low 1) _ _ (plain_ok _) (plain_choice (eqb low 2) _ _ (place_plain element.Active text) (plain_ok _))))
 
 -- the items
 
@@ -174,19 +166,6 @@ elem_items_sound flags text x rest e = elim (chosen (eqb flags 0) _ _ _ e) [
   ]
 ]
 
-functions_plain : (text : List ℕ) → Plainly (functions_at text)
-functions_plain text = one_plain (vec_at (number_at 32)) (vec_plain (number_at 32) (number_plain 32)) Funcs text
-
-expressions_plain : (t : ValType) (text : List ℕ) → Plainly (expressions_at t text)
-expressions_plain t text = one_plain (vec_at constant_at) (vec_plain constant_at constant_plain) (Exprs t) text
-
-pub elem_items_plain : (flags : ℕ) → IsPlain (elem_items_at flags)
-unfolding elem_items_at
-elem_items_plain flags = plain_is (elem_items_at flags) (λ text. plain_choice (eqb flags 0) _ _ (functions_plain text)
-    (plain_choice (ltb flags 4) _ _ (plain_bind (byte_at 0x00 text) _ (is_plain (byte_at 0x00) (byte_plain 0x00) text) (λ k. functions_plain k.1))
-    (plain_choice (eqb flags 4) _ _ (expressions_plain FuncRef text)
-    (plain_choice (ltb flags 8) _ _ (plain_bind (ref_type_at text) _ (is_plain ref_type_at ref_type_plain text) (λ t. expressions_plain t.0 t.1)) plain_broken))))
-
 -- element segments
 
 elem_again : {s : Elem} {x : List ℕ} → SpellsElem s x → (rest : List ℕ) → elem_at (x ++ rest) ≡ Ok (s, rest)
@@ -208,11 +187,6 @@ elem_sound text x rest e =
     let r = elem_items_sound f.0.0 m.0.1 i.0.0 i.0.1 i.1 in
     given SpellsElem text (record { mode = m.0.0; items = i.0.0 }) x i.0.1 rest i.2
     (record { word = p.word ++ (q.word ++ r.word); spelled = spells.segment p.spelled q.spelled r.spelled; parts = three_parts text f.0.1 m.0.1 i.0.1 p.word q.word r.word p.parts q.parts r.parts })
-
-pub elem_plain : IsPlain elem_at
-unfolding elem_at
-elem_plain = plain_is elem_at (λ text. plain_bind (number_at 32 text) _ (is_plain (number_at 32) (number_plain 32) text) (λ f. plain_bind (elem_mode_at (f.0 % 4) f.1) _ (is_plain (elem_mode_at (f.0 % 4)) (elem_mode_plain (f.0 % 4)) f.1)
-    (λ m. plain_bind (elem_items_at f.0 m.1) _ (is_plain (elem_items_at f.0) (elem_items_plain f.0) m.1) (λ i. plain_ok _))))
 
 -- data segments
 
@@ -243,11 +217,6 @@ data_mode_sound flags text m rest e = elim (chosen (eqb flags 0) _ _ _ e) [
   ]
 ]
 
-pub data_mode_plain : (flags : ℕ) → IsPlain (data_mode_at flags)
-unfolding data_mode_at
-data_mode_plain flags = plain_is (data_mode_at flags) (λ text. plain_choice (eqb flags 0) _ _ (one_plain constant_at constant_plain (data_mode.Active 0) text)
-    (plain_choice (eqb flags 1) _ _ (plain_ok _) (plain_choice (eqb flags 2) _ _ (place_plain data_mode.Active text) plain_broken)))
-
 data_again : {s : Data} {x : List ℕ} → SpellsData s x → (rest : List ℕ) → data_at (x ++ rest) ≡ Ok (s, rest)
 unfolding data_at
 data_again (spells.segment {s} {flags} {w} {v} {u} p q r) rest =
@@ -267,8 +236,3 @@ data_sound text x rest e =
     let r = bytes_sound m.0.1 b.0.0 b.0.1 b.1 in
     given SpellsData text (record { mode = m.0.0; bytes = b.0.0 }) x b.0.1 rest b.2
     (record { word = p.word ++ (q.word ++ r.word); spelled = spells.segment p.spelled q.spelled r.spelled; parts = three_parts text f.0.1 m.0.1 b.0.1 p.word q.word r.word p.parts q.parts r.parts })
-
-pub data_plain : IsPlain data_at
-unfolding data_at
-data_plain = plain_is data_at (λ text. plain_bind (number_at 32 text) _ (is_plain (number_at 32) (number_plain 32) text) (λ f. plain_bind (data_mode_at f.0 f.1) _ (is_plain (data_mode_at f.0) (data_mode_plain f.0) f.1)
-    (λ m. plain_bind (cut_at m.1) _ (is_plain cut_at cut_plain m.1) (λ b. plain_ok _))))

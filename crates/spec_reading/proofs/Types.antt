@@ -15,7 +15,7 @@ use Rattle.spec_reading.specs.Values.{number_at, vec_at}
 use Rattle.spec_reading.specs.Types.{ref_type_of, ref_type_at, val_type_of, val_type_at, func_type_at, limits_at, table_type_at, mutability_at, global_type_at}
 use Rattle.spec_reading.proofs.Steps.{bind_ok, chosen, chosen_first, ok_is, Plainly, plain_ok, plain_broken, plain_choice, plain_bind, Takes, IsComplete, IsSound, given, IsPlain, plain_is, got, one_sound, two_sound, two_complete, one_plain, two_plain}
 use Rattle.spec_reading.proofs.Values.{number_again, number_complete, number_sound, number_plain}
-use Rattle.spec_reading.proofs.Vectors.{vec_complete, vec_sound, vec_plain}
+use Rattle.spec_reading.proofs.Vectors.{vec_complete, vec_sound}
 
 -- what one byte tells
 
@@ -122,9 +122,6 @@ types_complete = vec_complete SpellsValType val_type_at val_type_complete
 types_sound : IsSound (SpellsVec SpellsValType) (vec_at val_type_at)
 types_sound = vec_sound SpellsValType val_type_at val_type_sound
 
-types_plain : IsPlain (vec_at val_type_at)
-types_plain = vec_plain val_type_at val_type_plain
-
 func_type_again : {ty : FuncType} {w : List ℕ} → SpellsFuncType ty w → (rest : List ℕ) → func_type_at (w ++ rest) ≡ Ok (ty, rest)
 unfolding func_type_at
 func_type_again (function {ty} {w} {v} p q) rest =
@@ -141,14 +138,6 @@ func_type_sound (b ∷ bs) ty rest e =
     let t = two_sound (SpellsVec SpellsValType) (SpellsVec SpellsValType) (vec_at val_type_at) (vec_at val_type_at) types_sound types_sound signature bs ty rest q.1 in
     let s : SpellsFuncType (signature t.first t.second) (0x60 ∷ t.word ++ t.end) = function t.spelled t.after in
     record { word = 0x60 ∷ t.word ++ t.end; spelled = subst (λ ty. SpellsFuncType ty (0x60 ∷ t.word ++ t.end)) t.is s; parts = ap (λ b. b ∷ bs) (eqb-true b 0x60 q.0) ∙ ap (λ l. 0x60 ∷ l) t.parts }
-
-func_type_breaks : (text : List ℕ) → Plainly (func_type_at text)
-unfolding func_type_at
-func_type_breaks [] = plain_broken
-func_type_breaks (b ∷ bs) = plain_choice (eqb b 0x60) _ _ (two_plain (vec_at val_type_at) types_plain (vec_at val_type_at) types_plain signature bs) plain_broken
-
-pub func_type_plain : IsPlain func_type_at
-func_type_plain = plain_is func_type_at func_type_breaks
 
 -- limits
 

@@ -46,9 +46,6 @@ module _ {A : Type 0} (read : List ℕ → Read A) (plain : IsPlain read) where
   items_breaks zero text = plain_ok _
   items_breaks (suc k) text = plain_bind (read text) _ (is_plain read plain text) (λ x. plain_bind (items_at read k x.1) _ (items_breaks k x.1) (λ xs. plain_ok _))
 
-  pub items_plain : (k : ℕ) → IsPlain (items_at read k)
-  items_plain k = plain_is (items_at read k) (items_breaks k)
-
   vec_breaks : (text : List ℕ) → Plainly (vec_at read text)
   unfolding vec_at
   vec_breaks text = plain_bind (number_at 32 text) _ (is_plain (number_at 32) (number_plain 32) text) (λ n. items_breaks n.0 n.1)

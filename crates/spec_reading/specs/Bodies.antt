@@ -3,8 +3,8 @@ use Rattle.std.specs.Prelude.{ℕ, zero, suc, ◌+◌, List, [], ◌∷◌, Resu
 use Rattle.wasm_form.specs.declared.module.Group.{Group}
 use Rattle.wasm_form.specs.declared.module.Code.{Code}
 use Rattle.spec_binary.specs.BodyLimits.{most_locals, most_nested}
-use Rattle.spec_binary.specs.Answers.{Fault}
-use Rattle.spec_binary.specs.Answers as fault
+use Rattle.spec_binary.specs.declared.fault.DecodeFault.{DecodeFault}
+use Rattle.spec_binary.specs.declared.fault.DecodeFault.TheVariants as fault
 use Rattle.spec_reading.specs.Steps.{Break, Broken, TooDeep, TooManyLocals, ◌>>=◌, Read, whole}
 use Rattle.spec_reading.specs.Values.{number_at, cut_at}
 use Rattle.spec_reading.specs.Types.{val_type_at}
@@ -47,14 +47,14 @@ code_at room text = do
   Ok (code, contents.1)
 
 -- why reading ends in the body of this number, behind so many sections
-abbrev pub in_body : {A : Type 0} → ℕ → ℕ → Result A Break → Result A Fault
+abbrev pub in_body : {A : Type 0} → ℕ → ℕ → Result A Break → Result A DecodeFault
 in_body sections function (Ok x) = Ok x
 in_body sections function (Err Broken) = Err (fault.Malformed sections)
 in_body sections function (Err TooDeep) = Err (fault.TooDeep function)
 in_body sections function (Err TooManyLocals) = Err (fault.TooManyLocals function)
 
 -- k bodies, the first with this number
-unfoldable pub bodies_at : Room → ℕ → ℕ → ℕ → List ℕ → Result (List Code × List ℕ) Fault
+unfoldable pub bodies_at : Room → ℕ → ℕ → ℕ → List ℕ → Result (List Code × List ℕ) DecodeFault
 bodies_at room sections zero function text = Ok ([], text)
 bodies_at room sections (suc k) function text = do
   code ← in_body sections function (code_at room text)

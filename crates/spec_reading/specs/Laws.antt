@@ -4,12 +4,13 @@ use Rattle.wasm_form.specs.declared.module.Module.{Module}
 use Rattle.spec_binary.specs.BodyLimits.{IsWithinLimits}
 use Rattle.spec_binary.specs.Modules.{SpellsModule}
 use Rattle.spec_binary.specs.WellFormed.{CountsAgree, IsWellFormed}
-use Rattle.spec_binary.specs.Answers.{Fault, Answers}
+use Rattle.spec_binary.specs.declared.fault.DecodeFault.{DecodeFault}
+use Rattle.spec_binary.specs.DecodeAnswers.{DecodeAnswer}
 use Rattle.spec_reading.specs.Sections.{answer_of}
 
 -- there is one answer for bytes, and reading gives it
 abbrev pub ReadingAnswers : Type 0
-ReadingAnswers = (bytes : List ℕ) → Answers bytes (answer_of bytes) × ((answer : Result Module Fault) → Answers bytes answer → answer ≡ answer_of bytes)
+ReadingAnswers = (bytes : List ℕ) → DecodeAnswer bytes (answer_of bytes) × ((answer : Result Module DecodeFault) → DecodeAnswer bytes answer → answer ≡ answer_of bytes)
 
 -- bytes spell at most one module
 abbrev pub OneModule : Type 0

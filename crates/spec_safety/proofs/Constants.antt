@@ -16,6 +16,7 @@ use Rattle.wasm_form.specs.declared.module.ElemItems.{ElemItems}
 use Rattle.wasm_form.specs.declared.module.ElemItems.TheVariants as elem_items
 use Rattle.wasm_form.specs.declared.module.Elem.{Elem}
 use Rattle.wasm_form.specs.declared.module.Module.{Module}
+use Rattle.wasm_form.specs.declared.runtime.Ref.{Ref}
 use Rattle.wasm_opcode.specs.declared.index.IndexForm.{IndexForm}
 use Rattle.wasm_opcode.specs.declared.index.IndexForm.TheVariants.{RefFunc}
 use Rattle.wasm_opcode.specs.Index.{index_form}
@@ -25,11 +26,13 @@ use Rattle.spec_binary.specs.Options.{◌>>=◌}
 use Rattle.spec_binary.specs.IndexSpaces.{function_space}
 use Rattle.spec_validation.specs.Faults.{is_function, is_of_type, is_constant, global_fits, elem_mode_fits, items_fit, elem_fits}
 use Rattle.spec_validation.specs.Faults as valid
+use Rattle.spec_runtime.specs.Constants.{index_constant, instruction_constant, no_globals, reference_in}
 use Rattle.spec_execution.specs.Values.{zero_value, zero_of}
 use Rattle.spec_execution.specs.Ranges.{ReferenceExists, ValueExists, AllExist}
-use Rattle.spec_execution.specs.Instances.{function_named, module_view, constant_index, constant_step, constant_value, reference_in, global_value, constant_reference, segment_items, kept_items}
+use Rattle.spec_execution.specs.Instances.{module_target, module_view, constant_value, global_value, constant_reference, segment_items}
+use Rattle.spec_execution.specs.Segments.{opened_items}
 use Rattle.spec_safety.specs.Laws.{IsAlone}
-use Rattle.spec_safety.proofs.Functions.{named_exists}
+use Rattle.spec_safety.proofs.Functions.{named_exists, target_there}
 
 -- there is no type without a function
 needs : (b : Bool) (t u : ValType) → is_of_type t (if b then Some u else None) ≡ true → b ≡ true
@@ -37,19 +40,25 @@ needs true t u e = refl
 needs false t u e = absurd cc
 
 module _ (m : Module) (alone : IsAlone m) where
-  function_exists : (f : ℕ) → is_function m f ≡ true → ReferenceExists (module_view m) (Some (function_named m f))
-  function_exists f e = named_exists m alone f (ltb-true f (length (function_space m)) e)
+  function_exists : (f : ℕ) → is_function m f ≡ true → ReferenceExists (module_view m) (module_target m f)
+  function_exists f e =
+      let lt = ltb-true f (length (function_space m)) e in
+      rw (target_there m alone f lt) (named_exists m alone f lt)
 
   number_exists : (n : ℕ) (v : Value) → Some (Num n) ≡ Some v → ValueExists (module_view m) v
   number_exists n v e = let is : Num n ≡ v = cc in subst (ValueExists (module_view m)) is tt
 
-  index_exists : (t : ValType) (form : Option IndexForm) (f : ℕ) (v : Value) → is_of_type t (form >>= λ i. valid.constant_index m i f) ≡ true → constant_index m form f ≡ Some v → ValueExists (module_view m) v
-  index_exists t (Some RefFunc) f v typed e =
-      let is : Func (Some (function_named m f)) ≡ v = cc in
-      subst (ValueExists (module_view m)) is (function_exists f (needs (is_function m f) t FuncRef typed))
+  -- a reference to the function of a number
+  named_value : (o : Option Ref) (v : Value) → ReferenceExists (module_view m) o → (o >>= λ r. Some (Func (Some r))) ≡ Some v → ValueExists (module_view m) v
+  named_value None v h e = absurd cc
+  named_value (Some r) v h e = let is : Func (Some r) ≡ v = cc in subst (ValueExists (module_view m)) is h
+
+  index_exists : (t : ValType) (form : Option IndexForm) (f : ℕ) (v : Value) → is_of_type t (form >>= λ i. valid.constant_index m i f) ≡ true
+      → (form >>= λ i. index_constant (module_target m) no_globals i f) ≡ Some v → ValueExists (module_view m) v
+  index_exists t (Some RefFunc) f v typed e = named_value (module_target m f) v (function_exists f (needs (is_function m f) t FuncRef typed)) e
   index_exists t _ f v typed e = absurd cc
 
-  step_exists : (t : ValType) (x : Open.Instr-F Instr Expr) (v : Value) → is_of_type t (valid.constant_step m x) ≡ true → constant_step m x ≡ Some v → ValueExists (module_view m) v
+  step_exists : (t : ValType) (x : Open.Instr-F Instr Expr) (v : Value) → is_of_type t (valid.constant_step m x) ≡ true → instruction_constant (module_target m) no_globals x ≡ Some v → ValueExists (module_view m) v
   step_exists t (Open.I32Const n) v typed e = number_exists _ v e
   step_exists t (Open.I64Const n) v typed e = number_exists _ v e
   step_exists t (Open.RefNull u) v typed e = let is : Func None ≡ v = cc in subst (ValueExists (module_view m)) is tt
@@ -86,11 +95,11 @@ module _ (m : Module) (alone : IsAlone m) where
 
   -- ---- element segments
 
-  functions_exist : (fs : List ℕ) → list_all (is_function m) fs ≡ true → AllExist (module_view m) (map (λ f. Some (function_named m f)) fs)
+  functions_exist : (fs : List ℕ) → list_all (is_function m) fs ≡ true → AllExist (module_view m) (map (module_target m) fs)
   functions_exist [] e = All-nil (ReferenceExists (module_view m))
   functions_exist (f ∷ fs) e =
       let both = and_parts (is_function m f) (list_all (is_function m) fs) e in
-      All-cons (ReferenceExists (module_view m)) (Some (function_named m f)) (map (λ f. Some (function_named m f)) fs) (function_exists f both.0) (functions_exist fs both.1)
+      All-cons (ReferenceExists (module_view m)) (module_target m f) (map (module_target m) fs) (function_exists f both.0) (functions_exist fs both.1)
 
   references_exist : (es : List Expr) → list_all (is_constant m FuncRef) es ≡ true → AllExist (module_view m) (map (constant_reference m) es)
   references_exist [] e = All-nil (ReferenceExists (module_view m))
@@ -105,10 +114,10 @@ module _ (m : Module) (alone : IsAlone m) where
   pub segment_exists : (e : Elem) → elem_fits m e ≡ true → AllExist (module_view m) (segment_items m e.items)
   segment_exists e fits = items_exist e.items (and_parts (elem_mode_fits m e.mode) (items_fit m e.items) fits).1
 
-  pub kept_exist : (e : Elem) → elem_fits m e ≡ true → AllExist (module_view m) (kept_items m e)
-  kept_exist e fits = go e.mode refl
+  pub opened_exist : (e : Elem) → elem_fits m e ≡ true → AllExist (module_view m) (opened_items (segment_items m) e)
+  opened_exist e fits = go e.mode refl
     where
-      go : (mode : ElemMode) → e.mode ≡ mode → AllExist (module_view m) (kept_items m e)
-      go (elem_mode.Active table offset) q = rw q (All-nil (ReferenceExists (module_view m)))
+      go : (mode : ElemMode) → e.mode ≡ mode → AllExist (module_view m) (opened_items (segment_items m) e)
+      go (elem_mode.Active table offset) q = rw q (segment_exists e fits)
       go elem_mode.Passive q = rw q (segment_exists e fits)
       go elem_mode.Declarative q = rw q (All-nil (ReferenceExists (module_view m)))

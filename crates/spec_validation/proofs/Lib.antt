@@ -1,5 +1,3 @@
 pub mod Levels
-pub mod Small
 pub mod Names
-pub mod Valid
 pub mod Parts

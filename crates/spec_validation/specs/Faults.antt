@@ -37,27 +37,18 @@ use Rattle.wasm_opcode.specs.Index.{index_form}
 use Rattle.spec_binary.specs.Options.{◌>>=◌}
 use Rattle.spec_binary.specs.SameTypes.{same_type}
 use Rattle.spec_binary.specs.IndexSpaces.{imports_of, globals_in, function_space, table_space, memory_space, global_space}
-use Rattle.spec_binary.specs.Indices.{declared_locals, nullary_at}
+use Rattle.spec_binary.specs.Indices.{function_type, declared_locals, nullary_at}
+use Rattle.spec_validation.specs.declared.fault.Place.TheVariants as place
+use Rattle.spec_validation.specs.declared.fault.Field.TheVariants as field
+use Rattle.spec_validation.specs.declared.fault.CheckFault.{CheckFault}
+use Rattle.spec_validation.specs.declared.fault.CheckFault.TheVariants.{UnsupportedOp, UnsupportedType, BadModule, BadBody}
 use Rattle.spec_validation.specs.Context.{Context}
 use Rattle.spec_validation.specs.Typing.{height}
 
--- where a type stands: at an import, at a function, a table, a global or an element segment that the module defines, or in a body
-pub data Place : Type 0 where
-  AtImport AtFunction AtTable AtGlobal AtElement InBody : ℕ → Place
-
--- which part of the module is at fault
-pub data Field : Type 0 where
-  ImportField FunctionField TableField SpaceField GlobalField ExportField StartField ElementField DataField : Field
-
-pub data Fault : Type 0 where
-  -- the body with this number has an instruction with this opcode; one behind the byte 0xFC is counted from 0xFC00
-  UnsupportedOp : ℕ → ℕ → Fault
-  UnsupportedType : Place → Fault
-  BadModule : Field → Fault
-  BadBody : ℕ → Fault
-
+-- What is found at fault first, if anything. The body with a number has the opcode of a fault; one behind the byte 0xFC is counted from
+-- 0xFC00. Want of memory is no fault of a module: no definition gives it.
 abbrev pub Finding : Type 0
-Finding = Option Fault
+Finding = Option CheckFault
 
 -- the one, or else the other
 infixr 10 ◌or_else◌
@@ -70,7 +61,7 @@ abbrev pub first_in : {A : Type 0} → (ℕ → A → Finding) → ℕ → List 
 first_in find n [] = None
 first_in find n (x ∷ xs) = find n x or_else first_in find (n + 1) xs
 
-abbrev pub unless : Bool → Fault → Finding
+abbrev pub unless : Bool → CheckFault → Finding
 unless holds fault = if holds then None else Some fault
 
 -- ---- what is not supported: other types than i32, i64 and funcref, and floats
@@ -99,23 +90,23 @@ desc_supported m (imported.Space limits) = true
 desc_supported m (imported.Global ty) = is_supported ty.value
 
 abbrev pub import_supported : Module → ℕ → Import → Finding
-import_supported m n i = unless (desc_supported m i.desc) (UnsupportedType (AtImport n))
+import_supported m n i = unless (desc_supported m i.desc) (UnsupportedType (place.Import n))
 
 abbrev pub function_supported : Module → ℕ → ℕ → Finding
-function_supported m n t = unless (type_supported m t) (UnsupportedType (AtFunction n))
+function_supported m n t = unless (type_supported m t) (UnsupportedType (place.Function n))
 
 abbrev pub table_supported : ℕ → TableType → Finding
-table_supported n ty = unless (is_supported ty.elem) (UnsupportedType (AtTable n))
+table_supported n ty = unless (is_supported ty.elem) (UnsupportedType (place.Table n))
 
 abbrev pub global_supported : ℕ → GlobalDef → Finding
-global_supported n g = unless (is_supported g.ty.value) (UnsupportedType (AtGlobal n))
+global_supported n g = unless (is_supported g.ty.value) (UnsupportedType (place.Global n))
 
 abbrev pub item_type : ElemItems → ValType
 item_type (Funcs ns) = FuncRef
 item_type (Exprs t es) = t
 
 abbrev pub elem_supported : ℕ → Elem → Finding
-elem_supported n s = unless (is_supported (item_type s.items)) (UnsupportedType (AtElement n))
+elem_supported n s = unless (is_supported (item_type s.items)) (UnsupportedType (place.Element n))
 
 -- the opcodes without a second one whose instructions load, store or compute floats
 abbrev pub is_float_opcode : ℕ → Bool
@@ -134,13 +125,13 @@ unsupported_here m n (Open.Access op align offset) = unless (not (is_float_opcod
 unsupported_here m n (Open.F32Const bits) = Some (UnsupportedOp n 0x43)
 unsupported_here m n (Open.F64Const bits) = Some (UnsupportedOp n 0x44)
 unsupported_here m n (Open.Prefixed op x y) = unless (nat_le 8 op) (UnsupportedOp n (0xFC00 + op))
-unsupported_here m n (Open.Block t inside) = unless (block_supported m t) (UnsupportedType (InBody n)) or_else inside
-unsupported_here m n (Open.Loop t inside) = unless (block_supported m t) (UnsupportedType (InBody n)) or_else inside
-unsupported_here m n (Open.If t inside None) = unless (block_supported m t) (UnsupportedType (InBody n)) or_else inside
-unsupported_here m n (Open.If t inside (Some other)) = unless (block_supported m t) (UnsupportedType (InBody n)) or_else (inside or_else other)
-unsupported_here m n (Open.CallIndirect ty table) = unless (type_supported m ty) (UnsupportedType (InBody n))
-unsupported_here m n (Open.Select ts) = unless (list_all is_supported ts) (UnsupportedType (InBody n))
-unsupported_here m n (Open.RefNull t) = unless (is_supported t) (UnsupportedType (InBody n))
+unsupported_here m n (Open.Block t inside) = unless (block_supported m t) (UnsupportedType (place.Body n)) or_else inside
+unsupported_here m n (Open.Loop t inside) = unless (block_supported m t) (UnsupportedType (place.Body n)) or_else inside
+unsupported_here m n (Open.If t inside None) = unless (block_supported m t) (UnsupportedType (place.Body n)) or_else inside
+unsupported_here m n (Open.If t inside (Some other)) = unless (block_supported m t) (UnsupportedType (place.Body n)) or_else (inside or_else other)
+unsupported_here m n (Open.CallIndirect ty table) = unless (type_supported m ty) (UnsupportedType (place.Body n))
+unsupported_here m n (Open.Select ts) = unless (list_all is_supported ts) (UnsupportedType (place.Body n))
+unsupported_here m n (Open.RefNull t) = unless (is_supported t) (UnsupportedType (place.Body n))
 unsupported_here m n _ = None
 
 abbrev pub first_of : List Finding → Finding
@@ -162,7 +153,7 @@ is_group_supported g = is_supported g.ty
 
 -- the locals come first, then the instructions in the order of their bytes
 abbrev pub body_supported : Module → ℕ → Code → Finding
-body_supported m n c = unless (list_all is_group_supported c.locals) (UnsupportedType (InBody n)) or_else unsupported_of m n c.body.list
+body_supported m n c = unless (list_all is_group_supported c.locals) (UnsupportedType (place.Body n)) or_else unsupported_of m n c.body.list
 
 -- ---- parts of the module
 
@@ -201,10 +192,6 @@ desc_fits m (imported.Global ty) = true
 
 abbrev pub import_fits : Module → Import → Bool
 import_fits m i = desc_fits m i.desc
-
--- the type of a function by its index
-abbrev pub type_of_function : Module → ℕ → Option FuncType
-type_of_function m f = slice_get (function_space m) f >>= λ t. slice_get m.types t
 
 abbrev pub is_function : Module → ℕ → Bool
 is_function m f = nat_lt f (length (function_space m))
@@ -261,7 +248,7 @@ export_fits m e = is_there m e.desc
 
 abbrev pub start_fits : Module → Option ℕ → Bool
 start_fits m None = true
-start_fits m (Some f) = nullary_at (type_of_function m f)
+start_fits m (Some f) = nullary_at (function_type m f)
 
 -- a table of functions, by its index
 abbrev pub has_functions : Option TableType → Bool
@@ -341,7 +328,7 @@ is_some_memory (l ∷ ls) = true
 abbrev pub body_context : Module → FuncType → Code → Context
 body_context m f c = record {
   types = slice_get m.types;
-  functions = type_of_function m;
+  functions = function_type m;
   globals = slice_get (global_space m);
   tables = λ n. slice_get (table_space m) n >>= elem_of_table;
   elems = λ n. slice_get m.elems n >>= type_of_elem;
@@ -376,15 +363,15 @@ support_fault m =
 -- the part of the module that is not valid
 abbrev pub module_fault : Module → Finding
 module_fault m =
-    unless (list_all (import_fits m) m.imports) (BadModule ImportField)
-    or_else (unless (list_all (is_type m) m.funcs) (BadModule FunctionField))
-    or_else (unless (list_all table_bounded m.tables) (BadModule TableField))
-    or_else (unless (nat_le (length (memory_space m)) 1 && list_all memory_bounded m.memories) (BadModule SpaceField))
-    or_else (unless (list_all (global_fits m) m.globals) (BadModule GlobalField))
-    or_else (unless (names_distinct m.exports && list_all (export_fits m) m.exports) (BadModule ExportField))
-    or_else (unless (start_fits m m.start) (BadModule StartField))
-    or_else (unless (list_all (elem_fits m) m.elems) (BadModule ElementField))
-    or_else (unless (list_all (data_fits m) m.datas) (BadModule DataField))
+    unless (list_all (import_fits m) m.imports) (BadModule field.Import)
+    or_else (unless (list_all (is_type m) m.funcs) (BadModule field.Function))
+    or_else (unless (list_all table_bounded m.tables) (BadModule field.Table))
+    or_else (unless (nat_le (length (memory_space m)) 1 && list_all memory_bounded m.memories) (BadModule field.Space))
+    or_else (unless (list_all (global_fits m) m.globals) (BadModule field.Global))
+    or_else (unless (names_distinct m.exports && list_all (export_fits m) m.exports) (BadModule field.Export))
+    or_else (unless (start_fits m m.start) (BadModule field.Start))
+    or_else (unless (list_all (elem_fits m) m.elems) (BadModule field.Element))
+    or_else (unless (list_all (data_fits m) m.datas) (BadModule field.Data))
 
 -- The first fault, or none: first what is not supported, then a part of the module that is not valid, then a body that is
 -- not well typed.

@@ -1,5 +1,5 @@
 -- What there is to say of bytes: which module they spell, or how far they are well spelled (WebAssembly Core 2.0, chapter 5).
-use Rattle.std.specs.Prelude.{◌≡◌, ◌≢◌, ℕ, zero, suc, ◌+◌, ◌^◌, ◌-◌, ◌<◌, ◌≤◌, min, List, [], ◌∷◌, ◌++◌, length, All, Result, Ok, Err, IsTrue}
+use Rattle.std.specs.Prelude.{◌≡◌, ◌≢◌, ℕ, zero, suc, ◌+◌, ◌<◌, ◌≤◌, List, [], ◌∷◌, ◌++◌, length, All, Result, Ok, Err, IsTrue}
 use Rattle.wasm_form.specs.declared.instr.BlockType.{BlockType}
 use Rattle.wasm_form.specs.declared.instr.Instr.{Instr}
 use Rattle.wasm_form.specs.declared.module.Group.{Group}
@@ -7,6 +7,7 @@ use Rattle.wasm_form.specs.declared.module.Code.{Code}
 use Rattle.wasm_form.specs.declared.module.Module.{Module}
 use Rattle.wasm_form.specs.Number.{SpellsUnsigned}
 use Rattle.wasm_form.specs.Sequence.{SpellsEach, SpellsVec}
+use Rattle.spec_binary.specs.Saturated.{saturated}
 use Rattle.spec_binary.specs.Operands.{IfBodies, operands, opens_block}
 use Rattle.spec_binary.specs.Instructions.{SpellsBlockType, SpellsInstrs}
 use Rattle.spec_binary.specs.Trees.{nesting_all}
@@ -15,6 +16,8 @@ use Rattle.spec_binary.specs.BodyLimits.{most_locals, most_nested, local_count, 
 use Rattle.spec_binary.specs.Sections.{Progress, at_start, IsSection, Chain}
 use Rattle.spec_binary.specs.Modules.{header, SpellsModule}
 use Rattle.spec_binary.specs.WellFormed.{CountsAgree}
+use Rattle.spec_binary.specs.declared.fault.DecodeFault.{DecodeFault}
+use Rattle.spec_binary.specs.declared.fault.DecodeFault.TheVariants.{Malformed, Counts, TooDeep, TooManyLocals}
 
 -- The bytes begin with the header and so many well spelled sections in a lawful order, of which none is a code section with a body that
 -- passes a limit.
@@ -91,27 +94,14 @@ pub record PassesNesting (text : List ℕ) : Type 0 where
   pub deep : GetsTooDeep most_nested rest
   pub parts : text ≡ word ++ rest
 
--- why bytes are no well formed module
-pub data Fault : Type 0 where
-  -- the body with this number declares more than 50,000 locals, or more than 1,000 blocks are nested in it
-  TooManyLocals TooDeep : ℕ → Fault
-  -- so many sections are well spelled, and what follows isn't
-  Malformed : ℕ → Fault
-  -- a module is spelled whose numbers don't agree
-  Counts : Fault
-
--- a number of sections, as far as 32 bits hold it
-abbrev pub told : ℕ → ℕ
-told count = min count (2 ^ 32 - 1)
-
 -- What is to say of bytes. A limit comes where it is passed, whatever follows.
-pub data Answers (bytes : List ℕ) : Result Module Fault → Type 0 where
-  too_many_locals : {function : ℕ} {text : List ℕ} → ReachesBody bytes function text → PassesLocals text → Answers bytes (Err (TooManyLocals function))
-  too_deep : {function : ℕ} {text : List ℕ} → ReachesBody bytes function text → PassesNesting text → Answers bytes (Err (TooDeep function))
-  no_header : ((rest : List ℕ) → bytes ≢ header ++ rest) → Answers bytes (Err (Malformed 0))
+pub data DecodeAnswer (bytes : List ℕ) : Result Module DecodeFault → Type 0 where
+  too_many_locals : {function : ℕ} {text : List ℕ} → ReachesBody bytes function text → PassesLocals text → DecodeAnswer bytes (Err (TooManyLocals function))
+  too_deep : {function : ℕ} {text : List ℕ} → ReachesBody bytes function text → PassesNesting text → DecodeAnswer bytes (Err (TooDeep function))
+  no_header : ((rest : List ℕ) → bytes ≢ header ++ rest) → DecodeAnswer bytes (Err (Malformed 0))
   -- so many sections are reached and no more, something follows them, and no limit is passed
   malformed : {count : ℕ} (reached : Reaches bytes count) → reached.rest ≢ [] → ((more : ℕ) → Reaches bytes more → more ≤ count)
       → ((function : ℕ) (text : List ℕ) → ReachesBody bytes function text → PassesLocals text → ⊥)
-      → ((function : ℕ) (text : List ℕ) → ReachesBody bytes function text → PassesNesting text → ⊥) → Answers bytes (Err (Malformed (told count)))
-  counts : {m : Module} → SpellsModule m bytes → All IsWithinLimits m.codes → ¬ CountsAgree m → Answers bytes (Err Counts)
-  spelled : {m : Module} → SpellsModule m bytes → All IsWithinLimits m.codes → CountsAgree m → Answers bytes (Ok m)
+      → ((function : ℕ) (text : List ℕ) → ReachesBody bytes function text → PassesNesting text → ⊥) → DecodeAnswer bytes (Err (Malformed (saturated count)))
+  counts : {m : Module} → SpellsModule m bytes → All IsWithinLimits m.codes → ¬ CountsAgree m → DecodeAnswer bytes (Err Counts)
+  spelled : {m : Module} → SpellsModule m bytes → All IsWithinLimits m.codes → CountsAgree m → DecodeAnswer bytes (Ok m)

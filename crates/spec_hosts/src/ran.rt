@@ -1,0 +1,26 @@
+// How a run over a host ends.
+use wasm_form::{List, Trap};
+use wasm_runtime::Answer;
+
+/// How a run ended: by itself, by a limit, or because valid code had no step, which never comes.
+#[derive(Clone, Copy, Debug, PartialEq, Eq)]
+pub enum RunEnd {
+    Return,
+    Exit(u32),
+    Trap(Trap),
+    /// So many steps were made as were allowed.
+    StepLimit,
+    /// The next step would make the 10,001st activation, or bring the room of all activations above 4,194,304 values.
+    DepthLimit,
+    /// A host call is waiting, and 1,048,576 answers are recorded, or these have written 268,435,456 bytes or more.
+    HostCallLimit,
+    Stuck,
+}
+
+/// How a run ended, after how many steps, and the answers that its host gave in order.
+#[derive(Drop)]
+pub struct Ran {
+    pub end: RunEnd,
+    pub steps: u64,
+    pub answers: List<Answer>,
+}

@@ -1,0 +1,69 @@
+-- The values of constant expressions (WebAssembly Core 2.0, section 3.3.10), over what the numbers in them name: functions, and the
+-- imported globals with their values.
+use Rattle.std.specs.Prelude.{ℕ, List, [], ◌∷◌, map, slice_get, Option, Some, None}
+use Rattle.std.specs.Int.{cast_unsigned, w32, w64}
+use Rattle.wasm_form.specs.declared.instr.Instr.{Instr, out-Instr}
+use Rattle.wasm_form.specs.declared.instr.Instr.TheOpen as Open
+use Rattle.wasm_form.specs.declared.instr.Expr.{Expr}
+use Rattle.wasm_form.specs.declared.module.ElemItems.{ElemItems}
+use Rattle.wasm_form.specs.declared.module.ElemItems.TheVariants as elem_items
+use Rattle.wasm_form.specs.declared.runtime.Ref.{Ref}
+use Rattle.wasm_opcode.specs.declared.index.IndexForm.{IndexForm}
+use Rattle.wasm_opcode.specs.declared.index.IndexForm.TheVariants.{RefFunc, GlobalGet}
+use Rattle.wasm_opcode.specs.Index.{index_form}
+use Rattle.wasm_runtime.specs.declared.Value.{Value}
+use Rattle.wasm_runtime.specs.declared.Value.TheVariants.{Num, Func}
+use Rattle.spec_binary.specs.Options.{◌>>=◌}
+
+-- ref.func, or global.get of an imported global
+abbrev pub index_constant : (ℕ → Option Ref) → (ℕ → Option Value) → IndexForm → ℕ → Option Value
+index_constant functions globals RefFunc f = functions f >>= λ r. Some (Func (Some r))
+index_constant functions globals GlobalGet g = globals g
+index_constant functions globals _ n = None
+
+-- the value of a constant instruction; a number is its bits
+abbrev pub instruction_constant : (ℕ → Option Ref) → (ℕ → Option Value) → Open.Instr-F Instr Expr → Option Value
+instruction_constant functions globals (Open.I32Const n) = Some (Num (cast_unsigned w32 n))
+instruction_constant functions globals (Open.I64Const n) = Some (Num (cast_unsigned w64 n))
+instruction_constant functions globals (Open.RefNull t) = Some (Func None)
+instruction_constant functions globals (Open.Index op n) = index_form op >>= λ f. index_constant functions globals f n
+instruction_constant functions globals _ = None
+
+-- a constant expression is one constant instruction
+abbrev pub constant_in : (ℕ → Option Ref) → (ℕ → Option Value) → List Instr → Option Value
+constant_in functions globals (i ∷ []) = instruction_constant functions globals (out-Instr i)
+constant_in functions globals _ = None
+
+abbrev pub constant_of : (ℕ → Option Ref) → (ℕ → Option Value) → Expr → Option Value
+constant_of functions globals e = constant_in functions globals e.list
+
+-- no global is imported
+abbrev pub no_globals : ℕ → Option Value
+no_globals g = None
+
+-- the imported globals have these numbers, in order
+abbrev pub numbered_globals : List ℕ → ℕ → Option Value
+numbered_globals numbers g = slice_get numbers g >>= λ n. Some (Num n)
+
+-- ---- what a value is taken for
+
+-- an address, an index or a count
+abbrev pub number_in : Value → Option ℕ
+number_in (Num n) = Some n
+number_in (Func r) = None
+
+-- an entry of a table: a function or null
+abbrev pub reference_in : Value → Option Ref
+reference_in (Num n) = None
+reference_in (Func r) = r
+
+abbrev pub constant_number : (ℕ → Option Ref) → (ℕ → Option Value) → Expr → Option ℕ
+constant_number functions globals e = constant_of functions globals e >>= number_in
+
+abbrev pub constant_entry : (ℕ → Option Ref) → (ℕ → Option Value) → Expr → Option Ref
+constant_entry functions globals e = constant_of functions globals e >>= reference_in
+
+-- the entries that an element segment gives
+abbrev pub constant_entries : (ℕ → Option Ref) → (ℕ → Option Value) → ElemItems → List (Option Ref)
+constant_entries functions globals (elem_items.Funcs fs) = map functions fs
+constant_entries functions globals (elem_items.Exprs t es) = map (constant_entry functions globals) es
