@@ -2,8 +2,7 @@
 use Rattle.std.proofs.Common.{◌≡◌, ℕ, ◌≤◌, List, [], ◌∷◌, length, get_or, sym, ap, ◌∙◌, arith}
 use Rattle.wasm_form.specs.declared.module.Custom.{Custom}
 use Rattle.wasm_form.specs.declared.module.Module.{Module}
-use Rattle.spec_binary.specs.SmallForm.{dylink_name}
-use Rattle.spec_linking.specs.Records.{HasSection}
+use Rattle.spec_linking.specs.Records.{dylink_name, HasSection}
 
 pub section_in : (m : Module) (customs : List Custom) (custom : Custom) (bytes : List ℕ) → customs ≡ m.customs → 1 ≤ length customs → custom ≡ get_or customs 0 custom
     → custom.rank ≡ 0 → custom.name ≡ dylink_name → bytes ≡ custom.bytes → HasSection m bytes

@@ -10,4 +10,3 @@ pub mod RecordRead
 pub mod Found
 pub mod Shortest
 pub mod Subsections
-pub mod Sampled

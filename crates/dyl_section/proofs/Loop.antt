@@ -1,6 +1,5 @@
 -- Reading one subsection after another, as the loop does.
-use Rattle.std.proofs.Common.{◌≡◌, ℕ, suc, ◌-◌, ◌≤◌, List, [], ◌∷◌, length, get_or, take, drop, Ok, Err, refl, sym, ap, ◌∙◌, arith}
-use Rattle.std.proofs.Math.Seq.{take-length}
+use Rattle.std.proofs.Common.{◌≡◌, ℕ, suc, ◌-◌, ◌≤◌, List, [], ◌∷◌, length, Ok, Err, refl, sym, ap, ◌∙◌, arith}
 use Rattle.spec_reading.specs.Steps as steps
 use Rattle.wasm_read.specs.declared.broken.Break.{Break}
 use Rattle.wasm_read.specs.declared.broken.Break.TheVariants as breaks
@@ -55,8 +54,3 @@ loop_fails breaks.TooManyLocals d count b rest after bytes front f so_far k h = 
 loop_fails breaks.Memory d count b rest after bytes front f so_far k h = tt
 
 -- a text with a byte, as its first and the others
-pub first_and_others : (rest : List ℕ) → 1 ≤ length rest → rest ≡ get_or rest 0 0 ∷ take (length rest - 1) (drop 1 rest)
-first_and_others [] h = absurd (omega arith)
-first_and_others (b ∷ bs) h =
-    let e : suc (length bs) - 1 ≡ length bs = omega arith in
-    sym (ap (λ n. b ∷ take n bs) e ∙ ap (λ l. b ∷ l) (take-length bs))

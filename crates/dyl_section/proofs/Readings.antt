@@ -1,7 +1,7 @@
 -- Reading subsections finds what there is to say.
 use Rattle.std.proofs.Common.{◌≡◌, ℕ, zero, suc, ◌+◌, ◌≤◌, List, [], ◌∷◌, ◌++◌, length, Result, Ok, Err, refl, sym, ap, subst, ◌∙◌, append_assoc, inl, inr, arith}
 use Rattle.std.specs.Prelude.{◌≢◌}
-use Rattle.spec_binary.specs.Answers.{told}
+use Rattle.spec_binary.specs.Saturated.{saturated}
 use Rattle.spec_linking.specs.Records.{DylinkRecord, Subsection, Subsections, done, next}
 use Rattle.spec_reading.specs.Steps.{Break}
 use Rattle.spec_reading.proofs.Steps.{bind_ok, bind_err}
@@ -19,8 +19,8 @@ behind_err : {A : Type 0} (count : ℕ) (r : Result A Break) (c : ℕ) → behin
 behind_err count (Ok y) c e = absurd cc
 behind_err count (Err d) c e = (d, refl, cc)
 
-pub told_more : (count : ℕ) → one_more (told count) ≡ told (suc count)
-told_more count = omega arith
+pub saturated_more : (count : ℕ) → one_more (saturated count) ≡ saturated (suc count)
+saturated_more count = omega arith
 
 -- one subsection before others
 pub chain_next : {d e f : DylinkRecord} {n code : ℕ} {text rest : List ℕ} → PartTaken d code text e rest → Subsections e n rest f → Subsections d (suc n) (code ∷ text) f
@@ -98,27 +98,27 @@ next_begins x y b bs rest n e h (suc o) k =
     omega arith
 
 -- what reading finds broken breaks there
-pub read_breaks : (fuel before : ℕ) (x : Dylink) (text : List ℕ) (c : ℕ) → length text ≤ fuel → subsections_at fuel (told before) x text ≡ Err c
-    → (n : ℕ) × (c ≡ told (before + n)) × Breaks (record_of x) text n
+pub read_breaks : (fuel before : ℕ) (x : Dylink) (text : List ℕ) (c : ℕ) → length text ≤ fuel → subsections_at fuel (saturated before) x text ≡ Err c
+    → (n : ℕ) × (c ≡ saturated (before + n)) × Breaks (record_of x) text n
 unfolding subsections_at
 read_breaks fuel before x [] c h e = absurd cc
 read_breaks zero before x (b ∷ bs) c h e = absurd (omega arith)
-read_breaks (suc fuel) before x (b ∷ bs) c h e = elim (bind_err (behind (told before) (part_at x b bs)) _ c e) [
+read_breaks (suc fuel) before x (b ∷ bs) c h e = elim (bind_err (behind (saturated before) (part_at x b bs)) _ c e) [
   | inl f ↦
-      let a = behind_err (told before) (part_at x b bs) c f in
+      let a = behind_err (saturated before) (part_at x b bs) c f in
       let same : before + 0 ≡ before = omega arith in (
         0,
-        sym a.2 ∙ ap told (sym same),
+        sym a.2 ∙ ap saturated (sym same),
         record { begins = record { front = []; rest = b ∷ bs; parts = refl; said = record_of x; spelled = done }; more = λ nil. cc; greatest = none_begins x b bs a.0 a.1 },
       )
   | inr f ↦
-      let r = behind_ok (told before) (part_at x b bs) f.0 f.1 in
+      let r = behind_ok (saturated before) (part_at x b bs) f.0 f.1 in
       let t = part_sound x b bs f.0.0 f.0.1 r in
       let short = part_shorter t in
-      let s = read_breaks fuel (suc before) f.0.0 f.0.1 c (omega arith) (subst (λ k. subsections_at fuel k f.0.0 f.0.1 ≡ Err c) (told_more before) f.2) in
+      let s = read_breaks fuel (suc before) f.0.0 f.0.1 c (omega arith) (subst (λ k. subsections_at fuel k f.0.0 f.0.1 ≡ Err c) (saturated_more before) f.2) in
       let same : suc before + s.0 ≡ before + suc s.0 = omega arith in (
         suc s.0,
-        s.1 ∙ ap told same,
+        s.1 ∙ ap saturated same,
         breaks_next t s.2 (next_begins x f.0.0 b bs f.0.1 s.0 r s.2.greatest),
       )
 ]

@@ -2,8 +2,10 @@
 use Rattle.std.proofs.Common.{◌≡◌, ℕ, List, ◌∷◌, Result, Ok, Err, refl, sym, ap, subst, ◌∙◌}
 use Rattle.wasm_form.specs.declared.module.Custom.{Custom}
 use Rattle.wasm_form.specs.declared.module.Module.{Module}
-use Rattle.spec_binary.specs.Answers.{told}
-use Rattle.spec_linking.specs.Records.{DylinkRecord, HasSection, HasRecord, IsBroken, RecordFault, BadDylink, RecordAnswer, recorded, none, broken}
+use Rattle.spec_binary.specs.Saturated.{saturated}
+use Rattle.spec_linking.specs.Records.{DylinkRecord, HasSection, HasRecord, IsBroken, RecordAnswer, recorded, none, broken}
+use Rattle.spec_linking.specs.declared.fault.RecordFault.{RecordFault}
+use Rattle.spec_linking.specs.declared.fault.RecordFault.TheVariants.{BadDylink}
 use Rattle.dyl_section.proofs.Chains.{same_end, not_broken, same_count}
 
 first_is : (a b : Custom) (xs ys : List Custom) → a ∷ xs ≡ b ∷ ys → a ≡ b
@@ -36,4 +38,4 @@ one_answer m one other (none h) (broken {bytes} s b) = absurd (h bytes s)
 one_answer m one other (broken s b) (recorded a) = absurd (not_both a s b)
 one_answer m one other (broken {bytes} s b) (none h) = absurd (h bytes s)
 one_answer m one other (broken {count = n} s b) (broken {count = k} t c) =
-    ap (λ (count : ℕ). fault (BadDylink (told count))) (same_count b (subst (λ l. IsBroken l k) (same_section t s) c))
+    ap (λ (count : ℕ). fault (BadDylink (saturated count))) (same_count b (subst (λ l. IsBroken l k) (same_section t s) c))

@@ -1,12 +1,11 @@
 -- What the record's reader answers, from what the loop over its subsections found.
 use Rattle.std.proofs.Common.{◌≡◌, ℕ, ◌+◌, ◌≤◌, List, length, Result, Ok, Err, sym, ap, subst, ◌∙◌, arith}
 use Rattle.wasm_form.specs.declared.module.Module.{Module}
-use Rattle.spec_binary.specs.Answers.{told}
-use Rattle.spec_linking.specs.Records.{DylinkRecord, BeginsWith, IsBroken, empty_record, HasSection, RecordAnswer, recorded, none, broken}
-use Rattle.spec_linking.specs.Records as records
+use Rattle.spec_binary.specs.Saturated.{saturated}
+use Rattle.spec_linking.specs.Records.{DylinkRecord, IsBroken, empty_record, HasSection, RecordAnswer, recorded, broken}
 use Rattle.dyl_section.specs.declared.record.Dylink.{Dylink}
-use Rattle.dyl_section.specs.declared.fault.RecordFault.{RecordFault}
-use Rattle.dyl_section.specs.declared.fault.RecordFault.TheVariants as faults
+use Rattle.spec_linking.specs.declared.fault.RecordFault.{RecordFault}
+use Rattle.spec_linking.specs.declared.fault.RecordFault.TheVariants as faults
 use Rattle.dyl_section.specs.Recorded.{record_of, Records, Yields}
 use Rattle.dyl_section.specs.Reading.{subsections_at, nothing_said, Tells}
 use Rattle.dyl_section.proofs.Readings.{read_said, read_breaks, Breaks}
@@ -21,12 +20,12 @@ broken_is {bytes} b =
     }
 
 broken_answer : (m : Module) (bytes : List ℕ) (subsection : ℕ) → HasSection m bytes → subsections_at (length bytes) 0 nothing_said bytes ≡ Err subsection
-    → RecordAnswer m (Err (records.BadDylink subsection))
+    → RecordAnswer m (Err (faults.BadDylink subsection))
 broken_answer m bytes subsection section e =
     let fuel : length bytes ≤ length bytes = omega arith in
     let b = read_breaks (length bytes) 0 nothing_said bytes subsection fuel e in
     let same : 0 + b.0 ≡ b.0 = omega arith in
-    subst (λ c. RecordAnswer m (Err (records.BadDylink c))) (sym (b.1 ∙ ap told same)) (broken section (broken_is b.2))
+    subst (λ c. RecordAnswer m (Err (faults.BadDylink c))) (sym (b.1 ∙ ap saturated same)) (broken section (broken_is b.2))
 
 pub record_read : (m : Module) (bytes : List ℕ) (result : Result Dylink RecordFault) → HasSection m bytes
     → ((k : ℕ) → length bytes ≤ k → Tells result (subsections_at k 0 nothing_said bytes)) → Records m result
@@ -37,8 +36,8 @@ record_read m bytes (Err faults.NoDylink) section tells = absurd (tells (length 
 record_read m bytes (Err (faults.BadDylink subsection)) section tells = broken_answer m bytes subsection section (tells (length bytes) (omega arith))
 record_read m bytes (Err faults.Memory) section tells = tt
 
-pub record_yields : (m : Module) (result : Result Dylink RecordFault) → Records m result → (answer : Result DylinkRecord records.RecordFault) → RecordAnswer m answer → Yields answer result
+pub record_yields : (m : Module) (result : Result Dylink RecordFault) → Records m result → (answer : Result DylinkRecord RecordFault) → RecordAnswer m answer → Yields answer result
 record_yields m (Ok d) a answer b = one_answer m answer (Ok (record_of d)) b a
-record_yields m (Err faults.NoDylink) a answer b = one_answer m answer (Err records.NoDylink) b a
-record_yields m (Err (faults.BadDylink subsection)) a answer b = one_answer m answer (Err (records.BadDylink subsection)) b a
+record_yields m (Err faults.NoDylink) a answer b = one_answer m answer (Err faults.NoDylink) b a
+record_yields m (Err (faults.BadDylink subsection)) a answer b = one_answer m answer (Err (faults.BadDylink subsection)) b a
 record_yields m (Err faults.Memory) a answer b = tt

@@ -1,10 +1,11 @@
 -- What the writers of subsections do, and the whole that they write.
-use Rattle.std.proofs.Common.{◌≡◌, ℕ, suc, ◌^◌, ◌<◌, ◌≤◌, List, [], ◌∷◌, ◌++◌, length, length-append, map, Result, Ok, Err, refl, sym, ap, ◌∙◌, subst, append_assoc, append-nil, arith}
-use Rattle.std.specs.Prelude.{◌≢◌, OnOk}
+use Rattle.std.proofs.Common.{◌≡◌, ℕ, suc, ◌^◌, ◌<◌, ◌≤◌, List, [], ◌∷◌, ◌++◌, length, length-append, map, refl, sym, ap, ◌∙◌, subst, append_assoc, append-nil, arith}
+use Rattle.std.specs.Prelude.{◌≢◌}
 use Rattle.wasm_form.specs.Number.{SpellsUnsigned, IsShortest, Appends}
 use Rattle.wasm_form.specs.Name.{SpellsName}
 use Rattle.wasm_form.specs.Sequence.{SpellsVec}
-use Rattle.wasm_form.proofs.UnsignedSpelling.{unsigned_length}
+use Rattle.wasm_form.proofs.UnsignedSpelling.{unsigned_few}
+use Rattle.spec_binary.proofs.Lists.{empty_list}
 use Rattle.spec_linking.specs.Records.{most_align, DylinkRecord, empty_record, SpellsExportNote, SpellsImportNote, Subsection, memory_information, needed, export_notes, import_notes, runtime_paths, Subsections, done, next}
 use Rattle.spec_linking.specs.Records as records
 use Rattle.dyl_section.specs.declared.record.ExportInfo.{ExportInfo}
@@ -13,10 +14,6 @@ use Rattle.dyl_section.specs.declared.record.Dylink.{Dylink}
 use Rattle.dyl_section.specs.Recorded.{export_note, import_note, record_of}
 use Rattle.dyl_section.specs.Written.{IsSpelled, IsShortlySpelled, SpellsExportInfo, SpellsImportInfo, IsFramed, SpellsRegions, regions, IsRegionsWord, IsListWord, nothing, list, IsWritten}
 use Rattle.dyl_section.proofs.SameRecords.{export_info, import_info, exports_forth, imports_forth, vec_mapped, vec_unmapped}
-
-pub on_ok : {A E P Q : Type 0} (r : Result A E) → (P → Q) → OnOk r P → OnOk r Q
-on_ok (Ok x) f h = f h
-on_ok (Err e) f h = h
 
 -- the contents of a list are short
 pub list_short : {Spells : List ℕ → Type 0} (contents : List ℕ) → IsShortlySpelled Spells → Appends (IsShortest Spells) [] contents → length contents < 2 ^ 32
@@ -36,17 +33,10 @@ pub list_added : {A : Type 0} {Spells : A → List ℕ → Type 0} (xs : List A)
     → Appends (IsFramed code contents) old new → Appends (IsListWord Spells code xs) old new
 list_added xs code contents old new h p (w, framed, e) = (w, list (not_empty xs h) (no_longer contents p) framed, e)
 
-empty_list : {A : Type 0} (xs : List A) → length xs ≡ 0 → xs ≡ []
-empty_list [] e = refl
-empty_list (x ∷ xs) e = absurd (omega arith)
-
 pub nothing_added : {A : Type 0} {Spells : A → List ℕ → Type 0} (code : ℕ) (xs : List A) (old : List ℕ) → length xs ≡ 0 → Appends (IsListWord Spells code xs) old old
 nothing_added code xs old e = ([], nothing (empty_list xs e), sym (append-nil old))
 
 -- the contents of memory information
-number_size : {v : ℕ} {w : List ℕ} → SpellsUnsigned 32 v w → length w ≤ 5
-number_size s = let h = unsigned_length (omega arith) s in omega arith
-
 record RegionsWritten (d : Dylink) (contents : List ℕ) : Type 0 where
   spelled : SpellsRegions d contents
   short : length contents ≤ 20
@@ -56,10 +46,10 @@ regions_in : (d : Dylink) (a b c e : List ℕ) → Appends (IsShortest (SpellsUn
 regions_in d a b c e (w, p, f) (v, q, g) (u, r, h) (t, s, i) =
     let whole : e ≡ w ++ (v ++ (u ++ t)) =
     (i ∙ ap (λ l. l ++ t) h ∙ ap (λ l. (l ++ u) ++ t) g ∙ ap (λ l. ((l ++ v) ++ u) ++ t) f ∙ append_assoc (w ++ v) u t ∙ append_assoc w v (u ++ t)) in
-    let l1 = number_size p.spelled in
-    let l2 = number_size q.spelled in
-    let l3 = number_size r.spelled in
-    let l4 = number_size s.spelled in
+    let l1 = unsigned_few p.spelled in
+    let l2 = unsigned_few q.spelled in
+    let l3 = unsigned_few r.spelled in
+    let l4 = unsigned_few s.spelled in
     let long = ap length whole in
     record {
       spelled = subst (SpellsRegions d) (sym whole) (regions p q r s);

@@ -2,8 +2,8 @@
 use Rattle.std.specs.Prelude.{◌≡◌, ℕ, List, ◌∷◌, Result}
 use Rattle.wasm_form.specs.declared.module.Custom.{Custom}
 use Rattle.wasm_form.specs.declared.module.Module.{Module}
-use Rattle.spec_binary.specs.SmallForm.{dylink_name}
-use Rattle.spec_linking.specs.Records.{DylinkRecord, empty_record, Subsections, HasRecord, RecordFault, RecordAnswer}
+use Rattle.spec_linking.specs.Records.{dylink_name, DylinkRecord, empty_record, Subsections, HasRecord, RecordAnswer}
+use Rattle.spec_linking.specs.declared.fault.RecordFault.{RecordFault}
 
 -- there is one thing to say of a module's record
 abbrev pub OneRecordAnswer : Type 0

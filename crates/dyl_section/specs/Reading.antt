@@ -8,8 +8,8 @@ use Rattle.dyl_section.specs.declared.record.ImportInfo.{ImportInfo}
 use Rattle.dyl_section.specs.declared.record.Dylink.{Dylink}
 use Rattle.dyl_section.specs.declared.said.Regions.{Regions}
 use Rattle.dyl_section.specs.declared.said.Said.{Said}
-use Rattle.dyl_section.specs.declared.fault.RecordFault.{RecordFault}
-use Rattle.dyl_section.specs.declared.fault.RecordFault.TheVariants as faults
+use Rattle.spec_linking.specs.declared.fault.RecordFault.{RecordFault}
+use Rattle.spec_linking.specs.declared.fault.RecordFault.TheVariants as faults
 
 unfoldable pub export_info_at : List ℕ → Read ExportInfo
 export_info_at text = do

@@ -4,12 +4,11 @@ use Rattle.wasm_form.specs.declared.module.Module.{Module}
 use Rattle.wasm_read.specs.declared.broken.Break.{Break}
 use Rattle.wasm_read.specs.declared.broken.Break.TheVariants as breaks
 use Rattle.spec_linking.specs.Records.{ExportNote, ImportNote, DylinkRecord, RecordAnswer}
-use Rattle.spec_linking.specs.Records as records
 use Rattle.dyl_section.specs.declared.record.ExportInfo.{ExportInfo}
 use Rattle.dyl_section.specs.declared.record.ImportInfo.{ImportInfo}
 use Rattle.dyl_section.specs.declared.record.Dylink.{Dylink}
-use Rattle.dyl_section.specs.declared.fault.RecordFault.{RecordFault}
-use Rattle.dyl_section.specs.declared.fault.RecordFault.TheVariants as faults
+use Rattle.spec_linking.specs.declared.fault.RecordFault.{RecordFault}
+use Rattle.spec_linking.specs.declared.fault.RecordFault.TheVariants as faults
 
 abbrev pub export_note : ExportInfo → ExportNote
 export_note x = record { name = x.name; flags = x.flags }
@@ -20,19 +19,17 @@ import_note x = record { from_module = x.«module»; field = x.field; flags = x.
 abbrev pub record_of : Dylink → DylinkRecord
 record_of d = record { mem_size = d.mem_size; mem_align = d.mem_align; table_size = d.table_size; table_align = d.table_align; needed = d.needed; exports = map export_note d.exports; imports = map import_note d.imports; paths = d.paths }
 
--- what was returned stands for what there is to say of the module's record, and for nothing where memory ran out
+-- what was returned is what there is to say of the module's record; of want of memory nothing is said
 abbrev pub Records : Module → Result Dylink RecordFault → Type 0
 Records m (Ok d) = RecordAnswer m (Ok (record_of d))
-Records m (Err faults.NoDylink) = RecordAnswer m (Err records.NoDylink)
-Records m (Err (faults.BadDylink subsection)) = RecordAnswer m (Err (records.BadDylink subsection))
 Records m (Err faults.Memory) = Unit {0}
+Records m (Err fault) = RecordAnswer m (Err fault)
 
--- what was returned stands for this answer, or memory ran out
-abbrev pub Yields : Result DylinkRecord records.RecordFault → Result Dylink RecordFault → Type 0
+-- what was returned is this answer, or memory ran out
+abbrev pub Yields : Result DylinkRecord RecordFault → Result Dylink RecordFault → Type 0
 Yields answer (Ok d) = answer ≡ Ok (record_of d)
-Yields answer (Err faults.NoDylink) = answer ≡ Err records.NoDylink
-Yields answer (Err (faults.BadDylink subsection)) = answer ≡ Err (records.BadDylink subsection)
 Yields answer (Err faults.Memory) = Unit {0}
+Yields answer (Err fault) = answer ≡ Err fault
 
 -- the fault of a reading that ends so behind this many subsections
 abbrev pub fault_of : ℕ → Break → RecordFault

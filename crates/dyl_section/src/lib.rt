@@ -7,12 +7,10 @@ mod note;
 mod read;
 mod record;
 mod said;
-#[cfg(test)]
-mod tests;
 mod write;
 
-pub use fault::RecordFault;
 pub use laws::{one_record_answer, written_is_recorded};
 pub use read::read_dylink;
 pub use record::{Dylink, ExportInfo, ImportInfo};
+pub use spec_linking::RecordFault;
 pub use write::write_dylink;

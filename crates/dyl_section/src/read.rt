@@ -2,14 +2,15 @@
 ghost use Rattle.std.specs.Prelude.{◌≡◌, ℕ, ◌≤◌, length, IfOk, IfSome, IfNone, List as Listing, Result as Answer};
 ghost use Rattle.wasm_form.specs.declared.module.Module.{Module};
 ghost use Rattle.spec_linking.specs.Records.{DylinkRecord, HasSection, RecordAnswer};
-ghost use Rattle.spec_linking.specs.Records.{RecordFault as Fault};
+ghost use Rattle.spec_linking.specs.declared.fault.RecordFault.{RecordFault as Fault};
 ghost use Rattle.wasm_read.specs.Given.{Gives};
 ghost use Rattle.dyl_section.specs.Recorded.{Records, Yields};
 ghost use Rattle.dyl_section.specs.Reading.{part_at, subsections_at, nothing_said, seen, Tells};
 
-use crate::fault::{RecordFault, fault_after};
+use crate::fault::fault_after;
 use crate::record::Dylink;
 use crate::said::Said;
+use spec_linking::RecordFault;
 use std::alloc::Global;
 use wasm_form::Module;
 use wasm_read::{Break, contents_of};

@@ -27,7 +27,7 @@ trait Note {
     ghost spells: { Self → Listing ℕ → Type 0 };
 
     // Writes its shortest spelling at the end.
-    fn put(&self, to: &mut Vec<u8>) -> Result<(), Memory>
+    fn put(&self, alloc: Global, to: &mut Vec<u8>) -> Result<(), Memory>
         requires { IsSpelled (spells self.now) }
         ensures { OnOk result (Appends (IsShortest (spells self.now)) to.old.items to.new.items) };
 }
@@ -35,57 +35,57 @@ trait Note {
 impl Note for Text {
     ghost spells = { SpellsName };
 
-    fn put(&self, to: &mut Vec<u8>) -> Result<(), Memory> {
-        put_name(to, self.as_str())
+    fn put(&self, alloc: Global, to: &mut Vec<u8>) -> Result<(), Memory> {
+        put_name(alloc, to, self.as_str())
     }
 }
 
 impl Note for ExportInfo {
     ghost spells = { SpellsExportInfo };
 
-    fn put(&self, to: &mut Vec<u8>) -> Result<(), Memory> {
-        put_name(to, self.name.as_str())?;
-        put_u32(to, self.flags)
+    fn put(&self, alloc: Global, to: &mut Vec<u8>) -> Result<(), Memory> {
+        put_name(alloc, to, self.name.as_str())?;
+        put_u32(alloc, to, self.flags)
     }
 }
 
 impl Note for ImportInfo {
     ghost spells = { SpellsImportInfo };
 
-    fn put(&self, to: &mut Vec<u8>) -> Result<(), Memory> {
-        put_name(to, self.module.as_str())?;
-        put_name(to, self.field.as_str())?;
-        put_u32(to, self.flags)
+    fn put(&self, alloc: Global, to: &mut Vec<u8>) -> Result<(), Memory> {
+        put_name(alloc, to, self.module.as_str())?;
+        put_name(alloc, to, self.field.as_str())?;
+        put_u32(alloc, to, self.flags)
     }
 }
 
 // Writes each of a list, one after the other.
-fn put_each<T: Note>(items: &[T], to: &mut Vec<u8>) -> Result<(), Memory>
+fn put_each<T: Note>(alloc: Global, items: &[T], to: &mut Vec<u8>) -> Result<(), Memory>
     requires { IsSpelled (SpellsEach T.spells items.now) }
     ensures { OnOk result (Appends (IsShortest (SpellsEach T.spells items.now)) to.old.items to.new.items) }
 {
     for item in items {
-        item.put(to)?;
+        item.put(alloc, to)?;
     }
     Ok(())
 }
 
 // Writes the length of a list and then each of it.
-fn put_vec<T: Note>(items: &[T], to: &mut Vec<u8>) -> Result<(), Memory>
+fn put_vec<T: Note>(alloc: Global, items: &[T], to: &mut Vec<u8>) -> Result<(), Memory>
     requires { IsSpelled (SpellsVec T.spells items.now) }
     ensures { OnOk result (Appends (IsShortest (SpellsVec T.spells items.now)) to.old.items to.new.items) }
 {
-    put_u32(to, items.len() as u32)?;
-    put_each(items, to)
+    put_u32(alloc, to, items.len() as u32)?;
+    put_each(alloc, items, to)
 }
 
 // Writes a code, the size of contents, and the contents.
-fn put_subsection(code: u8, contents: &[u8], to: &mut Vec<u8>) -> Result<(), Memory>
+fn put_subsection(alloc: Global, code: u8, contents: &[u8], to: &mut Vec<u8>) -> Result<(), Memory>
     requires { length contents.now < 2 ^ 32 }
     ensures { OnOk result (Appends (IsFramed code contents.now) to.old.items to.new.items) }
 {
     to.push(code)?;
-    put_u32(to, contents.len() as u32)?;
+    put_u32(alloc, to, contents.len() as u32)?;
     to.extend_from_slice(contents)?;
     Ok(())
 }
@@ -99,8 +99,8 @@ fn put_list<T: Note>(alloc: Global, code: u8, items: &[T], to: &mut Vec<u8>) -> 
         return Ok(());
     }
     let mut contents = Vec::new(alloc);
-    put_vec(items, &mut contents)?;
-    put_subsection(code, &contents, to)
+    put_vec(alloc, items, &mut contents)?;
+    put_subsection(alloc, code, &contents, to)
 }
 
 // Writes memory information.
@@ -108,11 +108,11 @@ fn put_regions(alloc: Global, d: &Dylink, to: &mut Vec<u8>) -> Result<(), Memory
     ensures { OnOk result (Appends (IsRegionsWord d.now) to.old.items to.new.items) }
 {
     let mut contents = Vec::new(alloc);
-    put_u32(&mut contents, d.mem_size)?;
-    put_u32(&mut contents, d.mem_align)?;
-    put_u32(&mut contents, d.table_size)?;
-    put_u32(&mut contents, d.table_align)?;
-    put_subsection(1, &contents, to)
+    put_u32(alloc, &mut contents, d.mem_size)?;
+    put_u32(alloc, &mut contents, d.mem_align)?;
+    put_u32(alloc, &mut contents, d.table_size)?;
+    put_u32(alloc, &mut contents, d.table_align)?;
+    put_subsection(alloc, 1, &contents, to)
 }
 
 /// The contents of a `dylink.0` section that says this: memory information, and then the lists that aren't empty, each

@@ -1,4 +1,4 @@
-//! Modules that are written after reading, and read after writing.
+//! Decoding, encoding and the record of the `dylink.0` section, through their public calls.
 #![tactic(auto)]
 
 #[cfg(test)]

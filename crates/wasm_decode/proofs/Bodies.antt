@@ -7,7 +7,7 @@ use Rattle.wasm_form.specs.declared.module.Group.{Group}
 use Rattle.wasm_form.specs.declared.module.Code.{Code}
 use Rattle.wasm_read.specs.declared.broken.Break.{Break}
 use Rattle.wasm_read.specs.declared.broken.Break.TheVariants as breaks
-use Rattle.spec_binary.specs.Answers.{Fault}
+use Rattle.spec_binary.specs.declared.fault.DecodeFault.{DecodeFault}
 use Rattle.spec_reading.specs.Steps as steps
 use Rattle.spec_reading.specs.Steps.{◌>>=◌, Read}
 use Rattle.spec_reading.specs.Values.{number_at}
@@ -75,7 +75,7 @@ module _ (most : ℕ) where
       sym before ∙ one
 
 abbrev pub Codes : Type 0
-Codes = Result (List Code × List ℕ) Fault
+Codes = Result (List Code × List ℕ) DecodeFault
 
 module _ (room : Room) (section : ℕ) where
   pub bodies_begin : (count : ℕ) (bytes : List ℕ) → with_front [] (bodies_at room section (count - 0) 0 bytes) ≡ bodies_at room section count 0 bytes

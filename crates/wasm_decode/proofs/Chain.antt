@@ -2,16 +2,17 @@
 use Rattle.std.proofs.Common.{◌≡◌, ℕ, suc, ◌-◌, ◌+◌, ◌^◌, ◌<◌, ◌≤◌, min, Bool, true, false, eqb, List, [], ◌∷◌, length, Result, Ok, Err, refl, sym, ap, ◌∙◌, arith}
 use Rattle.std.proofs.lemmas.Bool.{eqb-true}
 use Rattle.std.proofs.lemmas.List.{nil_from_length}
-use Rattle.wasm_decode.specs.declared.fault.DecodeFault.{DecodeFault}
-use Rattle.wasm_decode.specs.declared.fault.DecodeFault.TheVariants as faults
+use Rattle.spec_binary.specs.declared.fault.DecodeFault.{DecodeFault}
+use Rattle.spec_binary.specs.declared.fault.DecodeFault.TheVariants as faults
 use Rattle.spec_binary.specs.Sections.{Progress, at_start}
-use Rattle.spec_binary.specs.Answers.{Fault, Malformed, Counts, TooDeep, TooManyLocals, told}
+use Rattle.spec_binary.specs.declared.fault.DecodeFault.TheVariants.{Malformed, Counts, TooDeep, TooManyLocals}
+use Rattle.spec_binary.specs.Saturated.{saturated}
 use Rattle.spec_reading.specs.Bodies.{usual_room}
 use Rattle.spec_reading.specs.Sections.{section_at, chain_at}
 use Rattle.wasm_decode.specs.Given.{Refuses}
 
 -- where reading ends so, what a step does with it ends so
-pub refuses_moved : {X Y : Type 0} (e : DecodeFault) (read : Result X Fault) (total : Result Y Fault) → ((d : Fault) → read ≡ Err d → total ≡ Err d) → Refuses e read → Refuses e total
+pub refuses_moved : {X Y : Type 0} (e : DecodeFault) (read : Result X DecodeFault) (total : Result Y DecodeFault) → ((d : DecodeFault) → read ≡ Err d → total ≡ Err d) → Refuses e read → Refuses e total
 refuses_moved (faults.Malformed section) read total h f = h (Malformed section) f
 refuses_moved faults.Counts read total h f = h Counts f
 refuses_moved (faults.TooDeep function) read total h f = h (TooDeep function) f
@@ -27,7 +28,7 @@ something_left t (b ∷ bs) e h = omega arith
 
 -- what is still to be read, behind so many sections, is the rest of the whole
 abbrev pub Follows : Progress → ℕ → List ℕ → List ℕ → Type 0
-Follows s count rest bytes = (fuel : ℕ) → length bytes ≤ fuel → (j : ℕ) × (n : ℕ) × (length rest ≤ j) × (told n ≡ count) × (chain_at usual_room j n s rest ≡ chain_at usual_room fuel 0 at_start bytes)
+Follows s count rest bytes = (fuel : ℕ) → length bytes ≤ fuel → (j : ℕ) × (n : ℕ) × (length rest ≤ j) × (saturated n ≡ count) × (chain_at usual_room j n s rest ≡ chain_at usual_room fuel 0 at_start bytes)
 
 pub chain_begin : (s : Progress) (bytes : List ℕ) → s ≡ at_start → Follows s 0 bytes bytes
 chain_begin s bytes e fuel h = (fuel, 0, h, refl, ap (λ s. chain_at usual_room fuel 0 s bytes) e)
@@ -41,16 +42,16 @@ chain_end s count rest bytes e c fuel h =
     let j = c fuel h in
     sym j.4 ∙ ap (chain_at usual_room j.0 j.1 s) e ∙ none_left s j.0 j.1
 
-chain_breaks : (s : Progress) (j n count b : ℕ) (bs : List ℕ) (d : Fault) → told n ≡ count → section_at usual_room count s (b ∷ bs) ≡ Err d → chain_at usual_room (suc j) n s (b ∷ bs) ≡ Err d
+chain_breaks : (s : Progress) (j n count b : ℕ) (bs : List ℕ) (d : DecodeFault) → saturated n ≡ count → section_at usual_room count s (b ∷ bs) ≡ Err d → chain_at usual_room (suc j) n s (b ∷ bs) ≡ Err d
 unfolding chain_at
 chain_breaks s j n count b bs d e h = rw (e, h) refl
 
-chain_turns : (s t : Progress) (j n count b : ℕ) (bs more : List ℕ) → told n ≡ count → section_at usual_room count s (b ∷ bs) ≡ Ok (t, more)
+chain_turns : (s t : Progress) (j n count b : ℕ) (bs more : List ℕ) → saturated n ≡ count → section_at usual_room count s (b ∷ bs) ≡ Ok (t, more)
     → chain_at usual_room (suc j) n s (b ∷ bs) ≡ chain_at usual_room j (suc n) t more
 unfolding chain_at
 chain_turns s t j n count b bs more e h = rw (e, h) refl
 
-stopped : (s : Progress) (count : ℕ) (rest bytes : List ℕ) (d : Fault) → 1 ≤ length rest → section_at usual_room count s rest ≡ Err d → Follows s count rest bytes → (fuel : ℕ) → length bytes ≤ fuel
+stopped : (s : Progress) (count : ℕ) (rest bytes : List ℕ) (d : DecodeFault) → 1 ≤ length rest → section_at usual_room count s rest ≡ Err d → Follows s count rest bytes → (fuel : ℕ) → length bytes ≤ fuel
     → chain_at usual_room fuel 0 at_start bytes ≡ Err d
 stopped s count [] bytes d some e c fuel h = absurd (omega arith)
 stopped s count (b ∷ bs) bytes d some e c fuel h =

@@ -1,21 +1,17 @@
 -- What a reader returned stands for what reading from left to right finds, unless memory ran out.
 use Rattle.std.specs.Prelude.{◌≡◌, ℕ, Result, Ok, Err}
-use Rattle.spec_binary.specs.Answers as answers
 use Rattle.wasm_read.specs.declared.broken.Break.{Break}
 use Rattle.wasm_read.specs.declared.broken.Break.TheVariants as breaks
-use Rattle.wasm_decode.specs.declared.fault.DecodeFault.{DecodeFault}
-use Rattle.wasm_decode.specs.declared.fault.DecodeFault.TheVariants as faults
+use Rattle.spec_binary.specs.declared.fault.DecodeFault.{DecodeFault}
+use Rattle.spec_binary.specs.declared.fault.DecodeFault.TheVariants as faults
 
 -- reading of sections ends so, or memory ran out
-abbrev pub Refuses : {Y : Type 0} → DecodeFault → Result Y answers.Fault → Type 0
-Refuses (faults.Malformed section) read = read ≡ Err (answers.Malformed section)
-Refuses faults.Counts read = read ≡ Err answers.Counts
-Refuses (faults.TooDeep function) read = read ≡ Err (answers.TooDeep function)
-Refuses (faults.TooManyLocals function) read = read ≡ Err (answers.TooManyLocals function)
+abbrev pub Refuses : {Y : Type 0} → DecodeFault → Result Y DecodeFault → Type 0
 Refuses faults.Memory read = Unit {0}
+Refuses fault read = read ≡ Err fault
 
 -- what was returned, seen by view, is what reading gives of sections, unless memory ran out
-abbrev pub Tells : {X Y : Type 0} → (X → Y) → Result X DecodeFault → Result Y answers.Fault → Type 0
+abbrev pub Tells : {X Y : Type 0} → (X → Y) → Result X DecodeFault → Result Y DecodeFault → Type 0
 Tells view (Ok x) read = read ≡ Ok (view x)
 Tells view (Err e) read = Refuses e read
 

@@ -3,7 +3,8 @@ ghost use Rattle.std.specs.Prelude.{◌≡◌, ℕ, ◌++◌, List as Listing, R
 ghost use Rattle.wasm_form.specs.declared.module.Module.{Module};
 ghost use Rattle.spec_binary.specs.Modules.{header};
 ghost use Rattle.spec_binary.specs.WellFormed.{IsWellFormed};
-ghost use Rattle.spec_binary.specs.Answers.{Fault, Answers};
+ghost use Rattle.spec_binary.specs.declared.fault.DecodeFault.{DecodeFault};
+ghost use Rattle.spec_binary.specs.DecodeAnswers.{DecodeAnswer};
 ghost use Rattle.spec_reading.specs.Bodies.{usual_room};
 ghost use Rattle.spec_reading.specs.Sections.{sections_at, answer_of};
 ghost use Rattle.wasm_decode.specs.Given.{Tells};
@@ -11,8 +12,8 @@ ghost use Rattle.wasm_decode.specs.Sections.{progress_of};
 ghost use Rattle.wasm_decode.specs.Decoded.{Decodes, Yields};
 
 use crate::counts::counts_agree;
-use crate::fault::DecodeFault;
 use crate::section::{Progress, sections_of};
+use spec_binary::DecodeFault;
 use std::alloc::Global;
 use wasm_form::Module;
 
@@ -54,7 +55,7 @@ fn module_of(alloc: Global, bytes: &[u8]) -> Result<Module, DecodeFault>
 /// why there is none, or `Memory` where no memory could be had (WebAssembly Core 2.0, chapter 5).
 pub fn decode(alloc: Global, bytes: &[u8]) -> Result<Module, DecodeFault>
     ensures answer { Decodes bytes.now result }
-    ensures only { (answer : Returned Module Fault) → Answers bytes.now answer → Yields answer result }
+    ensures only { (answer : Returned Module DecodeFault) → DecodeAnswer bytes.now answer → Yields answer result }
     ensures formed { IfOk result IsWellFormed }
 {
     spec_reading::reading_answers();

@@ -6,8 +6,6 @@ mod counts;
 mod fault;
 mod file;
 mod section;
-#[cfg(test)]
-mod tests;
 
-pub use fault::DecodeFault;
 pub use file::decode;
+pub use spec_binary::DecodeFault;

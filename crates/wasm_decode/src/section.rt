@@ -10,7 +10,8 @@ ghost use Rattle.wasm_decode.specs.Given.{Tells};
 ghost use Rattle.wasm_decode.specs.Sections.{progress_of};
 
 use crate::body::codes_of;
-use crate::fault::{DecodeFault, fault_in_section};
+use crate::fault::fault_in_section;
+use spec_binary::DecodeFault;
 use std::alloc::Global;
 use wasm_form::{
     Custom, Data, Elem, Export, FuncType, GlobalDef, Import, Limits, List, Module, TableType,

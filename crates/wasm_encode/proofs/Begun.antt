@@ -13,7 +13,7 @@ use Rattle.spec_binary.specs.WellFormed.{IsShort, HasRank, ArePlaced, none as no
 use Rattle.wasm_encode.specs.SectionSizes.{IsContents, types, imports, funcs, tables, memories, globals, exports, elems, codes, datas, rank_of, IsTooLongCustom, IsTooLong, contents, body, custom}
 use Rattle.wasm_encode.specs.Written.{SpellsCustom, custom as custom_section, AddsCustoms}
 use Rattle.wasm_encode.specs.Begun.{paid, Accounts, IsBegun}
-use Rattle.wasm_encode.proofs.Joined.{each_parts}
+use Rattle.wasm_form.proofs.Joined.{each_parts, each_all}
 use Rattle.wasm_encode.proofs.Chains.{chain_next, chain_along}
 
 -- where custom sections stand
@@ -152,10 +152,6 @@ customs_chain {k} {s} text chain (c ∷ cs) (next {w} {v} (custom_section named 
 same_rank : (r k : ℕ) (written : List Custom) → All (λ c. c.rank ≡ r) written → ((c : Custom) (cs : List Custom) → written ≡ c ∷ cs → k ≡ r) → All (λ c. c.rank ≡ k) written
 same_rank r k [] all h = All-nil (λ c. c.rank ≡ k)
 same_rank r k (c ∷ cs) all h = subst (λ n. All (λ d. d.rank ≡ n) (c ∷ cs)) (sym (h c cs refl)) all
-
-pub each_all : {A : Type 0} {S : A → List ℕ → Type 0} (P : A → Type 0) → ((x : A) (w : List ℕ) → S x w → P x) → {xs : List A} {w : List ℕ} → SpellsEach S xs w → All P xs
-each_all P make none = All-nil P
-each_all P make (next {x} {xs} {w} s rest) = All-cons P x xs (make x w s) (each_all P make rest)
 
 custom_fits : (c : Custom) (w : List ℕ) → SpellsCustom c w → IsTooLongCustom c → ⊥
 custom_fits c w (custom_section {name} named is) long = let small = section_small is in let large = long.long name named in omega arith

@@ -9,7 +9,7 @@ use Rattle.spec_binary.specs.Parts.{SpellsImport, SpellsGlobal, SpellsExport, Sp
 use Rattle.spec_binary.specs.Sections.{Progress, with_custom, with_types, with_imports, with_funcs, with_tables, with_memories, with_globals, with_exports, with_start, with_elems, with_data_count, with_codes, with_datas, at_start, empty_module, Contents, custom, types, imports, funcs, tables, memories, globals, exports, start, elems, data_count, codes, datas, IsSection, Chain, done, next as chain_next}
 use Rattle.wasm_encode.specs.Written.{SpellsSome, some, SpellsCustom, custom as custom_section}
 use Rattle.wasm_encode.specs.Begun.{Costs, nothing, section, paid, Accounts}
-use Rattle.wasm_encode.proofs.Joined.{each_joined, each_one}
+use Rattle.wasm_form.proofs.Joined.{each_joined, each_one}
 use Rattle.wasm_encode.proofs.SectionForms.{shorter_contents}
 
 -- a section that is no longer than any

@@ -1,7 +1,7 @@
 -- What a well formed instruction's form says of its parts.
 use Rattle.std.proofs.Common.{◌≡◌, ℕ, ◌^◌, ◌<◌, Bool, List, [], ◌∷◌, length, get_or, Some, None, sym, ap, ◌∙◌, arith}
 use Rattle.std.specs.Prelude.{zero, suc, IsTrue}
-use Rattle.std.proofs.lemmas.Bool.{ltb-true}
+use Rattle.std.proofs.lemmas.Bool.{and_parts, ltb-true}
 use Rattle.wasm_form.specs.declared.types.ValType.{ValType}
 use Rattle.wasm_form.specs.declared.instr.BlockType.{BlockType}
 use Rattle.wasm_form.specs.declared.instr.Instr.{Instr, Plain, Index, Block, Loop, If, BrTable, Select, Access, RefNull, Prefixed}
@@ -11,7 +11,7 @@ use Rattle.spec_binary.specs.Operands.{NoOperand, OneIndex, MemoryArgument, oper
 use Rattle.spec_binary.specs.Trees.{every, every_of}
 use Rattle.spec_binary.specs.WellFormed.{is_reference_type, has_form}
 use Rattle.spec_reading.proofs.Trees.{every-Plain, every-Index, every-Block, every-Loop, every-If-alone, every-If-else, every-BrTable, every-Select, every-Access, every-RefNull, every-Prefixed}
-use Rattle.wasm_encode.proofs.Operands.{plain_opcode, index_opcode, access_opcode, and_parts}
+use Rattle.wasm_encode.proofs.Operands.{plain_opcode, index_opcode, access_opcode}
 
 module _ (i : Instr) (h : IsTrue (every has_form i)) where
   at_form : (j : Instr) (b : Bool) → i ≡ j → every has_form j ≡ b → IsTrue b

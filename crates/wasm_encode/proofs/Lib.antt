@@ -1,4 +1,3 @@
-pub mod Joined
 pub mod TypeForms
 pub mod Instructions
 pub mod Operands
@@ -12,4 +11,3 @@ pub mod Costs
 pub mod Begun
 pub mod SectionSteps
 pub mod Steps
-pub mod Samples

@@ -1,8 +1,8 @@
 -- What follows opcodes: which forms they have, the operands of second opcodes, and the bits of floats.
-use Rattle.std.proofs.Common.{◌≡◌, ◌≢◌, inl, inr, eqb-true, w32, w64, ℕ, suc, ◌*◌, ◌/◌, ◌%◌, ◌^◌, ◌<◌, ◌≤◌, Bool, true, false, List, [], ◌∷◌, ◌++◌, length, refl, sym, ap, ◌∙◌, subst, arith}
+use Rattle.std.proofs.Common.{◌≡◌, ◌≢◌, inl, inr, eqb-true, w32, w64, ℕ, suc, ◌*◌, ◌/◌, ◌%◌, ◌^◌, ◌<◌, ◌≤◌, true, List, [], ◌∷◌, ◌++◌, length, refl, sym, ap, ◌∙◌, subst, arith}
 use Rattle.std.specs.Prelude.{zero}
 use Rattle.std.specs.Prelude.{IsTrue, nat_eq, ◌&&◌}
-use Rattle.std.proofs.lemmas.Bool.{cases_lt, cases_eq, lt-ltb, le-ltb, ne_eqb}
+use Rattle.std.proofs.lemmas.Bool.{and_parts, cases_lt, cases_eq, lt-ltb, le-ltb, ne_eqb}
 use Rattle.std.proofs.Math.Nat.{pow-suc, pow-succ', div-div-eq-div-mul}
 use Rattle.std.specs.Int.{byte_at, bytes_low_first, to_le_bytes}
 use Rattle.wasm_form.specs.declared.instr.Instr.TheOpen as Open
@@ -10,8 +10,8 @@ use Rattle.wasm_form.specs.Number.{SpellsUnsigned, IsShortest, Appends}
 use Rattle.spec_binary.specs.Operands.{Operands, NoOperand, OneIndex, MemoryArgument, operands, SecondOperands, NoNumber, OneNumber, TwoNumbers, NumberAndZero, OneZero, TwoZeros, NoSecondOpcode, second_operands}
 use Rattle.spec_binary.specs.Instructions.{SpellsBits, none, next, SpellsSecond, no_number, one_number, two_numbers, number_and_zero, one_zero, two_zeros}
 use Rattle.spec_binary.specs.WellFormed.{has_form}
-use Rattle.wasm_encode.specs.Joined.{IsByte, Joined}
-use Rattle.wasm_encode.proofs.Joined.{joined, behind, unjoined, itself, appends_byte, appends_joined, appends_like, appends_nothing, appends_after}
+use Rattle.wasm_form.specs.Joined.{IsByte, Joined}
+use Rattle.wasm_form.proofs.Joined.{joined, behind, unjoined, itself, appends_byte, appends_joined, appends_like, appends_nothing, appends_after}
 
 -- the forms that a well formed instruction's opcode has
 plain_form : (op : ℕ) (o : Operands) → operands op ≡ o → IsTrue (has_form (Open.Plain op)) → operands op ≡ NoOperand
@@ -83,10 +83,6 @@ one_number_form op x y l a b c d e h = elim (cases_eq op 9) [
 ]
 
 -- the numbers that aren't spelled are 0
-pub and_parts : (a b : Bool) → (a && b) ≡ true → (a ≡ true) × (b ≡ true)
-and_parts true b h = (refl, h)
-and_parts false b h = absurd cc
-
 two_zero_bytes : {op x y : ℕ} (w v : List ℕ) → IsByte 0x00 w → IsByte 0x00 v → SpellsSecond op x y (0x00 ∷ 0x00 ∷ []) → SpellsSecond op x y (w ++ v)
 two_zero_bytes {op} {x} {y} w v a b s = subst (λ u. SpellsSecond op x y (u ++ v)) (sym a) (subst (λ u. SpellsSecond op x y (0x00 ∷ u)) (sym b) s)
 

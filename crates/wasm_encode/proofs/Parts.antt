@@ -21,9 +21,9 @@ use Rattle.spec_binary.specs.Instructions.{SpellsExpr}
 use Rattle.spec_binary.specs.Trees.{nesting_all}
 use Rattle.spec_binary.specs.Parts as part
 use Rattle.spec_binary.specs.Parts.{SpellsByte, byte, SpellsConstant, constant, SpellsImportDesc, SpellsImport, import, SpellsGlobal, SpellsExportDesc, SpellsExport, export, SpellsGroup, group, SpellsFunc, func, SpellsCode, code}
-use Rattle.wasm_encode.specs.Joined.{IsByte, Joined, IsSized}
+use Rattle.wasm_form.specs.Joined.{IsByte, Joined, IsSized}
 use Rattle.wasm_encode.specs.SectionSizes.{IsTooLongBody}
-use Rattle.wasm_encode.proofs.Joined.{joined, behind, unjoined, itself, whole, appends_byte, appends_joined, appends_like, appends_after, shortest_size}
+use Rattle.wasm_form.proofs.Joined.{joined, behind, unjoined, itself, whole, appends_byte, appends_joined, appends_like, appends_after, shortest_size}
 use Rattle.wasm_encode.proofs.TypeForms.{coded_written}
 
 byte_is : {b : ℕ} {w : List ℕ} → SpellsByte b w → IsByte b w

@@ -1,19 +1,19 @@
 -- What the writers of sections write, over plain lists.
-use Rattle.std.proofs.Common.{◌≡◌, ◌≢◌, ℕ, suc, ◌+◌, ◌*◌, ◌^◌, ◌<◌, ◌≤◌, List, [], ◌∷◌, ◌++◌, length, length-append, take, drop, get_or, All, Contains, None, Some, Option, refl, sym, ap, ◌∙◌, subst, arith, append_assoc}
-use Rattle.std.proofs.lemmas.List.{take-append-drop, drop_all}
-use Rattle.std.proofs.lemmas.List.Elements.{All-append, All-nil, All-cons, All-contains, Contains-append_left}
+use Rattle.std.proofs.Common.{◌≡◌, ◌≢◌, ℕ, suc, ◌+◌, ◌*◌, ◌^◌, ◌<◌, ◌≤◌, List, [], ◌∷◌, ◌++◌, length, length-append, take, drop, get_or, All, Contains, None, Some, Option, sym, ap, ◌∙◌, subst, arith, append_assoc}
+use Rattle.std.proofs.lemmas.List.{drop_all}
+use Rattle.std.proofs.lemmas.List.Elements.{All-append, All-nil, All-cons}
 use Rattle.std.proofs.Math.Seq.{take-suc, drop-cons}
 use Rattle.std.proofs.Common.{add-one}
 use Rattle.wasm_form.specs.declared.module.Custom.{Custom}
 use Rattle.wasm_form.specs.Number.{SpellsUnsigned, IsShortest, Appends}
 use Rattle.wasm_form.specs.Name.{SpellsName}
-use Rattle.wasm_form.specs.Sequence.{SpellsEach, SpellsVec}
+use Rattle.wasm_form.specs.Sequence.{SpellsVec}
 use Rattle.wasm_form.proofs.UnsignedSpelling.{unsigned_length}
 use Rattle.spec_binary.specs.Sections.{IsSection, section as one_section}
-use Rattle.wasm_encode.specs.Joined.{IsSized}
+use Rattle.wasm_form.specs.Joined.{IsSized}
 use Rattle.wasm_encode.specs.SectionSizes.{IsTooLongCustom}
-use Rattle.wasm_encode.specs.Written.{AddsSection, section, IsLongList, whole, part, SpellsSome, some, SpellsCustom, custom, IsRun, AddsCustoms, IsLongCustom}
-use Rattle.wasm_encode.proofs.Joined.{itself, whole as whole_of, shortest_like, unsigned_below}
+use Rattle.wasm_encode.specs.Written.{AddsSection, section, IsLongList, whole, part, SpellsSome, some, SpellsCustom, custom, IsRun}
+use Rattle.wasm_form.proofs.Joined.{itself, whole as whole_of, shortest_like, unsigned_below}
 
 -- one section
 least_section : {id : ℕ} {contents other : List ℕ} (size : List ℕ) → IsShortest (SpellsUnsigned 32 (length contents)) size → IsSection id contents other → length (id ∷ (size ++ contents)) ≤ length other
@@ -40,10 +40,6 @@ module _ {A : Type 0} {Spells : A → List ℕ → Type 0} {TooLong : A → Type
 
   pub long_whole : (xs : List A) (contents : List ℕ) → Appends (IsShortest (SpellsVec Spells xs)) [] contents → 2 ^ 32 ≤ length contents → IsLongList Spells TooLong xs
   long_whole xs contents (w, p, e) h = whole p.spelled (λ v s. let least : length w ≤ length v = p.least v s in let same = ap length e in omega arith)
-
-pub empty_list : {A : Type 0} (xs : List A) → length xs ≡ 0 → xs ≡ []
-empty_list [] e = refl
-empty_list (x ∷ xs) e = absurd (omega arith)
 
 module _ {A : Type 0} {Spells : A → List ℕ → Type 0} where
   pub list_added : (id : ℕ) (xs : List A) (contents old new : List ℕ) → 0 < length xs → Appends (IsShortest (SpellsVec Spells xs)) [] contents → Appends (IsShortest (IsSection id contents)) old new
@@ -113,23 +109,3 @@ module _ (rank : ℕ) (cs : List Custom) where
   run_ended k h l ranked =
       let same : k ≡ length cs = omega arith in
       record { within = omega arith; ranked = subst (λ n. Ranked (take n cs)) same ranked; end = λ d ds f. absurd (let none : drop (length cs) cs ≡ [] = drop_all (length cs) cs (omega arith) in cc) }
-
-pub customs_added : (rank : ℕ) (cs : List Custom) (n : ℕ) (taken rest : List Custom) (old new : List ℕ) → IsRun rank cs n → taken ≡ take n cs → rest ≡ drop n cs
-    → Appends (IsShortest (SpellsEach SpellsCustom taken)) old new → AddsCustoms rank cs rest old new
-customs_added rank cs n taken rest old new run e f appended = record {
-  written = taken;
-  parts = sym (ap (λ t. t ++ rest) e ∙ ap (λ r. take n cs ++ r) f ∙ take-append-drop n cs);
-  ranked = subst (All (λ c. c.rank ≡ rank)) (sym e) run.ranked;
-  end = λ c ds g. run.end c ds (sym f ∙ g);
-  appended = appended;
-}
-
-pub custom_long : (rank : ℕ) (cs : List Custom) (n : ℕ) (taken : List Custom) → IsRun rank cs n → taken ≡ take n cs → ((c : Custom) × Contains taken c × IsTooLongCustom c) → IsLongCustom rank cs
-custom_long rank cs n taken run e (c, has, long) =
-    let here : Contains (take n cs) c = subst (λ t. Contains t c) e has in
-    record {
-      custom = c;
-      has = subst (λ t. Contains t c) (take-append-drop n cs) (Contains-append_left (take n cs) (drop n cs) c here);
-      ranked = All-contains (λ d. d.rank ≡ rank) (take n cs) c run.ranked here;
-      long = long;
-    }

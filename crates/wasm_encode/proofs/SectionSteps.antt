@@ -10,29 +10,19 @@ use Rattle.wasm_form.specs.Number.{last, IsShortest}
 use Rattle.wasm_form.specs.Sequence.{SpellsEach, none, SpellsVec, vec}
 use Rattle.wasm_form.proofs.UnsignedSpelling.{unsigned_small}
 use Rattle.spec_binary.specs.Parts.{SpellsCode, code}
-use Rattle.spec_binary.specs.Sections.{Progress, Contents, IsSection}
+use Rattle.spec_binary.specs.Sections.{IsSection}
 use Rattle.spec_binary.specs.Modules.{header, SpellsModule}
 use Rattle.spec_binary.specs.WellFormed.{HasRank}
 use Rattle.wasm_encode.specs.declared.fault.EncodeFault.{EncodeFault}
 use Rattle.wasm_encode.specs.declared.fault.EncodeFault.TheVariants.{SectionSize, Memory}
 use Rattle.wasm_encode.specs.SectionSizes.{IsContents, types, imports, funcs, tables, memories, globals, exports, elems, codes, datas, rank_of, IsTooLongBody, IsTooLong, contents, body, custom, IsFirstTooLong}
-use Rattle.wasm_encode.specs.Written.{AddsSection, nothing, section, IsLongList, whole, part, SpellsCustom, IsLongCustom}
-use Rattle.wasm_encode.specs.Begun.{so_far, Costs, Accounts, IsBegun}
+use Rattle.wasm_encode.specs.Written.{AddsSection, nothing, section, IsLongList, whole, part, SpellsCustom, AddsCustoms, IsLongCustom}
+use Rattle.wasm_encode.specs.Begun.{so_far, Accounts, IsBegun}
+use Rattle.wasm_encode.specs.ListSections.{IsStep, IsListStep}
+use Rattle.wasm_form.proofs.Joined.{each_all}
 use Rattle.wasm_encode.proofs.Chains.{chain_next}
 use Rattle.wasm_encode.proofs.Costs.{costs_least, accounts_of}
-use Rattle.wasm_encode.proofs.Begun.{rank_some, section_small, placed_all, placed_none, each_all}
-
--- what there is to know of the section behind those of this rank
-pub record IsStep (m : Module) (r id : ℕ) (IsLeftOut : Type 0) (Holds : List ℕ → Type 0) : Type 0 where
-  pub after : Progress → Progress
-  pub contents : (s : Progress) (w : List ℕ) → s.last < suc r → Holds w → Contents s id w (after s)
-  pub left_out : IsLeftOut → (cs : List Custom) → so_far m r cs ≡ so_far m (suc r) cs
-  pub written : (s : Progress) (cs : List Custom) → s.fields ≡ so_far m r cs → (after s).fields ≡ so_far m (suc r) cs
-  pub last : (s : Progress) → (after s).last ≡ suc r
-  pub there : HasRank m (suc r) → ¬ IsLeftOut
-  pub rank : HasRank m (suc r) → (s : Progress) → (after s).rank ≡ suc r
-  pub costs : (n : ℕ) (a : Accounts m n) → Costs IsLeftOut Holds id (a.cost (suc r))
-  pub fits : {old new : List ℕ} → AddsSection IsLeftOut Holds id old new → (other p : ℕ) → p ≡ 2 * suc r → IsTooLong m other p → ⊥
+use Rattle.wasm_encode.proofs.Begun.{rank_some, section_small, placed_all, placed_none, customs_begun}
 
 below_next : (k r : ℕ) → k ≤ suc r → (k ≤ r) ⊎ (k ≡ suc r)
 below_next k r h = elim (cases_lt k (suc r)) [ inl less ↦ inl (omega arith) | inr more ↦ inr (omega arith) ]
@@ -88,6 +78,12 @@ module _ {m : Module} {r id : ℕ} {L : Type 0} {H : List ℕ → Type 0} (k : I
   pub section_begun : AddsSection L H id old new → IsBegun m (suc r) (suc r) customs new
   section_begun (nothing out same) = with_nothing out same (nothing out same)
   section_begun (section {contents = text} {word} there p q joined) = with_section text word there p q joined (section there p q joined)
+
+-- a section, and the custom sections behind it, which are those of the next rank
+pub listed_begun : {A : Type 0} {m : Module} {r id : ℕ} {Spells : A → List ℕ → Type 0} {TooLong : A → Type 0} {items : List A} {customs rest : List Custom} {old middle new : List ℕ} (rank : ℕ) → rank ≡ suc r
+    → IsListStep m r id Spells TooLong items → IsBegun m r (suc r) customs old → AddsSection (items ≡ []) (SpellsVec Spells items) id old middle → AddsCustoms rank customs rest middle new
+    → IsBegun m (suc r) (suc (suc r)) rest new
+listed_begun {customs} {rest} {middle} {new} rank e k b a more = customs_begun (section_begun k.step b a) (subst (λ n. AddsCustoms n customs rest middle new) e more)
 
 -- the number of the section of a rank
 abbrev id_of : ℕ → ℕ
@@ -192,6 +188,9 @@ customs_too_long {m} {r} {cs} b id (zero_id, c) =
     let has : Contains m.customs c.custom = subst (λ l. Contains l c.custom) (sym b.all) (Contains-append_right b.before cs c.custom c.has) in
     subst (IsFirstTooLong m) (sym zero_id)
     (record { place = 2 * c.custom.rank + 1; long = custom has c.long; first = earlier_fits b (2 * c.custom.rank + 1) (omega (arith, c.ranked)) (omega (arith, c.ranked)) })
+
+pub customs_too_long_at : {m : Module} {r : ℕ} {cs : List Custom} {bytes : List ℕ} (rank : ℕ) → rank ≡ r → IsBegun m r r cs bytes → (id : ℕ) → (id ≡ 0) × IsLongCustom rank cs → IsFirstTooLong m id
+customs_too_long_at {cs} rank e b id (zero_id, c) = customs_too_long b id (zero_id, subst (λ n. IsLongCustom n cs) e c)
 
 pub list_too_long : {A : Type 0} {Spells : A → List ℕ → Type 0} {TooLong : A → Type 0} (m : Module) (id : ℕ) {xs : List A} → ((w : List ℕ) → SpellsVec Spells xs w → IsContents m id w)
     → ((w : List ℕ) → IsContents m id w → SpellsVec Spells xs w) → ((x : A) → Contains xs x → TooLong x → IsTooLong m id (2 * rank_of id)) → IsLongList Spells TooLong xs → IsTooLong m id (2 * rank_of id)

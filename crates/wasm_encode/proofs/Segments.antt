@@ -17,9 +17,9 @@ use Rattle.wasm_form.specs.Sequence.{SpellsVec}
 use Rattle.wasm_form.proofs.UnsignedSpelling.{unsigned_some}
 use Rattle.spec_binary.specs.Parts as part
 use Rattle.spec_binary.specs.Parts.{SpellsByte, SpellsConstant, SpellsElemMode, SpellsElemItems, SpellsElem, SpellsDataMode, SpellsData}
-use Rattle.wasm_encode.specs.Joined.{Joined}
+use Rattle.wasm_form.specs.Joined.{Joined}
 use Rattle.wasm_encode.specs.Segments.{IsPlace, is_func_ref, plain_items, names_table, mode_flags, elem_flags, IsElemMode, IsItems, names_memory, data_flags, IsDataMode}
-use Rattle.wasm_encode.proofs.Joined.{joined, behind, unjoined, AtMost, itself, appends_joined, appends_like, appends_nothing}
+use Rattle.wasm_form.proofs.Joined.{joined, behind, unjoined, AtMost, itself, appends_joined, appends_like, appends_nothing}
 
 -- flags below 128 take one byte
 flags_least : {n : ℕ} {w : List ℕ} (flags : ℕ) → flags < 128 → SpellsUnsigned 32 n w → AtMost (SpellsUnsigned 32 flags) w

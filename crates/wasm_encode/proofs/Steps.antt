@@ -1,5 +1,5 @@
 -- Each section of a module, in the order of their ranks.
-use Rattle.std.proofs.Common.{◌≡◌, ◌≢◌, ℕ, ◌*◌, ◌<◌, List, [], ◌∷◌, None, Option, refl, sym, ap, subst, arith}
+use Rattle.std.proofs.Common.{◌≡◌, ◌≢◌, ℕ, ◌<◌, List, [], ◌∷◌, None, Option, refl, sym, ap, arith}
 use Rattle.std.specs.Prelude.{suc}
 use Rattle.wasm_form.specs.declared.types.FuncType.{FuncType}
 use Rattle.wasm_form.specs.declared.types.TableType.{TableType}
@@ -20,11 +20,12 @@ use Rattle.spec_binary.specs.Sections as chain
 use Rattle.spec_binary.specs.Sections.{Progress, Contents, rank_with, with_types, with_imports, with_funcs, with_tables, with_memories, with_globals, with_exports, with_start, with_elems, with_data_count, with_codes, with_datas}
 use Rattle.spec_binary.specs.WellFormed as formed
 use Rattle.spec_binary.specs.WellFormed.{HasRank, ArePlaced}
-use Rattle.wasm_encode.specs.SectionSizes.{IsContents, types, imports, funcs, tables, memories, globals, exports, elems, codes, datas, IsTooLongBody, IsTooLong, body, IsFirstTooLong}
-use Rattle.wasm_encode.specs.Written.{AddsSection, SpellsSome, some, IsLongList}
+use Rattle.wasm_encode.specs.SectionSizes.{IsContents, types, imports, funcs, tables, memories, globals, exports, elems, codes, datas, IsTooLongBody, body}
+use Rattle.wasm_encode.specs.Written.{AddsSection, SpellsSome, some}
 use Rattle.wasm_encode.specs.Begun.{so_far, IsBegun}
 use Rattle.wasm_encode.proofs.Begun.{placed_over}
-use Rattle.wasm_encode.proofs.SectionSteps.{IsStep, section_begun, list_fits, code_list_fits, start_fits, data_count_fits, section_too_long, list_too_long}
+use Rattle.wasm_encode.specs.ListSections.{IsStep, IsListStep}
+use Rattle.wasm_encode.proofs.SectionSteps.{section_begun, list_fits, code_list_fits, start_fits, data_count_fits, section_too_long, list_too_long}
 
 rank_there : {A : Type 0} (before rank : ℕ) (xs : List A) → xs ≢ [] → rank_with before rank xs ≡ rank
 rank_there before rank [] h = absurd (h refl)
@@ -48,7 +49,7 @@ module _ (m : Module) where
   has_types : HasRank m 1 → m.types ≢ []
   has_types (formed.types h) = h
 
-  pub types_step : IsStep m 0 1 (m.types ≡ []) (SpellsVec SpellsFuncType m.types)
+  types_step : IsStep m 0 1 (m.types ≡ []) (SpellsVec SpellsFuncType m.types)
   types_step = record {
     after = λ s. with_types s m.types;
     contents = λ s w h p. chain.types h p;
@@ -64,7 +65,7 @@ module _ (m : Module) where
   has_imports : HasRank m 2 → m.imports ≢ []
   has_imports (formed.imports h) = h
 
-  pub imports_step : IsStep m 1 2 (m.imports ≡ []) (SpellsVec SpellsImport m.imports)
+  imports_step : IsStep m 1 2 (m.imports ≡ []) (SpellsVec SpellsImport m.imports)
   imports_step = record {
     after = λ s. with_imports s m.imports;
     contents = λ s w h p. chain.imports h p;
@@ -80,7 +81,7 @@ module _ (m : Module) where
   has_funcs : HasRank m 3 → m.funcs ≢ []
   has_funcs (formed.funcs h) = h
 
-  pub funcs_step : IsStep m 2 3 (m.funcs ≡ []) (SpellsVec (SpellsUnsigned 32) m.funcs)
+  funcs_step : IsStep m 2 3 (m.funcs ≡ []) (SpellsVec (SpellsUnsigned 32) m.funcs)
   funcs_step = record {
     after = λ s. with_funcs s m.funcs;
     contents = λ s w h p. chain.funcs h p;
@@ -96,7 +97,7 @@ module _ (m : Module) where
   has_tables : HasRank m 4 → m.tables ≢ []
   has_tables (formed.tables h) = h
 
-  pub tables_step : IsStep m 3 4 (m.tables ≡ []) (SpellsVec SpellsTableType m.tables)
+  tables_step : IsStep m 3 4 (m.tables ≡ []) (SpellsVec SpellsTableType m.tables)
   tables_step = record {
     after = λ s. with_tables s m.tables;
     contents = λ s w h p. chain.tables h p;
@@ -112,7 +113,7 @@ module _ (m : Module) where
   has_memories : HasRank m 5 → m.memories ≢ []
   has_memories (formed.memories h) = h
 
-  pub memories_step : IsStep m 4 5 (m.memories ≡ []) (SpellsVec SpellsLimits m.memories)
+  memories_step : IsStep m 4 5 (m.memories ≡ []) (SpellsVec SpellsLimits m.memories)
   memories_step = record {
     after = λ s. with_memories s m.memories;
     contents = λ s w h p. chain.memories h p;
@@ -128,7 +129,7 @@ module _ (m : Module) where
   has_globals : HasRank m 6 → m.globals ≢ []
   has_globals (formed.globals h) = h
 
-  pub globals_step : IsStep m 5 6 (m.globals ≡ []) (SpellsVec SpellsGlobal m.globals)
+  globals_step : IsStep m 5 6 (m.globals ≡ []) (SpellsVec SpellsGlobal m.globals)
   globals_step = record {
     after = λ s. with_globals s m.globals;
     contents = λ s w h p. chain.globals h p;
@@ -144,7 +145,7 @@ module _ (m : Module) where
   has_exports : HasRank m 7 → m.exports ≢ []
   has_exports (formed.exports h) = h
 
-  pub exports_step : IsStep m 6 7 (m.exports ≡ []) (SpellsVec SpellsExport m.exports)
+  exports_step : IsStep m 6 7 (m.exports ≡ []) (SpellsVec SpellsExport m.exports)
   exports_step = record {
     after = λ s. with_exports s m.exports;
     contents = λ s w h p. chain.exports h p;
@@ -160,7 +161,7 @@ module _ (m : Module) where
   has_elems : HasRank m 9 → m.elems ≢ []
   has_elems (formed.elems h) = h
 
-  pub elems_step : IsStep m 8 9 (m.elems ≡ []) (SpellsVec SpellsElem m.elems)
+  elems_step : IsStep m 8 9 (m.elems ≡ []) (SpellsVec SpellsElem m.elems)
   elems_step = record {
     after = λ s. with_elems s m.elems;
     contents = λ s w h p. chain.elems h p;
@@ -176,7 +177,7 @@ module _ (m : Module) where
   has_codes : HasRank m 11 → m.codes ≢ []
   has_codes (formed.codes h) = h
 
-  pub codes_step : IsStep m 10 10 (m.codes ≡ []) (SpellsVec SpellsCode m.codes)
+  codes_step : IsStep m 10 10 (m.codes ≡ []) (SpellsVec SpellsCode m.codes)
   codes_step = record {
     after = λ s. with_codes s m.codes;
     contents = λ s w h p. chain.codes h p;
@@ -192,7 +193,7 @@ module _ (m : Module) where
   has_datas : HasRank m 12 → m.datas ≢ []
   has_datas (formed.datas h) = h
 
-  pub datas_step : IsStep m 11 11 (m.datas ≡ []) (SpellsVec SpellsData m.datas)
+  datas_step : IsStep m 11 11 (m.datas ≡ []) (SpellsVec SpellsData m.datas)
   datas_step = record {
     after = λ s. with_datas s m.datas;
     contents = λ s w h p. chain.datas h p;
@@ -261,37 +262,66 @@ codes_of m w (codes s) = s
 datas_of : (m : Module) (w : List ℕ) → IsContents m 11 w → SpellsVec SpellsData m.datas w
 datas_of m w (datas s) = s
 
--- when the section of a list is too long
-module _ {m : Module} {cs : List Custom} {bytes : List ℕ} (id : ℕ) where
-  pub types_too_long : IsBegun m 0 1 cs bytes → (id ≡ 1) × IsLongList SpellsFuncType (λ _. ⊥) m.types → IsFirstTooLong m id
-  types_too_long b (e, long) = section_too_long b id (subst (λ n. IsTooLong m n (2 * 1)) (sym e) (list_too_long m 1 (λ w s. types s) (types_of m) (λ x has never. absurd never) long))
+-- the sections of lists
+pub types_list : (m : Module) → IsListStep m 0 1 SpellsFuncType (λ _. ⊥) m.types
+types_list m = record {
+  step = types_step m;
+  too_long = λ b long. section_too_long b 1 (list_too_long m 1 (λ w s. types s) (types_of m) (λ x has never. absurd never) long);
+}
 
-  pub imports_too_long : IsBegun m 1 2 cs bytes → (id ≡ 2) × IsLongList SpellsImport (λ _. ⊥) m.imports → IsFirstTooLong m id
-  imports_too_long b (e, long) = section_too_long b id (subst (λ n. IsTooLong m n (2 * 2)) (sym e) (list_too_long m 2 (λ w s. imports s) (imports_of m) (λ x has never. absurd never) long))
+pub imports_list : (m : Module) → IsListStep m 1 2 SpellsImport (λ _. ⊥) m.imports
+imports_list m = record {
+  step = imports_step m;
+  too_long = λ b long. section_too_long b 2 (list_too_long m 2 (λ w s. imports s) (imports_of m) (λ x has never. absurd never) long);
+}
 
-  pub funcs_too_long : IsBegun m 2 3 cs bytes → (id ≡ 3) × IsLongList (SpellsUnsigned 32) (λ _. ⊥) m.funcs → IsFirstTooLong m id
-  funcs_too_long b (e, long) = section_too_long b id (subst (λ n. IsTooLong m n (2 * 3)) (sym e) (list_too_long m 3 (λ w s. funcs s) (funcs_of m) (λ x has never. absurd never) long))
+pub funcs_list : (m : Module) → IsListStep m 2 3 (SpellsUnsigned 32) (λ _. ⊥) m.funcs
+funcs_list m = record {
+  step = funcs_step m;
+  too_long = λ b long. section_too_long b 3 (list_too_long m 3 (λ w s. funcs s) (funcs_of m) (λ x has never. absurd never) long);
+}
 
-  pub tables_too_long : IsBegun m 3 4 cs bytes → (id ≡ 4) × IsLongList SpellsTableType (λ _. ⊥) m.tables → IsFirstTooLong m id
-  tables_too_long b (e, long) = section_too_long b id (subst (λ n. IsTooLong m n (2 * 4)) (sym e) (list_too_long m 4 (λ w s. tables s) (tables_of m) (λ x has never. absurd never) long))
+pub tables_list : (m : Module) → IsListStep m 3 4 SpellsTableType (λ _. ⊥) m.tables
+tables_list m = record {
+  step = tables_step m;
+  too_long = λ b long. section_too_long b 4 (list_too_long m 4 (λ w s. tables s) (tables_of m) (λ x has never. absurd never) long);
+}
 
-  pub memories_too_long : IsBegun m 4 5 cs bytes → (id ≡ 5) × IsLongList SpellsLimits (λ _. ⊥) m.memories → IsFirstTooLong m id
-  memories_too_long b (e, long) = section_too_long b id (subst (λ n. IsTooLong m n (2 * 5)) (sym e) (list_too_long m 5 (λ w s. memories s) (memories_of m) (λ x has never. absurd never) long))
+pub memories_list : (m : Module) → IsListStep m 4 5 SpellsLimits (λ _. ⊥) m.memories
+memories_list m = record {
+  step = memories_step m;
+  too_long = λ b long. section_too_long b 5 (list_too_long m 5 (λ w s. memories s) (memories_of m) (λ x has never. absurd never) long);
+}
 
-  pub globals_too_long : IsBegun m 5 6 cs bytes → (id ≡ 6) × IsLongList SpellsGlobal (λ _. ⊥) m.globals → IsFirstTooLong m id
-  globals_too_long b (e, long) = section_too_long b id (subst (λ n. IsTooLong m n (2 * 6)) (sym e) (list_too_long m 6 (λ w s. globals s) (globals_of m) (λ x has never. absurd never) long))
+pub globals_list : (m : Module) → IsListStep m 5 6 SpellsGlobal (λ _. ⊥) m.globals
+globals_list m = record {
+  step = globals_step m;
+  too_long = λ b long. section_too_long b 6 (list_too_long m 6 (λ w s. globals s) (globals_of m) (λ x has never. absurd never) long);
+}
 
-  pub exports_too_long : IsBegun m 6 7 cs bytes → (id ≡ 7) × IsLongList SpellsExport (λ _. ⊥) m.exports → IsFirstTooLong m id
-  exports_too_long b (e, long) = section_too_long b id (subst (λ n. IsTooLong m n (2 * 7)) (sym e) (list_too_long m 7 (λ w s. exports s) (exports_of m) (λ x has never. absurd never) long))
+pub exports_list : (m : Module) → IsListStep m 6 7 SpellsExport (λ _. ⊥) m.exports
+exports_list m = record {
+  step = exports_step m;
+  too_long = λ b long. section_too_long b 7 (list_too_long m 7 (λ w s. exports s) (exports_of m) (λ x has never. absurd never) long);
+}
 
-  pub elems_too_long : IsBegun m 8 9 cs bytes → (id ≡ 9) × IsLongList SpellsElem (λ _. ⊥) m.elems → IsFirstTooLong m id
-  elems_too_long b (e, long) = section_too_long b id (subst (λ n. IsTooLong m n (2 * 9)) (sym e) (list_too_long m 9 (λ w s. elems s) (elems_of m) (λ x has never. absurd never) long))
+pub elems_list : (m : Module) → IsListStep m 8 9 SpellsElem (λ _. ⊥) m.elems
+elems_list m = record {
+  step = elems_step m;
+  too_long = λ b long. section_too_long b 9 (list_too_long m 9 (λ w s. elems s) (elems_of m) (λ x has never. absurd never) long);
+}
 
-  pub codes_too_long : IsBegun m 10 11 cs bytes → (id ≡ 10) × IsLongList SpellsCode IsTooLongBody m.codes → IsFirstTooLong m id
-  codes_too_long b (e, long) = section_too_long b id (subst (λ n. IsTooLong m n (2 * 11)) (sym e) (list_too_long m 10 (λ w s. codes s) (codes_of m) (λ c has long. body has long) long))
+pub codes_list : (m : Module) → IsListStep m 10 10 SpellsCode IsTooLongBody m.codes
+codes_list m = record {
+  step = codes_step m;
+  too_long = λ b long. section_too_long b 10 (list_too_long m 10 (λ w s. codes s) (codes_of m) (λ c has long. body has long) long);
+}
 
-  pub datas_too_long : IsBegun m 11 12 cs bytes → (id ≡ 11) × IsLongList SpellsData (λ _. ⊥) m.datas → IsFirstTooLong m id
-  datas_too_long b (e, long) = section_too_long b id (subst (λ n. IsTooLong m n (2 * 12)) (sym e) (list_too_long m 11 (λ w s. datas s) (datas_of m) (λ x has never. absurd never) long))
+pub datas_list : (m : Module) → IsListStep m 11 11 SpellsData (λ _. ⊥) m.datas
+datas_list m = record {
+  step = datas_step m;
+  too_long = λ b long. section_too_long b 11 (list_too_long m 11 (λ w s. datas s) (datas_of m) (λ x has never. absurd never) long);
+}
 
 -- the same bytes, where custom sections of a rank are none
 over_next : {m : Module} {cs : List Custom} {bytes : List ℕ} (r : ℕ) → IsBegun m r r cs bytes → ArePlaced m (suc r) cs → IsBegun m r (suc r) cs bytes

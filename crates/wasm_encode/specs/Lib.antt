@@ -1,6 +1,6 @@
-pub mod Joined
 pub mod Bodies
 pub mod Segments
 pub mod SectionSizes
 pub mod Written
 pub mod Begun
+pub mod ListSections

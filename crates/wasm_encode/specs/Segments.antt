@@ -13,7 +13,7 @@ use Rattle.wasm_form.specs.Number.{SpellsUnsigned}
 use Rattle.wasm_form.specs.Sequence.{SpellsVec}
 use Rattle.spec_binary.specs.Types.{SpellsRefType}
 use Rattle.spec_binary.specs.Parts.{SpellsConstant}
-use Rattle.wasm_encode.specs.Joined.{IsByte, Joined}
+use Rattle.wasm_form.specs.Joined.{IsByte, Joined}
 
 -- an offset, and before it the number of the table or memory where that is named
 abbrev pub IsPlace : Bool → ℕ → Expr → List ℕ → Type 0

@@ -17,7 +17,7 @@ impl Part for Group {
     ghost too_long = { λ _. ⊥ };
 
     fn put(&self, alloc: Global, to: &mut Vec<u8>) -> Result<(), PartFault> {
-        put_u32(to, self.count)?;
+        put_u32(alloc, to, self.count)?;
         self.ty.put(alloc, to)
     }
 }
@@ -33,6 +33,6 @@ impl Part for Code {
         let mut contents = Vec::new(alloc);
         put_vec(alloc, self.locals.items(), &mut contents)?;
         put_expr(alloc, &self.body, &mut contents)?;
-        put_sized(&contents, to)
+        put_sized(alloc, &contents, to)
     }
 }

@@ -30,7 +30,7 @@ impl Part for ImportDesc {
 
     fn put(&self, alloc: Global, to: &mut Vec<u8>) -> Result<(), PartFault> {
         match self {
-            ImportDesc::Func(number) => Ok(put_numbered(0x00, *number, to)?),
+            ImportDesc::Func(number) => Ok(put_numbered(alloc, 0x00, *number, to)?),
             ImportDesc::Table(ty) => {
                 to.push(0x01)?;
                 ty.put(alloc, to)
@@ -55,8 +55,8 @@ impl Part for Import {
     ghost too_long = { λ _. ⊥ };
 
     fn put(&self, alloc: Global, to: &mut Vec<u8>) -> Result<(), PartFault> {
-        put_name(to, self.module.as_str())?;
-        put_name(to, self.field.as_str())?;
+        put_name(alloc, to, self.module.as_str())?;
+        put_name(alloc, to, self.field.as_str())?;
         self.desc.put(alloc, to)
     }
 }
@@ -75,14 +75,14 @@ impl Part for GlobalDef {
 }
 
 /// Writes the kind of what is exported, and its number.
-fn put_desc(desc: ExportDesc, to: &mut Vec<u8>) -> Result<(), Memory>
+fn put_desc(alloc: Global, desc: ExportDesc, to: &mut Vec<u8>) -> Result<(), Memory>
     ensures { OnOk result (Appends (IsShortest (SpellsExportDesc desc)) to.old.items to.new.items) }
 {
     match desc {
-        ExportDesc::Func(number) => put_numbered(0x00, number, to),
-        ExportDesc::Table(number) => put_numbered(0x01, number, to),
-        ExportDesc::Space(number) => put_numbered(0x02, number, to),
-        ExportDesc::Global(number) => put_numbered(0x03, number, to),
+        ExportDesc::Func(number) => put_numbered(alloc, 0x00, number, to),
+        ExportDesc::Table(number) => put_numbered(alloc, 0x01, number, to),
+        ExportDesc::Space(number) => put_numbered(alloc, 0x02, number, to),
+        ExportDesc::Global(number) => put_numbered(alloc, 0x03, number, to),
     }
 }
 
@@ -93,9 +93,9 @@ impl Part for Export {
 
     ghost too_long = { λ _. ⊥ };
 
-    fn put(&self, _: Global, to: &mut Vec<u8>) -> Result<(), PartFault> {
-        put_name(to, self.name.as_str())?;
-        put_desc(self.desc, to)?;
+    fn put(&self, alloc: Global, to: &mut Vec<u8>) -> Result<(), PartFault> {
+        put_name(alloc, to, self.name.as_str())?;
+        put_desc(alloc, self.desc, to)?;
         Ok(())
     }
 }

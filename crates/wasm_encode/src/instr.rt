@@ -16,7 +16,7 @@ ghost use Rattle.spec_binary.specs.Trees.{every, every_of};
 ghost use Rattle.spec_binary.specs.WellFormed.{is_reference_type, has_form, IsFormedBody, IsFormedConstant};
 ghost use Rattle.wasm_form.specs.declared.instr.Instr.{If};
 ghost use Rattle.wasm_form.specs.declared.instr.Instr.TheOpen as Open;
-ghost use Rattle.wasm_encode.specs.Joined.{IsByte, Joined};
+ghost use Rattle.wasm_form.specs.Joined.{IsByte, Joined};
 ghost use Rattle.wasm_encode.specs.Bodies.{IsBody, IsBodies};
 
 use crate::fault::PartFault;
@@ -26,7 +26,7 @@ use std::alloc::Global;
 use wasm_form::{BlockType, Expr, Instr, Memory, ValType, put_s32, put_s33, put_s64, put_u32};
 
 /// Writes a block's type.
-fn put_block_type(ty: BlockType, to: &mut Vec<u8>) -> Result<(), Memory>
+fn put_block_type(alloc: Global, ty: BlockType, to: &mut Vec<u8>) -> Result<(), Memory>
     ensures { OnOk result (Appends (IsShortest (SpellsBlockType ty)) to.old.items to.new.items) }
 {
     match ty {
@@ -38,7 +38,7 @@ fn put_block_type(ty: BlockType, to: &mut Vec<u8>) -> Result<(), Memory>
             to.push(type_byte(value))?;
             Ok(())
         }
-        BlockType::Index(number) => put_s33(to, i64::from(number)),
+        BlockType::Index(number) => put_s33(alloc, to, i64::from(number)),
     }
 }
 
@@ -52,11 +52,11 @@ fn put_memory_byte(opcode: u8, to: &mut Vec<u8>) -> Result<(), Memory>
 }
 
 /// Writes an opcode and two numbers.
-fn put_pair(opcode: u8, a: u32, b: u32, to: &mut Vec<u8>) -> Result<(), Memory>
+fn put_pair(alloc: Global, opcode: u8, a: u32, b: u32, to: &mut Vec<u8>) -> Result<(), Memory>
     ensures { OnOk result (Appends (IsShortest (Joined (IsByte opcode) (Joined (SpellsUnsigned 32 a) (SpellsUnsigned 32 b)))) to.old.items to.new.items) }
 {
     to.push(opcode)?;
-    put_two(a, b, to)
+    put_two(alloc, a, b, to)
 }
 
 /// Writes br_table's labels and the last one.
@@ -67,7 +67,7 @@ fn put_labels(alloc: Global, labels: &[u32], last: u32, to: &mut Vec<u8>) -> Res
 {
     to.push(0x0E)?;
     put_vec(alloc, labels, to)?;
-    put_u32(to, last)?;
+    put_u32(alloc, to, last)?;
     Ok(())
 }
 
@@ -82,19 +82,19 @@ fn put_select(alloc: Global, types: &[ValType], to: &mut Vec<u8>) -> Result<(), 
 }
 
 /// Writes a constant of 32 bits.
-fn put_i32(number: i32, to: &mut Vec<u8>) -> Result<(), Memory>
+fn put_i32(alloc: Global, number: i32, to: &mut Vec<u8>) -> Result<(), Memory>
     ensures { OnOk result (Appends (IsShortest (Joined (IsByte 0x41) (SpellsSigned 32 number))) to.old.items to.new.items) }
 {
     to.push(0x41)?;
-    put_s32(to, number)
+    put_s32(alloc, to, number)
 }
 
 /// Writes a constant of 64 bits.
-fn put_i64(number: i64, to: &mut Vec<u8>) -> Result<(), Memory>
+fn put_i64(alloc: Global, number: i64, to: &mut Vec<u8>) -> Result<(), Memory>
     ensures { OnOk result (Appends (IsShortest (Joined (IsByte 0x42) (SpellsSigned 64 number))) to.old.items to.new.items) }
 {
     to.push(0x42)?;
-    put_s64(to, number)
+    put_s64(alloc, to, number)
 }
 
 /// Writes the bits of a float of 32 bits.
@@ -125,14 +125,14 @@ fn put_null(ty: ValType, to: &mut Vec<u8>) -> Result<(), Memory>
 }
 
 /// Writes the operands of a second opcode.
-fn put_operands(op: u32, a: u32, b: u32, to: &mut Vec<u8>) -> Result<(), Memory>
+fn put_operands(alloc: Global, op: u32, a: u32, b: u32, to: &mut Vec<u8>) -> Result<(), Memory>
     requires { IsTrue (has_form (Open.Prefixed op a b)) }
     ensures { OnOk result (Appends (IsShortest (SpellsSecond op a b)) to.old.items to.new.items) }
 {
     if op < 8 {
         Ok(())
     } else if op == 8 {
-        put_u32(to, a)?;
+        put_u32(alloc, to, a)?;
         to.push(0x00)?;
         Ok(())
     } else if op == 10 {
@@ -143,21 +143,21 @@ fn put_operands(op: u32, a: u32, b: u32, to: &mut Vec<u8>) -> Result<(), Memory>
         to.push(0x00)?;
         Ok(())
     } else if op == 12 {
-        put_two(a, b, to)
+        put_two(alloc, a, b, to)
     } else if op == 14 {
-        put_two(a, b, to)
+        put_two(alloc, a, b, to)
     } else {
-        put_u32(to, a)
+        put_u32(alloc, to, a)
     }
 }
 
 /// Writes a second opcode and its operands.
-fn put_prefixed(op: u32, a: u32, b: u32, to: &mut Vec<u8>) -> Result<(), Memory>
+fn put_prefixed(alloc: Global, op: u32, a: u32, b: u32, to: &mut Vec<u8>) -> Result<(), Memory>
     requires { IsTrue (has_form (Open.Prefixed op a b)) }
     ensures { OnOk result (Appends (IsShortest (Joined (IsByte 0xFC) (Joined (SpellsUnsigned 32 op) (SpellsSecond op a b)))) to.old.items to.new.items) }
 {
-    put_numbered(0xFC, op, to)?;
-    put_operands(op, a, b, to)
+    put_numbered(alloc, 0xFC, op, to)?;
+    put_operands(alloc, op, a, b, to)
 }
 
 /// Writes a block or a loop.
@@ -174,7 +174,7 @@ fn put_block(
     ensures long { result ≡ Err PartFault.TooLong → ⊥ }
 {
     to.push(opcode)?;
-    put_block_type(ty, to)?;
+    put_block_type(alloc, ty, to)?;
     put_instrs(alloc, body.list.items(), to)?;
     to.push(0x0B)?;
     Ok(())
@@ -195,7 +195,7 @@ fn put_else(
     ensures long { result ≡ Err PartFault.TooLong → ⊥ }
 {
     to.push(0x04)?;
-    put_block_type(ty, to)?;
+    put_block_type(alloc, ty, to)?;
     put_instrs(alloc, body.list.items(), to)?;
     to.push(0x05)?;
     put_instrs(alloc, other.list.items(), to)?;
@@ -231,22 +231,22 @@ fn put_instr(alloc: Global, instr: &Instr, to: &mut Vec<u8>) -> Result<(), PartF
 {
     match instr {
         Instr::Plain(op) => Ok(to.push(*op)?),
-        Instr::Index(op, number) => Ok(put_numbered(*op, *number, to)?),
+        Instr::Index(op, number) => Ok(put_numbered(alloc, *op, *number, to)?),
         Instr::Block(ty, body) => put_block(alloc, 0x02, *ty, body, to),
         Instr::Loop(ty, body) => put_block(alloc, 0x03, *ty, body, to),
         Instr::If(ty, body, other) => put_if(alloc, *ty, body, other, to),
         Instr::BrTable(labels, last) => put_labels(alloc, labels.items(), *last, to),
-        Instr::CallIndirect { ty, table } => Ok(put_pair(0x11, *ty, *table, to)?),
+        Instr::CallIndirect { ty, table } => Ok(put_pair(alloc, 0x11, *ty, *table, to)?),
         Instr::Select(types) => put_select(alloc, types.items(), to),
-        Instr::Access { op, align, offset } => Ok(put_pair(*op, *align, *offset, to)?),
+        Instr::Access { op, align, offset } => Ok(put_pair(alloc, *op, *align, *offset, to)?),
         Instr::MemorySize => Ok(put_memory_byte(0x3F, to)?),
         Instr::MemoryGrow => Ok(put_memory_byte(0x40, to)?),
-        Instr::I32Const(number) => Ok(put_i32(*number, to)?),
-        Instr::I64Const(number) => Ok(put_i64(*number, to)?),
+        Instr::I32Const(number) => Ok(put_i32(alloc, *number, to)?),
+        Instr::I64Const(number) => Ok(put_i64(alloc, *number, to)?),
         Instr::F32Const(bits) => Ok(put_f32(*bits, to)?),
         Instr::F64Const(bits) => Ok(put_f64(*bits, to)?),
         Instr::RefNull(ty) => Ok(put_null(*ty, to)?),
-        Instr::Prefixed { op, a, b } => Ok(put_prefixed(*op, *a, *b, to)?),
+        Instr::Prefixed { op, a, b } => Ok(put_prefixed(alloc, *op, *a, *b, to)?),
     }
 }
 

@@ -9,8 +9,6 @@ mod module;
 mod part;
 mod section;
 mod segment;
-#[cfg(test)]
-mod tests;
 mod types;
 
 pub use fault::EncodeFault;

@@ -1,15 +1,17 @@
 // Modules (section 5.5.16).
-ghost use Rattle.std.specs.Prelude.{◌≡◌, ℕ, ◌⊎◌, [], OnOk, IfOk};
+ghost use Rattle.std.specs.Prelude.{◌≡◌, ℕ, suc, ◌<◌, ◌^◌, ◌⊎◌, length, All, OnOk, IfOk};
 ghost use Rattle.wasm_form.specs.Number.{IsShortest};
 ghost use Rattle.spec_binary.specs.Modules.{header, SpellsModule};
 ghost use Rattle.spec_binary.specs.WellFormed.{IsWellFormed};
 ghost use Rattle.wasm_encode.specs.SectionSizes.{IsFirstTooLong};
 ghost use Rattle.wasm_encode.specs.Begun.{IsBegun};
+ghost use Rattle.wasm_encode.specs.ListSections.{IsListStep};
 
 use crate::fault::EncodeFault;
+use crate::part::Part;
 use crate::section::{put_customs, put_number, put_section};
 use std::alloc::Global;
-use wasm_form::{Custom, Module};
+use wasm_form::{Custom, List, Module};
 
 /// The magic bytes and version 1.
 const HEADER: [u8; 8] = [0x00, 0x61, 0x73, 0x6D, 0x01, 0x00, 0x00, 0x00];
@@ -28,116 +30,26 @@ fn put_first_customs<'a>(
     put_customs(alloc, 0, m.customs.items(), to)
 }
 
-/// Writes the type section and the custom sections behind it.
-fn put_types<'a>(
+/// Writes the section with this number that holds a list of the module, behind those of a rank, and the custom sections behind it.
+fn put_listed<'a, T: Part>(
     alloc: Global,
-    m: &Module,
+    _of: &Module,
+    rank: u8,
+    id: u8,
+    items: &List<T>,
     customs: &'a [Custom],
     to: &mut Vec<u8>,
 ) -> Result<&'a [Custom], EncodeFault>
-    requires formed { IsWellFormed m.now }
-    requires begun { IsBegun m.now 0 1 customs.now to.old.items }
-    ensures ok { IfOk result (λ rest. IsBegun m.now 1 2 rest.now to.new.items) }
-    ensures long { (id : ℕ) → result ≡ Err (EncodeFault.SectionSize id) → IsFirstTooLong m.now id }
+    requires rank { rank < 12 }
+    requires short { length items.now < 2 ^ 32 }
+    requires writable { All T.writable items.now }
+    requires step { IsListStep _of.now rank id T.spells T.too_long items.now }
+    requires begun { IsBegun _of.now rank (suc rank) customs.now to.old.items }
+    ensures ok { IfOk result (λ rest. IsBegun _of.now (suc rank) (suc (suc rank)) rest.now to.new.items) }
+    ensures long { (n : ℕ) → result ≡ Err (EncodeFault.SectionSize n) → IsFirstTooLong _of.now n }
 {
-    put_section(alloc, 1, m.types.items(), to)?;
-    put_customs(alloc, 1, customs, to)
-}
-
-/// Writes the import section and the custom sections behind it.
-fn put_imports<'a>(
-    alloc: Global,
-    m: &Module,
-    customs: &'a [Custom],
-    to: &mut Vec<u8>,
-) -> Result<&'a [Custom], EncodeFault>
-    requires formed { IsWellFormed m.now }
-    requires begun { IsBegun m.now 1 2 customs.now to.old.items }
-    ensures ok { IfOk result (λ rest. IsBegun m.now 2 3 rest.now to.new.items) }
-    ensures long { (id : ℕ) → result ≡ Err (EncodeFault.SectionSize id) → IsFirstTooLong m.now id }
-{
-    put_section(alloc, 2, m.imports.items(), to)?;
-    put_customs(alloc, 2, customs, to)
-}
-
-/// Writes the function section and the custom sections behind it.
-fn put_funcs<'a>(
-    alloc: Global,
-    m: &Module,
-    customs: &'a [Custom],
-    to: &mut Vec<u8>,
-) -> Result<&'a [Custom], EncodeFault>
-    requires formed { IsWellFormed m.now }
-    requires begun { IsBegun m.now 2 3 customs.now to.old.items }
-    ensures ok { IfOk result (λ rest. IsBegun m.now 3 4 rest.now to.new.items) }
-    ensures long { (id : ℕ) → result ≡ Err (EncodeFault.SectionSize id) → IsFirstTooLong m.now id }
-{
-    put_section(alloc, 3, m.funcs.items(), to)?;
-    put_customs(alloc, 3, customs, to)
-}
-
-/// Writes the table section and the custom sections behind it.
-fn put_tables<'a>(
-    alloc: Global,
-    m: &Module,
-    customs: &'a [Custom],
-    to: &mut Vec<u8>,
-) -> Result<&'a [Custom], EncodeFault>
-    requires formed { IsWellFormed m.now }
-    requires begun { IsBegun m.now 3 4 customs.now to.old.items }
-    ensures ok { IfOk result (λ rest. IsBegun m.now 4 5 rest.now to.new.items) }
-    ensures long { (id : ℕ) → result ≡ Err (EncodeFault.SectionSize id) → IsFirstTooLong m.now id }
-{
-    put_section(alloc, 4, m.tables.items(), to)?;
-    put_customs(alloc, 4, customs, to)
-}
-
-/// Writes the memory section and the custom sections behind it.
-fn put_memories<'a>(
-    alloc: Global,
-    m: &Module,
-    customs: &'a [Custom],
-    to: &mut Vec<u8>,
-) -> Result<&'a [Custom], EncodeFault>
-    requires formed { IsWellFormed m.now }
-    requires begun { IsBegun m.now 4 5 customs.now to.old.items }
-    ensures ok { IfOk result (λ rest. IsBegun m.now 5 6 rest.now to.new.items) }
-    ensures long { (id : ℕ) → result ≡ Err (EncodeFault.SectionSize id) → IsFirstTooLong m.now id }
-{
-    put_section(alloc, 5, m.memories.items(), to)?;
-    put_customs(alloc, 5, customs, to)
-}
-
-/// Writes the global section and the custom sections behind it.
-fn put_globals<'a>(
-    alloc: Global,
-    m: &Module,
-    customs: &'a [Custom],
-    to: &mut Vec<u8>,
-) -> Result<&'a [Custom], EncodeFault>
-    requires formed { IsWellFormed m.now }
-    requires begun { IsBegun m.now 5 6 customs.now to.old.items }
-    ensures ok { IfOk result (λ rest. IsBegun m.now 6 7 rest.now to.new.items) }
-    ensures long { (id : ℕ) → result ≡ Err (EncodeFault.SectionSize id) → IsFirstTooLong m.now id }
-{
-    put_section(alloc, 6, m.globals.items(), to)?;
-    put_customs(alloc, 6, customs, to)
-}
-
-/// Writes the export section and the custom sections behind it.
-fn put_exports<'a>(
-    alloc: Global,
-    m: &Module,
-    customs: &'a [Custom],
-    to: &mut Vec<u8>,
-) -> Result<&'a [Custom], EncodeFault>
-    requires formed { IsWellFormed m.now }
-    requires begun { IsBegun m.now 6 7 customs.now to.old.items }
-    ensures ok { IfOk result (λ rest. IsBegun m.now 7 8 rest.now to.new.items) }
-    ensures long { (id : ℕ) → result ≡ Err (EncodeFault.SectionSize id) → IsFirstTooLong m.now id }
-{
-    put_section(alloc, 7, m.exports.items(), to)?;
-    put_customs(alloc, 7, customs, to)
+    put_section(alloc, id, items.items(), to)?;
+    put_customs(alloc, rank + 1, customs, to)
 }
 
 /// Writes the start section.
@@ -154,22 +66,6 @@ fn put_start(
     put_number(alloc, 8, m.start, to)
 }
 
-/// Writes the element section and the custom sections behind it.
-fn put_elems<'a>(
-    alloc: Global,
-    m: &Module,
-    customs: &'a [Custom],
-    to: &mut Vec<u8>,
-) -> Result<&'a [Custom], EncodeFault>
-    requires formed { IsWellFormed m.now }
-    requires begun { IsBegun m.now 8 9 customs.now to.old.items }
-    ensures ok { IfOk result (λ rest. IsBegun m.now 9 10 rest.now to.new.items) }
-    ensures long { (id : ℕ) → result ≡ Err (EncodeFault.SectionSize id) → IsFirstTooLong m.now id }
-{
-    put_section(alloc, 9, m.elems.items(), to)?;
-    put_customs(alloc, 9, customs, to)
-}
-
 /// Writes the data count section.
 fn put_data_count(
     alloc: Global,
@@ -184,38 +80,6 @@ fn put_data_count(
     put_number(alloc, 12, m.data_count, to)
 }
 
-/// Writes the code section and the custom sections behind it.
-fn put_codes<'a>(
-    alloc: Global,
-    m: &Module,
-    customs: &'a [Custom],
-    to: &mut Vec<u8>,
-) -> Result<&'a [Custom], EncodeFault>
-    requires formed { IsWellFormed m.now }
-    requires begun { IsBegun m.now 10 11 customs.now to.old.items }
-    ensures ok { IfOk result (λ rest. IsBegun m.now 11 12 rest.now to.new.items) }
-    ensures long { (id : ℕ) → result ≡ Err (EncodeFault.SectionSize id) → IsFirstTooLong m.now id }
-{
-    put_section(alloc, 10, m.codes.items(), to)?;
-    put_customs(alloc, 11, customs, to)
-}
-
-/// Writes the data section and the custom sections behind it.
-fn put_datas<'a>(
-    alloc: Global,
-    m: &Module,
-    customs: &'a [Custom],
-    to: &mut Vec<u8>,
-) -> Result<&'a [Custom], EncodeFault>
-    requires formed { IsWellFormed m.now }
-    requires begun { IsBegun m.now 11 12 customs.now to.old.items }
-    ensures ok { IfOk result (λ rest. IsBegun m.now 12 13 rest.now to.new.items) }
-    ensures long { (id : ℕ) → result ≡ Err (EncodeFault.SectionSize id) → IsFirstTooLong m.now id }
-{
-    put_section(alloc, 11, m.datas.items(), to)?;
-    put_customs(alloc, 12, customs, to)
-}
-
 /// Writes the sections up to the exports.
 fn put_front<'a>(
     alloc: Global,
@@ -228,13 +92,13 @@ fn put_front<'a>(
     ensures long { (id : ℕ) → result ≡ Err (EncodeFault.SectionSize id) → IsFirstTooLong m.now id }
 {
     let customs = put_first_customs(alloc, m, to)?;
-    let customs = put_types(alloc, m, customs, to)?;
-    let customs = put_imports(alloc, m, customs, to)?;
-    let customs = put_funcs(alloc, m, customs, to)?;
-    let customs = put_tables(alloc, m, customs, to)?;
-    let customs = put_memories(alloc, m, customs, to)?;
-    let customs = put_globals(alloc, m, customs, to)?;
-    put_exports(alloc, m, customs, to)
+    let customs = put_listed(alloc, m, 0, 1, &m.types, customs, to)?;
+    let customs = put_listed(alloc, m, 1, 2, &m.imports, customs, to)?;
+    let customs = put_listed(alloc, m, 2, 3, &m.funcs, customs, to)?;
+    let customs = put_listed(alloc, m, 3, 4, &m.tables, customs, to)?;
+    let customs = put_listed(alloc, m, 4, 5, &m.memories, customs, to)?;
+    let customs = put_listed(alloc, m, 5, 6, &m.globals, customs, to)?;
+    put_listed(alloc, m, 6, 7, &m.exports, customs, to)
 }
 
 /// Writes the other sections.
@@ -251,10 +115,10 @@ fn put_back(
     ensures long { (id : ℕ) → result ≡ Err (EncodeFault.SectionSize id) → IsFirstTooLong m.now id }
 {
     put_start(alloc, m, customs, to)?;
-    let customs = put_elems(alloc, m, customs, to)?;
+    let customs = put_listed(alloc, m, 8, 9, &m.elems, customs, to)?;
     put_data_count(alloc, m, customs, to)?;
-    let customs = put_codes(alloc, m, customs, to)?;
-    put_datas(alloc, m, customs, to)?;
+    let customs = put_listed(alloc, m, 10, 10, &m.codes, customs, to)?;
+    put_listed(alloc, m, 11, 11, &m.datas, customs, to)?;
     Ok(())
 }
 

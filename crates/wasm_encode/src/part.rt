@@ -3,7 +3,7 @@ ghost use Rattle.std.specs.Prelude.{◌≡◌, ℕ, ◌^◌, ◌<◌, ◌≤◌,
 ghost use Rattle.wasm_form.specs.Number.{IsShortest, Appends, SpellsUnsigned};
 ghost use Rattle.wasm_form.specs.Sequence.{SpellsEach, SpellsVec};
 ghost use Rattle.spec_binary.specs.Parts.{SpellsByte};
-ghost use Rattle.wasm_encode.specs.Joined.{IsByte, Joined, IsSized};
+ghost use Rattle.wasm_form.specs.Joined.{IsByte, Joined, IsSized};
 
 use crate::fault::PartFault;
 use std::alloc::Global;
@@ -45,26 +45,31 @@ impl Part for u32 {
 
     ghost too_long = { λ _. ⊥ };
 
-    fn put(&self, _: Global, to: &mut Vec<u8>) -> Result<(), PartFault> {
-        put_u32(to, *self)?;
+    fn put(&self, alloc: Global, to: &mut Vec<u8>) -> Result<(), PartFault> {
+        put_u32(alloc, to, *self)?;
         Ok(())
     }
 }
 
 /// Writes two numbers.
-pub(crate) fn put_two(a: u32, b: u32, to: &mut Vec<u8>) -> Result<(), Memory>
+pub(crate) fn put_two(alloc: Global, a: u32, b: u32, to: &mut Vec<u8>) -> Result<(), Memory>
     ensures { OnOk result (Appends (IsShortest (Joined (SpellsUnsigned 32 a) (SpellsUnsigned 32 b))) to.old.items to.new.items) }
 {
-    put_u32(to, a)?;
-    put_u32(to, b)
+    put_u32(alloc, to, a)?;
+    put_u32(alloc, to, b)
 }
 
 /// Writes a byte and a number after it.
-pub(crate) fn put_numbered(byte: u8, number: u32, to: &mut Vec<u8>) -> Result<(), Memory>
+pub(crate) fn put_numbered(
+    alloc: Global,
+    byte: u8,
+    number: u32,
+    to: &mut Vec<u8>,
+) -> Result<(), Memory>
     ensures { OnOk result (Appends (IsShortest (Joined (IsByte byte) (SpellsUnsigned 32 number))) to.old.items to.new.items) }
 {
     to.push(byte)?;
-    put_u32(to, number)
+    put_u32(alloc, to, number)
 }
 
 /// Writes each of a list, one after the other.
@@ -94,19 +99,19 @@ pub(crate) fn put_vec<T: Part>(
     ensures ok { OnOk result (Appends (IsShortest (SpellsVec T.spells items.now)) to.old.items to.new.items) }
     ensures long { result ≡ Err PartFault.TooLong → (x : T) × Contains items.now x × T.too_long x }
 {
-    put_u32(to, items.len() as u32)?;
+    put_u32(alloc, to, items.len() as u32)?;
     put_each(alloc, items, to)
 }
 
 /// Writes the size of contents and then the contents.
-pub(crate) fn put_sized(contents: &[u8], to: &mut Vec<u8>) -> Result<(), PartFault>
+pub(crate) fn put_sized(alloc: Global, contents: &[u8], to: &mut Vec<u8>) -> Result<(), PartFault>
     ensures ok { OnOk result (Appends (IsSized contents.now) to.old.items to.new.items) }
     ensures long { result ≡ Err PartFault.TooLong → 2 ^ 32 ≤ length contents.now }
 {
     if contents.len() > u32::MAX as usize {
         return Err(PartFault::TooLong);
     }
-    put_u32(to, contents.len() as u32)?;
+    put_u32(alloc, to, contents.len() as u32)?;
     to.extend_from_slice(contents)?;
     Ok(())
 }

@@ -34,12 +34,12 @@ use std::alloc::Global;
 use wasm_form::{Custom, put_name, put_u32};
 
 /// Writes the section with this number and these contents.
-fn put_framed(id: u8, contents: &[u8], to: &mut Vec<u8>) -> Result<(), PartFault>
+fn put_framed(alloc: Global, id: u8, contents: &[u8], to: &mut Vec<u8>) -> Result<(), PartFault>
     ensures ok { OnOk result (Appends (IsShortest (IsSection id contents.now)) to.old.items to.new.items) }
     ensures long { result ≡ Err PartFault.TooLong → 2 ^ 32 ≤ length contents.now }
 {
     to.push(id)?;
-    put_sized(contents, to)
+    put_sized(alloc, contents, to)
 }
 
 /// Writes the section with this number that holds a list which isn't empty.
@@ -52,7 +52,7 @@ fn put_list<T: Part>(alloc: Global, id: u8, items: &[T], to: &mut Vec<u8>) -> Re
 {
     let mut contents = Vec::new(alloc);
     put_vec(alloc, items, &mut contents)?;
-    put_framed(id, &contents, to)
+    put_framed(alloc, id, &contents, to)
 }
 
 /// Writes the section with this number, or nothing where it would be empty.
@@ -91,8 +91,8 @@ pub(crate) fn put_number(
         return Ok(());
     };
     let mut contents = Vec::new(alloc);
-    put_u32(&mut contents, number)?;
-    match put_framed(id, &contents, to) {
+    put_u32(alloc, &mut contents, number)?;
+    match put_framed(alloc, id, &contents, to) {
         Ok(()) => Ok(()),
         Err(PartFault::TooLong) => unreachable!(),
         Err(PartFault::Memory) => Err(EncodeFault::Memory),
@@ -108,9 +108,9 @@ impl Part for Custom {
 
     fn put(&self, alloc: Global, to: &mut Vec<u8>) -> Result<(), PartFault> {
         let mut contents = Vec::new(alloc);
-        put_name(&mut contents, self.name.as_str())?;
+        put_name(alloc, &mut contents, self.name.as_str())?;
         contents.extend_from_slice(self.bytes.items())?;
-        put_framed(0, &contents, to)
+        put_framed(alloc, 0, &contents, to)
     }
 }
 

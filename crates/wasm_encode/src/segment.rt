@@ -75,7 +75,7 @@ fn put_place(
     if !named {
         return offset.put(alloc, to);
     }
-    put_u32(to, number)?;
+    put_u32(alloc, to, number)?;
     offset.put(alloc, to)
 }
 
@@ -135,7 +135,7 @@ impl Part for Elem {
 
     fn put(&self, alloc: Global, to: &mut Vec<u8>) -> Result<(), PartFault> {
         let named = names_table(&self.mode, &self.items);
-        put_u32(to, elem_flags(named, &self.mode, &self.items))?;
+        put_u32(alloc, to, elem_flags(named, &self.mode, &self.items))?;
         put_elem_mode(alloc, named, &self.mode, to)?;
         put_items(alloc, named, &self.items, to)
     }
@@ -187,7 +187,7 @@ impl Part for Data {
 
     fn put(&self, alloc: Global, to: &mut Vec<u8>) -> Result<(), PartFault> {
         let named = names_memory(&self.mode);
-        put_u32(to, data_flags(named, &self.mode))?;
+        put_u32(alloc, to, data_flags(named, &self.mode))?;
         put_data_mode(alloc, named, &self.mode, to)?;
         put_vec(alloc, self.bytes.items(), to)
     }

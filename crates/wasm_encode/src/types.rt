@@ -41,14 +41,14 @@ pub(crate) fn put_ref_type(ty: ValType, to: &mut Vec<u8>) -> Result<(), Memory>
 }
 
 /// Writes a size range.
-fn put_limits(limits: &Limits, to: &mut Vec<u8>) -> Result<(), Memory>
+fn put_limits(alloc: Global, limits: &Limits, to: &mut Vec<u8>) -> Result<(), Memory>
     ensures { OnOk result (Appends (IsShortest (SpellsLimits limits.now)) to.old.items to.new.items) }
 {
     match limits.max {
-        None => put_numbered(0x00, limits.min, to),
+        None => put_numbered(alloc, 0x00, limits.min, to),
         Some(max) => {
-            put_numbered(0x01, limits.min, to)?;
-            put_u32(to, max)
+            put_numbered(alloc, 0x01, limits.min, to)?;
+            put_u32(alloc, to, max)
         }
     }
 }
@@ -94,8 +94,8 @@ impl Part for Limits {
 
     ghost too_long = { λ _. ⊥ };
 
-    fn put(&self, _: Global, to: &mut Vec<u8>) -> Result<(), PartFault> {
-        put_limits(self, to)?;
+    fn put(&self, alloc: Global, to: &mut Vec<u8>) -> Result<(), PartFault> {
+        put_limits(alloc, self, to)?;
         Ok(())
     }
 }
@@ -107,9 +107,9 @@ impl Part for TableType {
 
     ghost too_long = { λ _. ⊥ };
 
-    fn put(&self, _: Global, to: &mut Vec<u8>) -> Result<(), PartFault> {
+    fn put(&self, alloc: Global, to: &mut Vec<u8>) -> Result<(), PartFault> {
         put_ref_type(self.elem, to)?;
-        put_limits(&self.limits, to)?;
+        put_limits(alloc, &self.limits, to)?;
         Ok(())
     }
 }

@@ -171,3 +171,7 @@ one_below (suc bound) n v word other l s t = elim (cases_lt v 128) [
 
 pub one_shortest_unsigned : (n v : ℕ) (word other : List ℕ) → IsShortest (SpellsUnsigned n v) word → IsShortest (SpellsUnsigned n v) other → word ≡ other
 one_shortest_unsigned n v word other s t = one_below n n v word other (omega arith) s t
+
+-- a number of 32 bits takes at most five bytes
+pub unsigned_few : {v : ℕ} {w : List ℕ} → SpellsUnsigned 32 v w → length w ≤ 5
+unsigned_few s = let few = unsigned_length (omega arith) s in omega arith

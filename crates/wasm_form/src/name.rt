@@ -20,6 +20,7 @@ ghost use Rattle.wasm_form.specs.Name.{SpellsName};
 
 use crate::memory::Memory;
 use crate::unsigned::{put_u32, read_u32};
+use std::alloc::Global;
 
 /// Reads a name (section 5.2.4) that begins at a place: where its bytes start, and the place after them, which is
 /// the place after the name. None where no spelling of a name begins there: no number stands there, or fewer bytes
@@ -46,13 +47,13 @@ pub fn read_name(bytes: &[u8], at: usize) -> Option<(usize, usize)>
 }
 
 /// Writes a name at the end, in its shortest spelling. At an error nothing is written.
-pub fn put_name(to: &mut Vec<u8>, name: &str) -> Result<(), Memory>
+pub fn put_name(alloc: Global, to: &mut Vec<u8>, name: &str) -> Result<(), Memory>
     requires { length name.now < 2 ^ 32 }
     ensures ok { OnOk result (Appends (IsShortest (SpellsName name.now)) to.old.items to.new.items) }
     ensures err { OnErr result (to.new.items ≡ to.old.items) }
 {
     let start = to.len();
-    put_u32(to, name.len() as u32)?;
+    put_u32(alloc, to, name.len() as u32)?;
     match to.extend_from_slice(name.as_bytes()) {
         Ok(()) => Ok(()),
         Err(_) => {

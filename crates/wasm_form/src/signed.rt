@@ -29,7 +29,7 @@ ghost use Rattle.std.specs.Prelude.{
 ghost use Rattle.wasm_form.specs.Number.{IsSigned, SpellsSigned, Begins, IsShortest, Appends};
 
 use crate::memory::Memory;
-use std::alloc::AllocError;
+use std::alloc::{AllocError, Global};
 
 /// Reads a signed number of 32 bits (`s32`, section 5.2.2) that begins at a place: its value, and the place after it.
 /// None where no spelling of such a number begins there.
@@ -70,7 +70,7 @@ pub fn read_s64(bytes: &[u8], at: usize) -> Option<(i64, usize)>
 }
 
 /// Writes a signed number of 32 bits at the end, in its shortest spelling. At an error nothing is written.
-pub fn put_s32(to: &mut Vec<u8>, v: i32) -> Result<(), Memory>
+pub fn put_s32(_alloc: Global, to: &mut Vec<u8>, v: i32) -> Result<(), Memory>
     ensures ok { OnOk result (Appends (IsShortest (SpellsSigned 32 v)) to.old.items to.new.items) }
     ensures err { OnErr result (to.new.items ≡ to.old.items) }
 {
@@ -78,7 +78,7 @@ pub fn put_s32(to: &mut Vec<u8>, v: i32) -> Result<(), Memory>
 }
 
 /// Writes a signed number of 33 bits at the end, in its shortest spelling. At an error nothing is written.
-pub fn put_s33(to: &mut Vec<u8>, v: i64) -> Result<(), Memory>
+pub fn put_s33(_alloc: Global, to: &mut Vec<u8>, v: i64) -> Result<(), Memory>
     requires least { pos 0 ≤ℤ (v +ℤ pos (2 ^ 32)) }
     requires below { v <ℤ pos (2 ^ 32) }
     ensures ok { OnOk result (Appends (IsShortest (SpellsSigned 33 v)) to.old.items to.new.items) }
@@ -88,7 +88,7 @@ pub fn put_s33(to: &mut Vec<u8>, v: i64) -> Result<(), Memory>
 }
 
 /// Writes a signed number of 64 bits at the end, in its shortest spelling. At an error nothing is written.
-pub fn put_s64(to: &mut Vec<u8>, v: i64) -> Result<(), Memory>
+pub fn put_s64(_alloc: Global, to: &mut Vec<u8>, v: i64) -> Result<(), Memory>
     ensures ok { OnOk result (Appends (IsShortest (SpellsSigned 64 v)) to.old.items to.new.items) }
     ensures err { OnErr result (to.new.items ≡ to.old.items) }
 {

@@ -20,7 +20,7 @@ ghost use Rattle.std.specs.Prelude.{
 ghost use Rattle.wasm_form.specs.Number.{SpellsUnsigned, Begins, IsShortest, Appends};
 
 use crate::memory::Memory;
-use std::alloc::AllocError;
+use std::alloc::{AllocError, Global};
 
 /// Reads an unsigned number of 32 bits (`u32`, section 5.2.2) that begins at a place: its value, and the place after
 /// it. None where no spelling of such a number begins there.
@@ -36,7 +36,7 @@ pub fn read_u32(bytes: &[u8], at: usize) -> Option<(u32, usize)>
 }
 
 /// Writes an unsigned number of 32 bits at the end, in its shortest spelling. At an error nothing is written.
-pub fn put_u32(to: &mut Vec<u8>, v: u32) -> Result<(), Memory>
+pub fn put_u32(_alloc: Global, to: &mut Vec<u8>, v: u32) -> Result<(), Memory>
     ensures ok { OnOk result (Appends (IsShortest (SpellsUnsigned 32 v)) to.old.items to.new.items) }
     ensures err { OnErr result (to.new.items ≡ to.old.items) }
 {

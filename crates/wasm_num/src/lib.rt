@@ -4,8 +4,6 @@
 #![tactic(auto)]
 
 mod narrow;
-#[cfg(test)]
-mod tests;
 mod wide;
 
 ghost use Rattle.std.specs.Prelude.{◌≡◌, ◌<◌, ◌^◌, IsSome, IfSome};

@@ -5,8 +5,6 @@ mod access;
 mod index;
 mod plain;
 mod second;
-#[cfg(test)]
-mod tests;
 
 pub use access::{MemoryAccess, memory_access};
 pub use index::{IndexForm, index_form};

@@ -1,8 +1,7 @@
 -- Reading instructions one after the other, as the loop does.
-use Rattle.std.proofs.Common.{◌≡◌, ℕ, suc, ◌-◌, ◌≤◌, ◌<◌, true, false, List, [], ◌∷◌, ◌++◌, length, get_or, take, drop, Ok, Err, refl, sym, ap, ◌∙◌, arith}
+use Rattle.std.proofs.Common.{◌≡◌, ℕ, suc, ◌-◌, ◌≤◌, ◌<◌, true, false, List, [], ◌∷◌, ◌++◌, length, Ok, Err, refl, sym, ap, ◌∙◌, arith}
 use Rattle.std.proofs.lemmas.List.{append-nil}
 use Rattle.std.proofs.lemmas.Bool.{ne_eqb}
-use Rattle.std.proofs.Math.Seq.{take-length}
 use Rattle.wasm_form.specs.declared.instr.Instr.{Instr}
 use Rattle.wasm_read.specs.declared.broken.Break.{Break}
 use Rattle.wasm_read.specs.declared.broken.Break.TheVariants as breaks
@@ -72,12 +71,6 @@ instrs_go_on front room b rest after more bytes i e h le f c k lt =
     (j.0 - 1, omega arith, sym (ap (λ n. with_front front (instrs_at n room rest)) n ∙ one) ∙ j.2)
 
 -- a text with a byte, as its first and the others
-pub first_and_others : (rest : List ℕ) → 1 ≤ length rest → rest ≡ get_or rest 0 0 ∷ take (length rest - 1) (drop 1 rest)
-first_and_others [] h = absurd (omega arith)
-first_and_others (b ∷ bs) h =
-    let e : suc (length bs) - 1 ≡ length bs = omega arith in
-    sym (ap (λ n. b ∷ take n bs) e ∙ ap (λ l. b ∷ l) (take-length bs))
-
 pub no_end : (b : ℕ) → (b ≡ 0x05 → ⊥) → (b ≡ 0x0B → ⊥) → ends b ≡ false
 no_end b h k = rw (ne_eqb b 0x05 h, ne_eqb b 0x0B k) refl
 

@@ -7,8 +7,6 @@ mod instr;
 mod number;
 mod part;
 mod sequence;
-#[cfg(test)]
-mod tests;
 mod types;
 
 pub use broken::Break;

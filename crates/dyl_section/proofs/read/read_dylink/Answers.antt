@@ -1,7 +1,7 @@
 use Rattle.std.proofs.Common.{Err}
 use Rattle.spec_linking.specs.Records.{none}
 use Rattle.dyl_section.proofs.RecordRead.{record_read, record_yields}
-use Rattle.dyl_section.specs.declared.fault.RecordFault.TheVariants as faults
+use Rattle.spec_linking.specs.declared.fault.RecordFault.TheVariants as faults
 use Rattle.dyl_section.proofs.read.read_dylink.Goals as goal
 
 pub returns-in-Some-clause-answer : goal.returns-in-Some-clause-answer

@@ -1,4 +1,5 @@
-use Rattle.dyl_section.proofs.Shortest.{each_started, each_next, spelled_at}
+use Rattle.wasm_form.proofs.Joined.{each_started, each_next}
+use Rattle.dyl_section.proofs.Shortest.{spelled_at}
 use Rattle.dyl_section.proofs.write.put_each.Goals as goal
 
 pub loop-item-init : goal.loop-item-init

@@ -1,4 +1,5 @@
-use Rattle.dyl_section.proofs.Subsections.{on_ok, regions_short, regions_added}
+use Rattle.wasm_form.proofs.Joined.{on_ok}
+use Rattle.dyl_section.proofs.Subsections.{regions_short, regions_added}
 use Rattle.dyl_section.proofs.write.put_regions.Goals as goal
 
 pub put_subsection-requires : goal.put_subsection-requires

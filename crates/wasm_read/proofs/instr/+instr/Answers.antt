@@ -2,7 +2,8 @@ use Rattle.std.proofs.Common.{◌≡◌, true, length, get_or, ap, arith}
 use Rattle.std.proofs.lemmas.Result.{err_from_is_err_and}
 use Rattle.std.proofs.lemmas.List.{nil_from_length}
 use Rattle.spec_reading.specs.Instructions.{ends}
-use Rattle.wasm_read.proofs.Instructions.{instrs_begin, instrs_end, instrs_stop, instrs_fail, instrs_go_on, first_and_others, no_end, at_else, at_end}
+use Rattle.spec_binary.proofs.Lists.{first_and_others}
+use Rattle.wasm_read.proofs.Instructions.{instrs_begin, instrs_end, instrs_stop, instrs_fail, instrs_go_on, no_end, at_else, at_end}
 use Rattle.wasm_read.proofs.instr.+instr.Goals.{instrs_of-then-opcode-eq5-via-then-opcode-eq5, instrs_of-then-opcode-eq5-via-else-opcode-eq5+then-opcode-eq11}
 use Rattle.wasm_read.proofs.instr.+instr.Goals as goal
 
