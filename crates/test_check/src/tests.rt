@@ -1,14 +1,17 @@
 // Modules, from the rules of the standard and the limits of this program: which are valid, and where and why others are
 // refused.
+ghost use Rattle.std.specs.Prelude.{◌≡◌, [], ◌∷◌, false, IfOk};
+ghost use Rattle.wasm_form.specs.declared.types.ValType.TheVariants.{I32};
+ghost use Rattle.spec_binary.specs.IndexSpaces.{imports_of, globals_in};
+
 use std::alloc::{AllocError, Global};
 use std::test::Fail;
-use wasm_check::{Checked, check};
+use test_rows::bytes_of;
+use wasm_check::{Checked, Constant, check, constant};
 use wasm_decode::decode;
+use wasm_form::{Expr, GlobalType, Import, ImportDesc, Instr, List, Module, Text, ValType};
 
-// The magic bytes and version 1.
-const HEADER: &str = "00 61 73 6d 01 00 00 00";
-
-// A name, the bytes, where a point stands for the header, and the fault, or `ok`.
+// A name, the bytes, where a point stands for the header, and the fault, or `ok`, or the heights of the bodies.
 const MODULES: &str = "\
 only the header: . = ok
 the least body: . 01 04 01 60 00 00 03 02 01 00 0a 04 01 02 00 0b = ok
@@ -466,33 +469,58 @@ a data segment of the second memory: . 05 03 01 00 01 0b 08 01 02 01 41 00 0b 01
 a data segment at an imported global: . 02 08 01 01 6d 01 6e 03 7f 00 05 03 01 00 01 0b 07 01 00 23 00 0b 01 aa = ok
 a data segment at a mutable global: . 02 08 01 01 6d 01 6e 03 7f 01 05 03 01 00 01 0b 07 01 00 23 00 0b 01 aa = \
 BadModule { field: Data }
+the smallest main with f32.add: . 00 0f 08 64 79 6c 69 6e 6b 2e 30 01 04 00 00 00 00 01 04 01 60 00 00 03 02 01 00 \
+07 0a 01 06 5f 73 74 61 72 74 00 00 0a 06 01 04 00 00 92 0b = UnsupportedOp { function: 0, opcode: 146 }
+the smallest main with a function of an externref: . 00 0f 08 64 79 6c 69 6e 6b 2e 30 01 04 00 00 00 00 01 08 02 60 \
+00 00 60 01 6f 00 03 03 02 00 01 07 0a 01 06 5f 73 74 61 72 74 00 00 0a 07 02 02 00 0b 02 00 0b = UnsupportedType { \
+place: Function(1) }
+local.get of the first of 50,000: . 01 05 01 60 00 01 7f 03 02 01 00 0a 0c 01 0a 02 01 7e cf 86 03 7f 20 00 0b = \
+BadBody { function: 0 }
+local.get of the last of 50,000: . 01 05 01 60 00 01 7f 03 02 01 00 0a 0e 01 0c 02 01 7e cf 86 03 7f 20 cf 86 03 0b = ok
+local.get behind 50,000: . 01 05 01 60 00 01 7f 03 02 01 00 0a 0e 01 0c 02 01 7e cf 86 03 7f 20 d0 86 03 0b = BadBody { \
+function: 0 }
+no body: . = heights
+an empty body: . 01 04 01 60 00 00 03 02 01 00 0a 04 01 02 00 0b = heights 0
+three numbers that are added: . 01 05 01 60 00 01 7f 03 02 01 00 0a 0c 01 0a 00 41 01 41 02 41 03 6a 6a 0b = \
+heights 3
+one number, and three: . 01 05 01 60 00 01 7f 03 03 02 00 00 0a 11 02 04 00 41 07 0b 0a 00 41 01 41 02 41 03 6a 6a \
+0b = heights 1 3
+a block that takes its parameter: . 01 0a 02 60 00 01 7f 60 01 7f 01 7f 03 02 01 00 0a 0c 01 0a 00 41 01 02 01 41 \
+02 6a 0b 0b = heights 2
+a value under a loop, and two in it: . 01 05 01 60 00 01 7f 03 02 01 00 0a 0f 01 0d 00 41 01 03 40 41 02 41 03 1a \
+1a 0b 0b = heights 3
+an if of two sides: . 01 05 01 60 00 01 7f 03 02 01 00 0a 0e 01 0c 00 41 00 04 7f 41 01 05 41 02 0b 0b = heights 1
+br_table over its value: . 01 05 01 60 00 01 7f 03 02 01 00 0a 0f 01 0d 00 02 7f 41 01 41 02 0e 01 00 01 0b 0b = \
+heights 2
+select of unknown values: . 01 05 01 60 00 01 7f 03 02 01 00 0a 06 01 04 00 00 1b 0b = heights 1
 ";
 
-// The bytes of a text of hexadecimal numbers.
-fn push_hex(bytes: &mut Vec<u8>, hex: &str) -> Result<(), AllocError> {
-    for number in hex.split_ascii_whitespace() {
-        bytes.push(u8::from_str_radix(number, 16).unwrap_or(0))?;
+// The height of a body, if there is one.
+fn height_at(checked: &Checked, body: usize) -> Option<u32> {
+    if body < checked.module().codes.items().len() && body <= 0xFFFF_FFFF {
+        Some(checked.height(body as u32))
+    } else {
+        None
     }
-    Ok(())
 }
 
-// The bytes of a text in which points stand for headers.
-fn bytes_of(alloc: Global, text: &str) -> Result<Vec<u8>, AllocError> {
-    let mut bytes = Vec::new(alloc);
-    for part in text.split_ascii_whitespace() {
-        push_hex(&mut bytes, if part == "." { HEADER } else { part })?;
+// The heights of the bodies, in order.
+fn heights_in(alloc: Global, checked: &Checked) -> Result<String, Fail> {
+    let mut told = String::from_str(alloc, "heights")?;
+    for body in 0..checked.module().codes.items().len() {
+        if let Some(height) = height_at(checked, body) {
+            write!(told, " {height}")?;
+        }
     }
-    Ok(bytes)
+    Ok(told)
 }
 
-// The fault of a module, or `ok`.
-fn answer_of(alloc: Global, bytes: &[u8]) -> Result<String, AllocError> {
-    let Ok(module) = decode(alloc, bytes) else {
-        return String::from_str(alloc, "no module");
-    };
-    match check(alloc, module) {
-        Ok(_) => String::from_str(alloc, "ok"),
-        Err(refused) => format!(in alloc; "{:?}", refused.fault),
+// The fault of a module, or else `ok` or the heights of its bodies.
+fn answer_of(alloc: Global, bytes: &[u8], heights: bool) -> Result<String, Fail> {
+    match check(alloc, decode(alloc, bytes)?) {
+        Ok(checked) if heights => heights_in(alloc, &checked),
+        Ok(_) => Ok(String::from_str(alloc, "ok")?),
+        Err(refused) => Ok(format!(in alloc; "{:?}", refused.fault)?),
     }
 }
 
@@ -503,50 +531,68 @@ fn checks_modules(rt: HostRuntime) -> Result<(), Fail> {
         let (row, answer) = line.split_once(" = ").expect(&rt, "an answer");
         let (_, text) = row.split_once(": ").expect(&rt, "a name");
         let bytes = bytes_of(rt.alloc(), text)?;
-        let told = answer_of(rt.alloc(), &bytes)?;
+        let told = answer_of(rt.alloc(), &bytes, answer.starts_with("heights"))?;
         assert_eq!(rt; told.as_str(), answer, "{line}");
         rows = rows.saturating_add(1);
     }
-    assert_eq!(rt; rows, 306);
+    assert_eq!(rt; rows, 320);
     Ok(())
 }
 
-// One function, which adds three numbers.
-const SUM: &str = ". 01 05 01 60 00 01 7f 03 02 01 00 0a 0c 01 0a 00 41 01 41 02 41 03 6a 6a 0b";
-
-// The height of a body, if there is one.
-fn height_at(checked: &Checked, body: u32) -> Option<u32> {
-    if (body as usize) < checked.module().codes.items().len() {
-        Some(checked.height(body))
-    } else {
-        None
-    }
+// A module that imports one immutable i32 global.
+fn imports_a_number(alloc: Global) -> Result<Module, AllocError>
+    ensures { IfOk result (λ m. imports_of globals_in m.imports ≡ record { value = I32; mutable = false } ∷ []) }
+{
+    let ty = GlobalType {
+        value: ValType::I32,
+        mutable: false,
+    };
+    let import = Import {
+        module: Text::of(String::from_str(alloc, "env")?),
+        field: Text::of(String::from_str(alloc, "__memory_base")?),
+        desc: ImportDesc::Global(ty),
+    };
+    Ok(Module {
+        types: List::of(Vec::new(alloc)),
+        imports: List::of(vec![in alloc; import]?),
+        funcs: List::of(Vec::new(alloc)),
+        tables: List::of(Vec::new(alloc)),
+        memories: List::of(Vec::new(alloc)),
+        globals: List::of(Vec::new(alloc)),
+        exports: List::of(Vec::new(alloc)),
+        start: None,
+        elems: List::of(Vec::new(alloc)),
+        data_count: None,
+        codes: List::of(Vec::new(alloc)),
+        datas: List::of(Vec::new(alloc)),
+        customs: List::of(Vec::new(alloc)),
+    })
 }
 
-#[test]
-fn keeps_heights(rt: HostRuntime) -> Result<(), Fail> {
-    let bytes = bytes_of(rt.alloc(), SUM)?;
-    let module = decode(rt.alloc(), &bytes)?;
-    match check(rt.alloc(), module) {
-        Ok(checked) => {
-            assert_eq!(rt; height_at(&checked, 0), Some(3));
-            assert_eq!(rt; height_at(&checked, 1), None);
-        }
-        Err(_) => assert!(rt; false),
-    }
-    Ok(())
+fn expr_of(alloc: Global, i: Instr) -> Result<Expr, AllocError>
+    ensures { IfOk result (λ e. e.list ≡ i ∷ []) }
+{
+    Ok(Expr {
+        list: List::of(vec![in alloc; i]?),
+    })
 }
 
-// One function, which leaves a number over.
-const LEFT_OVER: &str = ". 01 04 01 60 00 00 03 02 01 00 0a 06 01 04 00 41 01 0b";
-
+// The bits of numbers, null, and the value of an imported global.
 #[test]
-fn gives_back_what_it_refuses(rt: HostRuntime) -> Result<(), Fail> {
-    let bytes = bytes_of(rt.alloc(), LEFT_OVER)?;
-    let module = decode(rt.alloc(), &bytes)?;
-    match check(rt.alloc(), module) {
-        Ok(_) => assert!(rt; false),
-        Err(refused) => assert_eq!(rt; refused.module.codes.items().len(), 1),
-    }
+fn values_constants(rt: HostRuntime) -> Result<(), Fail> {
+    let alloc = rt.alloc();
+    let module = imports_a_number(alloc)?;
+    let small = expr_of(alloc, Instr::I32Const(-1))?;
+    let value = constant(alloc, &module, &small, &[0])?;
+    assert_eq!(rt; value, Constant::Num(4_294_967_295));
+    let large = expr_of(alloc, Instr::I64Const(-1))?;
+    let value = constant(alloc, &module, &large, &[0])?;
+    assert_eq!(rt; value, Constant::Num(18_446_744_073_709_551_615));
+    let null = expr_of(alloc, Instr::RefNull(ValType::FuncRef))?;
+    let value = constant(alloc, &module, &null, &[0])?;
+    assert_eq!(rt; value, Constant::Func(None));
+    let imported = expr_of(alloc, Instr::Index(0x23, 0))?;
+    let value = constant(alloc, &module, &imported, &[1024])?;
+    assert_eq!(rt; value, Constant::Num(1024));
     Ok(())
 }

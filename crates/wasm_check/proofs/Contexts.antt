@@ -13,15 +13,16 @@ use Rattle.wasm_form.specs.declared.module.Group.{Group}
 use Rattle.wasm_form.specs.declared.module.Code.{Code}
 use Rattle.wasm_form.specs.declared.module.Module.{Module}
 use Rattle.spec_binary.specs.Options.{◌>>=◌}
-use Rattle.spec_binary.specs.Indices.{declared_locals}
+use Rattle.spec_binary.specs.Indices.{declared_locals, function_type}
 use Rattle.spec_binary.specs.IndexSpaces.{function_space, table_space, memory_space, global_space}
 use Rattle.spec_validation.specs.Context.{Context}
 use Rattle.spec_validation.specs.Typing.{height}
-use Rattle.spec_validation.specs.Faults.{refers, elem_of_table, type_of_elem, is_some_memory, body_context, type_of_function}
+use Rattle.spec_validation.specs.Faults.{refers, elem_of_table, type_of_elem, is_some_memory, body_context}
 use Rattle.wasm_typing.specs.declared.fault.TypingFault.{TypingFault}
-use Rattle.wasm_typing.specs.Answers.{Answers}
+use Rattle.wasm_typing.specs.Answers.{Obtains}
 use Rattle.wasm_check.specs.Spaces.{entry_type, entries, item_type_of}
-use Rattle.wasm_check.specs.Marks.{is_marked, AreMarks}
+use Rattle.wasm_check.specs.Marks.{AreMarks}
+use Rattle.wasm_typing.specs.Contexts.{is_marked}
 
 mapped : {A B : Type 0} (f : A → B) (o : Option A) → option_map f o ≡ (o >>= λ x. Some (f x))
 mapped f None = refl
@@ -38,7 +39,7 @@ marked m marks are = fun_ext are
 abbrev with_parts : Module → FuncType → Code → (ℕ → Option ValType) → (ℕ → Option ValType) → (ℕ → Bool) → Context
 with_parts m f c tables elems marks = record {
   types = slice_get m.types;
-  functions = type_of_function m;
+  functions = function_type m;
   globals = slice_get (global_space m);
   tables = tables;
   elems = elems;
@@ -50,13 +51,18 @@ with_parts m f c tables elems marks = record {
 }
 
 parts_agree : (m : Module) (f : FuncType) (c : Code) (marks : List Bool) → AreMarks m marks
-    → with_parts m f c (slice_get (entries (table_space m))) (slice_get (map item_type_of m.elems)) (λ n. is_marked (slice_get marks n)) ≡ body_context m f c
+    → with_parts m f c (slice_get (entries (table_space m))) (slice_get (map item_type_of m.elems)) (λ n. is_marked (slice_get marks n))
+    ≡ body_context m f c
 parts_agree m f c marks are =
-    ap (λ (t : ℕ → Option ValType). with_parts m f c t (slice_get (map item_type_of m.elems)) (λ n. is_marked (slice_get marks n))) (looked_up entry_type (table_space m))
-    ∙ ap (λ (e : ℕ → Option ValType). with_parts m f c (λ n. slice_get (table_space m) n >>= elem_of_table) e (λ n. is_marked (slice_get marks n))) (looked_up item_type_of m.elems)
-    ∙ ap (λ (r : ℕ → Bool). with_parts m f c (λ n. slice_get (table_space m) n >>= elem_of_table) (λ n. slice_get m.elems n >>= type_of_elem) r) (marked m marks are)
+    ap (λ (t : ℕ → Option ValType). with_parts m f c t (slice_get (map item_type_of m.elems)) (λ n. is_marked (slice_get marks n)))
+    (looked_up entry_type (table_space m))
+    ∙ ap (λ (e : ℕ → Option ValType). with_parts m f c (λ n. slice_get (table_space m) n >>= elem_of_table) e
+    (λ n. is_marked (slice_get marks n))) (looked_up item_type_of m.elems)
+    ∙ ap (λ (r : ℕ → Bool). with_parts m f c (λ n. slice_get (table_space m) n >>= elem_of_table)
+    (λ n. slice_get m.elems n >>= type_of_elem) r) (marked m marks are)
 
-abbrev kept : List FuncType → List ℕ → List GlobalType → List ValType → List ValType → Bool → ℕ → List Bool → List ValType → List Group → List ValType → Context
+abbrev kept : List FuncType → List ℕ → List GlobalType → List ValType → List ValType → Bool → ℕ → List Bool → List ValType → List Group
+    → List ValType → Context
 kept types functions globals tables elems memory datas marks params groups results = record {
   types = slice_get types;
   functions = λ n. slice_get functions n >>= λ t. slice_get types t;
@@ -70,15 +76,20 @@ kept types functions globals tables elems memory datas marks params groups resul
   results = results;
 }
 
-pub answers_kept : (r : Result ℕ TypingFault) (m : Module) (f : FuncType) (c : Code) (types : List FuncType) (functions : List ℕ) (globals : List GlobalType) (tables elems : List ValType) (memory : Bool) (datas : ℕ) (marks : List Bool)
+pub answers_kept : (r : Result ℕ TypingFault) (m : Module) (f : FuncType) (c : Code) (types : List FuncType) (functions : List ℕ)
+    (globals : List GlobalType) (tables elems : List ValType) (memory : Bool) (datas : ℕ) (marks : List Bool)
     (params : List ValType) (groups : List Group) (results : List ValType) (body : List Instr)
-    → types ≡ m.types → functions ≡ function_space m → globals ≡ global_space m → tables ≡ entries (table_space m) → elems ≡ map item_type_of m.elems → memory ≡ is_some_memory (memory_space m)
+    → types ≡ m.types → functions ≡ function_space m → globals ≡ global_space m → tables ≡ entries (table_space m)
+    → elems ≡ map item_type_of m.elems → memory ≡ is_some_memory (memory_space m)
     → datas ≡ length m.datas → AreMarks m marks → params ≡ f.params → groups ≡ c.locals → results ≡ f.results → body ≡ c.body.list
-    → Answers r (height (kept types functions globals tables elems memory datas marks params groups results) body) → Answers r (height (body_context m f c) c.body.list)
-answers_kept r m f c types functions globals tables elems memory datas marks params groups results body is_types is_functions is_globals is_tables is_elems is_memory is_datas are is_params is_groups is_results is_body h =
+    → Obtains r (height (kept types functions globals tables elems memory datas marks params groups results) body)
+    → Obtains r (height (body_context m f c) c.body.list)
+answers_kept r m f c types functions globals tables elems memory datas marks params groups results body is_types is_functions is_globals
+    is_tables is_elems is_memory is_datas are is_params is_groups is_results is_body h =
     let same : kept types functions globals tables elems memory datas marks params groups results ≡ body_context m f c =
-    rw (is_types, is_functions, is_globals, is_tables, is_elems, is_memory, is_datas, is_params, is_groups, is_results) (parts_agree m f c marks are) in
-    subst (λ b. Answers r (height (body_context m f c) b)) is_body (subst (λ x. Answers r (height x body)) same h)
+    rw (is_types, is_functions, is_globals, is_tables, is_elems, is_memory, is_datas, is_params, is_groups, is_results)
+    (parts_agree m f c marks are) in
+    subst (λ b. Obtains r (height (body_context m f c) b)) is_body (subst (λ x. Obtains r (height x body)) same h)
 
 pub some_memory : (ls : List Limits) → nat_lt 0 (length ls) ≡ is_some_memory ls
 some_memory [] = refl

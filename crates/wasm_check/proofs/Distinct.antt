@@ -12,7 +12,7 @@ use Rattle.std.proofs.lemmas.List.Folds.{list_any-append}
 use Rattle.std.proofs.lemmas.Map.Text.{is_eq-slice_cmp}
 use Rattle.std.proofs.lemmas.Slice.Eq.{bytes_eq-Decides}
 use Rattle.wasm_form.specs.declared.module.Export.{Export}
-use Rattle.spec_binary.specs.SmallForm.{AllDistinct, name_of}
+use Rattle.spec_binary.specs.Exports.{AllDistinct, name_of}
 use Rattle.spec_validation.specs.Faults.{names_distinct}
 use Rattle.spec_validation.proofs.Names.{distinct_tested, tested_distinct}
 
@@ -36,9 +36,11 @@ either false true = refl
 either false false = refl
 
 -- a set of texts with one more
-has_more : (key q : List ℕ) (front : List (List ℕ)) (old new : Bool) → old ≡ list_any (bytes_eq q) front → new ≡ cond (is_eq (slice_cmp nat_cmp key q)) true old → new ≡ list_any (bytes_eq q) (front ++ key ∷ [])
+has_more : (key q : List ℕ) (front : List (List ℕ)) (old new : Bool) → old ≡ list_any (bytes_eq q) front
+    → new ≡ cond (is_eq (slice_cmp nat_cmp key q)) true old → new ≡ list_any (bytes_eq q) (front ++ key ∷ [])
 has_more key q front old new e h =
-    let all : list_any (bytes_eq q) (front ++ key ∷ []) ≡ cond (bytes_eq q key) true (list_any (bytes_eq q) front) = list_any-append (bytes_eq q) front (key ∷ []) ∙ either (bytes_eq q key) (list_any (bytes_eq q) front) in
+    let all : list_any (bytes_eq q) (front ++ key ∷ []) ≡ cond (bytes_eq q key) true (list_any (bytes_eq q) front) = list_any-append
+    (bytes_eq q) front (key ∷ []) ∙ either (bytes_eq q key) (list_any (bytes_eq q) front) in
     h ∙ ap (λ t. cond t true old) (is_eq-slice_cmp key q ∙ flipped key q) ∙ ap (λ t. cond (bytes_eq q key) true t) e ∙ sym all
 
 neither : (a b : Bool) → (a || b) ≡ false → (a ≡ false) × (b ≡ false)
@@ -49,7 +51,8 @@ one_of : (a b : Bool) → (a || b) ≡ true → (a ≡ true) ⊎ (b ≡ true)
 one_of true b e = inl refl
 one_of false b e = inr e
 
-distinct_more : (front : List (List ℕ)) (key : List ℕ) → AllDistinct front → list_any (bytes_eq key) front ≡ false → AllDistinct (front ++ key ∷ [])
+distinct_more : (front : List (List ℕ)) (key : List ℕ) → AllDistinct front → list_any (bytes_eq key) front ≡ false
+    → AllDistinct (front ++ key ∷ [])
 distinct_more [] key d e = (All-nil (λ y. key ≢ y), tt)
 distinct_more (x ∷ xs) key d e =
     let n = neither (bytes_eq key x) (list_any (bytes_eq key) xs) e in
@@ -68,30 +71,39 @@ told_again (x ∷ xs) rest key e d = elim (one_of (bytes_eq key x) (list_any (by
   | inr h ↦ told_again xs rest key h d.1
 ]
 
-names_more : (exports : List Export) (i : ℕ) (e : Export) → i < length exports → e ≡ get_or exports i e → map name_of (take (i + 1) exports) ≡ map name_of (take i exports) ++ e.name ∷ []
+names_more : (exports : List Export) (i : ℕ) (e : Export) → i < length exports → e ≡ get_or exports i e
+    → map name_of (take (i + 1) exports) ≡ map name_of (take i exports) ++ e.name ∷ []
 names_more exports i e h is =
-    let one : take (i + 1) exports ≡ take i exports ++ e ∷ [] = rw add-one (take-suc exports i e h) ∙ ap (λ x. take i exports ++ x ∷ []) (sym is) in
+    let one : take (i + 1) exports ≡ take i exports ++ e ∷ [] = rw add-one (take-suc exports i e h)
+    ∙ ap (λ x. take i exports ++ x ∷ []) (sym is) in
     ap (map name_of) one ∙ map-append name_of (take i exports) (e ∷ [])
 
-names_parts : (exports : List Export) (i : ℕ) (e : Export) → i < length exports → e ≡ get_or exports i e → map name_of exports ≡ map name_of (take i exports) ++ e.name ∷ map name_of (drop (i + 1) exports)
+names_parts : (exports : List Export) (i : ℕ) (e : Export) → i < length exports → e ≡ get_or exports i e
+    → map name_of exports ≡ map name_of (take i exports) ++ e.name ∷ map name_of (drop (i + 1) exports)
 names_parts exports i e h is =
-    let rest : drop i exports ≡ e ∷ drop (i + 1) exports = rw add-one (drop-cons exports i e h) ∙ ap (λ x. x ∷ drop (i + 1) exports) (sym is) in
-    ap (map name_of) (sym (take-append-drop i exports)) ∙ map-append name_of (take i exports) (drop i exports) ∙ ap (λ l. map name_of (take i exports) ++ map name_of l) rest
+    let rest : drop i exports ≡ e ∷ drop (i + 1) exports = rw add-one (drop-cons exports i e h)
+    ∙ ap (λ x. x ∷ drop (i + 1) exports) (sym is) in
+    ap (map name_of) (sym (take-append-drop i exports)) ∙ map-append name_of (take i exports) (drop i exports)
+    ∙ ap (λ l. map name_of (take i exports) ++ map name_of l) rest
 
 -- the loop over exports, at the export e of this name
-module _ (exports : List Export) (i : ℕ) (e : Export) (key : List ℕ) (inside : i < length exports) (is : e ≡ get_or exports i e) (named : key ≡ e.name) where
+module _ (exports : List Export) (i : ℕ) (e : Export) (key : List ℕ) (inside : i < length exports) (is : e ≡ get_or exports i e)
+    (named : key ≡ e.name) where
   pub name_told_again : list_any (bytes_eq key) (map name_of (take i exports)) ≡ true → AllDistinct (map name_of exports) → ⊥
   name_told_again h d =
       told_again (map name_of (take i exports)) (map name_of (drop (i + 1) exports)) key h
-      (subst AllDistinct (names_parts exports i e inside is ∙ ap (λ n. map name_of (take i exports) ++ n ∷ map name_of (drop (i + 1) exports)) (sym named)) d)
+      (subst AllDistinct (names_parts exports i e inside is ∙ ap
+      (λ n. map name_of (take i exports) ++ n ∷ map name_of (drop (i + 1) exports)) (sym named)) d)
 
   seen : map name_of (take i exports) ++ key ∷ [] ≡ map name_of (take (i + 1) exports)
   seen = ap (λ n. map name_of (take i exports) ++ n ∷ []) named ∙ sym (names_more exports i e inside is)
 
-  pub name_told_once : list_any (bytes_eq key) (map name_of (take i exports)) ≡ false → AllDistinct (map name_of (take i exports)) → AllDistinct (map name_of (take (i + 1) exports))
+  pub name_told_once : list_any (bytes_eq key) (map name_of (take i exports)) ≡ false → AllDistinct (map name_of (take i exports))
+      → AllDistinct (map name_of (take (i + 1) exports))
   name_told_once h d = subst AllDistinct seen (distinct_more (map name_of (take i exports)) key d h)
 
-  pub name_added : (q : List ℕ) (old new : Bool) → old ≡ list_any (bytes_eq q) (map name_of (take i exports)) → new ≡ cond (is_eq (slice_cmp nat_cmp key q)) true old
+  pub name_added : (q : List ℕ) (old new : Bool) → old ≡ list_any (bytes_eq q) (map name_of (take i exports))
+      → new ≡ cond (is_eq (slice_cmp nat_cmp key q)) true old
       → new ≡ list_any (bytes_eq q) (map name_of (take (i + 1) exports))
   name_added q old new e h = has_more key q (map name_of (take i exports)) old new e h ∙ ap (list_any (bytes_eq q)) seen
 
@@ -114,5 +126,6 @@ not_distinct es never = go (names_distinct es) refl
     go false e = e
 
 -- after the last export
-pub all_told_once : (exports : List Export) (i : ℕ) → length exports ≤ i → AllDistinct (map name_of (take i exports)) → names_distinct exports ≡ true
+pub all_told_once : (exports : List Export) (i : ℕ) → length exports ≤ i → AllDistinct (map name_of (take i exports))
+    → names_distinct exports ≡ true
 all_told_once exports i past d = distinct_tested exports (subst (λ es. AllDistinct (map name_of es)) (take_all i exports past) d)

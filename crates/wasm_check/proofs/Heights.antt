@@ -3,28 +3,22 @@ use Rattle.std.proofs.Common.{arith, ◌≡◌, ℕ, ◌+◌, ◌<◌, List, [],
 use Rattle.std.specs.Prelude.{slice_get}
 use Rattle.std.proofs.lemmas.Bool.{cases_lt}
 use Rattle.std.proofs.lemmas.Option.{slice_get-get_or}
-use Rattle.std.proofs.lemmas.Grind.{common_steps}
 use Rattle.wasm_form.specs.declared.module.Code.{Code}
 use Rattle.wasm_form.specs.declared.module.Module.{Module}
+use Rattle.spec_binary.proofs.Lists.{slice_get-append-left, slice_get-append-last}
 use Rattle.spec_validation.specs.Faults.{body_height}
-use Rattle.wasm_check.specs.Heights.{saturated, height_of, HaveHeights}
+use Rattle.spec_binary.specs.Saturated.{saturated}
+use Rattle.wasm_check.specs.Heights.{height_of, HaveHeights}
 
-at_last : (hs : List ℕ) (h n : ℕ) → n ≡ length hs → slice_get (hs ++ h ∷ []) n ≡ Some h
-at_last hs h n e =
-    let l : n < length (hs ++ h ∷ []) = simp length-append (omega arith) in
-    let g : get_or (hs ++ h ∷ []) n 0 ≡ h = grind (arith, common_steps) in
-    slice_get-get_or (hs ++ h ∷ []) n 0 l ∙ ap (λ (z : ℕ). Some z) g
-
-before_last : (hs : List ℕ) (h n : ℕ) → n < length hs → slice_get (hs ++ h ∷ []) n ≡ slice_get hs n
-before_last hs h n e =
-    let l : n < length (hs ++ h ∷ []) = simp length-append (omega arith) in
-    let g : get_or (hs ++ h ∷ []) n 0 ≡ get_or hs n 0 = grind (arith, common_steps) in
-    slice_get-get_or (hs ++ h ∷ []) n 0 l ∙ ap (λ (z : ℕ). Some z) g ∙ sym (slice_get-get_or hs n 0 e)
-
-pub have_more : (m : Module) (heights more : List ℕ) (h n : ℕ) (c : Code) → n < length m.codes → c ≡ get_or m.codes n c → body_height m n c ≡ Some h → more ≡ heights ++ saturated h ∷ [] → HaveHeights m n heights → HaveHeights m (n + 1) more
+pub have_more : (m : Module) (heights more : List ℕ) (h n : ℕ) (c : Code) → n < length m.codes → c ≡ get_or m.codes n c
+    → body_height m n c ≡ Some h → more ≡ heights ++ saturated h ∷ [] → HaveHeights m n heights → HaveHeights m (n + 1) more
 have_more m heights more h n c inside is high e have = record {
   as_many = rw e (simp length-append (omega (arith, have.as_many)));
-  each = λ k lt. rw e (elim (cases_lt k n) [ inl before ↦ before_last heights (saturated h) k (omega (arith, have.as_many)) ∙ have.each k before | inr past ↦ last k (omega arith) ]);
+  each = λ k lt. rw e (elim (cases_lt k n) [
+    | inl before ↦ slice_get-append-left heights (saturated h ∷ []) k (omega (arith, have.as_many)) ∙ have.each k
+        before
+    | inr past ↦ last k (omega arith)
+  ]);
 }
   where
     found : slice_get m.codes n ≡ Some c
@@ -34,4 +28,4 @@ have_more m heights more h n c inside is high e have = record {
     high_of = rw (found, high) refl
 
     last : (k : ℕ) → k ≡ n → slice_get (heights ++ saturated h ∷ []) k ≡ height_of m k
-    last k same = rw same (at_last heights (saturated h) n (sym have.as_many) ∙ sym high_of)
+    last k same = rw same (slice_get-append-last heights (saturated h) n (sym have.as_many) ∙ sym high_of)

@@ -4,3 +4,4 @@ pub mod Distinct
 pub mod Contexts
 pub mod Heights
 pub mod Valid
+pub mod ConstantTypes

@@ -8,7 +8,8 @@ use Rattle.std.proofs.lemmas.Option.{slice_get-get_or}
 use Rattle.wasm_form.specs.declared.types.FuncType.{FuncType}
 use Rattle.wasm_form.specs.declared.module.Module.{Module}
 use Rattle.spec_binary.specs.IndexSpaces.{function_space}
-use Rattle.spec_validation.specs.Faults.{is_type, type_of_function}
+use Rattle.spec_validation.specs.Faults.{is_type}
+use Rattle.spec_binary.specs.Indices.{function_type}
 use Rattle.spec_validation.proofs.Parts.{parts_fit, function_types}
 use Rattle.wasm_check.specs.Heights.{IsChecked}
 
@@ -20,7 +21,8 @@ all_at p xs i d lt all = go (p (get_or xs i d)) refl
     go false e = absurd (let h = list_all_at p xs i d lt e in cc)
 
 -- the type of a function, where the functions are kept by the numbers of their types
-module _ (m now : Module) (functions heights : List ℕ) (f n : ℕ) (checked : IsChecked m functions heights) (view : m ≡ now) (inside : f < length (function_space now)) (is : n ≡ get_or functions f n) where
+module _ (m now : Module) (functions heights : List ℕ) (f n : ℕ) (checked : IsChecked m functions heights) (view : m ≡ now)
+    (inside : f < length (function_space now)) (is : n ≡ get_or functions f n) where
   within : f < length functions
   within = rw (checked.space, view) inside
 
@@ -30,8 +32,10 @@ module _ (m now : Module) (functions heights : List ℕ) (f n : ℕ) (checked : 
       let low : nat_lt n (length m.types) ≡ true = ap (is_type m) is ∙ all_at (is_type m) functions f n within all in
       ltb-true n (length m.types) low
 
-  pub type_found : (types : List FuncType) (ty : FuncType) → types ≡ m.types → ty ≡ get_or types n ty → Some ty ≡ type_of_function now f
+  pub type_found : (types : List FuncType) (ty : FuncType) → types ≡ m.types → ty ≡ get_or types n ty → Some ty ≡ function_type now f
   type_found types ty same found =
-      let one : slice_get (function_space m) f ≡ Some n = rw (← checked.space) (slice_get-get_or functions f n within ∙ ap (λ (k : ℕ). Some k) (sym is)) in
-      let two : slice_get m.types n ≡ Some ty = rw (← same) (slice_get-get_or types n ty (rw same type_number) ∙ ap (λ (x : FuncType). Some x) (sym found)) in
+      let one : slice_get (function_space m) f ≡ Some n = rw (← checked.space)
+      (slice_get-get_or functions f n within ∙ ap (λ (k : ℕ). Some k) (sym is)) in
+      let two : slice_get m.types n ≡ Some ty = rw (← same)
+      (slice_get-get_or types n ty (rw same type_number) ∙ ap (λ (x : FuncType). Some x) (sym found)) in
       rw (← view, one, two) refl

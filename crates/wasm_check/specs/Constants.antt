@@ -1,57 +1,52 @@
--- The values of constant expressions (WebAssembly Core 2.0, section 3.3.10).
-use Rattle.std.specs.Prelude.{ℕ, Bool, false, List, [], ◌∷◌, slice_get, Option, Some, None}
-use Rattle.std.specs.Int.{cast_unsigned, w32, w64}
-use Rattle.wasm_form.specs.declared.types.ValType.TheVariants.{FuncRef}
+-- What the answer for a constant expression stands for, and its type (WebAssembly Core 2.0, section 3.3.10).
+use Rattle.std.specs.Prelude.{◌≡◌, ℕ, ◌<◌, ◌^◌, List, [], ◌∷◌, length, slice_get, Option, Some, None, IfSome, IsSomeAnd}
+use Rattle.wasm_form.specs.declared.types.ValType.{ValType}
+use Rattle.wasm_form.specs.declared.types.ValType.TheVariants.{I32, I64, FuncRef}
 use Rattle.wasm_form.specs.declared.types.GlobalType.{GlobalType}
 use Rattle.wasm_form.specs.declared.instr.Instr.{Instr, out-Instr}
 use Rattle.wasm_form.specs.declared.instr.Instr.TheOpen as Open
 use Rattle.wasm_form.specs.declared.instr.Expr.{Expr}
 use Rattle.wasm_form.specs.declared.module.Module.{Module}
-use Rattle.wasm_opcode.specs.declared.index.IndexForm.{IndexForm}
-use Rattle.wasm_opcode.specs.declared.index.IndexForm.TheVariants.{RefFunc, GlobalGet}
-use Rattle.wasm_opcode.specs.Index.{index_form}
+use Rattle.wasm_form.specs.declared.runtime.Ref.{Ref}
+use Rattle.wasm_runtime.specs.declared.Value.{Value}
+use Rattle.wasm_runtime.specs.declared.Value.TheVariants as values
 use Rattle.spec_binary.specs.Options.{◌>>=◌}
-use Rattle.spec_binary.specs.SameTypes.{same_type}
-use Rattle.spec_binary.specs.IndexSpaces.{imports_of, globals_in}
+use Rattle.spec_binary.specs.IndexSpaces.{imports_of, globals_in, function_space}
 use Rattle.wasm_check.specs.declared.value.Constant.{Constant}
 use Rattle.wasm_check.specs.declared.value.Constant.TheVariants.{Num, Func}
 
--- ref.func, or global.get where the imported globals have these numbers
-abbrev pub index_value : List ℕ → IndexForm → ℕ → Option Constant
-index_value imported RefFunc f = Some (Func (Some f))
-index_value imported GlobalGet g = slice_get imported g >>= λ n. Some (Num n)
-index_value imported _ n = None
+-- a constant as a value, over what function numbers refer to
+abbrev pub value_of : (ℕ → Option Ref) → Constant → Option Value
+value_of functions (Num n) = Some (values.Num n)
+value_of functions (Func None) = Some (values.Func None)
+value_of functions (Func (Some f)) = functions f >>= λ r. Some (values.Func (Some r))
 
--- the value of a constant instruction; a number is its bits
-abbrev pub step_value : List ℕ → Open.Instr-F Instr Expr → Option Constant
-step_value imported (Open.I32Const n) = Some (Num (cast_unsigned w32 n))
-step_value imported (Open.I64Const n) = Some (Num (cast_unsigned w64 n))
-step_value imported (Open.RefNull t) = Some (Func None)
-step_value imported (Open.Index op n) = index_form op >>= λ f. index_value imported f n
-step_value imported _ = None
+-- whatever function numbers refer to, this is the value
+abbrev pub StandsFor : Option Constant → ((ℕ → Option Ref) → Option Value) → Type 0
+StandsFor constant value = (functions : ℕ → Option Ref) → value functions ≡ (constant >>= value_of functions)
 
--- the value of a constant expression, which is one constant instruction
-abbrev pub constant_value : List ℕ → List Instr → Option Constant
-constant_value imported (i ∷ []) = step_value imported (out-Instr i)
-constant_value imported _ = None
+-- a constant of a type: a number of 32 bits, any number, or null or a function of the module; nothing is said of the types that
+-- are not supported
+abbrev pub IsOfType : Module → ValType → Constant → Type 0
+IsOfType m I32 (Num n) = n < 2 ^ 32
+IsOfType m I32 (Func f) = ⊥
+IsOfType m I64 (Num n) = Unit {0}
+IsOfType m I64 (Func f) = ⊥
+IsOfType m FuncRef (Num n) = ⊥
+IsOfType m FuncRef (Func f) = IfSome f (λ n. n < length (function_space m))
+IsOfType m _ c = Unit {0}
 
--- it gets an imported global of a reference type, whose value is no number
-abbrev pub is_reference : Option GlobalType → Bool
-is_reference None = false
-is_reference (Some ty) = same_type ty.value FuncRef
+-- the imported globals have numbers of their types
+abbrev pub AreOfTypes : Module → List ℕ → Type 0
+AreOfTypes m numbers = (g : ℕ) (ty : GlobalType) (n : ℕ) → slice_get (imports_of globals_in m.imports) g ≡ Some ty
+    → slice_get numbers g ≡ Some n
+    → IsOfType m ty.value (Num n)
 
-abbrev pub gets_reference_by : Module → IndexForm → ℕ → Bool
-gets_reference_by m GlobalGet g = is_reference (slice_get (imports_of globals_in m.imports) g)
-gets_reference_by m _ g = false
+-- an i32.const gives a number of 32 bits
+abbrev pub GivesWord : Open.Instr-F Instr Expr → Option Constant → Type 0
+GivesWord (Open.I32Const n) c = IsSomeAnd c (λ k. (number : ℕ) → k ≡ Num number → number < 2 ^ 32)
+GivesWord _ c = Unit {0}
 
-abbrev pub gets_reference_with : Module → Option IndexForm → ℕ → Bool
-gets_reference_with m None n = false
-gets_reference_with m (Some f) n = gets_reference_by m f n
-
-abbrev pub gets_reference_step : Module → Open.Instr-F Instr Expr → Bool
-gets_reference_step m (Open.Index op n) = gets_reference_with m (index_form op) n
-gets_reference_step m _ = false
-
-abbrev pub gets_reference : Module → List Instr → Bool
-gets_reference m (i ∷ []) = gets_reference_step m (out-Instr i)
-gets_reference m _ = false
+abbrev pub GivesWordIn : List Instr → Option Constant → Type 0
+GivesWordIn (i ∷ []) c = GivesWord (out-Instr i) c
+GivesWordIn _ c = Unit {0}

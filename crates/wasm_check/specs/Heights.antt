@@ -1,14 +1,11 @@
 -- The heights of bodies, as they are kept.
-use Rattle.std.specs.Prelude.{◌≡◌, ℕ, ◌-◌, ◌^◌, ◌<◌, min, List, length, slice_get, Option, Some, None}
+use Rattle.std.specs.Prelude.{◌≡◌, ℕ, ◌<◌, List, length, slice_get, Option, Some, None}
 use Rattle.wasm_form.specs.declared.module.Module.{Module}
+use Rattle.spec_binary.specs.Saturated.{saturated}
 use Rattle.spec_binary.specs.Options.{◌>>=◌}
 use Rattle.spec_binary.specs.IndexSpaces.{function_space}
 use Rattle.spec_binary.specs.WellFormed.{IsWellFormed}
 use Rattle.spec_validation.specs.Faults.{body_height, fault}
-
--- the number, or the greatest one of 32 bits
-abbrev pub saturated : ℕ → ℕ
-saturated n = min n (2 ^ 32 - 1)
 
 -- the height of a body, by its number
 abbrev pub height_of : Module → ℕ → Option ℕ

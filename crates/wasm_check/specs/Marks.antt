@@ -1,19 +1,15 @@
 -- Marks of functions, by their indices.
-use Rattle.std.specs.Prelude.{◌≡◌, ℕ, ◌<◌, Bool, true, false, ◌||◌, List, length, get_or, slice_get, Option, Some, None}
+use Rattle.std.specs.Prelude.{◌≡◌, ℕ, ◌<◌, Bool, true, false, ◌||◌, List, length, get_or, slice_get, Option, Some}
 use Rattle.wasm_form.specs.declared.module.Module.{Module}
 use Rattle.wasm_opcode.specs.declared.index.IndexForm.{IndexForm}
 use Rattle.wasm_opcode.specs.declared.index.IndexForm.TheVariants.{RefFunc}
 use Rattle.spec_validation.specs.Faults.{refers}
+use Rattle.wasm_typing.specs.Contexts.{is_marked}
 
 -- ref.func
 abbrev pub refers_form : Option IndexForm → Bool
 refers_form (Some RefFunc) = true
 refers_form _ = false
-
--- there is a mark at this index
-abbrev pub is_marked : Option Bool → Bool
-is_marked None = false
-is_marked (Some b) = b
 
 -- the functions of this kind are marked beside those that were
 pub record Adds (kind : ℕ → Bool) (old new : List Bool) : Type 0 where

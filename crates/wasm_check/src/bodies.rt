@@ -2,15 +2,16 @@
 ghost use Rattle.std.specs.Prelude.{◌≡◌, ◌++◌, ◌<◌, ◌^◌, ◌∷◌, [], length, Some, IfOk, OnOk};
 ghost use Rattle.spec_binary.specs.IndexSpaces.{memory_space};
 ghost use Rattle.spec_validation.specs.Typing.{height};
-ghost use Rattle.wasm_typing.specs.Answers.{Answers};
+ghost use Rattle.wasm_typing.specs.Answers.{Obtains};
 ghost use Rattle.spec_validation.specs.Faults as validation;
-ghost use Rattle.wasm_check.specs.Answers.{Tells};
+ghost use Rattle.wasm_check.specs.Answers.{ChecksTo};
 ghost use Rattle.wasm_check.specs.Spaces.{AreSpaces};
 ghost use Rattle.wasm_check.specs.Marks.{AreMarks};
-ghost use Rattle.wasm_check.specs.Heights.{saturated, HaveHeights};
+ghost use Rattle.spec_binary.specs.Saturated.{saturated};
+ghost use Rattle.wasm_check.specs.Heights.{HaveHeights};
 
-use crate::fault::CheckFault;
 use crate::spaces::Spaces;
+use spec_validation::CheckFault;
 use std::alloc::Global;
 use wasm_form::{Code, FuncType, Memory, Module};
 use wasm_typing::{Env, TypingFault, check_body};
@@ -44,7 +45,7 @@ fn height_as(
 ) -> Result<usize, TypingFault>
     requires spaces { AreSpaces m.now spaces.now }
     requires marks { AreMarks m.now refers.now }
-    ensures { Answers result (height (validation.body_context m.now f.now c.now) c.now.body.list) }
+    ensures { Obtains result (height (validation.body_context m.now f.now c.now) c.now.body.list) }
 {
     let env = Env {
         types: m.types.items(),
@@ -73,7 +74,7 @@ fn body_typed(
 ) -> Result<usize, CheckFault>
     requires spaces { AreSpaces m.now spaces.now }
     requires marks { AreMarks m.now refers.now }
-    ensures tells { Tells result (validation.body_typed m.now n c.now) }
+    ensures tells { ChecksTo result (validation.body_typed m.now n c.now) }
     ensures height { IfOk result (λ h. validation.body_height m.now n c.now ≡ Some h) }
 {
     let Some(t) = m.funcs.items().get(n as usize) else {
@@ -106,7 +107,7 @@ pub(crate) fn bodies_typed(
     requires count { length m.now.codes < 2 ^ 32 }
     requires spaces { AreSpaces m.now spaces.now }
     requires marks { AreMarks m.now refers.now }
-    ensures tells { Tells result (validation.first_in (validation.body_typed m.now) 0 m.now.codes) }
+    ensures tells { ChecksTo result (validation.first_in (validation.body_typed m.now) 0 m.now.codes) }
     ensures heights { IfOk result (λ v. HaveHeights m.now (length m.now.codes) v.items) }
 {
     let codes = m.codes.items();

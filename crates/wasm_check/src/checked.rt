@@ -2,13 +2,13 @@
 ghost use Rattle.std.specs.Prelude.{◌≡◌, ◌<◌, length, Some, None, IfOk, IfErr, OnOk};
 ghost use Rattle.spec_binary.specs.WellFormed.{IsWellFormed};
 ghost use Rattle.spec_binary.specs.IndexSpaces.{function_space};
-ghost use Rattle.spec_validation.specs.Faults.{support_fault, fault, type_of_function};
-ghost use Rattle.wasm_check.specs.Answers.{Tells, IsFirst};
+ghost use Rattle.spec_validation.specs.Faults.{support_fault, fault};
+ghost use Rattle.spec_binary.specs.Indices.{function_type};
+ghost use Rattle.wasm_check.specs.Answers.{ChecksTo, IsFirst};
 ghost use Rattle.wasm_check.specs.Inside.{AreSupported};
 ghost use Rattle.wasm_check.specs.Heights.{height_of, IsChecked};
 
 use crate::bodies::bodies_typed;
-use crate::fault::CheckFault;
 use crate::fields::fields_fit;
 use crate::inside::bodies_supported;
 use crate::refers::refers_of;
@@ -17,6 +17,7 @@ use crate::support::{
     elems_supported, functions_supported, globals_supported, imports_supported, supported_types,
     tables_supported,
 };
+use spec_validation::CheckFault;
 use std::alloc::Global;
 use std::marker::Model;
 use wasm_form::{FuncType, Module};
@@ -24,7 +25,7 @@ use wasm_form::{FuncType, Module};
 /// A well formed module without a fault. Contracts see it as the module.
 #[derive(Drop)]
 pub struct Checked {
-    module: Module,
+    wasm: Module,
     functions: Vec<u32>,
     heights: Vec<u32>,
 }
@@ -38,9 +39,9 @@ impl Model for Checked {
 
     ghost coded = { modules.the_row.coded };
 
-    ghost view = { λ a. a.module };
+    ghost view = { λ a. a.wasm };
 
-    ghost invariant = { λ a. IsChecked a.module a.functions.items a.heights.items };
+    ghost invariant = { λ a. IsChecked a.wasm a.functions.items a.heights.items };
 }
 
 impl Checked {
@@ -50,7 +51,7 @@ impl Checked {
         ensures formed { IsWellFormed self.now }
         ensures valid { fault self.now ≡ None }
     {
-        &self.module
+        &self.wasm
     }
 
     /// The module itself, which is well formed and has no fault.
@@ -59,15 +60,15 @@ impl Checked {
         ensures formed { IsWellFormed self }
         ensures valid { fault self ≡ None }
     {
-        self.module
+        self.wasm
     }
 
     /// The type of a function, by its index.
     pub fn func_type(&self, f: u32) -> &FuncType
         requires { f < length (function_space self.now) }
-        ensures { Some result.now ≡ type_of_function self.now f }
+        ensures { Some result.now ≡ function_type self.now f }
     {
-        &self.module.types.items()[self.functions[f as usize] as usize]
+        &self.wasm.types.items()[self.functions[f as usize] as usize]
     }
 
     /// The height of a body, by its number, or 4,294,967,295 if it is greater.
@@ -90,7 +91,7 @@ pub struct CheckRefused {
 fn module_supported(m: &Module, types: &[bool]) -> Result<(), CheckFault>
     requires formed { IsWellFormed m.now }
     requires types { AreSupported m.now types.now }
-    ensures { Tells result (support_fault m.now) }
+    ensures { ChecksTo result (support_fault m.now) }
 {
     imports_supported(m, types)?;
     functions_supported(m, types)?;
@@ -103,7 +104,7 @@ fn module_supported(m: &Module, types: &[bool]) -> Result<(), CheckFault>
 // The functions of the module by the numbers of their types, and the heights of its bodies.
 fn first_fault(alloc: Global, m: &Module) -> Result<(Vec<u32>, Vec<u32>), CheckFault>
     requires { IsWellFormed m.now }
-    ensures tells { Tells result (fault m.now) }
+    ensures tells { ChecksTo result (fault m.now) }
     ensures checked { IfOk result (λ kept. IsChecked m.now kept.0.items kept.1.items) }
 {
     let types = supported_types(alloc, m)?;
@@ -126,10 +127,10 @@ pub fn check(alloc: Global, m: Module) -> Result<Checked, CheckRefused>
 {
     match first_fault(alloc, &m) {
         Ok((functions, heights)) => Ok(Checked {
-            module: m,
+            wasm: m,
             functions,
             heights,
         }),
-        Err(fault) => Err(CheckRefused { fault, module: m }),
+        Err(fault) => Err(CheckRefused { module: m, fault }),
     }
 }

@@ -1,9 +1,12 @@
 // The values of constant expressions (section 3.3.10).
-ghost use Rattle.std.specs.Prelude.{◌≡◌, length, is_some, not, IsTrue, IfOk, Some};
+ghost use Rattle.std.specs.Prelude.{◌≡◌, length, is_some, IsTrue, IfOk, Some};
+ghost use Rattle.wasm_form.specs.declared.types.ValType.{ValType};
 ghost use Rattle.wasm_form.specs.declared.instr.Instr.{out-Instr};
 ghost use Rattle.spec_binary.specs.IndexSpaces.{imports_of, globals_in};
-ghost use Rattle.spec_validation.specs.Faults as validation;
-ghost use Rattle.wasm_check.specs.Constants.{index_value, step_value, constant_value, gets_reference};
+ghost use Rattle.spec_validation.specs.Faults.{constant_type};
+ghost use Rattle.spec_runtime.specs.Constants as constants;
+ghost use Rattle.spec_runtime.specs.Constants.{constant_of, numbered_globals};
+ghost use Rattle.wasm_check.specs.Constants.{StandsFor, IsOfType, AreOfTypes, GivesWord, GivesWordIn};
 
 use crate::value::Constant;
 use std::alloc::Global;
@@ -11,7 +14,7 @@ use wasm_form::{Expr, Instr, Memory, Module};
 use wasm_opcode::{IndexForm, index_form};
 
 fn index_constant(form: IndexForm, n: u32, imported: &[u64]) -> Option<Constant>
-    ensures { result ≡ index_value imported.now form n }
+    ensures { StandsFor result (λ functions. constants.index_constant functions (numbered_globals imported.now) form n) }
 {
     match form {
         IndexForm::RefFunc => Some(Constant::Func(Some(n))),
@@ -23,8 +26,9 @@ fn index_constant(form: IndexForm, n: u32, imported: &[u64]) -> Option<Constant>
     }
 }
 
-fn step_constant(i: &Instr, imported: &[u64]) -> Option<Constant>
-    ensures { result ≡ step_value imported.now (out-Instr i.now) }
+fn instruction_constant(i: &Instr, imported: &[u64]) -> Option<Constant>
+    ensures value { StandsFor result (λ functions. constants.instruction_constant functions (numbered_globals imported.now) (out-Instr i.now)) }
+    ensures word { GivesWord (out-Instr i.now) result }
 {
     match i {
         Instr::I32Const(n) => Some(Constant::Num(n.cast_unsigned() as u64)),
@@ -38,23 +42,25 @@ fn step_constant(i: &Instr, imported: &[u64]) -> Option<Constant>
     }
 }
 
-fn value_of(instrs: &[Instr], imported: &[u64]) -> Option<Constant>
-    ensures { result ≡ constant_value imported.now instrs.now }
+fn constant_in(instrs: &[Instr], imported: &[u64]) -> Option<Constant>
+    ensures value { StandsFor result (λ functions. constants.constant_in functions (numbered_globals imported.now) instrs.now) }
+    ensures word { GivesWordIn instrs.now result }
 {
     match instrs {
-        [i] => step_constant(i, imported),
+        [i] => instruction_constant(i, imported),
         _ => None,
     }
 }
 
-/// The value of a constant expression of the module, where the imported globals have these numbers. It takes no memory so far, since an
-/// expression is one instruction.
+/// The value of a constant expression of the module, where the imported globals have these numbers, in order: the
+/// number, the function by its index or null, or the number of the imported global. It takes no memory so far, since
+/// an expression is one instruction.
 pub fn constant(_alloc: Global, m: &Module, e: &Expr, imported: &[u64]) -> Result<Constant, Memory>
-    requires typed { IsTrue (is_some (validation.constant_type m.now e.now.list)) }
+    requires typed { IsTrue (is_some (constant_type m.now e.now.list)) }
     requires numbers { length imported.now ≡ length (imports_of globals_in m.now.imports) }
-    requires number { IsTrue (not (gets_reference m.now e.now.list)) }
-    ensures { IfOk result (λ value. constant_value imported.now e.now.list ≡ Some value) }
+    ensures value { IfOk result (λ c. StandsFor (Some c) (λ functions. constant_of functions (numbered_globals imported.now) e.now)) }
+    ensures typed { (t : ValType) → constant_type m.now e.now.list ≡ Some t → AreOfTypes m.now imported.now → IfOk result (IsOfType m.now t) }
 {
     let _module = m;
-    Ok(value_of(e.list.items(), imported).unwrap())
+    Ok(constant_in(e.list.items(), imported).unwrap())
 }

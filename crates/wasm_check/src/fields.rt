@@ -7,12 +7,12 @@ ghost use Rattle.wasm_form.specs.declared.types.ValType.TheVariants.{FuncRef};
 ghost use Rattle.wasm_form.specs.declared.instr.Instr.{out-Instr};
 ghost use Rattle.spec_binary.specs.IndexSpaces.{function_space, table_space, memory_space};
 ghost use Rattle.spec_validation.specs.Faults as validation;
-ghost use Rattle.wasm_check.specs.Answers.{Tells, field_of};
+ghost use Rattle.wasm_check.specs.Answers.{ChecksTo};
 ghost use Rattle.wasm_check.specs.Spaces.{AreSpaces};
 
-use crate::fault::{CheckFault, Field};
 use crate::names::are_distinct;
 use crate::spaces::Spaces;
+use spec_validation::{CheckFault, Field};
 use std::alloc::Global;
 use wasm_form::{
     Data, DataMode, Elem, ElemItems, ElemMode, ExportDesc, Expr, FuncType, GlobalType, ImportDesc,
@@ -28,7 +28,7 @@ const MOST_PAGES: u32 = 65_536;
 
 // The part of the module fits, or else it is the fault.
 fn fits(holds: bool, field: Field) -> Result<(), CheckFault>
-    ensures { Tells result (validation.unless holds (validation.BadModule (field_of field))) }
+    ensures { ChecksTo result (validation.unless holds (CheckFault.BadModule field)) }
 {
     if holds {
         Ok(())
@@ -236,10 +236,10 @@ fn exports_fit(m: &Module, spaces: &Spaces) -> bool
 }
 
 // The type of a function by its index.
-pub(crate) fn type_of_function<'a>(m: &'a Module, functions: &[u32], f: u32) -> Option<&'a FuncType>
+fn function_type<'a>(m: &'a Module, functions: &[u32], f: u32) -> Option<&'a FuncType>
     requires { functions.now ≡ function_space m.now }
-    ensures some { IfSome result (λ ty. validation.type_of_function m.now f ≡ Some ty.now) }
-    ensures none { IfNone result (validation.type_of_function m.now f ≡ None) }
+    ensures some { IfSome result (λ ty. indices.function_type m.now f ≡ Some ty.now) }
+    ensures none { IfNone result (indices.function_type m.now f ≡ None) }
 {
     match functions.get(f as usize) {
         Some(t) => m.types.items().get(*t as usize),
@@ -259,7 +259,7 @@ fn start_fits(m: &Module, spaces: &Spaces) -> bool
 {
     match m.start {
         None => true,
-        Some(f) => match type_of_function(m, &spaces.functions, f) {
+        Some(f) => match function_type(m, &spaces.functions, f) {
             Some(ty) => is_nullary(ty),
             None => false,
         },
@@ -379,7 +379,7 @@ fn memories_bounded(m: &Module, spaces: &Spaces) -> bool
 /// The part of the module that is not valid.
 pub(crate) fn fields_fit(alloc: Global, m: &Module, spaces: &Spaces) -> Result<(), CheckFault>
     requires { AreSpaces m.now spaces.now }
-    ensures { Tells result (validation.module_fault m.now) }
+    ensures { ChecksTo result (validation.module_fault m.now) }
 {
     fits(imports_fit(m), Field::Import)?;
     fits(functions_fit(m), Field::Function)?;

@@ -3,11 +3,11 @@ ghost use Rattle.std.specs.Prelude.{◌≡◌, ◌+◌, ◌<◌, ◌^◌, length
 ghost use Rattle.std.specs.List.{list_all};
 ghost use Rattle.wasm_opcode.specs.Ranges as ranges;
 ghost use Rattle.spec_validation.specs.Faults as validation;
-ghost use Rattle.wasm_check.specs.Answers.{Tells, place_of};
+ghost use Rattle.wasm_check.specs.Answers.{ChecksTo};
 ghost use Rattle.wasm_check.specs.Inside.{unsupported_else, AreSupported};
 
-use crate::fault::{CheckFault, Place};
 use crate::support::{are_supported, is_supported, supported_at, type_supported};
+use spec_validation::{CheckFault, Place};
 use wasm_form::{BlockType, Code, Expr, Group, Instr, Module};
 
 fn within(low: u8, high: u8, opcode: u8) -> bool
@@ -30,7 +30,7 @@ fn is_float_opcode(opcode: u8) -> bool
 
 // The opcode is supported, or else it is the fault.
 fn opcode_supported(function: u32, holds: bool, opcode: u32) -> Result<(), CheckFault>
-    ensures { Tells result (validation.unless holds (validation.UnsupportedOp function opcode)) }
+    ensures { ChecksTo result (validation.unless holds (CheckFault.UnsupportedOp function opcode)) }
 {
     if holds {
         Ok(())
@@ -52,7 +52,7 @@ fn block_supported(m: &Module, types: &[bool], t: &BlockType) -> bool
 
 fn block_supported_at(m: &Module, types: &[bool], n: u32, t: &BlockType) -> Result<(), CheckFault>
     requires { AreSupported m.now types.now }
-    ensures { Tells result (validation.unless (validation.block_supported m.now t.now) (validation.UnsupportedType (validation.InBody n))) }
+    ensures { ChecksTo result (validation.unless (validation.block_supported m.now t.now) (CheckFault.UnsupportedType (Place.Body n))) }
 {
     supported_at(block_supported(m, types, t), Place::Body(n))
 }
@@ -61,7 +61,7 @@ fn block_supported_at(m: &Module, types: &[bool], n: u32, t: &BlockType) -> Resu
 #[tactic(auto, using(crate::proofs::Unsupported::unsupported_laws))]
 fn instr_supported(m: &Module, types: &[bool], n: u32, i: &Instr) -> Result<(), CheckFault>
     requires { AreSupported m.now types.now }
-    ensures { Tells result (validation.unsupported m.now n i.now) }
+    ensures { ChecksTo result (validation.unsupported m.now n i.now) }
 {
     match i {
         Instr::Plain(op) => opcode_supported(n, !is_float_opcode(*op), *op as u32),
@@ -105,7 +105,7 @@ fn instr_supported(m: &Module, types: &[bool], n: u32, i: &Instr) -> Result<(), 
 
 // A second opcode: those of saturating truncations are below 8.
 fn second_supported(n: u32, op: u32) -> Result<(), CheckFault>
-    ensures { Tells result (validation.unless (nat_le 8 op) (validation.UnsupportedOp n (0xFC00 + op))) }
+    ensures { ChecksTo result (validation.unless (nat_le 8 op) (CheckFault.UnsupportedOp n (0xFC00 + op))) }
 {
     if op >= 8 {
         return Ok(());
@@ -124,7 +124,7 @@ fn else_supported(
     other: &Option<Expr>,
 ) -> Result<(), CheckFault>
     requires { AreSupported m.now types.now }
-    ensures { Tells result (unsupported_else m.now n other.now) }
+    ensures { ChecksTo result (unsupported_else m.now n other.now) }
 {
     match other {
         Some(e) => instrs_supported(m, types, n, e.list.items()),
@@ -135,7 +135,7 @@ fn else_supported(
 #[cycle(scan)]
 fn instrs_supported(m: &Module, types: &[bool], n: u32, instrs: &[Instr]) -> Result<(), CheckFault>
     requires { AreSupported m.now types.now }
-    ensures { Tells result (validation.unsupported_of m.now n instrs.now) }
+    ensures { ChecksTo result (validation.unsupported_of m.now n instrs.now) }
 {
     for i in instrs {
         instr_supported(m, types, n, i)?;
@@ -151,7 +151,7 @@ fn groups_supported(groups: &[Group]) -> bool
 
 fn body_supported(m: &Module, types: &[bool], n: u32, c: &Code) -> Result<(), CheckFault>
     requires { AreSupported m.now types.now }
-    ensures { Tells result (validation.body_supported m.now n c.now) }
+    ensures { ChecksTo result (validation.body_supported m.now n c.now) }
 {
     supported_at(groups_supported(c.locals.items()), Place::Body(n))?;
     instrs_supported(m, types, n, c.body.list.items())
@@ -160,7 +160,7 @@ fn body_supported(m: &Module, types: &[bool], n: u32, c: &Code) -> Result<(), Ch
 pub(crate) fn bodies_supported(m: &Module, types: &[bool]) -> Result<(), CheckFault>
     requires types { AreSupported m.now types.now }
     requires count { length m.now.codes < 2 ^ 32 }
-    ensures { Tells result (validation.first_in (validation.body_supported m.now) 0 m.now.codes) }
+    ensures { ChecksTo result (validation.first_in (validation.body_supported m.now) 0 m.now.codes) }
 {
     let codes = m.codes.items();
     for n in 0..codes.len() {

@@ -4,18 +4,15 @@
 mod bodies;
 mod checked;
 mod evaluation;
-mod fault;
 mod fields;
 mod inside;
 mod names;
 mod refers;
 mod spaces;
 mod support;
-#[cfg(test)]
-mod tests;
 mod value;
 
 pub use checked::{CheckRefused, Checked, check};
 pub use evaluation::constant;
-pub use fault::{CheckFault, Field, Place};
+pub use spec_validation::{CheckFault, Field, Place};
 pub use value::Constant;

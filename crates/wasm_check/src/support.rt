@@ -2,10 +2,10 @@
 ghost use Rattle.std.specs.Prelude.{◌≡◌, ◌<◌, ◌^◌, length, slice_get, IfOk};
 ghost use Rattle.std.specs.List.{list_all};
 ghost use Rattle.spec_validation.specs.Faults as validation;
-ghost use Rattle.wasm_check.specs.Answers.{Tells, place_of};
+ghost use Rattle.wasm_check.specs.Answers.{ChecksTo};
 ghost use Rattle.wasm_check.specs.Inside.{supported_or, AreSupported};
 
-use crate::fault::{CheckFault, Place};
+use spec_validation::{CheckFault, Place};
 use std::alloc::Global;
 use wasm_form::{
     Elem, ElemItems, FuncType, GlobalDef, ImportDesc, Memory, Module, TableType, ValType,
@@ -63,7 +63,7 @@ pub(crate) fn type_supported(m: &Module, types: &[bool], t: u32) -> bool
 
 // The type that stands there is supported, or else it is the fault.
 pub(crate) fn supported_at(holds: bool, place: Place) -> Result<(), CheckFault>
-    ensures { Tells result (validation.unless holds (validation.UnsupportedType (place_of place))) }
+    ensures { ChecksTo result (validation.unless holds (CheckFault.UnsupportedType place)) }
 {
     if holds {
         Ok(())
@@ -87,7 +87,7 @@ fn desc_supported(m: &Module, types: &[bool], desc: &ImportDesc) -> bool
 pub(crate) fn imports_supported(m: &Module, types: &[bool]) -> Result<(), CheckFault>
     requires types { AreSupported m.now types.now }
     requires count { length m.now.imports < 2 ^ 32 }
-    ensures { Tells result (validation.first_in (validation.import_supported m.now) 0 m.now.imports) }
+    ensures { ChecksTo result (validation.first_in (validation.import_supported m.now) 0 m.now.imports) }
 {
     let imports = m.imports.items();
     for n in 0..imports.len() {
@@ -102,7 +102,7 @@ pub(crate) fn imports_supported(m: &Module, types: &[bool]) -> Result<(), CheckF
 pub(crate) fn functions_supported(m: &Module, types: &[bool]) -> Result<(), CheckFault>
     requires types { AreSupported m.now types.now }
     requires count { length m.now.funcs < 2 ^ 32 }
-    ensures { Tells result (validation.first_in (validation.function_supported m.now) 0 m.now.funcs) }
+    ensures { ChecksTo result (validation.first_in (validation.function_supported m.now) 0 m.now.funcs) }
 {
     let funcs = m.funcs.items();
     for n in 0..funcs.len() {
@@ -116,7 +116,7 @@ pub(crate) fn functions_supported(m: &Module, types: &[bool]) -> Result<(), Chec
 
 pub(crate) fn tables_supported(tables: &[TableType]) -> Result<(), CheckFault>
     requires { length tables.now < 2 ^ 32 }
-    ensures { Tells result (validation.first_in validation.table_supported 0 tables.now) }
+    ensures { ChecksTo result (validation.first_in validation.table_supported 0 tables.now) }
 {
     for n in 0..tables.len() {
         supported_at(is_supported(tables[n].elem), Place::Table(n as u32))?;
@@ -126,7 +126,7 @@ pub(crate) fn tables_supported(tables: &[TableType]) -> Result<(), CheckFault>
 
 pub(crate) fn globals_supported(globals: &[GlobalDef]) -> Result<(), CheckFault>
     requires { length globals.now < 2 ^ 32 }
-    ensures { Tells result (validation.first_in validation.global_supported 0 globals.now) }
+    ensures { ChecksTo result (validation.first_in validation.global_supported 0 globals.now) }
 {
     for n in 0..globals.len() {
         supported_at(is_supported(globals[n].ty.value), Place::Global(n as u32))?;
@@ -146,7 +146,7 @@ pub(crate) fn item_type(items: &ElemItems) -> ValType
 
 pub(crate) fn elems_supported(elems: &[Elem]) -> Result<(), CheckFault>
     requires { length elems.now < 2 ^ 32 }
-    ensures { Tells result (validation.first_in validation.elem_supported 0 elems.now) }
+    ensures { ChecksTo result (validation.first_in validation.elem_supported 0 elems.now) }
 {
     for n in 0..elems.len() {
         supported_at(

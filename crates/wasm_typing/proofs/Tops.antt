@@ -1,20 +1,11 @@
 -- Types taken off the top.
-use Rattle.std.proofs.Common.{arith, ◌≡◌, ℕ, ◌≤◌, ◌<◌, List, [], ◌∷◌, ◌++◌, length, drop, refl, Option, Some, None, Bool, true, false, ◌&&◌, length-append, add-one}
+use Rattle.std.proofs.Common.{arith, ◌≡◌, ℕ, List, [], ◌∷◌, ◌++◌, length, drop, refl, Option, Some, None, Bool, true, false, ◌&&◌, length-append, add-one}
 use Rattle.std.specs.Prelude.{reverse, if◌then◌else◌}
-use Rattle.std.proofs.lemmas.List.{length-reverse, reverse-append, drop_all}
+use Rattle.std.proofs.lemmas.List.{reverse-append, drop_all}
 use Rattle.wasm_form.specs.declared.types.ValType.{ValType}
 use Rattle.spec_binary.specs.Options.{◌>>=◌}
 use Rattle.spec_validation.specs.Stacks.{Stack, begins, fits, take_off}
-use Rattle.wasm_typing.specs.Places.{without}
-
-begins_none : (ts : List ValType) (us : List (Option ValType)) (loose : Bool) → 0 < length ts → length us < 1 → loose ≡ begins ts us loose
-begins_none [] us loose h k = absurd (omega arith)
-begins_none (t ∷ ts) [] loose h k = refl
-begins_none (t ∷ ts) (u ∷ us) loose h k = absurd (omega arith)
-
--- over no entries, the floor decides
-pub begins-past : (ts : List ValType) (us : List (Option ValType)) (loose : Bool) → 1 ≤ length ts → length us < 1 → loose ≡ begins (reverse ts) (reverse us) loose
-begins-past ts us loose h k = begins_none (reverse ts) (reverse us) loose (omega (arith, length-reverse ts)) (omega (arith, length-reverse us))
+use Rattle.wasm_typing.specs.States.{without}
 
 drop_nil : (n : ℕ) → drop {A = Option ValType} n [] ≡ []
 drop_nil n = drop_all n [] (omega arith)
@@ -30,7 +21,8 @@ one_more true ts us loose = refl
 one_more false ts us loose = refl
 
 last_first : (ts : List ValType) (t : ValType) (us : List (Option ValType)) (loose : Bool)
-    → take_off (ts ++ t ∷ []) (record { entries = us; loose = loose }) ≡ (take_off (t ∷ []) (record { entries = us; loose = loose }) >>= λ r. take_off ts r)
+    → take_off (ts ++ t ∷ []) (record { entries = us; loose = loose })
+    ≡ (take_off (t ∷ []) (record { entries = us; loose = loose }) >>= λ r. take_off ts r)
 last_first ts t [] true = rw (reverse-append, begins_unknown (reverse ts), drop_nil (length (ts ++ t ∷ [])), drop_nil (length ts)) refl
 last_first ts t [] false = rw reverse-append refl
 last_first ts t (u ∷ us) loose = rw (reverse-append, length-append ts (t ∷ []), add-one) (one_more (fits t u) ts us loose)

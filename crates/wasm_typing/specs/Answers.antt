@@ -4,9 +4,9 @@ use Rattle.wasm_typing.specs.declared.fault.TypingFault.{TypingFault}
 use Rattle.wasm_typing.specs.declared.fault.TypingFault.TheVariants.{Invalid}
 
 -- the value that there is, and Invalid only where there is none; memory may be wanting at any time
-abbrev pub Answers : {A : Type 0} → Result A TypingFault → Option A → Type 0
-Answers (Ok x) found = found ≡ Some x
-Answers (Err e) found = e ≡ Invalid → found ≡ None
+abbrev pub Obtains : {A : Type 0} → Result A TypingFault → Option A → Type 0
+Obtains (Ok x) found = found ≡ Some x
+Obtains (Err e) found = e ≡ Invalid → found ≡ None
 
 -- the same, where the value is left behind
 abbrev pub Leaves : {A : Type 0} → Result Unit TypingFault → A → Option A → Type 0

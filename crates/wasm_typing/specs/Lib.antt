@@ -1,7 +1,7 @@
 pub mod Answers
 pub mod Contexts
 pub mod GroupEnds
-pub mod Places
+pub mod States
 pub mod Layout
 pub mod Blocks
 pub mod Shapes

@@ -1,9 +1,9 @@
 // The instructions of a body, with the blocks inside one another.
 ghost use Rattle.std.specs.Prelude.{◌≡◌};
 ghost use Rattle.spec_validation.specs.Typing.{after, afters, closes, inside as typed_inside, nested, height};
-ghost use Rattle.wasm_typing.specs.Answers.{Leaves, Answers};
+ghost use Rattle.wasm_typing.specs.Answers.{Obtains, Leaves};
 ghost use Rattle.wasm_typing.specs.Contexts.{context_of, signature_of};
-ghost use Rattle.wasm_typing.specs.Places.{Reaches, IsNoted, entered, restarted, labels_of};
+ghost use Rattle.wasm_typing.specs.States.{Reaches, IsNoted, entered, restarted, labels_of};
 ghost use Rattle.wasm_typing.specs.Blocks.{else_of};
 
 use crate::branch::branch_table;
@@ -131,7 +131,7 @@ fn sequence<'a>(scope: &Scope<'a>, at: &mut Stacks<'a>, instrs: &[Instr]) -> Res
 /// The height of a body: the greatest number of values on its stack, those of all open blocks together. It is
 /// `Invalid` exactly where the body has none, and it may want memory at any time.
 pub fn check_body(alloc: Global, env: &Env, body: &[Instr]) -> Result<usize, TypingFault>
-    ensures { Answers result (height (context_of env.now) body.now) }
+    ensures { Obtains result (height (context_of env.now) body.now) }
 {
     let scope = Scope::new(alloc, env)?;
     let mut at = Stacks::new(alloc);

@@ -2,7 +2,7 @@
 ghost use Rattle.std.specs.Prelude.{◌≡◌, slice_get};
 ghost use Rattle.spec_validation.specs.Typing.{lands_with, all_land as all_landed, tabled};
 ghost use Rattle.wasm_typing.specs.Answers.{Leaves};
-ghost use Rattle.wasm_typing.specs.Places.{with_stack, labels_of};
+ghost use Rattle.wasm_typing.specs.States.{with_stack, labels_of};
 
 use crate::fault::TypingFault;
 use crate::stacks::Stacks;

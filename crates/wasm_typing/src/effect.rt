@@ -4,8 +4,8 @@ ghost use Rattle.wasm_form.specs.declared.types.ValType.TheVariants.{I32};
 ghost use Rattle.spec_validation.specs.Stacks.{both as one_type, is_integer_entry as is_integer, choose_one as choice};
 ghost use Rattle.spec_validation.specs.Context.{from_to, given, Gives, Jumps, Drops, Chooses};
 ghost use Rattle.spec_validation.specs.Typing.{shaped, shape_after};
-ghost use Rattle.wasm_typing.specs.Answers.{Answers, Leaves};
-ghost use Rattle.wasm_typing.specs.Places.{with_stack};
+ghost use Rattle.wasm_typing.specs.Answers.{Obtains, Leaves};
+ghost use Rattle.wasm_typing.specs.States.{with_stack};
 
 use crate::fault::TypingFault;
 use crate::stacks::{Stacks, same_type};
@@ -94,7 +94,7 @@ fn choose_one(at: &mut Stacks) -> Result<(), TypingFault>
 
 /// The one type of two entries.
 fn both(first: Option<ValType>, second: Option<ValType>) -> Result<Option<ValType>, TypingFault>
-    ensures { Answers result (one_type first second) }
+    ensures { Obtains result (one_type first second) }
 {
     let Some(t) = first else {
         return Ok(second);

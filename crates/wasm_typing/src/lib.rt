@@ -11,8 +11,6 @@ mod memory;
 mod plain;
 mod scope;
 mod stacks;
-#[cfg(test)]
-mod tests;
 
 pub use body::check_body;
 pub use fault::TypingFault;

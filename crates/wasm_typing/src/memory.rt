@@ -5,7 +5,7 @@ ghost use Rattle.spec_validation.specs.Typing.{shape_after};
 ghost use Rattle.wasm_typing.specs.Answers.{Leaves};
 ghost use Rattle.wasm_typing.specs.Contexts.{context_of};
 ghost use Rattle.wasm_typing.specs.Shapes.{access_shape_of, second_shape_of};
-ghost use Rattle.wasm_typing.specs.Places.{with_stack};
+ghost use Rattle.wasm_typing.specs.States.{with_stack};
 
 use crate::effect::{effect, effect_if, effect_under};
 use crate::fault::TypingFault;

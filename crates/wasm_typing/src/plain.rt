@@ -7,7 +7,7 @@ ghost use Rattle.spec_validation.specs.Typing.{shaped, shape_after};
 ghost use Rattle.wasm_typing.specs.Answers.{Leaves};
 ghost use Rattle.wasm_typing.specs.Contexts.{context_of};
 ghost use Rattle.wasm_typing.specs.Shapes.{plain_shape_of};
-ghost use Rattle.wasm_typing.specs.Places.{with_stack};
+ghost use Rattle.wasm_typing.specs.States.{with_stack};
 
 use crate::effect::{choose, drop_one, effect, effect_if, jump};
 use crate::fault::TypingFault;

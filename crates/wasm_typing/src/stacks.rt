@@ -2,8 +2,8 @@
 ghost use Rattle.std.specs.Prelude.{◌≡◌, ◌<◌, ℕ, List, [], length, reverse, slice_get, OnOk, Some, option_map};
 ghost use Rattle.spec_binary.specs.SameTypes.{same_type as same};
 ghost use Rattle.spec_validation.specs.Stacks.{begins, fits as fits_entry, has as has_types, take_off, put_on, ends_with as holds_exactly, unreachable, pop as popped, holding};
-ghost use Rattle.wasm_typing.specs.Answers.{Answers, Leaves};
-ghost use Rattle.wasm_typing.specs.Places.{Place, with_stack, without, pushed, noted, entered, restarted, left, labels_of, entry_taken, entries_left};
+ghost use Rattle.wasm_typing.specs.Answers.{Obtains, Leaves};
+ghost use Rattle.wasm_typing.specs.States.{TypingState, with_stack, without, pushed, noted, entered, restarted, left, labels_of, entry_taken, entries_left};
 
 use crate::fault::TypingFault;
 use std::alloc::Global;
@@ -65,12 +65,12 @@ pub struct Stacks<'a> {
 }
 
 impl<'a> Model for Stacks<'a> {
-    ghost use Rattle.wasm_typing.specs.Places.{Place};
-    ghost use Rattle.wasm_typing.specs.Layout.{place_of, IsFlat};
+    ghost use Rattle.wasm_typing.specs.States.{TypingState};
+    ghost use Rattle.wasm_typing.specs.Layout.{state_of, IsFlat};
 
-    ghost Value = { Place };
+    ghost Value = { TypingState };
 
-    ghost view = { place_of };
+    ghost view = { state_of };
 
     ghost invariant = { IsFlat };
 }
@@ -147,7 +147,7 @@ impl<'a> Stacks<'a> {
 
     /// Takes one entry of any type off.
     pub fn pop(&mut self) -> Result<Option<ValType>, TypingFault>
-        ensures taken { Answers result (option_map entry_taken (popped self.old.stack.entries self.old.stack.loose)) }
+        ensures taken { Obtains result (option_map entry_taken (popped self.old.stack.entries self.old.stack.loose)) }
         ensures stack { OnOk result (option_map entries_left (popped self.old.stack.entries self.old.stack.loose) ≡ Some self.new.stack.entries) }
         ensures rest { self.new ≡ with_stack self.old (record { entries = self.new.stack.entries; loose = self.old.stack.loose }) }
     {

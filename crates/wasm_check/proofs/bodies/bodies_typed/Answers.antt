@@ -9,5 +9,6 @@ loop-n-preserved c =
     let is : c.index-codes-n.result ≡ get_or c.args.m.now.codes c.loop-n.n c.index-codes-n.result = cc in
     record {
       left = grind (arith, common_steps);
-      heights = have_more c.args.m.now c.loop-n.heights.items c.put_height.new.heights.items c.in_ok-height.height c.loop-n.n c.index-codes-n.result inside is c.in_ok-height.ensures.height c.in_ok-put_height.ensures c.loop-n.invariant.heights;
+      heights = have_more c.args.m.now c.loop-n.heights.items c.put_height.new.heights.items c.in_ok-height.height c.loop-n.n
+          c.index-codes-n.result inside is c.in_ok-height.ensures.height c.in_ok-put_height.ensures c.loop-n.invariant.heights;
     }

@@ -3,4 +3,5 @@ use Rattle.spec_binary.specs.IndexSpaces.{imports_of, functions_in}
 use Rattle.wasm_check.proofs.spaces.functions_of.Given as goal
 
 abbrev pub invariant-loop-import : goal.invariant-loop-import
-invariant-loop-import l = l.functions.items ++ imports_of functions_in (drop l.import-index l.m.imports) ≡ imports_of functions_in l.m.imports
+invariant-loop-import l = l.functions.items ++ imports_of functions_in (drop l.import-index l.m.imports) ≡ imports_of functions_in
+    l.m.imports

@@ -3,4 +3,8 @@ use Rattle.spec_binary.specs.IndexSpaces.{imports_of, memories_in}
 use Rattle.wasm_check.proofs.spaces.imported_memories.Given as goal
 
 abbrev pub invariant-loop-import : goal.invariant-loop-import
-invariant-loop-import l = record { told : l.count + length (imports_of memories_in (drop l.import-index l.imports)) ≡ length (imports_of memories_in l.imports); few : l.count ≤ l.import-index }
+invariant-loop-import l = record {
+  told : l.count + length (imports_of memories_in (drop l.import-index l.imports)) ≡ length
+      (imports_of memories_in l.imports);
+  few : l.count ≤ l.import-index;
+}

@@ -1,7 +1,7 @@
 use Rattle.std.proofs.Common.{◌≡◌, drop}
 use Rattle.spec_validation.specs.Typing.{afters}
 use Rattle.wasm_typing.specs.Contexts.{context_of}
-use Rattle.wasm_typing.specs.Places.{reached, labels_of}
+use Rattle.wasm_typing.specs.States.{reached, labels_of}
 use Rattle.wasm_typing.proofs.body.+body.Given as goal
 
 abbrev pub invariant-sequence-loop-i : goal.invariant-sequence-loop-i

@@ -1,5 +1,5 @@
-use Rattle.wasm_typing.proofs.LayoutLaws.{place-emptied}
+use Rattle.wasm_typing.proofs.LayoutLaws.{state-emptied}
 use Rattle.wasm_typing.proofs.stacks.Stacks.leave_unreachable.Goals as goal
 
 pub returns : goal.returns
-returns c = place-emptied _ _ _ _ _ _ _ c.self.invariant c.self.view_is c.truncate.ensures.items
+returns c = state-emptied _ _ _ _ _ _ _ c.self.invariant c.self.view_is c.truncate.ensures.items

@@ -1,6 +1,6 @@
 use Rattle.std.proofs.Common.{◌≡◌, take}
 use Rattle.spec_validation.specs.Stacks.{put_on}
-use Rattle.wasm_typing.specs.Places.{with_stack}
+use Rattle.wasm_typing.specs.States.{with_stack}
 use Rattle.wasm_typing.proofs.stacks.Stacks.put.Given as goal
 
 abbrev pub invariant-loop-ty : goal.invariant-loop-ty
