@@ -1,3 +1,2 @@
-mod Bottom
-mod Phases
-mod Opened
+mod Units
+mod Kept

@@ -1,3 +1,3 @@
-pub mod Phases
-pub mod Running
-pub mod Answers
+pub mod Pairs
+pub mod Runs
+pub mod Outside

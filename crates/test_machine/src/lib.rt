@@ -1,14 +1,13 @@
-//! A machine over the instance of one module, whose calls may be made at any time, and tests of both by rows that were worked out
-//! from the standard.
+//! Tests of memories and tables, of the machine over the run of one module and over two units, by rows that were worked out from the
+//! standard.
 #![tactic(auto)]
 
-mod fault;
-mod fits;
-mod phase;
-mod runner;
+mod outside;
+mod pair;
+mod run;
 #[cfg(test)]
 mod tests;
 
-pub use fault::RunnerFault;
-pub use phase::Phase;
-pub use runner::Runner;
+pub use outside::OutsideTypes;
+pub use pair::Pair;
+pub use run::Run;

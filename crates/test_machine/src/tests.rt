@@ -1,19 +1,21 @@
 // Runs of small modules, which are written as bytes.
 mod bodies;
-mod calls;
+mod depths;
+mod spaces;
+mod units;
 
-use crate::{Runner, RunnerFault};
-use std::alloc::{AllocError, Global};
+use host_table::HostNames;
+use std::alloc::Global;
 use std::test::Fail;
 use wasm_check::{Checked, check};
 use wasm_decode::decode;
-use wasm_machine::Event;
+use wasm_form::put_u32;
+use wasm_single::{Event, Single};
 
-// Appends the bytes of a text of hexadecimal numbers.
-fn push_hex(to: &mut Vec<u8>, hex: &str) -> Result<(), AllocError> {
-    for number in hex.split_ascii_whitespace() {
-        to.push(u8::from_str_radix(number, 16).unwrap_or(0))?;
-    }
+// Appends the number of the bytes and the bytes.
+fn push_sized(alloc: Global, to: &mut Vec<u8>, bytes: &[u8]) -> Result<(), Fail> {
+    put_u32(alloc, to, u32::try_from(bytes.len())?)?;
+    to.extend_from_slice(bytes)?;
     Ok(())
 }
 
@@ -25,10 +27,29 @@ fn checked(alloc: Global, bytes: &[u8]) -> Result<Checked, Fail> {
     }
 }
 
-// Steps until something else than a move is told, for at most 100,000 steps.
-fn run(alloc: Global, runner: &mut Runner) -> Result<Event, RunnerFault> {
+// The module in its opening state. Of the module `h` all host functions with a result of type i32 are declared.
+fn loaded<'m>(alloc: Global, checked: &'m Checked) -> Result<Single<'m>, Fail> {
+    let mut names = HostNames::new(alloc);
+    names.declare_rest(alloc, "h")?;
+    match Single::load(alloc, checked, &names) {
+        Ok(single) => Ok(single),
+        Err(_) => Err(Fail::from("the module isn't loaded")),
+    }
+}
+
+// One step of a run that doesn't wait.
+fn step(alloc: Global, single: &mut Single) -> Result<Event, Fail> {
+    if single.waiting() || single.steps() == u64::MAX {
+        return Err(Fail::from("it waits"));
+    }
+    Ok(single.run_step(alloc)?)
+}
+
+// Steps until something else than a move is told, for at most 100,000 calls.
+fn run(alloc: Global, single: &mut Single) -> Result<Event, Fail> {
     for _ in 0..100_000u32 {
-        match runner.step(alloc)? {
+        single.advance(alloc, 1_000_000)?;
+        match step(alloc, single)? {
             Event::Moved => {}
             event => return Ok(event),
         }

@@ -1,19 +1,12 @@
 -- What a module imports that imports functions alone.
-use Rattle.std.proofs.Common.{arith, ◌≡◌, ◌≤◌, ℕ, length-append, true, false, List, [], ◌∷◌, length, refl}
-use Rattle.std.specs.Prelude.{None, not, Option, Some, IsTrue}
+use Rattle.std.proofs.Common.{arith, ◌≡◌, ◌≤◌, ℕ, length-append, true, List, [], ◌∷◌, length, refl}
 use Rattle.std.specs.List.{list_all}
-use Rattle.wasm_form.specs.declared.instr.Instr.{Instr, out-Instr}
-use Rattle.wasm_form.specs.declared.instr.Instr.TheOpen as Open
-use Rattle.wasm_form.specs.declared.instr.Expr.{Expr}
 use Rattle.wasm_form.specs.declared.module.ImportDesc.{ImportDesc}
 use Rattle.wasm_form.specs.declared.module.ImportDesc.TheVariants as imported
 use Rattle.wasm_form.specs.declared.module.Import.{Import}
 use Rattle.wasm_form.specs.declared.module.Module.{Module}
-use Rattle.wasm_opcode.specs.declared.index.IndexForm.{IndexForm}
-use Rattle.wasm_opcode.specs.declared.index.IndexForm.TheVariants as form
 use Rattle.spec_binary.specs.IndexSpaces.{imports_of, functions_in, globals_in, tables_in}
-use Rattle.wasm_check.specs.Constants.{gets_reference, gets_reference_with, gets_reference_step}
-use Rattle.wasm_instance.specs.Imports.{is_function_import, imports_functions}
+use Rattle.spec_safety.specs.Laws.{is_function_import, imports_functions}
 use Rattle.std.proofs.lemmas.Bool.{and_parts}
 
 -- what an import of a function gives in another kind
@@ -41,20 +34,6 @@ module _ (m : Module) (alone : imports_functions m ≡ true) where
 
   pub number_of_globals : 0 ≡ length (imports_of globals_in m.imports)
   number_of_globals = rw no_globals refl
-
-  by_form : (f : Option IndexForm) (n : ℕ) → gets_reference_with m f n ≡ false
-  by_form None n = refl
-  by_form (Some form.GlobalGet) n = rw no_globals refl
-  by_form (Some _) n = refl
-
-  by_step : (o : Open.Instr-F Instr Expr) → gets_reference_step m o ≡ false
-  by_step (Open.Index op n) = by_form _ n
-  by_step _ = refl
-
-  pub gets_no_reference : (is : List Instr) → IsTrue (not (gets_reference m is))
-  gets_no_reference [] = refl
-  gets_no_reference (i ∷ []) = rw (by_step (out-Instr i)) refl
-  gets_no_reference (i ∷ j ∷ is) = refl
 
 -- at most as many functions as imports
 function_at_most : (d : ImportDesc) → length (functions_in d) ≤ 1

@@ -3,41 +3,32 @@ use Rattle.std.proofs.Common.{arith, ◌≡◌, ℕ, ◌+◌, ◌-◌, ◌<◌, 
 use Rattle.std.specs.Prelude.{slice_get, nat_lt, IsSome}
 use Rattle.std.proofs.lemmas.Bool.{cases_lt, le-ltb, ltb-true}
 use Rattle.std.proofs.lemmas.List.{get_or-append-add, get_or_default}
-use Rattle.std.proofs.lemmas.Grind.{common_steps}
 use Rattle.std.proofs.lemmas.Option.{slice_get-get_or, slice_get_within, get_or_from_slice_get}
 use Rattle.wasm_form.specs.declared.types.FuncType.{FuncType}
 use Rattle.wasm_form.specs.declared.module.Group.{Group}
 use Rattle.wasm_form.specs.declared.module.Code.{Code}
 use Rattle.wasm_form.specs.declared.module.Module.{Module}
 use Rattle.spec_binary.specs.Options.{◌>>=◌}
-use Rattle.spec_binary.specs.Indices.{declared_locals, Function, function_with}
-use Rattle.spec_binary.specs.IndexSpaces.{imports_of, functions_in, function_space}
+use Rattle.spec_binary.specs.Indices.{declared_locals, Function, function_with, function_at}
+use Rattle.spec_binary.specs.IndexSpaces.{imports_of, functions_in, function_space, imported_count}
 use Rattle.spec_binary.specs.WellFormed.{IsWellFormed}
 use Rattle.spec_validation.specs.Faults.{body_height, is_type, fault}
-use Rattle.spec_execution.specs.Instances.{imported_count, module_function, module_height, module_view}
+use Rattle.spec_execution.specs.Instances.{module_height, module_view}
 use Rattle.spec_execution.specs.Limits.{room_with, room_of}
 use Rattle.wasm_check.specs.Heights.{height_of}
-use Rattle.wasm_instance.specs.Rooms.{saturated, room_in, HaveRooms}
+use Rattle.spec_binary.specs.Saturated.{saturated}
+use Rattle.wasm_instance.specs.Rooms.{room_in, HaveRooms}
 use Rattle.wasm_instance.proofs.Lists.{all_at}
 use Rattle.wasm_instance.proofs.FunctionTypes.{IsOwn, is_own}
+use Rattle.spec_binary.proofs.Lists.{slice_get-append-left, slice_get-append-last}
 use Rattle.spec_validation.proofs.Parts.{parts_fit}
-
-at_last : (rs : List ℕ) (r n : ℕ) → length rs ≡ n → slice_get (rs ++ r ∷ []) n ≡ Some r
-at_last [] r n e = rw (← e) refl
-at_last (x ∷ rs) r n e = rw (← e) (at_last rs r (length rs) refl)
-
-before_last : (rs : List ℕ) (r n : ℕ) → n < length rs → slice_get (rs ++ r ∷ []) n ≡ slice_get rs n
-before_last rs r n e =
-    let l : n < length (rs ++ r ∷ []) = simp length-append (omega arith) in
-    let g : get_or (rs ++ r ∷ []) n 0 ≡ get_or rs n 0 = grind (arith, common_steps) in
-    slice_get-get_or (rs ++ r ∷ []) n 0 l ∙ ap (λ (z : ℕ). Some z) g ∙ sym (slice_get-get_or rs n 0 e)
 
 pub have_more : (m : Module) (rooms more : List ℕ) (n : ℕ) → length rooms ≡ n → HaveRooms m n rooms → more ≡ rooms ++ room_in m n ∷ [] → HaveRooms m (n + 1) more
 have_more m rooms more n count have e =
-    λ k lt. rw e (elim (cases_lt k n) [ inl before ↦ before_last rooms (room_in m n) k (omega arith) ∙ have k before | inr past ↦ last k (omega arith) ])
+    λ k lt. rw e (elim (cases_lt k n) [ inl before ↦ slice_get-append-left rooms (room_in m n ∷ []) k (omega arith) ∙ have k before | inr past ↦ last k (omega arith) ])
   where
     last : (k : ℕ) → k ≡ n → slice_get (rooms ++ room_in m n ∷ []) k ≡ Some (room_in m k)
-    last k same = rw same (at_last rooms (room_in m n) n count)
+    last k same = rw same (slice_get-append-last rooms (room_in m n) n (sym count))
 
 -- a number past those that are imported
 own_type : (m : Module) (n t : ℕ) → slice_get m.funcs n ≡ Some t → slice_get (function_space m) (imported_count m + n) ≡ Some t
@@ -52,7 +43,7 @@ module _ (m : Module) (n t : ℕ) (ty : FuncType) (c : Code) (func : slice_get m
   own : imported_count m + n - imported_count m ≡ n
   own = omega arith
 
-  function_is : module_function m (imported_count m + n) ≡ Some (function_with ty c)
+  function_is : function_at m (imported_count m + n) ≡ Some (function_with ty c)
   function_is =
       let past : nat_lt (imported_count m + n) (imported_count m) ≡ false = le-ltb (imported_count m + n) (imported_count m) (omega arith) in
       rw (past, own, code, own_type m n t func, type) refl
@@ -62,7 +53,7 @@ module _ (m : Module) (n t : ℕ) (ty : FuncType) (c : Code) (func : slice_get m
 
   room_with_height : (k : ℕ) → body_height m n c ≡ Some k → room_of (module_view m) 0 (imported_count m + n) ≡ length ty.params + length (declared_locals c.locals) + k
   room_with_height k e =
-      ap (λ (h : ℕ). room_with h (module_function m (imported_count m + n))) (height_is k e) ∙ ap (λ (f : Option Function). room_with k f) function_is
+      ap (λ (h : ℕ). room_with h (function_at m (imported_count m + n))) (height_is k e) ∙ ap (λ (f : Option Function). room_with k f) function_is
 
   by_height : (found : Option ℕ) (h : ℕ) → body_height m n c ≡ found → Some h ≡ (found >>= λ k. Some (saturated k))
       → saturated (saturated (saturated (length ty.params) + saturated (length (declared_locals c.locals))) + h) ≡ room_in m n
@@ -92,9 +83,9 @@ room_kept m n types funcs codes ty c groups params locals both h room formed val
     is ∙ rw (is_both, is_params, is_locals, local) all
 
 -- the room that is kept for a function
-module _ (m now : Module) (rooms : List ℕ) (imported f : ℕ) (same : m ≡ now) (count : imported ≡ imported_count m) (have : HaveRooms m (length m.codes) rooms) (some : IsSome (module_function now f)) where
+module _ (m now : Module) (rooms : List ℕ) (imported f : ℕ) (same : m ≡ now) (count : imported ≡ imported_count m) (have : HaveRooms m (length m.codes) rooms) (some : IsSome (function_at now f)) where
   own_number : IsOwn m f
-  own_number = is_own m f (subst (λ (x : Module). IsSome (module_function x f)) (sym same) some)
+  own_number = is_own m f (subst (λ (x : Module). IsSome (function_at x f)) (sym same) some)
 
   found : slice_get rooms (f - imported) ≡ Some (room_in m (f - imported_count m))
   found = ap (λ (k : ℕ). slice_get rooms (f - k)) count ∙ have (f - imported_count m) own_number.inside

@@ -15,10 +15,11 @@ use Rattle.wasm_form.specs.declared.runtime.Ref.{Ref}
 use Rattle.wasm_form.specs.declared.runtime.LoaderCall.{LoaderCall}
 use Rattle.wasm_form.specs.declared.runtime.Ref.TheVariants.{Host, Loader, Stub}
 use Rattle.spec_binary.specs.Options.{◌>>=◌}
-use Rattle.spec_binary.specs.IndexSpaces.{imports_of, functions_in, function_space}
-use Rattle.spec_validation.specs.Faults.{fault, is_type, import_fits, desc_fits, type_of_function}
+use Rattle.spec_binary.specs.IndexSpaces.{imports_of, functions_in, function_space, imported_count}
+use Rattle.spec_validation.specs.Faults.{fault, is_type, import_fits, desc_fits}
+use Rattle.spec_binary.specs.Indices.{function_type, function_at}
 use Rattle.spec_validation.proofs.Parts.{parts_fit, function_types}
-use Rattle.spec_execution.specs.Instances.{imported_count, function_named, module_target, module_function, hosts_in, named_host, imported_hosts, module_hosts, host_type, module_view}
+use Rattle.spec_execution.specs.Instances.{function_named, module_target, hosts_in, named_host, imported_hosts, module_hosts, host_type, module_view}
 use Rattle.spec_execution.specs.Views.{type_of}
 use Rattle.wasm_instance.specs.Imports.{function_after}
 use Rattle.wasm_instance.proofs.Lists.{all_at}
@@ -63,7 +64,7 @@ pub record IsOwn (m : Module) (f : ℕ) : Type 0 where
   pub past : imported_count m ≤ f
   pub inside : f - imported_count m < length m.codes
 
-pub is_own : (m : Module) (f : ℕ) → IsSome (module_function m f) → IsOwn m f
+pub is_own : (m : Module) (f : ℕ) → IsSome (function_at m f) → IsOwn m f
 is_own m f some = imported (nat_lt f (imported_count m)) refl
   where
     defined : nat_lt f (imported_count m) ≡ false → (code : Option Code) → slice_get m.codes (f - imported_count m) ≡ code → IsOwn m f
@@ -75,15 +76,15 @@ is_own m f some = imported (nat_lt f (imported_count m)) refl
     imported false q = defined q (slice_get m.codes (f - imported_count m)) refl
 
 module _ (m : Module) (valid : fault m ≡ None) where
-  typed : (f : ℕ) → f < length (function_space m) → (ty : FuncType) × (type_of_function m f ≡ Some ty)
+  typed : (f : ℕ) → f < length (function_space m) → (ty : FuncType) × (function_type m f ≡ Some ty)
   typed f inside =
       let t : ℕ = get_or (function_space m) f 0 in
       let one : slice_get (function_space m) f ≡ Some t = slice_get-get_or (function_space m) f 0 inside in
       let two = type_at m t (all_at (is_type m) (function_space m) f t inside (get_or_default (function_space m) f 0 t inside) (function_types m (parts_fit m valid))) in
-      let three : type_of_function m f ≡ Some two.0 = rw one two.1 in
+      let three : function_type m f ≡ Some two.0 = rw one two.1 in
       (two.0, three)
 
-  named_is : (f : ℕ) → f < length (function_space m) → Some (function_named m f) ≡ module_target m f
+  pub named_is : (f : ℕ) → f < length (function_space m) → Some (function_named m f) ≡ module_target m f
   named_is f inside = rw ((typed f inside).1) refl
 
   pub named_kept : (now : Module) (imported f : ℕ) (r : Ref) → m ≡ now → imported ≡ imported_count m → f < length (function_space now) → r ≡ function_after imported f → Some r ≡ module_target now f

@@ -1,7 +1,8 @@
 pub mod Lists
 pub mod Alone
-pub mod Offsets
-pub mod ActiveElems
+pub mod ConstantValues
+pub mod AppliedSegments
+pub mod OpeningState
 pub mod FunctionTypes
 pub mod FunctionRooms
 pub mod TableChanges

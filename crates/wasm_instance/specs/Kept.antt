@@ -3,10 +3,15 @@ use Rattle.std.specs.Prelude.{◌≡◌, length, map}
 use Rattle.wasm_form.specs.declared.module.Module.{Module}
 use Rattle.spec_binary.specs.IndexSpaces.{functions_in, imports_of}
 use Rattle.spec_execution.specs.Instances.{ModuleParts}
+use Rattle.wasm_instance.specs.declared.opening.Parts.{Parts}
 use Rattle.wasm_instance.specs.declared.instance.Instance.TheInside.{Inside}
 use Rattle.wasm_instance.specs.Imports.{ImportsFunctions}
 use Rattle.wasm_instance.specs.Rooms.{HaveRooms}
 use Rattle.wasm_instance.specs.States.{InstanceState}
+
+-- what changes of a module, as it is opened
+abbrev pub parts_in : Parts → ModuleParts
+parts_in p = record { globals = p.globals.items; tables = p.tables.items; elems = map (λ v. v.items) p.elems.items; datas = map (λ d. d.now) p.datas.items }
 
 abbrev pub parts_of : Inside → ModuleParts
 parts_of i = record { globals = i.globals.items; tables = i.tables.items; elems = map (λ v. v.items) i.elems.items; datas = map (λ d. d.now) i.datas.items }

@@ -5,3 +5,4 @@ pub mod Rooms
 pub mod Kept
 pub mod Opening
 pub mod Copies
+pub mod Exports

@@ -1,10 +1,15 @@
 -- An instance, as contracts see it.
 use Rattle.wasm_form.specs.declared.module.Module.{Module}
 use Rattle.spec_runtime.specs.Memories.{MemoryInstance}
-use Rattle.spec_execution.specs.Instances.{ModuleParts}
+use Rattle.spec_execution.specs.Instances.{ModuleParts, module_view}
+use Rattle.wasm_view.specs.Seen.{Seen}
 
 -- a module, what changes of it in a run, and its memory
 pub record InstanceState : Type 0 where
   pub wasm : Module
   pub parts : ModuleParts
   pub memory : MemoryInstance
+
+-- what a machine sees of it
+abbrev pub seen_of : InstanceState → Seen ModuleParts
+seen_of s = record { fixed = module_view s.wasm; units = s.parts; memory = s.memory }

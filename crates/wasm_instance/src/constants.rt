@@ -1,18 +1,16 @@
 // The values of constant expressions (section 3.3.10).
 ghost use Rattle.std.specs.Prelude.{◌≡◌, IsTrue, IfOk, Some, map};
 ghost use Rattle.wasm_form.specs.declared.types.ValType.TheVariants.{I32, FuncRef};
-ghost use Rattle.wasm_form.specs.declared.instr.Instr.{out-Instr};
-ghost use Rattle.spec_validation.specs.Faults.{is_constant};
-ghost use Rattle.spec_execution.specs.Instances.{constant_value, constant_reference, global_value};
-ghost use Rattle.spec_validation.specs.Faults as validation;
-ghost use Rattle.wasm_instance.specs.Imports.{imports_functions, ImportsFunctions};
-ghost use Rattle.wasm_instance.specs.Constants.{value_of, is_typed, offset_of};
-ghost use Rattle.wasm_instance.specs.Constants as constants;
+ghost use Rattle.spec_validation.specs.Faults.{is_constant, global_fits};
+ghost use Rattle.spec_execution.specs.Instances.{constant_value, constant_offset, constant_reference, global_value};
+ghost use Rattle.spec_safety.specs.Laws.{IsAlone};
+ghost use Rattle.wasm_instance.specs.Imports.{ImportsFunctions};
+ghost use Rattle.wasm_instance.specs.Constants.{value_of, is_typed};
 
 use crate::imports::named;
 use std::alloc::Global;
 use wasm_check::{Constant, constant};
-use wasm_form::{Expr, GlobalDef, Instr, Memory, Module, Ref};
+use wasm_form::{Expr, GlobalDef, Memory, Module, Ref};
 use wasm_runtime::Value;
 
 fn valued(imported: u32, c: Constant) -> Value
@@ -35,32 +33,16 @@ pub(crate) fn value(alloc: Global, m: &Module, imported: u32, e: &Expr) -> Resul
     Ok(valued(imported, c))
 }
 
-fn i32_step(i: &Instr) -> Option<u32>
-    ensures { result ≡ constants.i32_step (out-Instr i.now) }
-{
-    match i {
-        Instr::I32Const(n) => Some(n.cast_unsigned()),
-        _ => None,
-    }
-}
-
-fn i32_constant(instrs: &[Instr]) -> Option<u32>
-    ensures { result ≡ constants.i32_constant instrs.now }
-{
-    match instrs {
-        [i] => i32_step(i),
-        _ => None,
-    }
-}
-
-/// The address or the index where an active segment goes. It is an i32.const, since no global is imported.
-pub(crate) fn offset(m: &Module, e: &Expr) -> u32
-    requires alone { IsTrue (imports_functions m.now) }
+/// The address or the index where an active segment goes.
+pub(crate) fn offset(alloc: Global, m: &Module, e: &Expr) -> Result<u32, Memory>
+    requires alone { IsAlone m.now }
     requires number { IsTrue (is_constant m.now I32 e.now) }
-    ensures { offset_of m.now e.now ≡ Some result }
+    ensures { IfOk result (λ at. constant_offset m.now e.now ≡ Some at) }
 {
-    let _module = m;
-    i32_constant(e.list.items()).unwrap()
+    match constant(alloc, m, e, &[])? {
+        Constant::Num(n) => Ok(n as u32),
+        Constant::Func(_) => unreachable!(),
+    }
 }
 
 /// The function, or null, that an entry of a segment gives.
@@ -82,7 +64,7 @@ pub(crate) fn reference(
 
 fn global(alloc: Global, m: &Module, imported: u32, g: &GlobalDef) -> Result<Value, Memory>
     requires source { ImportsFunctions m.now imported }
-    requires fits { IsTrue (validation.global_fits m.now g.now) }
+    requires fits { IsTrue (global_fits m.now g.now) }
     ensures { IfOk result (λ v. v ≡ global_value m.now g.now) }
 {
     value(alloc, m, imported, &g.init)

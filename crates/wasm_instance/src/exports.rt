@@ -1,12 +1,35 @@
 // What a module exports.
-ghost use Rattle.std.specs.Prelude.{◌≡◌};
-ghost use Rattle.spec_binary.specs.Indices.{own_function};
+ghost use Rattle.std.specs.Prelude.{◌≡◌, length};
+ghost use Rattle.spec_binary.specs.IndexSpaces.{functions_in, imports_of};
+ghost use Rattle.spec_binary.specs.Indices.{is_own};
+ghost use Rattle.spec_binary.specs.Exports.{own_function};
+ghost use Rattle.wasm_instance.specs.Exports.{named_function};
 
-use wasm_form::{ExportDesc, Module};
+use wasm_form::{ExportDesc, Import, ImportDesc, Module};
 
-/// The function that a module exports under a name.
-pub fn exported_function(m: &Module, name: &str) -> Option<u32>
-    ensures { result ≡ own_function m.now name.now }
+// How many functions are imported.
+fn imported_functions(imports: &[Import]) -> usize
+    ensures { result ≡ length (imports_of functions_in imports.now) }
+{
+    let mut count = 0;
+    for import in imports {
+        if let ImportDesc::Func(_) = import.desc {
+            count += 1;
+        }
+    }
+    count
+}
+
+fn is_own(m: &Module, f: u32) -> bool
+    ensures { result ≡ is_own m.now f }
+{
+    let imported = imported_functions(m.imports.items());
+    imported <= f as usize && f as usize - imported < m.funcs.items().len()
+}
+
+// The function that a name is exported as.
+fn exported(m: &Module, name: &str) -> Option<u32>
+    ensures { result ≡ named_function name.now m.now.exports }
 {
     for export in m.exports.items() {
         if name == export.name.as_str() {
@@ -17,4 +40,12 @@ pub fn exported_function(m: &Module, name: &str) -> Option<u32>
         }
     }
     None
+}
+
+/// The function that a module itself defines and exports under a name.
+pub fn exported_function(m: &Module, name: &str) -> Option<u32>
+    ensures { result ≡ own_function m.now name.now }
+{
+    let f = exported(m, name)?;
+    if is_own(m, f) { Some(f) } else { None }
 }

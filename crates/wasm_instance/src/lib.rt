@@ -1,9 +1,9 @@
 //! One module as the only unit of a run: its instance, which a machine runs over (WebAssembly Core 2.0, sections 4.2.5 and 4.5.4).
 #![tactic(auto)]
 
+mod applying;
 mod constants;
 mod exports;
-mod fault;
 mod imports;
 mod instance;
 mod opening;
@@ -14,5 +14,4 @@ mod tables;
 mod view;
 
 pub use exports::exported_function;
-pub use fault::OpenFault;
 pub use instance::Instance;

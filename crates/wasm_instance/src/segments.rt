@@ -1,26 +1,29 @@
-// Element segments: the active ones are applied, the passive ones are kept.
-ghost use Rattle.std.specs.Prelude.{◌≡◌, ◌<◌, ◌^◌, IsTrue, IfOk, map, length, Some};
+// Segments as they are before the active ones are applied.
+ghost use Rattle.std.specs.Prelude.{◌≡◌, IsTrue, IfOk, map, Some};
 ghost use Rattle.std.specs.List.{list_all};
 ghost use Rattle.wasm_form.specs.declared.types.ValType.TheVariants.{FuncRef};
-ghost use Rattle.spec_validation.specs.Faults.{is_constant, items_fit, elem_fits};
-ghost use Rattle.spec_binary.specs.WellFormed.{IsFormedItems};
-ghost use Rattle.spec_runtime.specs.Tables.{entries_written};
-ghost use Rattle.spec_execution.specs.Instances.{constant_reference, segment_items, kept_items};
-ghost use Rattle.spec_execution.specs.OneModule.{elem_applied, elems_applied};
-ghost use Rattle.wasm_instance.specs.Imports.{ImportsFunctions, function_after};
-ghost use Rattle.wasm_instance.specs.Opening.{Applies};
+ghost use Rattle.spec_validation.specs.Faults.{is_constant, is_function, items_fit, elem_fits};
+ghost use Rattle.spec_execution.specs.Instances.{constant_reference, module_target, segment_items};
+ghost use Rattle.spec_execution.specs.Segments.{opened_items};
+ghost use Rattle.wasm_instance.specs.Imports.{ImportsFunctions};
 
-use crate::constants::{offset, reference};
-use crate::fault::OpenFault;
+use crate::constants::reference;
 use crate::imports::named;
 use std::alloc::Global;
-use wasm_form::{Elem, ElemItems, ElemMode, Expr, Memory, Module, Ref};
-use wasm_space::Slots;
+use wasm_form::{Data, Elem, ElemItems, ElemMode, Expr, Memory, Module, Ref};
 
 // The functions of these numbers.
-fn functions(alloc: Global, imported: u32, numbers: &[u32]) -> Result<Vec<Option<Ref>>, Memory>
-    ensures { IfOk result (λ v. v.items ≡ map (λ f. Some (function_after imported f)) numbers.now) }
+fn functions(
+    alloc: Global,
+    m: &Module,
+    imported: u32,
+    numbers: &[u32],
+) -> Result<Vec<Option<Ref>>, Memory>
+    requires source { ImportsFunctions m.now imported }
+    requires functions { IsTrue (list_all (is_function m.now) numbers.now) }
+    ensures { IfOk result (λ v. v.items ≡ map (module_target m.now) numbers.now) }
 {
+    let _module = m;
     let mut all = Vec::new(alloc);
     for f in numbers {
         all.push(Some(named(imported, *f)))?;
@@ -58,12 +61,13 @@ fn entries(
     ensures { IfOk result (λ v. v.items ≡ segment_items m.now items.now) }
 {
     match items {
-        ElemItems::Funcs(numbers) => functions(alloc, imported, numbers.items()),
+        ElemItems::Funcs(numbers) => functions(alloc, m, imported, numbers.items()),
         ElemItems::Exprs { items, .. } => references(alloc, m, imported, items.items()),
     }
 }
 
-fn kept(
+// A declarative segment is empty from the beginning.
+fn opened(
     alloc: Global,
     m: &Module,
     imported: u32,
@@ -71,77 +75,37 @@ fn kept(
 ) -> Result<Vec<Option<Ref>>, Memory>
     requires source { ImportsFunctions m.now imported }
     requires fits { IsTrue (elem_fits m.now segment.now) }
-    ensures { IfOk result (λ v. v.items ≡ kept_items m.now segment.now) }
+    ensures { IfOk result (λ v. v.items ≡ opened_items (segment_items m.now) segment.now) }
 {
     match &segment.mode {
-        ElemMode::Passive => entries(alloc, m, imported, &segment.items),
-        ElemMode::Active { .. } | ElemMode::Declarative => Ok(Vec::new(alloc)),
+        ElemMode::Active { .. } | ElemMode::Passive => entries(alloc, m, imported, &segment.items),
+        ElemMode::Declarative => Ok(Vec::new(alloc)),
     }
 }
 
-/// What is left of the segments once the active ones are applied.
-pub(crate) fn kept_elems(
+/// The element segments.
+pub(crate) fn elems_of(
     alloc: Global,
     m: &Module,
     imported: u32,
 ) -> Result<Vec<Vec<Option<Ref>>>, Memory>
     requires { ImportsFunctions m.now imported }
-    ensures { IfOk result (λ v. map (λ x. x.items) v.items ≡ map (kept_items m.now) m.now.elems) }
+    ensures { IfOk result (λ v. map (λ x. x.items) v.items ≡ map (opened_items (segment_items m.now)) m.now.elems) }
 {
     let mut all = Vec::new(alloc);
     for segment in m.elems.items() {
-        all.push(kept(alloc, m, imported, segment)?)?;
+        all.push(opened(alloc, m, imported, segment)?)?;
     }
     Ok(all)
 }
 
-// Writes these entries to a table, from an index on.
-fn write(table: &mut Slots, at: u32, entries: &[Option<Ref>]) -> Result<(), OpenFault>
-    requires { length entries.now < 2 ^ 32 }
-    ensures { Applies (entries_written table.old at entries.now) result table.new }
+/// The data segments.
+pub(crate) fn datas_of<'m>(alloc: Global, segments: &'m [Data]) -> Result<Vec<&'m [u8]>, Memory>
+    ensures { IfOk result (λ v. map (λ x. x.now) v.items ≡ map (λ d. d.bytes) segments.now) }
 {
-    match table.init(at, entries, 0, entries.len() as u32) {
-        Ok(()) => Ok(()),
-        Err(_) => Err(OpenFault::SegmentTrap),
+    let mut all = Vec::new(alloc);
+    for segment in segments {
+        all.push(segment.bytes.items())?;
     }
-}
-
-// Writes a segment to its table where it is active.
-fn apply(
-    alloc: Global,
-    m: &Module,
-    imported: u32,
-    segment: &Elem,
-    tables: &mut [Slots],
-) -> Result<(), OpenFault>
-    requires source { ImportsFunctions m.now imported }
-    requires fits { IsTrue (elem_fits m.now segment.now) }
-    requires short { IsFormedItems segment.now.items }
-    requires tables { length tables.old ≡ length m.now.tables }
-    ensures { Applies (elem_applied m.now segment.now tables.old) result tables.new }
-{
-    match &segment.mode {
-        ElemMode::Active { table, offset: e } => {
-            let items = entries(alloc, m, imported, &segment.items)?;
-            write(&mut tables[*table as usize], offset(m, e), &items)
-        }
-        ElemMode::Passive | ElemMode::Declarative => Ok(()),
-    }
-}
-
-/// Writes the active segments to their tables, in order.
-pub(crate) fn apply_elems(
-    alloc: Global,
-    m: &Module,
-    imported: u32,
-    tables: &mut [Slots],
-) -> Result<(), OpenFault>
-    requires source { ImportsFunctions m.now imported }
-    requires tables { length tables.old ≡ length m.now.tables }
-    ensures { Applies (elems_applied m.now m.now.elems tables.old) result tables.new }
-{
-    for segment in m.elems.items() {
-        apply(alloc, m, imported, segment, tables)?;
-    }
-    Ok(())
+    Ok(all)
 }

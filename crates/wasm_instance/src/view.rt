@@ -2,21 +2,19 @@
 use crate::imports::named;
 use crate::instance::Instance;
 use crate::tables::copy_between;
+use std::alloc::Global;
 use wasm_form::{Code, FuncType, Memory, Ref, Trap};
 use wasm_runtime::Value;
 use wasm_space::{Slots, Space};
 use wasm_view::View;
 
 impl<'m> View<'m> for Instance<'m> {
-    ghost use Rattle.spec_execution.specs.Instances.{ModuleParts, module_view};
+    ghost use Rattle.spec_execution.specs.Instances.{ModuleParts};
+    ghost use Rattle.wasm_instance.specs.States.{seen_of};
 
     ghost Units = { ModuleParts };
 
-    ghost fixed = { λ s. module_view s.wasm };
-
-    ghost units = { λ s. s.parts };
-
-    ghost space = { λ s. s.memory };
+    ghost seen = { seen_of };
 
     fn target(&self, _: u32, f: u32) -> Ref {
         named(self.imported, f)
@@ -73,8 +71,8 @@ impl<'m> View<'m> for Instance<'m> {
         self.memory.put(at, bytes)
     }
 
-    fn memory_grow(&mut self, delta: u32) -> Result<u32, Memory> {
-        self.memory.grow(delta)
+    fn memory_grow(&mut self, alloc: Global, delta: u32) -> Result<u32, Memory> {
+        self.memory.grow(alloc, delta)
     }
 
     fn table(&self, _: u32, t: u32) -> &Slots {
@@ -98,12 +96,13 @@ impl<'m> View<'m> for Instance<'m> {
 
     fn table_grow(
         &mut self,
+        alloc: Global,
         _: u32,
         t: u32,
         delta: u32,
         value: Option<Ref>,
     ) -> Result<u32, Memory> {
-        self.tables[t as usize].grow(delta, value)
+        self.tables[t as usize].grow(alloc, delta, value)
     }
 
     fn table_copy(

@@ -31,7 +31,8 @@ use Rattle.wasm_machine.specs.declared.machine.Standing.{Standing}
 use Rattle.wasm_machine.specs.declared.machine.Standing.TheVariants as standing
 use Rattle.wasm_machine.specs.declared.event.Event.TheVariants as event
 use Rattle.wasm_step.proofs.Arguments.{parts, arguments_are, arguments_count}
-use Rattle.wasm_machine.proofs.StepsInRange.{IsNextInRange, All-reverse, step_in}
+use Rattle.spec_safety.proofs.StepsInRange.{IsNextInRange, All-reverse}
+use Rattle.wasm_machine.proofs.InRange.{step_in}
 use Rattle.wasm_machine.proofs.Depths.{room_in}
 use Rattle.wasm_machine.proofs.OnTop.{from_joined, to_joined, widened, widened_is, widened_live, acted, acted_is}
 use Rattle.wasm_machine.proofs.Telling.{unchanged}

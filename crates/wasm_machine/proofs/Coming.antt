@@ -17,13 +17,12 @@ use Rattle.spec_execution.specs.Ranges.{index_in_range, in_range, AreInRange, Is
 use Rattle.spec_execution.specs.Runs.{Frame, Active, carried_out}
 use Rattle.wasm_step.specs.Primitives.{first_of, with_rest}
 use Rattle.wasm_step.specs.Named.{named_here, is_call, is_call_form}
-use Rattle.wasm_machine.specs.Machines.{next_of, calls_outside, calls_outside_here, call_is_outside, names_outside, some_outside}
+use Rattle.wasm_machine.specs.Machines.{indirect, next_of, calls_outside, calls_outside_here, call_is_outside, names_outside, some_outside}
 use Rattle.wasm_machine.specs.Outside.{callee_form, callee_of, IsOutsideCall}
 use Rattle.wasm_machine.specs.declared.calls.Callee.{Callee}
 use Rattle.wasm_machine.specs.declared.calls.Callee.TheVariants as callee
-use Rattle.wasm_machine.proofs.Levels.{named_in_range, and_first, and_second}
+use Rattle.wasm_machine.proofs.InRange.{named_in_range, and_first, and_second}
 use Rattle.wasm_machine.proofs.Called.{target_exists}
-use Rattle.wasm_machine.proofs.Indirect.{indirect}
 
 pub rest_some : (is : List Instr) (i : Instr) → Some i ≡ first_of is → 0 < length is
 rest_some [] i e = absurd cc

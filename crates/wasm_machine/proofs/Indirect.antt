@@ -1,14 +1,12 @@
 -- Calls of the entries of tables.
-use Rattle.std.proofs.Common.{◌≡◌, ℕ, ◌<◌, drop, subst, Option, Some, None, Ok}
+use Rattle.std.proofs.Common.{◌≡◌, ℕ, ◌<◌, subst, Option, Some, None, Ok}
 use Rattle.std.specs.Option.{ok_or}
 use Rattle.std.proofs.lemmas.Option.{slice_get_within, get_or_from_slice_get}
 use Rattle.wasm_form.specs.declared.runtime.Ref.{Ref}
 use Rattle.wasm_form.specs.declared.runtime.Trap.{Trap}
 use Rattle.spec_runtime.specs.Tables.{TableInstance, entry_at}
-use Rattle.spec_execution.specs.Activations.{Activation, Move, CallsEntry, with_values, with_i32}
 use Rattle.spec_execution.specs.Views.{View}
 use Rattle.spec_execution.specs.Ranges.{HoldsAll, Exists, AllExist, ReferenceExists}
-use Rattle.wasm_step.specs.Primitives.{with_rest}
 
 pub entry_there : (o : Option (Option Ref)) (t : Trap) (r : Option Ref) → ok_or o t ≡ Ok r → o ≡ Some r
 entry_there None t r e = absurd cc
@@ -21,7 +19,3 @@ entry_exists V us unit t i x r holds h ex e =
     let same : w.0 ≡ x = cc (w.1) in
     let all : AllExist V x.entries = subst (λ (y : TableInstance). AllExist V y.entries) same w.2 in
     subst (ReferenceExists V) (get_or_from_slice_get x.entries i (Some r) None e) (all i None (slice_get_within x.entries i (Some r) e))
-
--- the move of an indirect call
-abbrev pub indirect : ℕ → ℕ → Activation → Move
-indirect ty table a = with_i32 a.values (λ i vs. CallsEntry table ty i (with_values (with_rest a (drop 1 a.rest)) vs))

@@ -1,5 +1,5 @@
 -- From an instruction that leaves its activation on top to the step of the call stack.
-use Rattle.std.proofs.Common.{arith, ◌≡◌, ℕ, ◌≤◌, ◌+◌, ◌⊎◌, true, List, [], ◌∷◌, length, drop, refl, sym, ap, subst, ◌∙◌, Option, None, Some, inl, inr}
+use Rattle.std.proofs.Common.{arith, ◌≡◌, ℕ, ◌<◌, ◌+◌, ◌⊎◌, true, List, [], ◌∷◌, length, drop, refl, sym, ap, subst, ◌∙◌, Option, None, Some, inl, inr}
 use Rattle.std.specs.Prelude.{IsTrue}
 use Rattle.std.specs.List.{All}
 use Rattle.std.proofs.Math.Bool.{or-true}
@@ -16,12 +16,13 @@ use Rattle.spec_execution.specs.Runs.{Frame, Active, Next, Goes, Asks, Loads, ef
 use Rattle.spec_execution.specs.Runs as runs
 use Rattle.spec_execution.specs.Limits.{room_of}
 use Rattle.spec_execution.specs.Ranges.{AreInRange, IsActivationInRange, IsFrameInRange, AllInRange}
+use Rattle.wasm_view.specs.Seen.{Seen}
 use Rattle.wasm_step.specs.Tops.{Top, with_act, height_of}
 use Rattle.wasm_step.specs.Primitives.{first_of, with_rest}
 use Rattle.wasm_machine.specs.Stacks.{CallStack, most_blocks, is_live, under_of, joined, IsJoined}
-use Rattle.wasm_step.specs.Moves.{IsUsedUp, Act, To, Ends, Nowhere, act_done, act_referred, acted, Changes, Acted}
+use Rattle.wasm_step.specs.Moves.{LeadsPast, Act, To, Ends, Nowhere, act_done, act_referred, acted, Changes, Acted}
 use Rattle.wasm_step.specs.Named.{is_call, is_growth}
-use Rattle.wasm_machine.specs.Machines.{RoomsAre, Led, MayWant, may_grow_at, next_of}
+use Rattle.wasm_machine.specs.Machines.{indirect, RoomsAre, Led, MayWant, MayGrow, LeadsPastRoom, may_grow_at, next_of}
 use Rattle.wasm_machine.specs.Outside.{callee_of}
 use Rattle.wasm_machine.specs.declared.calls.Callee.TheVariants as callee
 use Rattle.wasm_machine.specs.declared.callers.Caller.{Caller}
@@ -29,7 +30,6 @@ use Rattle.wasm_step.specs.declared.done.Done.{Done}
 use Rattle.wasm_step.specs.declared.done.Done.TheVariants as done
 use Rattle.wasm_machine.proofs.Joined.{frames_live, nesting_live, RoomsAre_live}
 use Rattle.wasm_machine.proofs.Staying.{StaysIn, instr-stays}
-use Rattle.wasm_machine.proofs.Indirect.{indirect}
 use Rattle.wasm_machine.proofs.Coming.{none_called, some_called, step_is, entry_step}
 
 -- ---- what a move comes to, in the activation and on the call stack
@@ -71,19 +71,19 @@ module _ (cs : List Caller) (t new : Top) (b : Activation) (live : is_live t ≡
 twice : (t u new : Top) (a b : Activation) → u ≡ with_act t a → new ≡ with_act u b → new ≡ with_act t b
 twice t u new a b e f = rw e at f
 
-module _ {Units : Type 0} (V : View Units) (cs : List Caller) (t u new : Top) (b : Activation) (c : Changes Units) (Wanting Wanted : Type 0) (live : is_live t ≡ true) (eu : u ≡ with_act t b) (weaker : Wanting → Wanted) where
+module _ {Units : Type 0} (V : View Units) (cs : List Caller) (t u new : Top) (b : Activation) (c : Changes Units) (Grows Wanted : Type 0) (live : is_live t ≡ true) (eu : u ≡ with_act t b) where
   went : (us : Units) (memory : MemoryInstance) (a : Activation) (next : Option (Next Units ℕ)) → next ≡ Some (Goes us memory (Active a ∷ under_of cs t)) → (new ≡ with_act u a) × (c.new_units ≡ us) × (c.new_memory ≡ memory)
       → Led V done.Goes next Wanted (joined cs t) (joined cs new) c
   went us memory a next e h = subst (λ (n : Option (Next Units ℕ)). Led V done.Goes n Wanted (joined cs t) (joined cs new) c) (sym e) (frames_kept cs t new a live (twice t u new b a eu h.0), h.1, h.2)
 
-  led_acted : (d : Done) (act : Act Units) (next : Option (Next Units ℕ)) (unit func : ℕ) → Fits unit func (under_of cs t) act next → Acted d act Wanting u new c → Led V d next Wanted (joined cs t) (joined cs new) c
-  led_acted done.Goes (To us memory a) next unit func f h = went us memory a next f.0 h
-  led_acted (done.Trapped why) (Ends cause) next unit func f h = subst (λ (n : Option (Next Units ℕ)). Led V (done.Trapped why) n Wanted (joined cs t) (joined cs new) c) (sym f) h
-  led_acted done.Stuck Nowhere next unit func f h = subst (λ (n : Option (Next Units ℕ)). Led V done.Stuck n Wanted (joined cs t) (joined cs new) c) (sym f) h
-  led_acted done.NoMemory act next unit func f h = (weaker h.0, h.1)
-  led_acted d act next unit func f h = absurd h
+  led_acted : (d : Done) (act : Act Units) (next : Option (Next Units ℕ)) (unit func : ℕ) → Fits unit func (under_of cs t) act next → (Grows ⊎ LeadsPast u act → Wanted) → Acted d act Grows u new c → Led V d next Wanted (joined cs t) (joined cs new) c
+  led_acted done.Goes (To us memory a) next unit func f k h = went us memory a next f.0 h
+  led_acted (done.Trapped why) (Ends cause) next unit func f k h = subst (λ (n : Option (Next Units ℕ)). Led V (done.Trapped why) n Wanted (joined cs t) (joined cs new) c) (sym f) h
+  led_acted done.Stuck Nowhere next unit func f k h = subst (λ (n : Option (Next Units ℕ)). Led V done.Stuck n Wanted (joined cs t) (joined cs new) c) (sym f) h
+  led_acted done.NoMemory act next unit func f k h = (k h.0, h.1)
+  led_acted d act next unit func f k h = absurd h
 
-  act_within : (d : Done) (act : Act Units) (next : Option (Next Units ℕ)) (unit func : ℕ) → Fits unit func (under_of cs t) act next → Acted d act Wanting u new c → d ≡ done.Goes → (new.act.unit ≡ unit) × (new.act.func ≡ func)
+  act_within : (d : Done) (act : Act Units) (next : Option (Next Units ℕ)) (unit func : ℕ) → Fits unit func (under_of cs t) act next → Acted d act Grows u new c → d ≡ done.Goes → (new.act.unit ≡ unit) × (new.act.func ≡ func)
   act_within done.Goes (To us memory a) next unit func f h e = (ap (λ (w : Top). w.act.unit) h.0 ∙ f.1, ap (λ (w : Top). w.act.func) h.0 ∙ f.2)
   act_within done.Goes (Ends cause) next unit func f h e = absurd h
   act_within done.Goes Nowhere next unit func f h e = absurd h
@@ -118,8 +118,11 @@ wants_growth (j ∷ is) i e h =
     rw (q, h) (or-true (is_call (out-Instr i)))
 
 module _ {Units : Type 0} (V : View Units) (cs : List Caller) (t : Top) (i : Instr) (live : is_live t ≡ true) (e : Some i ≡ first_of t.act.rest) where
-  call_may_want : is_call (out-Instr i) ≡ true → MayWant V (joined cs t).frames
-  call_may_want h = rw live (inl (wants_call t.act.rest i e h))
+  call_may_grow : is_call (out-Instr i) ≡ true → MayGrow (joined cs t).frames
+  call_may_grow h = rw live (wants_call t.act.rest i e h)
+
+  growth_may_grow : is_growth (out-Instr i) ≡ true → MayGrow (joined cs t).frames
+  growth_may_grow h = rw live (wants_growth t.act.rest i e h)
 
   -- what remains of its code is in range
   pub rest_in_range : (us : Units) → AllInRange V us (joined cs t).frames → AreInRange (V.counts t.act.unit) t.act.rest
@@ -128,35 +131,41 @@ module _ {Units : Type 0} (V : View Units) (cs : List Caller) (t : Top) (i : Ins
       let top : IsActivationInRange V t.act = All-head (λ (f : Frame ℕ). IsFrameInRange V f) (Active t.act) (under_of cs t) all in
       top.rest
 
-  act_may_want : (u : Top) → IsJoined cs t → RoomsAre V (joined cs t) → u ≡ with_act t (with_rest t.act (drop 1 t.act.rest)) → IsTrue (is_growth (out-Instr i)) ⊎ IsUsedUp u → MayWant V (joined cs t).frames
-  act_may_want u j r eu w =
+  -- what leads past the room that was taken leads past that of the function
+  past_room : (u : Top) (b : Activation) (act : Act Units) (next : Option (Next Units ℕ)) → IsJoined cs t → RoomsAre V (joined cs t) → u ≡ with_act t b → Fits t.act.unit t.act.func (under_of cs t) act next → LeadsPast u act → LeadsPastRoom V next
+  past_room u b (To us memory a) next j r eu f k =
       let room : t.room ≡ room_of V t.act.unit t.act.func = head_of (RoomsAre_live cs t live V r) in
       let nesting : t.nesting ≡ most_blocks = nesting_live cs t live j in
-      let w' = rw eu at w in
-      rw live (elim w' as (λ _. IsTrue (may_grow_at t.act.rest) ⊎ (room_of V t.act.unit t.act.func ≤ length t.act.locals + height_of t.act) ⊎ (most_blocks ≤ length t.act.levels)) [
-        | inl h ↦ inl (wants_growth t.act.rest i e h)
-        | inr (inl h) ↦ inr (inl (omega arith))
-        | inr (inr h) ↦ inr (inr (omega arith))
-      ])
+      let k' = rw eu at k in
+      subst (LeadsPastRoom V) (sym f.0)
+      (rw (f.1, f.2) (elim k' as (λ _. (room_of V t.act.unit t.act.func < length a.locals + height_of a) ⊎ (most_blocks < length a.levels)) [
+        | inl h ↦ inl (omega arith)
+        | inr h ↦ inr (omega arith)
+      ]))
     where
       head_of : {m n : ℕ} {ms ns : List ℕ} → m ∷ ms ≡ n ∷ ns → m ≡ n
       head_of q = cc
+  past_room u b (Ends why) next j r eu f k = absurd k
+  past_room u b Nowhere next j r eu f k = absurd k
 
 -- ---- the next step
 
 module _ {Units : Type 0} (V : View Units) (us : Units) (memory : MemoryInstance) (cs : List Caller) (t : Top) (i : Instr) (d : Done) (c : Changes Units) (live : is_live t ≡ true) (e : Some i ≡ first_of t.act.rest) where
+  abbrev in_view : Seen Units
+  in_view = record { fixed = V; units = us; memory = memory }
+
   next_live : next_of V us memory (joined cs t).frames ≡ next_of V us memory (Active t.act ∷ under_of cs t)
   next_live = ap (next_of V us memory) (frames_live cs t live)
 
   -- the entry of a table is called
   pub led_entry : (ds : List Caller) (new : Top) (ty table : ℕ) → callee_of (out-Instr i) ≡ Some (callee.Entry ty table) → Led V d (carried_out V us memory (under_of cs t) (indirect ty table t.act)) (Unit {0}) (joined cs t) (joined ds new) c
-      → Led V d (next_of V us memory (joined cs t).frames) (MayWant V (joined cs t).frames) (joined cs t) (joined ds new) c
+      → Led V d (next_of V us memory (joined cs t).frames) (MayWant in_view (joined cs t).frames) (joined cs t) (joined ds new) c
   led_entry ds new ty table q h =
-      led_step V (Unit {0}) (MayWant V (joined cs t).frames) (joined cs t) (joined ds new) c (λ _. call_may_want V cs t i live e (some_called (out-Instr i) (callee.Entry ty table) q)) d _ _
+      led_step V (Unit {0}) (MayWant in_view (joined cs t).frames) (joined cs t) (joined ds new) c (λ _. inl (call_may_grow V cs t i live e (some_called (out-Instr i) (callee.Entry ty table) q))) d _ _
       (next_live ∙ entry_step V us t.act i e ty table q memory (under_of cs t)) h
 
   -- an instruction that doesn't call
-  module _ (u new : Top) (q : callee_of (out-Instr i) ≡ None) (eu : u ≡ with_act t (with_rest t.act (drop 1 t.act.rest))) (h : Acted d (acted V us memory (instr_move (V.declared u.act.unit) (out-Instr i) u.act)) (IsTrue (is_growth (out-Instr i)) ⊎ IsUsedUp u) u new c) where
+  module _ (u new : Top) (q : callee_of (out-Instr i) ≡ None) (eu : u ≡ with_act t (with_rest t.act (drop 1 t.act.rest))) (h : Acted d (acted V us memory (instr_move (V.declared u.act.unit) (out-Instr i) u.act)) (IsTrue (is_growth (out-Instr i))) u new c) where
     past : Activation
     past = with_rest t.act (drop 1 t.act.rest)
 
@@ -166,10 +175,15 @@ module _ {Units : Type 0} (V : View Units) (us : Units) (memory : MemoryInstance
         rw (eu, next_live, step_is V us t.act i e memory (under_of cs t)) (
         acted-fits V us memory (under_of cs t) t.act.unit t.act.func (instr_move (V.declared t.act.unit) (out-Instr i) past) (instr-stays (V.declared t.act.unit) (out-Instr i) past (none_called (out-Instr i) q)))
 
-    pub led_plain : IsJoined cs t → RoomsAre V (joined cs t) → Led V d (next_of V us memory (joined cs t).frames) (MayWant V (joined cs t).frames) (joined cs t) (joined cs new) c
-    led_plain j r = led_acted V cs t u new (with_rest t.act (drop 1 t.act.rest)) c _ _ live eu (act_may_want V cs t i live e u j r eu) d _ _ t.act.unit t.act.func fits h
+    wants : IsJoined cs t → RoomsAre V (joined cs t) → IsTrue (is_growth (out-Instr i)) ⊎ LeadsPast u (acted V us memory (instr_move (V.declared u.act.unit) (out-Instr i) u.act)) → MayWant in_view (joined cs t).frames
+    unfolding past
+    wants j r (inl g) = inl (growth_may_grow V cs t i live e g)
+    wants j r (inr k) = inr (past_room V cs t i live e u past _ _ j r eu fits k)
+
+    pub led_plain : IsJoined cs t → RoomsAre V (joined cs t) → Led V d (next_of V us memory (joined cs t).frames) (MayWant in_view (joined cs t).frames) (joined cs t) (joined cs new) c
+    led_plain j r = led_acted V cs t u new (with_rest t.act (drop 1 t.act.rest)) c _ _ live eu d _ _ t.act.unit t.act.func fits (wants j r) h
 
     pub rooms_plain : RoomsAre V (joined cs t) → new ≡ with_act u new.act → d ≡ done.Goes → RoomsAre V (joined cs new)
     rooms_plain r en goes =
-        let w = act_within V cs t u new (with_rest t.act (drop 1 t.act.rest)) c _ _ live eu (λ (k : IsTrue (is_growth (out-Instr i)) ⊎ IsUsedUp u). k) d _ _ t.act.unit t.act.func fits h goes in
+        let w = act_within V cs t u new (with_rest t.act (drop 1 t.act.rest)) c (IsTrue (is_growth (out-Instr i))) (Unit {0}) live eu d _ _ t.act.unit t.act.func fits h goes in
         rooms_kept cs t new new.act live (twice t u new _ _ eu en) V r w.0 w.1

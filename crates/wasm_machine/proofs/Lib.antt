@@ -1,13 +1,10 @@
-pub mod Levels
+pub mod InRange
 pub mod Joined
 pub mod Called
 pub mod Indirect
 pub mod Coming
 pub mod Staying
 pub mod Leading
-pub mod MovesInRange
-pub mod EffectsInRange
-pub mod StepsInRange
 pub mod Depths
 pub mod OnTop
 pub mod Answering
@@ -15,3 +12,5 @@ pub mod Marking
 pub mod Telling
 pub mod Receiving
 pub mod Asking
+pub mod Marked
+pub mod Under

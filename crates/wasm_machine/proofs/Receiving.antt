@@ -1,5 +1,5 @@
--- What a machine that waits is given: it fits, and the machine stands over its view afterwards.
-use Rattle.std.proofs.Common.{arith, ◌≡◌, ℕ, List, [], ◌∷◌, length, map, ap, sym, ◌∙◌, Option, Some, true}
+-- What a machine that waits is given, and marks that are put and taken away: the machine stands over its view afterwards.
+use Rattle.std.proofs.Common.{arith, ◌≡◌, ℕ, List, [], ◌∷◌, length, map, drop, ap, sym, ◌∙◌, Option, Some, true}
 use Rattle.std.specs.Prelude.{IfSome, IsTrue, reverse}
 use Rattle.std.proofs.lemmas.Bool.{false≢true, and_parts}
 use Rattle.std.proofs.lemmas.List.Elements.{All-cons, All-head, All-tail}
@@ -14,12 +14,12 @@ use Rattle.spec_runtime.specs.Hosts.{number_fits, numbers_fit, writes_fit, fits_
 use Rattle.spec_execution.specs.Views.{View}
 use Rattle.spec_execution.specs.Ranges.{AllInRange, ValueExists, IsFrameInRange}
 use Rattle.spec_execution.specs.Limits.{activations}
-use Rattle.spec_execution.specs.Runs.{Frame, given}
+use Rattle.spec_execution.specs.Runs.{Frame, Active, Marked, given}
 use Rattle.wasm_machine.specs.Stacks.{CallStack}
-use Rattle.wasm_machine.specs.Machines.{MachineState, IsAsked, IsOver, FitsAnswer, IsExpecting, Received}
+use Rattle.wasm_machine.specs.Machines.{MachineState, IsAsked, IsOver, FitsAnswer, IsExpecting, Received, Marks, IsMarked, Unmarks, waits_under}
 use Rattle.wasm_machine.specs.declared.machine.Standing.{Standing}
 use Rattle.wasm_machine.specs.declared.machine.Standing.TheVariants as standing
-use Rattle.wasm_machine.proofs.StepsInRange.{All-reverse, numbers_in, given_in}
+use Rattle.spec_safety.proofs.StepsInRange.{All-reverse, numbers_in, given_in}
 use Rattle.wasm_machine.proofs.Depths.{room_in, rooms_given}
 
 -- as many numbers fit as there are types
@@ -69,3 +69,35 @@ module _ {Units : Type 0} (V : View Units) where
 
     pub received_over : (old : MachineState) → IsOver V us old → Received old.stack.frames results new → new.stack.rooms ≡ old.stack.rooms → IsOver V us new
     received_over old o h q = received_at old.stack.frames old.stack.rooms o.range o.rooms h q
+
+-- ---- marks
+
+module _ {Units : Type 0} (V : View Units) (us : Units) where
+  pub marks_over : (tag : ℕ) (old new : MachineState) → IsOver V us old → Marks tag old new → IsOver V us new
+  marks_over tag old new o m =
+      let range : AllInRange V us (Marked tag ∷ old.stack.frames) = record { whole = o.range.whole; units = o.range.units; stack = All-cons (IsFrameInRange V) (Marked tag) old.stack.frames tt o.range.stack } in
+      record {
+        range = rw m.stack range;
+        rooms = rw m.stack o.rooms;
+        asked = rw m.goes_on tt;
+      }
+
+  asked_under : (frames : List (Frame ℕ)) → IsAsked V (waits_under frames)
+  asked_under [] = tt
+  asked_under (Active a ∷ frames) = tt
+  asked_under (Marked tag ∷ frames) = tt
+
+  under_range : (frames : List (Frame ℕ)) (rooms : List ℕ) (s : Standing) → IsMarked (record { stack = record { frames = frames; rooms = rooms }; standing = s }) → AllInRange V us frames → rooms ≡ map (room_in V) (activations frames)
+      → AllInRange V us (drop 1 frames) × (rooms ≡ map (room_in V) (activations (drop 1 frames)))
+  under_range [] rooms s h r e = absurd h.1
+  under_range (Active a ∷ frames) rooms s h r e = absurd h.1
+  under_range (Marked tag ∷ frames) rooms s h r e = (record { whole = r.whole; units = r.units; stack = All-tail (IsFrameInRange V) (Marked tag) frames r.stack }, e)
+
+  pub unmarks_over : (old new : MachineState) → IsOver V us old → IsMarked old → Unmarks old new → IsOver V us new
+  unmarks_over old new o h u =
+      let w = under_range old.stack.frames old.stack.rooms old.standing h o.range o.rooms in
+      record {
+        range = rw u.stack w.0;
+        rooms = rw u.stack w.1;
+        asked = rw u.waits (asked_under (drop 1 old.stack.frames));
+      }

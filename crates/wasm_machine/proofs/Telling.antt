@@ -7,18 +7,19 @@ use Rattle.wasm_form.specs.declared.runtime.Trap.{Trap}
 use Rattle.spec_runtime.specs.Memories.{MemoryInstance}
 use Rattle.spec_execution.specs.Views.{View}
 use Rattle.spec_execution.specs.Ranges.{AllInRange, IsFrameInRange}
-use Rattle.spec_execution.specs.Runs.{Frame, Next, Goes, Asks, Loads, Ends, Traps, call}
+use Rattle.spec_execution.specs.Runs.{is_running, Frame, Next, Goes, Asks, Loads, Ends, Traps, call}
 use Rattle.wasm_step.specs.Tops.{Top}
 use Rattle.wasm_machine.specs.Stacks.{CallStack, empty_stack, IsJoined, under_of, is_live, joined, IsBounded}
 use Rattle.wasm_step.specs.Moves.{Changes, AreSame}
-use Rattle.wasm_machine.specs.Machines.{MachineState, RoomsAre, IsOver, IsAsked, IsEnd, MayWant, LeavesCode, Led, Told, QuickStepped, IsCallingOutside, is_code, calls_outside, next_of}
+use Rattle.wasm_machine.specs.Machines.{before, MachineState, RoomsAre, IsOver, IsAsked, IsEnd, MayWant, LeavesCode, Led, Told, QuickStepped, IsCallingOutside, calls_outside, next_of}
 use Rattle.wasm_machine.specs.declared.machine.Standing.{Standing}
 use Rattle.wasm_machine.specs.declared.machine.Standing.TheVariants as standing
 use Rattle.wasm_machine.specs.declared.callers.Caller.{Caller}
 use Rattle.wasm_step.specs.declared.done.Done.{Done}
 use Rattle.wasm_step.specs.declared.done.Done.TheVariants as done
 use Rattle.wasm_machine.specs.declared.event.Event.TheVariants as event
-use Rattle.wasm_machine.proofs.StepsInRange.{IsNextInRange, begin_in, step_in}
+use Rattle.spec_safety.proofs.StepsInRange.{IsNextInRange, begin_in}
+use Rattle.wasm_machine.proofs.InRange.{step_in}
 use Rattle.wasm_machine.proofs.Depths.{not_deep_at}
 
 module _ {Units : Type 0} (V : View Units) (Wanting : Type 0) (stack : CallStack) (c : Changes Units) where
@@ -125,7 +126,7 @@ ended_over V c old new s o same e q =
     rw (same.0, q) (record { range = none; rooms = refl; asked = asked_at_end V s e })
 
 module _ {Units : Type 0} (V : View Units) (c : Changes Units) (cs cs' : List Caller) (t t' : Top) (s : Standing) (d : Done) (old : MachineState) (live : is_live t ≡ true) (moving : s ≡ standing.Moving)
-    (led : Led V d (next_of V c.old_units c.old_memory (joined cs t).frames) (MayWant V (joined cs t).frames) (joined cs t) (joined cs' t') c) (is : record { stack = joined cs t; standing = s } ≡ old) (over : IsOver V c.old_units old) where
+    (led : Led V d (next_of V c.old_units c.old_memory (joined cs t).frames) (MayWant (before V c) (joined cs t).frames) (joined cs t) (joined cs' t') c) (is : record { stack = joined cs t; standing = s } ≡ old) (over : IsOver V c.old_units old) where
   abbrev at : MachineState
   at = record { stack = joined cs t; standing = s }
 
@@ -135,17 +136,17 @@ module _ {Units : Type 0} (V : View Units) (c : Changes Units) (cs cs' : List Ca
   over_at : IsOver V c.old_units at
   over_at = rw (← is) at over
 
-  code_at : is_code (joined cs t).frames ≡ true
+  code_at : is_running (joined cs t).frames ≡ true
   code_at = rw live refl
 
   goes_stepped : d ≡ done.Goes → RoomsAre V (joined cs' t') → IsBounded (joined cs' t') → QuickStepped V done.Goes at to c
   goes_stepped e r b =
       let l = rw e at led in
-      inl (moving, code_at, told_moved V (MayWant V (joined cs t).frames) (joined cs t) c (next_of V c.old_units c.old_memory (joined cs t).frames) at to l moving r b)
+      inl (moving, code_at, told_moved V (MayWant (before V c) (joined cs t).frames) (joined cs t) c (next_of V c.old_units c.old_memory (joined cs t).frames) at to l moving r b)
 
   goes_over : d ≡ done.Goes → RoomsAre V (joined cs' t') → IsOver V c.new_units to
   goes_over e r = record {
-    range = range_moved V (MayWant V (joined cs t).frames) (joined cs t) c (next_of V c.old_units c.old_memory (joined cs t).frames) c.old_units (joined cs' t') (rw e at led) (step_in V c.old_units c.old_memory (joined cs t).frames over_at.range);
+    range = range_moved V (MayWant (before V c) (joined cs t).frames) (joined cs t) c (next_of V c.old_units c.old_memory (joined cs t).frames) c.old_units (joined cs' t') (rw e at led) (step_in V c.old_units c.old_memory (joined cs t).frames over_at.range);
     rooms = r;
     asked = rw moving tt;
   }
@@ -158,12 +159,12 @@ module _ {Units : Type 0} (V : View Units) (c : Changes Units) (cs cs' : List Ca
 
   deep_kept : d ≡ done.Deep → (joined cs' t' ≡ joined cs t) × AreSame c
   deep_kept e =
-      let k = told_deep V (MayWant V (joined cs t).frames) (joined cs t) (joined cs' t') c (next_of V c.old_units c.old_memory (joined cs t).frames) at at refl (rw e at led) in
+      let k = told_deep V (MayWant (before V c) (joined cs t).frames) (joined cs t) (joined cs' t') c (next_of V c.old_units c.old_memory (joined cs t).frames) at at refl (rw e at led) in
       (k.1, k.2)
 
   deep_stepped : d ≡ done.Deep → QuickStepped V done.Deep at to c
   deep_stepped e =
-      let k = told_deep V (MayWant V (joined cs t).frames) (joined cs t) (joined cs' t') c (next_of V c.old_units c.old_memory (joined cs t).frames) at to (at_same (deep_kept e).0) (rw e at led) in
+      let k = told_deep V (MayWant (before V c) (joined cs t).frames) (joined cs t) (joined cs' t') c (next_of V c.old_units c.old_memory (joined cs t).frames) at to (at_same (deep_kept e).0) (rw e at led) in
       inl (moving, code_at, k.0)
 
   outside_kept : d ≡ done.Outside → (joined cs' t' ≡ joined cs t) × AreSame c

@@ -2,3 +2,4 @@ pub mod Stacks
 pub mod Machines
 pub mod Whole
 pub mod Outside
+pub mod Marks

@@ -1,5 +1,5 @@
 -- What a machine is, and what it answers of a step, beside what the definition of the step says.
-use Rattle.std.specs.Prelude.{◌≡◌, ◌≢◌, ◌≤◌, ◌⊎◌, ◌||◌, ◌+◌, ℕ, List, [], ◌∷◌, map, length, reverse, drop, Option, Some, None, IfSome, Bool, true, false, IsTrue, if◌then◌else◌}
+use Rattle.std.specs.Prelude.{◌≡◌, ◌≢◌, ◌<◌, ◌⊎◌, ◌||◌, ◌+◌, ℕ, List, [], ◌∷◌, map, length, reverse, drop, Option, Some, None, IfSome, Bool, true, false, IsTrue, if◌then◌else◌}
 use Rattle.wasm_form.specs.declared.types.FuncType.{FuncType}
 use Rattle.wasm_form.specs.declared.instr.Instr.{Instr, out-Instr}
 use Rattle.wasm_form.specs.declared.instr.Instr.TheOpen as Open
@@ -20,18 +20,21 @@ use Rattle.spec_runtime.specs.Memories.{MemoryInstance}
 use Rattle.spec_runtime.specs.Tables.{entry_at}
 use Rattle.spec_runtime.specs.Hosts.{fits_results, all_written}
 use Rattle.spec_execution.specs.Values.{low}
-use Rattle.spec_execution.specs.Activations.{Activation, with_values, move}
+use Rattle.spec_execution.specs.Activations.{Activation, Move, Calls, CallsEntry, with_values, with_i32, move}
 use Rattle.spec_execution.specs.Views.{View, type_of}
-use Rattle.spec_execution.specs.Runs.{Frame, Active, Marked, Next, Goes, Asks, Loads, Ends, Traps, carried_out, given}
+use Rattle.spec_execution.specs.Runs.{is_running, Frame, Active, Marked, Next, Goes, Asks, Loads, Ends, Traps, call, calling, carried_out, given}
 use Rattle.spec_execution.specs.Limits.{room_of, activations, is_deep}
 use Rattle.spec_execution.specs.Ranges.{AllInRange}
 use Rattle.wasm_step.specs.Tops.{height_of}
 use Rattle.wasm_step.specs.Primitives.{number_on, with_rest}
-use Rattle.wasm_machine.specs.Stacks.{CallStack, most_blocks}
-use Rattle.wasm_step.specs.Moves.{Changes, AreSame}
+use Rattle.wasm_view.specs.Seen.{Seen}
+use Rattle.wasm_machine.specs.Stacks.{CallStack, empty_stack, most_blocks}
+use Rattle.wasm_step.specs.Moves.{Changes, AreSame, between}
 use Rattle.wasm_step.specs.Named.{is_call, is_growth}
 use Rattle.wasm_machine.specs.declared.machine.Standing.{Standing}
 use Rattle.wasm_machine.specs.declared.machine.Standing.TheVariants as standing
+use Rattle.wasm_machine.specs.declared.machine.StackTop.{StackTop}
+use Rattle.wasm_machine.specs.declared.machine.StackTop.TheVariants as top
 use Rattle.wasm_step.specs.declared.done.Done.{Done}
 use Rattle.wasm_step.specs.declared.done.Done.TheVariants as done
 use Rattle.wasm_machine.specs.declared.event.Event.{Event}
@@ -68,6 +71,9 @@ next_of V us memory [] = None
 next_of V us memory (Active a ∷ frames) = carried_out V us memory frames (move (V.declared a.unit) a)
 next_of V us memory (Marked tag ∷ frames) = None
 
+abbrev pub next_in : {Units : Type 0} → Seen Units → List (Frame ℕ) → Option (Next Units ℕ)
+next_in w frames = next_of w.fixed w.units w.memory frames
+
 -- a step after which no code goes on by itself
 abbrev pub LeavesCode : {Units : Type 0} → Option (Next Units ℕ) → Type 0
 LeavesCode (Some (Goes us memory frames)) = ⊥
@@ -83,6 +89,10 @@ Led V done.Stuck None Wanting old new c = AreSame c
 Led V done.Outside next Wanting old new c = (new ≡ old) × AreSame c × LeavesCode next
 Led V done.NoMemory next Wanting old new c = Wanting × AreSame c
 Led V _ next Wanting old new c = ⊥
+
+-- what a step comes to that is answered in few bytes, and what has changed
+abbrev pub Leads : {Units : Type 0} → Done → Option (Next Units ℕ) → Type 0 → CallStack → CallStack → Seen Units → Seen Units → Type 0
+Leads done next Wanting old new before after = Led before.fixed done next Wanting old new (between before after)
 
 -- the arguments of a function of the loader, or 0 where there are fewer
 abbrev pub first_of : List ℕ → ℕ
@@ -124,15 +134,16 @@ abbrev pub IsAtMark : Event → List (Frame ℕ) → Type 0
 IsAtMark (event.Marked tag) (Marked top ∷ frames) = tag ≡ top
 IsAtMark _ frames = ⊥
 
--- whether the code that is on top goes on
-abbrev pub is_code : List (Frame ℕ) → Bool
-is_code (Active a ∷ frames) = true
-is_code _ = false
+-- what is on top
+abbrev pub on_top : List (Frame ℕ) → StackTop
+on_top [] = top.Nothing
+on_top (Active a ∷ frames) = top.Code
+on_top (Marked tag ∷ frames) = top.Mark tag
 
 -- a step: code on top goes on, a mark is told, and an end is told again
 abbrev pub Stepped : {Units : Type 0} → View Units → Event → MachineState → MachineState → Changes Units → Type 0
 Stepped V e old new c =
-    ((old.standing ≡ standing.Moving) × (is_code old.stack.frames ≡ true) × Told V e (next_of V c.old_units c.old_memory old.stack.frames) old new c)
+    ((old.standing ≡ standing.Moving) × (is_running old.stack.frames ≡ true) × Told V e (next_of V c.old_units c.old_memory old.stack.frames) old new c)
     ⊎ ((old.standing ≡ standing.Moving) × IsAtMark e old.stack.frames × (new ≡ old) × AreSame c)
     ⊎ (Repeats e old.standing × (new ≡ old) × AreSame c)
 
@@ -148,22 +159,54 @@ IsReady m = go m.standing
 
 -- ---- where memory may be wanting
 
--- the code on top calls, or grows a memory or a table next
+-- what was seen before a change
+abbrev pub before : {Units : Type 0} → View Units → Changes Units → Seen Units
+before V c = record { fixed = V; units = c.old_units; memory = c.old_memory }
+
+-- these instructions begin with a call, or with one that grows a memory or a table
 abbrev pub may_grow_at : List Instr → Bool
 may_grow_at [] = false
 may_grow_at (i ∷ is) = is_call (out-Instr i) || is_growth (out-Instr i)
 
--- The next step may want memory: it calls or grows. Or it has used up the room that the view told, which well typed code never does.
-abbrev pub MayWant : {Units : Type 0} → View Units → List (Frame ℕ) → Type 0
-MayWant V [] = ⊥
-MayWant V (Marked tag ∷ frames) = ⊥
-MayWant V (Active a ∷ frames) =
-    IsTrue (may_grow_at a.rest) ⊎ (room_of V a.unit a.func ≤ length a.locals + height_of a) ⊎ (most_blocks ≤ length a.levels)
+-- the code on top calls or grows next
+abbrev pub MayGrow : List (Frame ℕ) → Type 0
+MayGrow [] = ⊥
+MayGrow (Marked tag ∷ frames) = ⊥
+MayGrow (Active a ∷ frames) = IsTrue (may_grow_at a.rest)
 
-abbrev pub IsWanting : {Units : Type 0} → View Units → MachineState → Type 0
-IsWanting V m = (m.standing ≡ standing.Lost) ⊎ ((m.standing ≡ standing.Moving) × MayWant V m.stack.frames)
+-- A step leads to an activation on top with more values than its room, or with more than 1,001 open blocks, which one of well typed code
+-- never does.
+abbrev pub LeadsPastRoom : {Units : Type 0} → View Units → Option (Next Units ℕ) → Type 0
+LeadsPastRoom V (Some (Goes us memory (Active a ∷ frames))) = (room_of V a.unit a.func < length a.locals + height_of a) ⊎ (most_blocks < length a.levels)
+LeadsPastRoom V _ = ⊥
+
+-- the next step may want memory
+abbrev pub MayWant : {Units : Type 0} → Seen Units → List (Frame ℕ) → Type 0
+MayWant w frames = MayGrow frames ⊎ LeadsPastRoom w.fixed (next_in w frames)
+
+abbrev pub IsWanting : {Units : Type 0} → Seen Units → MachineState → Type 0
+IsWanting w m = (m.standing ≡ standing.Lost) ⊎ ((m.standing ≡ standing.Moving) × MayWant w m.stack.frames)
+
+-- nothing is left but this
+abbrev pub ended : Standing → MachineState
+ended s = record { stack = empty_stack; standing = s }
+
+-- memory was wanting: nothing is left, and it wants memory from then on
+abbrev pub lost_machine : MachineState
+lost_machine = ended standing.Lost
+
+-- the step of the code on top is answered
+abbrev pub Advances : {Units : Type 0} → Done → CallStack → CallStack → Seen Units → Seen Units → Type 0
+Advances done old new before after = Leads done (next_in before old.frames) (MayWant before old.frames) old new before after
 
 -- ---- beginnings and marks
+
+-- a function without parameters is called over a call stack
+abbrev pub called_over : {Units : Type 0} → Seen Units → List (Frame ℕ) → Ref → Option (Next Units ℕ)
+called_over w frames r = call w.fixed w.units w.memory (λ _. frames) [] r
+
+abbrev pub Begins : {Units : Type 0} → Seen Units → Event → Ref → MachineState → MachineState → Type 0
+Begins w e r old new = (old.standing ≡ standing.Moving) × Told w.fixed e (called_over w old.stack.frames r) old new (between w w)
 
 -- nothing is on the call stack, or a mark is on top
 abbrev pub IsClear : List (Frame ℕ) → Type 0
@@ -259,6 +302,20 @@ Finished _ values old new = ⊥
 abbrev pub past_call : Activation → ℕ → Activation
 past_call a above = with_values (with_rest a (drop 1 a.rest)) (drop above a.values)
 
+-- a call from an activation, with the arguments under the topmost `above` values
+abbrev pub called_from : {Units : Type 0} → Seen Units → Activation → ℕ → List (Frame ℕ) → Ref → Option (Next Units ℕ)
+called_from w a above frames r = call w.fixed w.units w.memory (calling (past_call a above) frames) (past_call a above).values r
+
+-- the moves of a call by the number of a function, and of one by an entry of a table
+abbrev pub direct : ℕ → Activation → Move
+direct f a = Calls f (with_rest a (drop 1 a.rest))
+
+abbrev pub indirect : ℕ → ℕ → Activation → Move
+indirect ty table a = with_i32 a.values (λ i vs. CallsEntry table ty i (with_values (with_rest a (drop 1 a.rest)) vs))
+
+abbrev pub carried_in : {Units : Type 0} → Seen Units → List (Frame ℕ) → Move → Option (Next Units ℕ)
+carried_in w frames m = carried_out w.fixed w.units w.memory frames m
+
 -- functions outside the code
 abbrev pub is_outside : Ref → Bool
 is_outside (ref.Own unit f) = false
@@ -326,4 +383,4 @@ QuickStepped V done.Exited old new c = IsExited old.standing × (new ≡ old) ×
 QuickStepped V done.Marked old new c = IsMarked old × (new ≡ old) × AreSame c
 QuickStepped V done.Deep old new c = Stepped V event.Deep old new c
 QuickStepped V done.Outside old new c = IsCallingOutside V c.old_units old × (new ≡ old) × AreSame c × LeavesCode (next_of V c.old_units c.old_memory old.stack.frames)
-QuickStepped V done.NoMemory old new c = IsWanting V old × (new.standing ≡ standing.Lost) × AreSame c
+QuickStepped V done.NoMemory old new c = IsWanting (before V c) old × (new ≡ lost_machine) × AreSame c

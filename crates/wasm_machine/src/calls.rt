@@ -1,18 +1,16 @@
 // Calls and returns (section 4.4.10), and one step of the code on top.
 ghost use Rattle.std.specs.Prelude.{◌≡◌, ◌≢◌, ◌<◌, ◌≤◌, [], drop, length, true, false, Some};
-ghost use Rattle.spec_execution.specs.Activations.{with_values, with_i32, Calls, CallsEntry};
 ghost use Rattle.spec_execution.specs.Ranges.{IsWhole, HoldsAll, AllInRange, AreInRange, Exists};
 ghost use Rattle.spec_execution.specs.Views.{type_of as type_seen};
 ghost use Rattle.wasm_form.specs.declared.instr.Instr.{out-Instr};
-ghost use Rattle.spec_binary.specs.SmallForm.{nullary};
+ghost use Rattle.spec_binary.specs.Indices.{nullary};
 ghost use Rattle.spec_binary.specs.SameTypes.{same_function_type};
 ghost use Rattle.wasm_machine.specs.Outside.{callee_of, IsOutsideCall};
-ghost use Rattle.spec_execution.specs.Runs.{call as called, calling, carried_out};
-ghost use Rattle.wasm_step.specs.Primitives.{with_rest};
 ghost use Rattle.wasm_machine.specs.Stacks.{joined, under_of, is_live, IsJoined};
-ghost use Rattle.wasm_machine.specs.Machines.{Led, Finished, RoomsAre, next_of, past_call, MayWant, is_outside, names_outside, entry_is_outside, calls_outside};
+ghost use Rattle.wasm_machine.specs.Machines.{Leads, Advances, next_in, carried_in, called_from, called_over, direct, indirect, Finished, RoomsAre, is_outside, names_outside, entry_is_outside, calls_outside};
 
 use crate::callers::{Caller, Callers};
+use std::alloc::Global;
 use wasm_form::{FuncType, Instr, Ref, Trap};
 use wasm_step::{Current, Done, instruction};
 use wasm_view::View;
@@ -27,11 +25,11 @@ fn end<'m, V: View<'m>>(callers: &mut Callers<'m>, top: &mut Current<'m>, view: 
     requires joined { IsJoined callers.old top.old }
     requires live { is_live top.old ≡ true }
     requires done { top.old.act.rest ≡ [] }
-    requires rooms { RoomsAre (V.fixed view.now) (joined callers.old top.old) }
-    ensures led { Led (V.fixed view.now) result (next_of (V.fixed view.now) (V.units view.now) (V.space view.now) (joined callers.old top.old).frames) ⊥ (joined callers.old top.old) (joined callers.new top.new) (record { old_units = V.units view.now; old_memory = V.space view.now; new_units = V.units view.now; new_memory = V.space view.now }) }
+    requires rooms { RoomsAre (V.seen view.now).fixed (joined callers.old top.old) }
+    ensures led { Leads result (next_in (V.seen view.now) (joined callers.old top.old).frames) ⊥ (joined callers.old top.old) (joined callers.new top.new) (V.seen view.now) (V.seen view.now) }
     ensures inside { result ≢ Done.Outside }
     ensures joined { IsJoined callers.new top.new }
-    ensures rooms { result ≡ Done.Goes → RoomsAre (V.fixed view.now) (joined callers.new top.new) }
+    ensures rooms { result ≡ Done.Goes → RoomsAre (V.seen view.now).fixed (joined callers.new top.new) }
 {
     if top.leave() {
         return Done::Goes;
@@ -71,6 +69,7 @@ fn finish<'m>(callers: &mut Callers<'m>, top: &mut Current<'m>) -> Done
 fn call_own<'m, V: View<'m>>(
     callers: &mut Callers<'m>,
     top: &mut Current<'m>,
+    alloc: Global,
     view: &V,
     above: usize,
     unit: u32,
@@ -78,14 +77,14 @@ fn call_own<'m, V: View<'m>>(
 ) -> Done
     requires joined { IsJoined callers.old top.old }
     requires live { is_live top.old ≡ true }
-    requires rooms { RoomsAre (V.fixed view.now) (joined callers.old top.old) }
+    requires rooms { RoomsAre (V.seen view.now).fixed (joined callers.old top.old) }
     requires some { 0 < length top.old.act.rest }
     requires above { above ≤ length top.old.act.values }
-    requires exists { Exists (V.fixed view.now) (Ref.Own unit func) }
-    ensures led { Led (V.fixed view.now) result (called (V.fixed view.now) (V.units view.now) (V.space view.now) (calling (past_call top.old.act above) (under_of callers.old top.old)) (past_call top.old.act above).values (Ref.Own unit func)) (Unit {0}) (joined callers.old top.old) (joined callers.new top.new) (record { old_units = V.units view.now; old_memory = V.space view.now; new_units = V.units view.now; new_memory = V.space view.now }) }
+    requires exists { Exists (V.seen view.now).fixed (Ref.Own unit func) }
+    ensures led { Leads result (called_from (V.seen view.now) top.old.act above (under_of callers.old top.old) (Ref.Own unit func)) (Unit {0}) (joined callers.old top.old) (joined callers.new top.new) (V.seen view.now) (V.seen view.now) }
     ensures inside { result ≢ Done.Outside }
     ensures joined { result ≢ Done.NoMemory → IsJoined callers.new top.new }
-    ensures rooms { result ≡ Done.Goes → RoomsAre (V.fixed view.now) (joined callers.new top.new) }
+    ensures rooms { result ≡ Done.Goes → RoomsAre (V.seen view.now).fixed (joined callers.new top.new) }
 {
     let ty = view.type_of(Ref::Own { unit, func });
     let params = ty.params.items();
@@ -100,7 +99,7 @@ fn call_own<'m, V: View<'m>>(
     let code = view.code(unit, func);
     top.advance();
     top.drop_values(above);
-    match top.open(unit, func, room, params.len(), results, code) {
+    match top.open(alloc, unit, func, room, params.len(), results, code) {
         Err(_) => Done::NoMemory,
         Ok(place) => match callers.push(place) {
             Ok(()) => Done::Goes,
@@ -113,24 +112,30 @@ fn call_own<'m, V: View<'m>>(
 fn call_to<'m, V: View<'m>>(
     callers: &mut Callers<'m>,
     top: &mut Current<'m>,
+    alloc: Global,
     view: &V,
     above: usize,
     r: Ref,
 ) -> Done
     requires joined { IsJoined callers.old top.old }
     requires live { is_live top.old ≡ true }
-    requires rooms { RoomsAre (V.fixed view.now) (joined callers.old top.old) }
+    requires rooms { RoomsAre (V.seen view.now).fixed (joined callers.old top.old) }
     requires some { 0 < length top.old.act.rest }
     requires above { above ≤ length top.old.act.values }
-    requires exists { Exists (V.fixed view.now) r }
-    ensures led { Led (V.fixed view.now) result (called (V.fixed view.now) (V.units view.now) (V.space view.now) (calling (past_call top.old.act above) (under_of callers.old top.old)) (past_call top.old.act above).values r) (Unit {0}) (joined callers.old top.old) (joined callers.new top.new) (record { old_units = V.units view.now; old_memory = V.space view.now; new_units = V.units view.now; new_memory = V.space view.now }) }
+    requires exists { Exists (V.seen view.now).fixed r }
+    ensures led { Leads result (called_from (V.seen view.now) top.old.act above (under_of callers.old top.old) r) (Unit {0}) (joined callers.old top.old) (joined callers.new top.new) (V.seen view.now) (V.seen view.now) }
     ensures outside { result ≡ Done.Outside → is_outside r ≡ true }
     ensures joined { result ≢ Done.NoMemory → IsJoined callers.new top.new }
-    ensures rooms { result ≡ Done.Goes → RoomsAre (V.fixed view.now) (joined callers.new top.new) }
+    ensures rooms { result ≡ Done.Goes → RoomsAre (V.seen view.now).fixed (joined callers.new top.new) }
 {
     match r {
-        Ref::Own { unit, func } => call_own(callers, top, view, above, unit, func),
-        Ref::Stub { .. } => Done::Trapped(Trap::Unreachable),
+        Ref::Own { unit, func } => call_own(callers, top, alloc, view, above, unit, func),
+        Ref::Stub { .. } => {
+            if !top.has_arguments(above, view.type_of(r).params.items()) {
+                return Done::Stuck;
+            }
+            Done::Trapped(Trap::Unreachable)
+        }
         Ref::Loader(_) | Ref::Host(_) => Done::Outside,
     }
 }
@@ -146,22 +151,23 @@ fn is_same_type(one: &FuncType, other: &FuncType) -> bool
 fn call_indirect<'m, V: View<'m>>(
     callers: &mut Callers<'m>,
     top: &mut Current<'m>,
+    alloc: Global,
     view: &V,
     ty: u32,
     table: u32,
 ) -> Done
     requires joined { IsJoined callers.old top.old }
     requires live { is_live top.old ≡ true }
-    requires rooms { RoomsAre (V.fixed view.now) (joined callers.old top.old) }
+    requires rooms { RoomsAre (V.seen view.now).fixed (joined callers.old top.old) }
     requires some { 0 < length top.old.act.rest }
-    requires whole { IsWhole (V.fixed view.now) }
-    requires holds { HoldsAll (V.fixed view.now) (V.units view.now) }
-    requires declared { ty < ((V.fixed view.now).counts top.old.act.unit).types }
-    requires table { table < ((V.fixed view.now).counts top.old.act.unit).tables }
-    ensures led { Led (V.fixed view.now) result (carried_out (V.fixed view.now) (V.units view.now) (V.space view.now) (under_of callers.old top.old) (with_i32 top.old.act.values (λ i vs. CallsEntry table ty i (with_values (with_rest top.old.act (drop 1 top.old.act.rest)) vs)))) (Unit {0}) (joined callers.old top.old) (joined callers.new top.new) (record { old_units = V.units view.now; old_memory = V.space view.now; new_units = V.units view.now; new_memory = V.space view.now }) }
-    ensures outside { result ≡ Done.Outside → entry_is_outside (V.fixed view.now) (V.units view.now) top.old.act ty table ≡ true }
+    requires whole { IsWhole (V.seen view.now).fixed }
+    requires holds { HoldsAll (V.seen view.now).fixed (V.seen view.now).units }
+    requires declared { ty < ((V.seen view.now).fixed.counts top.old.act.unit).types }
+    requires table { table < ((V.seen view.now).fixed.counts top.old.act.unit).tables }
+    ensures led { Leads result (carried_in (V.seen view.now) (under_of callers.old top.old) (indirect ty table top.old.act)) (Unit {0}) (joined callers.old top.old) (joined callers.new top.new) (V.seen view.now) (V.seen view.now) }
+    ensures outside { result ≡ Done.Outside → entry_is_outside (V.seen view.now).fixed (V.seen view.now).units top.old.act ty table ≡ true }
     ensures joined { result ≢ Done.NoMemory → IsJoined callers.new top.new }
-    ensures rooms { result ≡ Done.Goes → RoomsAre (V.fixed view.now) (joined callers.new top.new) }
+    ensures rooms { result ≡ Done.Goes → RoomsAre (V.seen view.now).fixed (joined callers.new top.new) }
 {
     let Some(n) = top.number() else {
         return Done::Stuck;
@@ -174,26 +180,32 @@ fn call_indirect<'m, V: View<'m>>(
             if !is_same_type(view.type_of(r), view.declared(unit, ty)) {
                 return Done::Trapped(Trap::WrongType);
             }
-            call_to(callers, top, view, 1, r)
+            call_to(callers, top, alloc, view, 1, r)
         }
     }
 }
 
 /// Calls a function of the unit.
-fn call<'m, V: View<'m>>(callers: &mut Callers<'m>, top: &mut Current<'m>, view: &V, f: u32) -> Done
+fn call<'m, V: View<'m>>(
+    callers: &mut Callers<'m>,
+    top: &mut Current<'m>,
+    alloc: Global,
+    view: &V,
+    f: u32,
+) -> Done
     requires joined { IsJoined callers.old top.old }
     requires live { is_live top.old ≡ true }
-    requires rooms { RoomsAre (V.fixed view.now) (joined callers.old top.old) }
+    requires rooms { RoomsAre (V.seen view.now).fixed (joined callers.old top.old) }
     requires some { 0 < length top.old.act.rest }
-    requires whole { IsWhole (V.fixed view.now) }
-    requires named { f < ((V.fixed view.now).counts top.old.act.unit).functions }
-    ensures led { Led (V.fixed view.now) result (carried_out (V.fixed view.now) (V.units view.now) (V.space view.now) (under_of callers.old top.old) (Calls f (with_rest top.old.act (drop 1 top.old.act.rest)))) (Unit {0}) (joined callers.old top.old) (joined callers.new top.new) (record { old_units = V.units view.now; old_memory = V.space view.now; new_units = V.units view.now; new_memory = V.space view.now }) }
-    ensures outside { result ≡ Done.Outside → names_outside (V.fixed view.now) top.old.act f ≡ true }
+    requires whole { IsWhole (V.seen view.now).fixed }
+    requires named { f < ((V.seen view.now).fixed.counts top.old.act.unit).functions }
+    ensures led { Leads result (carried_in (V.seen view.now) (under_of callers.old top.old) (direct f top.old.act)) (Unit {0}) (joined callers.old top.old) (joined callers.new top.new) (V.seen view.now) (V.seen view.now) }
+    ensures outside { result ≡ Done.Outside → names_outside (V.seen view.now).fixed top.old.act f ≡ true }
     ensures joined { result ≢ Done.NoMemory → IsJoined callers.new top.new }
-    ensures rooms { result ≡ Done.Goes → RoomsAre (V.fixed view.now) (joined callers.new top.new) }
+    ensures rooms { result ≡ Done.Goes → RoomsAre (V.seen view.now).fixed (joined callers.new top.new) }
 {
     let r = view.target(top.unit(), f);
-    call_to(callers, top, view, 0, r)
+    call_to(callers, top, alloc, view, 0, r)
 }
 
 /// What an instruction calls: a function of the unit, or an entry of a table as one of a type.
@@ -223,27 +235,28 @@ fn named_callee(i: &Instr) -> Option<Callee>
 pub(crate) fn advance<'m, V: View<'m>>(
     callers: &mut Callers<'m>,
     top: &mut Current<'m>,
+    alloc: Global,
     view: &mut V,
 ) -> Done
     requires joined { IsJoined callers.old top.old }
     requires live { is_live top.old ≡ true }
-    requires rooms { RoomsAre (V.fixed view.old) (joined callers.old top.old) }
-    requires range { AllInRange (V.fixed view.old) (V.units view.old) (joined callers.old top.old).frames }
-    ensures led { Led (V.fixed view.old) result (next_of (V.fixed view.old) (V.units view.old) (V.space view.old) (joined callers.old top.old).frames) (MayWant (V.fixed view.old) (joined callers.old top.old).frames) (joined callers.old top.old) (joined callers.new top.new) (record { old_units = V.units view.old; old_memory = V.space view.old; new_units = V.units view.new; new_memory = V.space view.new }) }
-    ensures outside { result ≡ Done.Outside → calls_outside (V.fixed view.old) (V.units view.old) top.old.act ≡ true }
+    requires rooms { RoomsAre (V.seen view.old).fixed (joined callers.old top.old) }
+    requires range { AllInRange (V.seen view.old).fixed (V.seen view.old).units (joined callers.old top.old).frames }
+    ensures led { Advances result (joined callers.old top.old) (joined callers.new top.new) (V.seen view.old) (V.seen view.new) }
+    ensures outside { result ≡ Done.Outside → calls_outside (V.seen view.old).fixed (V.seen view.old).units top.old.act ≡ true }
     ensures joined { result ≢ Done.NoMemory → IsJoined callers.new top.new }
-    ensures rooms { result ≡ Done.Goes → RoomsAre (V.fixed view.old) (joined callers.new top.new) }
-    ensures fixed { V.fixed view.new ≡ V.fixed view.old }
+    ensures rooms { result ≡ Done.Goes → RoomsAre (V.seen view.old).fixed (joined callers.new top.new) }
+    ensures fixed { (V.seen view.new).fixed ≡ (V.seen view.old).fixed }
 {
     let Some(i) = top.peek() else {
         return end(callers, top, view);
     };
     match named_callee(i) {
-        Some(Callee::Function(f)) => call(callers, top, view, f),
-        Some(Callee::Entry { ty, table }) => call_indirect(callers, top, view, ty, table),
+        Some(Callee::Function(f)) => call(callers, top, alloc, view, f),
+        Some(Callee::Entry { ty, table }) => call_indirect(callers, top, alloc, view, ty, table),
         None => {
             top.advance();
-            instruction(top, view, i)
+            instruction(top, alloc, view, i)
         }
     }
 }
@@ -252,23 +265,24 @@ pub(crate) fn advance<'m, V: View<'m>>(
 pub(crate) fn begin_own<'m, V: View<'m>>(
     callers: &Callers<'m>,
     top: &mut Current<'m>,
+    alloc: Global,
     view: &V,
     unit: u32,
     func: u32,
 ) -> Done
     requires joined { IsJoined callers.now top.old }
     requires idle { is_live top.old ≡ false }
-    requires rooms { RoomsAre (V.fixed view.now) (joined callers.now top.old) }
-    requires nullary { type_seen (V.fixed view.now) (Ref.Own unit func) ≡ Some nullary }
-    ensures led { Led (V.fixed view.now) result (called (V.fixed view.now) (V.units view.now) (V.space view.now) (λ _. under_of callers.now top.old) [] (Ref.Own unit func)) (Unit {0}) (joined callers.now top.old) (joined callers.now top.new) (record { old_units = V.units view.now; old_memory = V.space view.now; new_units = V.units view.now; new_memory = V.space view.now }) }
+    requires rooms { RoomsAre (V.seen view.now).fixed (joined callers.now top.old) }
+    requires nullary { type_seen (V.seen view.now).fixed (Ref.Own unit func) ≡ Some nullary }
+    ensures led { Leads result (called_over (V.seen view.now) (under_of callers.now top.old) (Ref.Own unit func)) (Unit {0}) (joined callers.now top.old) (joined callers.now top.new) (V.seen view.now) (V.seen view.now) }
     ensures joined { result ≢ Done.NoMemory → IsJoined callers.now top.new }
-    ensures rooms { result ≡ Done.Goes → RoomsAre (V.fixed view.now) (joined callers.now top.new) }
+    ensures rooms { result ≡ Done.Goes → RoomsAre (V.seen view.now).fixed (joined callers.now top.new) }
 {
     let room = view.room(unit, func) as usize;
     if callers.count() + 1 > MOST_ACTIVATIONS || callers.room() + room > MOST_VALUES {
         return Done::Deep;
     }
-    match top.start(unit, func, room, 0, view.code(unit, func)) {
+    match top.start(alloc, unit, func, room, 0, view.code(unit, func)) {
         Ok(()) => Done::Goes,
         Err(_) => Done::NoMemory,
     }
@@ -283,11 +297,11 @@ pub(crate) struct OutsideCall {
 
 /// The function outside that the next instruction calls.
 pub(crate) fn outside_call<'m, V: View<'m>>(top: &Current<'m>, view: &V) -> OutsideCall
-    requires outside { calls_outside (V.fixed view.now) (V.units view.now) top.now.act ≡ true }
-    requires whole { IsWhole (V.fixed view.now) }
-    requires holds { HoldsAll (V.fixed view.now) (V.units view.now) }
-    requires rest { AreInRange ((V.fixed view.now).counts top.now.act.unit) top.now.act.rest }
-    ensures { IsOutsideCall (V.fixed view.now) (V.units view.now) (V.space view.now) top.now.act result }
+    requires outside { calls_outside (V.seen view.now).fixed (V.seen view.now).units top.now.act ≡ true }
+    requires whole { IsWhole (V.seen view.now).fixed }
+    requires holds { HoldsAll (V.seen view.now).fixed (V.seen view.now).units }
+    requires rest { AreInRange ((V.seen view.now).fixed.counts top.now.act.unit) top.now.act.rest }
+    ensures { IsOutsideCall (V.seen view.now).fixed (V.seen view.now).units (V.seen view.now).memory top.now.act result }
 {
     let Some(i) = top.peek() else {
         unreachable!();

@@ -1,16 +1,16 @@
 // The machine.
 ghost use Rattle.std.specs.Prelude.{◌≡◌, ◌≢◌, ◌≤◌, ◌<◌, ◌^◌, [], ◌∷◌, ◌++◌, length, map, reverse, take, drop, is_some, true, slice_get, unwrap_or, All, IfOk, OnOk, OnErr, Some, IsTrue};
-ghost use Rattle.spec_binary.specs.SmallForm.{nullary};
+ghost use Rattle.spec_binary.specs.Indices.{nullary};
 ghost use Rattle.spec_runtime.specs.Hosts.{writes_fit, all_written};
 ghost use Rattle.spec_execution.specs.Values.{take_values, numbers_of};
 ghost use Rattle.spec_execution.specs.Activations.{with_values};
 ghost use Rattle.spec_execution.specs.Views.{type_of as type_seen};
-ghost use Rattle.spec_execution.specs.Runs.{call as called};
 ghost use Rattle.wasm_step.specs.Tops.{with_act};
 ghost use Rattle.wasm_step.specs.Primitives.{HasSpare, IsIdle, Widened, with_rest};
 ghost use Rattle.wasm_machine.specs.Stacks.{empty_stack};
-ghost use Rattle.wasm_step.specs.Moves.{AreSame};
-ghost use Rattle.wasm_machine.specs.Machines.{IsOver, IsReady, IsStart, Stepped, QuickStepped, Told, IsWanting, FitsAnswer, Answered, IsCallingOutside, next_of, MayMark, Marks, IsMarked, IsExited, IsAtMark, Unmarks, IsExpecting, Received, IsEnd};
+ghost use Rattle.wasm_step.specs.Moves.{AreSame, between};
+ghost use Rattle.wasm_machine.specs.Machines.{IsOver, IsReady, IsStart, Stepped, QuickStepped, Told, IsWanting, FitsAnswer, Answered, IsCallingOutside, MayMark, Marks, IsMarked, IsExited, IsAtMark, Unmarks, IsExpecting, Received, IsEnd};
+ghost use Rattle.wasm_machine.specs.Machines.{Begins, next_in, lost_machine, ended, on_top};
 
 use crate::callers::{Caller, Callers};
 use crate::calls::{advance, begin_own, outside_call};
@@ -34,6 +34,14 @@ pub enum Standing {
     Exited(u32),
     Stuck,
     Lost,
+}
+
+/// What is on top of a call stack: nothing, code, or a mark.
+#[derive(Clone, Copy, Debug, PartialEq, Eq)]
+pub enum StackTop {
+    Nothing,
+    Code,
+    Mark(u32),
 }
 
 /// A machine that runs code over a view: a call stack, on which marks may stand between activations. Contracts see it as a
@@ -79,15 +87,29 @@ impl<'m> Machine<'m> {
         self.standing
     }
 
+    /// What is on top of its call stack.
+    pub fn top(&self) -> StackTop
+        ensures { result ≡ on_top self.now.stack.frames }
+    {
+        if self.top.is_live() {
+            return StackTop::Code;
+        }
+        match self.callers.last() {
+            None => StackTop::Nothing,
+            Some(Caller::Mark(tag)) => StackTop::Mark(tag),
+            Some(Caller::Active(_)) => unreachable!(),
+        }
+    }
+
     /// Calls a function without parameters and results, over an empty call stack or a mark: `Moved`, `Waits` for a host
-    /// function, `Trapped` for a stub, or `Deep` with nothing changed.
+    /// function, `Trapped` for a stub, or `Deep` with nothing changed. Without memory `Memory`, from then on.
     pub fn begin<V: View<'m>>(&mut self, alloc: Global, view: &V, r: Ref) -> Result<Event, Memory>
-        requires over { IsOver (V.fixed view.now) (V.units view.now) self.old }
+        requires over { IsOver (V.seen view.now).fixed (V.seen view.now).units self.old }
         requires start { IsStart self.old }
-        requires nullary { type_seen (V.fixed view.now) r ≡ Some nullary }
-        ensures told { IfOk result (λ e. (self.old.standing ≡ Standing.Moving) × Told (V.fixed view.now) e (called (V.fixed view.now) (V.units view.now) (V.space view.now) (λ _. self.old.stack.frames) [] r) self.old self.new (record { old_units = V.units view.now; old_memory = V.space view.now; new_units = V.units view.now; new_memory = V.space view.now })) }
-        ensures lost { OnErr result (self.new.standing ≡ Standing.Lost) }
-        ensures over { IfOk result (λ _. IsOver (V.fixed view.now) (V.units view.now) self.new) }
+        requires nullary { type_seen (V.seen view.now).fixed r ≡ Some nullary }
+        ensures told { IfOk result (λ e. Begins (V.seen view.now) e r self.old self.new) }
+        ensures lost { OnErr result (self.new ≡ lost_machine) }
+        ensures over { IsOver (V.seen view.now).fixed (V.seen view.now).units self.new }
     {
         if self.standing == Standing::Lost {
             return Err(Memory);
@@ -108,6 +130,7 @@ impl<'m> Machine<'m> {
             Ref::Own { unit, func } => match begin_own(
                 &self.callers,
                 &mut self.top,
+                alloc,
                 view,
                 unit,
                 func,
@@ -124,12 +147,12 @@ impl<'m> Machine<'m> {
 
     /// Makes one step, as `step` does, and answers in few bytes: `Outside`, `Exited` and `Marked` don't tell what takes more.
     #[inline(always)]
-    pub fn quick<V: View<'m>>(&mut self, view: &mut V) -> Done
-        requires over { IsOver (V.fixed view.old) (V.units view.old) self.old }
+    pub fn quick<V: View<'m>>(&mut self, alloc: Global, view: &mut V) -> Done
+        requires over { IsOver (V.seen view.old).fixed (V.seen view.old).units self.old }
         requires ready { IsReady self.old }
-        ensures stepped { QuickStepped (V.fixed view.old) result self.old self.new (record { old_units = V.units view.old; old_memory = V.space view.old; new_units = V.units view.new; new_memory = V.space view.new }) }
-        ensures over { result ≢ Done.NoMemory → IsOver (V.fixed view.old) (V.units view.new) self.new }
-        ensures fixed { V.fixed view.new ≡ V.fixed view.old }
+        ensures stepped { QuickStepped (V.seen view.old).fixed result self.old self.new (between (V.seen view.old) (V.seen view.new)) }
+        ensures over { IsOver (V.seen view.old).fixed (V.seen view.new).units self.new }
+        ensures fixed { (V.seen view.new).fixed ≡ (V.seen view.old).fixed }
     {
         match self.standing {
             Standing::Moving => {}
@@ -143,7 +166,7 @@ impl<'m> Machine<'m> {
         if !self.top.is_live() {
             return Done::Marked;
         }
-        let done = advance(&mut self.callers, &mut self.top, view);
+        let done = advance(&mut self.callers, &mut self.top, alloc, view);
         match done {
             Done::Goes | Done::Deep | Done::Outside => {}
             Done::Returned => self.end(Standing::Returned),
@@ -154,17 +177,18 @@ impl<'m> Machine<'m> {
         done
     }
 
-    /// Makes one step of the code on top, tells the mark on top, or answers the end again.
+    /// Makes one step of the code on top, tells the mark on top, or answers the end again. Without memory `Memory`, from then on:
+    /// that is only where code calls or grows, or would pass the room that the view told, which valid code never does.
     pub fn step<V: View<'m>>(&mut self, alloc: Global, view: &mut V) -> Result<Event, Memory>
-        requires over { IsOver (V.fixed view.old) (V.units view.old) self.old }
+        requires over { IsOver (V.seen view.old).fixed (V.seen view.old).units self.old }
         requires ready { IsReady self.old }
-        ensures stepped { IfOk result (λ e. Stepped (V.fixed view.old) e self.old self.new (record { old_units = V.units view.old; old_memory = V.space view.old; new_units = V.units view.new; new_memory = V.space view.new })) }
-        ensures wanting { OnErr result (IsWanting (V.fixed view.old) self.old) }
-        ensures lost { OnErr result ((self.new.standing ≡ Standing.Lost) × AreSame (record { old_units = V.units view.old; old_memory = V.space view.old; new_units = V.units view.new; new_memory = V.space view.new })) }
-        ensures over { IfOk result (λ _. IsOver (V.fixed view.old) (V.units view.new) self.new) }
-        ensures fixed { V.fixed view.new ≡ V.fixed view.old }
+        ensures stepped { IfOk result (λ e. Stepped (V.seen view.old).fixed e self.old self.new (between (V.seen view.old) (V.seen view.new))) }
+        ensures wanting { OnErr result (IsWanting (V.seen view.old) self.old) }
+        ensures lost { OnErr result ((self.new ≡ lost_machine) × AreSame (between (V.seen view.old) (V.seen view.new))) }
+        ensures over { IsOver (V.seen view.old).fixed (V.seen view.new).units self.new }
+        ensures fixed { (V.seen view.new).fixed ≡ (V.seen view.old).fixed }
     {
-        match self.quick(view) {
+        match self.quick(alloc, view) {
             Done::Goes => Ok(Event::Moved),
             Done::Trapped(trap) => Ok(Event::Trapped(trap)),
             Done::Stuck => Ok(Event::Stuck),
@@ -205,11 +229,11 @@ impl<'m> Machine<'m> {
 
     /// Asks what is outside: the next step is a call of it.
     fn ask<V: View<'m>>(&mut self, alloc: Global, view: &V) -> Result<Event, Memory>
-        requires over { IsOver (V.fixed view.now) (V.units view.now) self.old }
-        requires outside { IsCallingOutside (V.fixed view.now) (V.units view.now) self.old }
-        ensures told { IfOk result (λ e. Told (V.fixed view.now) e (next_of (V.fixed view.now) (V.units view.now) (V.space view.now) self.old.stack.frames) self.old self.new (record { old_units = V.units view.now; old_memory = V.space view.now; new_units = V.units view.now; new_memory = V.space view.now })) }
-        ensures lost { OnErr result (self.new.standing ≡ Standing.Lost) }
-        ensures over { IfOk result (λ _. IsOver (V.fixed view.now) (V.units view.now) self.new) }
+        requires over { IsOver (V.seen view.now).fixed (V.seen view.now).units self.old }
+        requires outside { IsCallingOutside (V.seen view.now).fixed (V.seen view.now).units self.old }
+        ensures told { IfOk result (λ e. Told (V.seen view.now).fixed e (next_in (V.seen view.now) self.old.stack.frames) self.old self.new (between (V.seen view.now) (V.seen view.now))) }
+        ensures lost { OnErr result (self.new ≡ lost_machine) }
+        ensures over { IsOver (V.seen view.now).fixed (V.seen view.now).units self.new }
     {
         let call = outside_call(&self.top, view);
         let ty = view.type_of(call.target);
@@ -243,16 +267,28 @@ impl<'m> Machine<'m> {
         }
     }
 
-    /// Puts a mark on an empty call stack, or on what waits for a function of the loader.
-    pub fn mark(&mut self, _alloc: Global, tag: u32) -> Result<(), Memory>
+    /// Puts a mark on an empty call stack, or on what waits for a function of the loader. Without memory `Memory`, from then on.
+    #[tactic(auto, using(crate::proofs::Receiving::marks_over))]
+    pub fn mark<V: View<'m>>(&mut self, alloc: Global, view: &V, tag: u32) -> Result<(), Memory>
+        requires over { IsOver (V.seen view.now).fixed (V.seen view.now).units self.old }
+        requires may { MayMark self.old }
+        ensures marked { OnOk result (Marks tag self.old self.new) }
+        ensures lost { OnErr result (self.new ≡ lost_machine) }
+        ensures over { IsOver (V.seen view.now).fixed (V.seen view.now).units self.new }
+    {
+        self.put_mark(alloc, tag)
+    }
+
+    // The same, without what is said of the view.
+    fn put_mark(&mut self, alloc: Global, tag: u32) -> Result<(), Memory>
         requires { MayMark self.old }
         ensures marked { OnOk result (Marks tag self.old self.new) }
-        ensures lost { OnErr result (self.new.standing ≡ Standing.Lost) }
+        ensures lost { OnErr result (self.new ≡ lost_machine) }
     {
         if self.standing == Standing::Lost {
             return Err(Memory);
         }
-        if self.top.spare(1).is_err() {
+        if self.top.spare(alloc, 1).is_err() {
             lose(&mut self.callers, &mut self.top, &mut self.standing);
             return Err(Memory);
         }
@@ -272,7 +308,18 @@ impl<'m> Machine<'m> {
     }
 
     /// Takes the mark on top away: what waited for a function of the loader under it waits again.
-    pub fn unmark(&mut self)
+    #[tactic(auto, using(crate::proofs::Receiving::unmarks_over))]
+    pub fn unmark<V: View<'m>>(&mut self, view: &V)
+        requires over { IsOver (V.seen view.now).fixed (V.seen view.now).units self.old }
+        requires marked { IsMarked self.old }
+        ensures unmarked { Unmarks self.old self.new }
+        ensures over { IsOver (V.seen view.now).fixed (V.seen view.now).units self.new }
+    {
+        self.take_mark();
+    }
+
+    // The same, without what is said of the view.
+    fn take_mark(&mut self)
         requires { IsMarked self.old }
         ensures { Unmarks self.old self.new }
     {
@@ -286,11 +333,11 @@ impl<'m> Machine<'m> {
 
     /// Takes the answer of the host function that is waited for: its writes in order and then its results, or the end.
     pub fn answer<V: View<'m>>(&mut self, view: &mut V, a: &Answer)
-        requires over { IsOver (V.fixed view.old) (V.units view.old) self.old }
-        requires fits { FitsAnswer (V.fixed view.old) (V.space view.old) a.now self.old.standing }
-        ensures answered { Answered a.now self.old self.new (record { old_units = V.units view.old; old_memory = V.space view.old; new_units = V.units view.new; new_memory = V.space view.new }) }
-        ensures over { IsOver (V.fixed view.old) (V.units view.new) self.new }
-        ensures fixed { V.fixed view.new ≡ V.fixed view.old }
+        requires over { IsOver (V.seen view.old).fixed (V.seen view.old).units self.old }
+        requires fits { FitsAnswer (V.seen view.old).fixed (V.seen view.old).memory a.now self.old.standing }
+        ensures answered { Answered a.now self.old self.new (between (V.seen view.old) (V.seen view.new)) }
+        ensures over { IsOver (V.seen view.old).fixed (V.seen view.new).units self.new }
+        ensures fixed { (V.seen view.new).fixed ≡ (V.seen view.old).fixed }
     {
         match a {
             Answer::Exit(code) => self.end(Standing::Exited(*code)),
@@ -318,19 +365,29 @@ impl<'m> Machine<'m> {
     }
 
     /// Goes on with the result of a function of the loader.
-    pub fn give(&mut self, value: u32)
-        requires { self.old.standing ≡ Standing.Loading }
+    pub fn give<V: View<'m>>(&mut self, view: &V, value: u32)
+        requires over { IsOver (V.seen view.now).fixed (V.seen view.now).units self.old }
+        requires loading { self.old.standing ≡ Standing.Loading }
         ensures received { Received self.old.stack.frames (value ∷ []) self.new }
         ensures rooms { self.new.stack.rooms ≡ self.old.stack.rooms }
+        ensures over { IsOver (V.seen view.now).fixed (V.seen view.now).units self.new }
     {
         self.top.push_spare(Value::Num(u64::from(value)));
         self.standing = Standing::Moving;
     }
 
+    /// Ends by a trap of what was called outside the code.
+    pub fn trap(&mut self, why: Trap)
+        requires { self.old.standing ≢ Standing.Lost }
+        ensures { self.new ≡ ended (Standing.Trapped why) }
+    {
+        self.end(Standing::Trapped(why));
+    }
+
     // Nothing is left but an end.
     fn end(&mut self, standing: Standing)
         requires { IsEnd standing }
-        ensures { self.new ≡ (record { stack = empty_stack; standing = standing }) }
+        ensures { self.new ≡ ended standing }
     {
         self.callers.clear();
         self.top.clear();
@@ -369,7 +426,7 @@ fn leave(
     top.advance();
     top.drop_values(above);
     top.drop_values(params.len());
-    top.spare(count)?;
+    top.spare(alloc, count)?;
     Ok(args)
 }
 
@@ -385,10 +442,10 @@ fn push_numbers(top: &mut Current, numbers: &[u64])
 
 /// The writes of an answer, in order, all of which lie inside the memory.
 fn write_all<'m, V: View<'m>>(view: &mut V, writes: &[Write])
-    requires { IsTrue (writes_fit writes.now (V.space view.old)) }
-    ensures memory { V.space view.new ≡ all_written writes.now (V.space view.old) }
-    ensures others { V.units view.new ≡ V.units view.old }
-    ensures fixed { V.fixed view.new ≡ V.fixed view.old }
+    requires { IsTrue (writes_fit writes.now (V.seen view.old).memory) }
+    ensures memory { (V.seen view.new).memory ≡ all_written writes.now (V.seen view.old).memory }
+    ensures others { (V.seen view.new).units ≡ (V.seen view.old).units }
+    ensures fixed { (V.seen view.new).fixed ≡ (V.seen view.old).fixed }
 {
     for write in writes {
         if view.memory_put(write.at, write.bytes.items()).is_err() {

@@ -5,12 +5,12 @@ use Rattle.std.proofs.lemmas.Bool.{false≢true, cases_lt}
 use Rattle.wasm_form.specs.declared.module.Module.{Module}
 use Rattle.spec_runs.specs.Systems.{Moving, Ran}
 use Rattle.spec_runtime.specs.Hosts.{hosts}
-use Rattle.spec_execution.specs.OneModule.{ModuleState, module_step, module_run}
+use Rattle.spec_execution.specs.OneModule.{module_too_deep, ModuleState, module_step, module_run}
 use Rattle.wasm_machine.specs.declared.machine.Standing.TheVariants as standing
 use Rattle.wasm_single.specs.declared.bare_run.Core.{Core}
 use Rattle.wasm_single.specs.declared.bare_run.Phase.TheVariants as phase
 use Rattle.wasm_single.specs.declared.single.Single.TheInside.{Inside}
-use Rattle.wasm_single.specs.Cores.{IsCore, IsState, is_too_deep}
+use Rattle.wasm_single.specs.Cores.{IsCore, IsState}
 use Rattle.wasm_single.specs.Singles.{SingleRun, Stands, IsAfter, Advances, waits}
 use Rattle.wasm_single.specs.Starts.{opened}
 use Rattle.wasm_single.specs.Steps.{IsMade, Counted}
@@ -55,10 +55,10 @@ module _ (most : ℕ) (v : SingleRun) (i : Inside) (core : Core) (steps : ℕ) (
       subst P wasm_same after
 
   earlier : (k : ℕ) (r : Ran hosts ModuleState) → v.steps ≤ k → k < i.steps → IsAfter (run_of (counted i core steps lost)) k r
-      → (r.state.status ≡ Moving) × (is_too_deep core.checked.now r.state ≡ false)
+      → (r.state.status ≡ Moving) × (module_too_deep core.checked.now r.state ≡ false)
   earlier k r from to after =
       let f = g.advances.free k r from to (before k r after) in
-      (f.0, ap (λ m. is_too_deep m r.state) wasm_same ∙ f.1)
+      (f.0, ap (λ m. module_too_deep m r.state) wasm_same ∙ f.1)
 
   -- no step was made
   kept_advances : steps ≡ i.steps → Advances most v (run_of (counted i core steps lost))
@@ -69,7 +69,7 @@ module _ (most : ℕ) (v : SingleRun) (i : Inside) (core : Core) (steps : ℕ) (
     free = λ k r from to after. earlier k r from (omega arith) after;
     unasked = λ r stands made.
         let q = g.single.stands g.found in
-        let same : q.0 ≡ r = stands_after (run_of i) q.0 r steps q.1 e (before steps r (stands.opening, stands.opens, stands.run)) in
+        let same : q.0 ≡ r = stands_after (run_of i) q.0 r steps q.1 e (before steps r (stands.opening, stands.opens, stands.stands.run)) in
         subst (λ (x : Ran hosts ModuleState). waits x.state.status ≡ false) same (g.advances.unasked q.0 q.1 (omega arith));
   }
 
@@ -81,13 +81,13 @@ module _ (most : ℕ) (v : SingleRun) (i : Inside) (core : Core) (steps : ℕ) (
     few = inr (omega arith);
     free = λ k r from to after. ⊎_elim (λ (h : k < i.steps). earlier k r from h after) (λ (h : i.steps ≤ k).
         let same : q ≡ r = stands_after (run_of i) q r k stands (omega arith) (before k r after) in
-        let P : Ran hosts ModuleState → Type 0 = λ x. (x.state.status ≡ Moving) × (is_too_deep core.checked.now x.state ≡ false) in
+        let P : Ran hosts ModuleState → Type 0 = λ x. (x.state.status ≡ Moving) × (module_too_deep core.checked.now x.state ≡ false) in
         subst P same ((state_moving i.core q.state at g.moving).0, made.0)) (cases_lt k i.steps);
     unasked = λ r after more_made.
         let t = made.1.0 in
         let step : module_step i.core.checked.now q.state ≡ Some t = ap (λ m. module_step m q.state) (sym wasm_same) ∙ made.1.1 in
         let more = stands_moved (run_of i) q t stands (state_moving i.core q.state at g.moving).0 step in
-        let same : more.1.0 ≡ r = stands_after (record (run_of i) { steps = suc i.steps; answered = false }) more.1.0 r steps more.1.1 e (before steps r (after.opening, after.opens, after.run)) in
+        let same : more.1.0 ≡ r = stands_after (record (run_of i) { steps = suc i.steps; answered = false }) more.1.0 r steps more.1.1 e (before steps r (after.opening, after.opens, after.stands.run)) in
         subst (λ (x : Ran hosts ModuleState). waits x.state.status ≡ false) same (ap (λ (s : ModuleState). waits s.status) more.1.2 ∙ made.1.3);
   }
 
@@ -142,7 +142,7 @@ module _ (most : ℕ) (v : SingleRun) (i : Inside) (core : Core) (steps : ℕ) (
       let single = kept_single q stands o.2 o.0 o.1 (is_core o.1) in
       record { single = single; advances = kept_advances o.0; left = none_left most (counted i core steps lost) single (λ found. o.3) }
   stops_so q stands at is_core (inr (inr o)) =
-      record { single = lost_single o.1; advances = kept_advances o.0; left = λ r stands few code. absurd (false≢true (sym stands.found ∙ o.1)) }
+      record { single = lost_single o.1; advances = kept_advances o.0; left = λ r stands few code. absurd (false≢true (sym stands.stands.found ∙ o.1)) }
 
   pub stops : (lost ≡ false → IsCore core) → ((s : ModuleState) → IsState i.core s → Counted false s core i.steps steps lost) → IsAdvanced most v (counted i core steps lost)
   stops is_core outcome = let q = g.single.stands g.found in stops_so q.0 q.1 q.2 is_core (outcome q.0.state q.2)

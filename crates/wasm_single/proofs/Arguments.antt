@@ -6,7 +6,7 @@ use Rattle.std.proofs.lemmas.Option.{same_Some}
 use Rattle.std.proofs.lemmas.List.{reverse-append, reverse-reverse}
 use Rattle.std.proofs.lemmas.List.Folds.{list_all-append}
 use Rattle.std.proofs.lemmas.List.Elements.{All-head, All-tail}
-use Rattle.wasm_machine.proofs.StepsInRange.{All-reverse}
+use Rattle.spec_safety.proofs.StepsInRange.{All-reverse}
 use Rattle.wasm_form.specs.declared.types.ValType.{ValType}
 use Rattle.wasm_form.specs.declared.types.ValType.TheVariants.{I32, I64, F32, F64, FuncRef, ExternRef}
 use Rattle.wasm_form.specs.declared.types.FuncType.{FuncType}
@@ -14,6 +14,7 @@ use Rattle.wasm_form.specs.declared.module.Module.{Module}
 use Rattle.wasm_form.specs.declared.runtime.Ref.{Ref}
 use Rattle.wasm_form.specs.declared.runtime.Ref.TheVariants.{Own, Loader, Host, Stub}
 use Rattle.wasm_form.specs.declared.runtime.Trap.{Trap}
+use Rattle.wasm_form.specs.declared.runtime.Trap.TheVariants as trap
 use Rattle.wasm_runtime.specs.declared.Asked.{Asked}
 use Rattle.wasm_runtime.specs.declared.Value.{Value}
 use Rattle.wasm_runtime.specs.declared.Value.TheVariants.{Num, Func}
@@ -37,7 +38,7 @@ use Rattle.wasm_single.specs.declared.bare_run.Core.{Core}
 use Rattle.wasm_single.specs.Cores.{TellsStatus, Steps}
 use Rattle.wasm_single.specs.Singles.{ArgumentsFit}
 use Rattle.wasm_single.specs.Steps.{AreNumbers}
-use Rattle.wasm_single.proofs.Under.{each_found, each, either_way}
+use Rattle.spec_binary.proofs.Options.{each_found, each, either_way}
 use Rattle.wasm_single.proofs.Functions.{went_on}
 
 -- ---- numbers by their types
@@ -125,6 +126,9 @@ IsAsked V (Loads which args frames) = Unit {0}
 IsAsked V Ends = Unit {0}
 IsAsked V (Traps why) = Unit {0}
 
+abbrev trapped : {Units Mark : Type 0} → Option (Next Units Mark)
+trapped = Some (Traps trap.Unreachable)
+
 module _ {Units Mark : Type 0} (V : View Units) (us : Units) (memory : MemoryInstance) where
   call_asks : (caller : Caller Mark) (values : List Value) (r : Ref) → IfSome (call V us memory caller values r) (IsAsked V)
   call_asks caller values (Own unit f) =
@@ -136,7 +140,7 @@ module _ {Units Mark : Type 0} (V : View Units) (us : Units) (memory : MemoryIns
   call_asks caller values (Loader which) =
       each (IsAsked V) (only_if V.has_loader (loader_type which)) (call_loader caller values which)
       (λ ty. each (IsAsked V) (take_values (reverse ty.params) values) _ (λ p. tt))
-  call_asks caller values (Stub unit f) = tt
+  call_asks caller values (Stub unit f) = each (IsAsked V) (V.stub unit f) (λ ty. take_values (reverse ty.params) values >>= λ p. trapped) (λ ty. each (IsAsked V) (take_values (reverse ty.params) values) (λ p. trapped) (λ p. tt))
 
   entry_asks : (frames : List (Frame Mark)) (a : Activation) (ty : FuncType) (o : Option (Option Ref)) → IfSome (call_entry V us memory frames a ty o) (IsAsked V)
   entry_asks frames a ty None = tt

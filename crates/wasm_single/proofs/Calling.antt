@@ -10,13 +10,13 @@ use Rattle.wasm_form.specs.declared.runtime.Ref.TheVariants.{Own, Host}
 use Rattle.wasm_runtime.specs.declared.Value.{Value}
 use Rattle.spec_runs.specs.Systems.{Moving}
 use Rattle.spec_binary.specs.Options.{◌>>=◌}
-use Rattle.spec_binary.specs.SmallForm.{nullary}
-use Rattle.spec_validation.specs.Faults.{type_of_function}
+use Rattle.spec_binary.specs.Indices.{nullary, function_type}
 use Rattle.spec_runtime.specs.Memories.{MemoryInstance}
 use Rattle.spec_execution.specs.Views.{View, type_of}
 use Rattle.spec_execution.specs.Ranges.{IsWhole}
 use Rattle.spec_execution.specs.Runs.{Frame, Active, Marked, Next, Goes, Asks, Loads, Ends, Traps, call}
-use Rattle.spec_execution.specs.Instances.{ModuleParts, imported_count, function_named, module_target, module_view}
+use Rattle.spec_execution.specs.Instances.{ModuleParts, function_named, module_target, module_view}
+use Rattle.spec_binary.specs.IndexSpaces.{imported_count}
 use Rattle.spec_execution.specs.OneModule.{Starting, ModuleState, module_next}
 use Rattle.wasm_step.specs.Moves.{Changes, AreSame}
 use Rattle.wasm_machine.specs.Machines.{MachineState, IsOver, IsClear, IsStart, Told}
@@ -27,11 +27,13 @@ use Rattle.wasm_machine.specs.declared.event.Event.TheVariants as event
 use Rattle.wasm_single.specs.declared.bare_run.Core.{Core}
 use Rattle.wasm_single.specs.declared.bare_run.Phase.{Phase}
 use Rattle.wasm_single.specs.declared.bare_run.Phase.TheVariants as phase
-use Rattle.wasm_single.specs.Cores.{seen, starting_of, stack_in, stack_of, LiesOver, IsInPhase, IsLive, IsStartable, IsCore, IsState, StandsAs, Steps, Calls, is_begun}
-use Rattle.wasm_single.proofs.Seen.{seen_next, seen_call}
-use Rattle.wasm_single.proofs.Under.{KeepsUnder, own_under, call_under}
+use Rattle.wasm_single.specs.Cores.{seen, starting_of, stack_in, stack_of, IsInPhase, IsLive, IsStartable, IsCore, IsState, StandsAs, Steps, Calls, is_begun}
+use Rattle.wasm_machine.specs.Marks.{AreMarks, KeepsUnder}
+use Rattle.wasm_machine.proofs.Marked.{marked_call}
+use Rattle.wasm_machine.proofs.Under.{own_under, call_under}
+use Rattle.wasm_single.proofs.Seen.{seen_next}
 use Rattle.wasm_single.proofs.Functions.{number_there, target_is, type_is}
-use Rattle.wasm_single.proofs.Telling.{is_marked, under_phase, steps_told, deep_told}
+use Rattle.wasm_single.proofs.Telling.{marks_in, under_phase, steps_told, deep_told}
 
 -- ---- what is so where a call may begin
 
@@ -42,17 +44,17 @@ pub state_moving : (c : Core) (s : ModuleState) → IsState c s → c.machine.st
 state_moving c s h moving = subst (λ (st : Standing). StandsAs c s st) moving h.standing
 
 -- a mark on top is alone
-alone : (frames : List (Frame ℕ)) → LiesOver true frames → IsClear frames → (tag : ℕ) × (frames ≡ Marked tag ∷ [])
+alone : (frames : List (Frame ℕ)) → AreMarks 1 frames → IsClear frames → (tag : ℕ) × (frames ≡ Marked tag ∷ [])
 alone [] h clear = absurd cc
 alone (Active a ∷ frames) h clear = absurd clear
-alone (Marked tag ∷ frames) h clear = (tag, ap (λ (fs : List (Frame ℕ)). Marked tag ∷ fs) h)
+alone (Marked tag ∷ frames) h clear = (tag, ap (λ (fs : List (Frame ℕ)). Marked tag ∷ fs) h.1)
 
 module _ (c : Core) (h : IsCore c) (moving : c.machine.standing ≡ standing.Moving) (clear : IsClear c.machine.stack.frames) where
   only_mark : c.phase ≡ phase.Marked → (tag : ℕ) × (c.machine.stack.frames ≡ Marked tag ∷ [])
   only_mark e = alone c.machine.stack.frames (subst (λ (p : Phase). IsInPhase p c.machine.stack.frames) e (live_moving c h moving)) clear
 
-  marked_stack : c.phase ≡ phase.Marked → stack_of c ≡ Marked (starting_of c) ∷ []
-  marked_stack e = ap (λ (p : Phase). stack_in p (starting_of c) c.machine.stack.frames) e ∙ ap (λ (fs : List (Frame ℕ)). seen (starting_of c) fs) (only_mark e).1
+  stack_marked : c.phase ≡ phase.Marked → stack_of c ≡ Marked (starting_of c) ∷ []
+  stack_marked e = ap (λ (p : Phase). stack_in p (starting_of c) c.machine.stack.frames) e ∙ ap (λ (fs : List (Frame ℕ)). seen (starting_of c) fs) (only_mark e).1
 
 -- ---- what the machine is asked and tells
 
@@ -87,7 +89,7 @@ module _ (c : Core) (h : IsCore c) (f : ℕ) (typed : IsStartable c.checked.now 
 
 -- ---- what a call of it comes to
 
-module _ (m : Module) (s : ModuleState) (whole : IsWhole (module_view m)) (f : ℕ) (typed : type_of_function m f ≡ Some nullary) where
+module _ (m : Module) (s : ModuleState) (whole : IsWhole (module_view m)) (f : ℕ) (typed : function_type m f ≡ Some nullary) where
   called_by : (caller : List Value → List (Frame Starting)) → ((module_view m).target 0 f >>= call (module_view m) s.units s.memory caller []) ≡ call (module_view m) s.units s.memory caller [] (function_named m f)
   called_by caller = ap (λ (r : Option Ref). r >>= call (module_view m) s.units s.memory caller []) (target_is m whole f nullary typed)
 
@@ -95,13 +97,13 @@ module _ (m : Module) (s : ModuleState) (whole : IsWhole (module_view m)) (f : �
       → module_next m s s.stack ≡ option_map (seen_next (record { start = None; entry = entry })) (call (module_view m) s.units s.memory (λ _. Marked tag ∷ []) [] (function_named m f))
   start_comes entry tag e =
       ap (λ (fs : List (Frame Starting)). module_next m s fs) e ∙ called_by (λ _. Marked (record { start = None; entry = entry }) ∷ [])
-      ∙ seen_call (module_view m) s.units s.memory (record { start = None; entry = entry }) (λ _. Marked tag ∷ []) [] (function_named m f)
+      ∙ marked_call (module_view m) s.units s.memory (λ tag. record { start = None; entry = entry }) (λ _. Marked tag ∷ []) [] (function_named m f)
 
   entry_comes : (starting : Starting) → s.stack ≡ Marked (record { start = None; entry = f }) ∷ []
       → module_next m s s.stack ≡ option_map (seen_next starting) (call (module_view m) s.units s.memory (λ _. []) [] (function_named m f))
   entry_comes starting e =
       ap (λ (fs : List (Frame Starting)). module_next m s fs) e ∙ called_by (λ _. [])
-      ∙ seen_call (module_view m) s.units s.memory starting (λ _. []) [] (function_named m f)
+      ∙ marked_call (module_view m) s.units s.memory (λ tag. starting) (λ _. []) [] (function_named m f)
 
 -- ---- a call that is begun, and one that is too deep
 
@@ -144,7 +146,7 @@ module _ (c : Core) (n : MachineState) (e : Event) (f : ℕ) (h : IsCore c) (mov
         (subst (λ (x : MachineState). IsState (record c { machine = x }) s) (sym same_machine) k)
         )
 
-  module _ (over : IsOver (module_view c.checked.now) c.instance.parts n) (begun : is_begun e ≡ true) (start : Option ℕ) (p : Phase) (called : p ≢ phase.Opened) (under : IfSome (next_called c f) (KeepsUnder (is_marked p))) where
+  module _ (over : IsOver (module_view c.checked.now) c.instance.parts n) (begun : is_begun e ≡ true) (start : Option ℕ) (p : Phase) (called : p ≢ phase.Opened) (under : IfSome (next_called c f) (KeepsUnder (module_view c.checked.now) (marks_in p))) where
     begun_steps : (s : ModuleState) → IsState c s → CallComes c s f (record { start = start; entry = c.entry }) → Steps e s (record c { machine = n; start = start; phase = p })
     begun_steps s k comes =
         steps_told (record c { machine = n; start = start; phase = p }) s c.machine c.instance.parts c.instance.memory e (next_called c f) begun called (state_moving c s k moving).0 k.units k.memory comes t under over.asked
@@ -170,7 +172,7 @@ module _ (c new : Core) (e : Event) (f : ℕ) (h : IsCore c) (moving : c.machine
   start_called q = absurd (let wrong : phase.Marked ≡ phase.Opened = sym at ∙ q in cc)
 
   start_stack : (s : ModuleState) → IsState c s → s.stack ≡ Marked (record { start = Some f; entry = c.entry }) ∷ []
-  start_stack s k = (state_moving c s k moving).1 ∙ marked_stack c h moving clear at ∙ ap (λ (o : Option ℕ). Marked (record { start = o; entry = c.entry }) ∷ []) start
+  start_stack s k = (state_moving c s k moving).1 ∙ stack_marked c h moving clear at ∙ ap (λ (o : Option ℕ). Marked (record { start = o; entry = c.entry }) ∷ []) start
 
   start_next_is : (s : ModuleState) → IsState c s → CallComes c s f (record { start = None; entry = c.entry })
   start_next_is s k =
@@ -178,9 +180,9 @@ module _ (c new : Core) (e : Event) (f : ℕ) (h : IsCore c) (moving : c.machine
       over_machine c s f (record { start = None; entry = c.entry }) (Marked top.0 ∷ []) k.units k.memory top.1
       (start_comes c.checked.now s h.over.range.whole f start_startable c.entry top.0 (start_stack s k))
 
-  start_under : IfSome (next_called c f) (KeepsUnder (is_marked c.phase))
+  start_under : IfSome (next_called c f) (KeepsUnder (module_view c.checked.now) (marks_in c.phase))
   start_under =
-      call_under (module_view c.checked.now) refl c.instance.parts c.instance.memory (is_marked c.phase) (λ _. c.machine.stack.frames) []
+      call_under (module_view c.checked.now) c.instance.parts c.instance.memory (marks_in c.phase) (λ _. c.machine.stack.frames) []
       (λ vs. under_phase c.phase c.machine.stack.frames start_called (live_moving c h moving)) (function_named c.checked.now f)
 
   pub start_deep_steps : is_begun e ≡ false → (s : ModuleState) → IsState c s → Steps e s new
@@ -207,12 +209,12 @@ module _ (c new : Core) (e : Event) (h : IsCore c) (moving : c.machine.standing 
       over_machine c s c.entry starting [] k.units k.memory entry_empty
       (entry_comes c.checked.now s h.over.range.whole c.entry h.entry starting (entry_stack s k))
 
-  entry_under : IfSome (next_called c c.entry) (KeepsUnder false)
+  entry_under : IfSome (next_called c c.entry) (KeepsUnder (module_view c.checked.now) 0)
   entry_under =
       let own : nat_lt c.entry (imported_count c.checked.now) ≡ false = le-ltb c.entry (imported_count c.checked.now) h.own in
-      let free : LiesOver false c.machine.stack.frames = subst (λ (fs : List (Frame ℕ)). LiesOver false fs) (sym entry_empty) refl in
-      subst (λ (b : Bool). IfSome (call (module_view c.checked.now) c.instance.parts c.instance.memory (λ _. c.machine.stack.frames) [] (if b then Host c.entry else Own 0 c.entry)) (KeepsUnder false)) (sym own)
-      (own_under (module_view c.checked.now) refl c.instance.parts c.instance.memory false (λ _. c.machine.stack.frames) [] (λ vs. free) 0 c.entry)
+      let free : AreMarks 0 c.machine.stack.frames = subst (λ (fs : List (Frame ℕ)). AreMarks 0 fs) (sym entry_empty) refl in
+      subst (λ (b : Bool). IfSome (call (module_view c.checked.now) c.instance.parts c.instance.memory (λ _. c.machine.stack.frames) [] (if b then Host c.entry else Own 0 c.entry)) (KeepsUnder (module_view c.checked.now) 0)) (sym own)
+      (own_under (module_view c.checked.now) c.instance.parts c.instance.memory 0 (λ _. c.machine.stack.frames) [] (λ vs. free) 0 c.entry)
 
   pub entry_deep_steps : is_begun e ≡ false → (s : ModuleState) → IsState c s → Steps e s new
   entry_deep_steps deep s k =

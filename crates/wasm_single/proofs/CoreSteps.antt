@@ -8,24 +8,25 @@ use Rattle.spec_runtime.specs.Memories.{MemoryInstance}
 use Rattle.spec_runtime.specs.Names.{HostName}
 use Rattle.spec_runtime.specs.Hosts.{fits_results}
 use Rattle.spec_execution.specs.Views.{View}
-use Rattle.spec_execution.specs.Runs.{Frame, Active, Marked, Next, Goes, Asks, Loads, Ends, Traps}
+use Rattle.spec_execution.specs.Runs.{is_running, Frame, Active, Marked, Next, Goes, Asks, Loads, Ends, Traps}
 use Rattle.spec_execution.specs.Instances.{ModuleParts, module_view, module_hosts, host_type}
 use Rattle.spec_execution.specs.OneModule.{Starting, ModuleState, module_next}
 use Rattle.wasm_step.specs.Moves.{Changes, AreSame}
 use Rattle.wasm_step.specs.declared.done.Done.{Done}
 use Rattle.wasm_step.specs.declared.done.Done.TheVariants as done
 use Rattle.wasm_instance.specs.States.{InstanceState}
-use Rattle.wasm_machine.specs.Machines.{MachineState, IsOver, is_code, next_of, LeavesCode, Told, Repeats, IsAtMark, IsMarked, IsCallingOutside, IsExited, Stepped, QuickStepped, FitsAnswer}
+use Rattle.wasm_machine.specs.Machines.{MachineState, IsOver, next_of, LeavesCode, Told, Repeats, IsAtMark, IsMarked, IsCallingOutside, IsExited, Stepped, QuickStepped, FitsAnswer}
 use Rattle.wasm_machine.specs.declared.machine.Standing.{Standing}
 use Rattle.wasm_machine.specs.declared.machine.Standing.TheVariants as standing
 use Rattle.wasm_machine.specs.declared.event.Event.{Event}
 use Rattle.wasm_machine.specs.declared.event.Event.TheVariants as event
 use Rattle.wasm_single.specs.declared.bare_run.Core.{Core}
 use Rattle.wasm_single.specs.declared.bare_run.Phase.TheVariants as phase
-use Rattle.wasm_single.specs.Cores.{seen, starting_of, IsLive, IsCore, IsState, StandsAs, Steps, QuickSteps, is_running, IsCodeNext, FitsHost, MayTake, is_begun, is_mark}
+use Rattle.wasm_single.specs.Cores.{seen, starting_of, IsLive, IsCore, IsState, StandsAs, Steps, QuickSteps, IsCodeNext, FitsHost, MayTake, is_begun, is_mark}
+use Rattle.wasm_machine.specs.Marks.{KeepsUnder}
+use Rattle.wasm_machine.proofs.Under.{step_under}
 use Rattle.wasm_single.proofs.Seen.{seen_next, seen_step}
-use Rattle.wasm_single.proofs.Under.{KeepsUnder, step_under}
-use Rattle.wasm_single.proofs.Telling.{is_marked, under_phase, stack_called, steps_told, deep_told, leaves_moving, live_told}
+use Rattle.wasm_single.proofs.Telling.{marks_in, under_phase, stack_called, steps_told, deep_told, leaves_moving, live_told}
 use Rattle.wasm_single.proofs.Calling.{live_moving, state_moving, deep_same, is_deep_event}
 
 -- ---- what is on top
@@ -36,7 +37,7 @@ marked_idle starting st rooms (Active a ∷ frames) h = absurd h.1
 marked_idle starting st rooms (Marked tag ∷ frames) h = refl
 
 calling_code : {Units : Type 0} (V : View Units) (us : Units) (st : Standing) (rooms : List ℕ) (frames : List (Frame ℕ)) → IsCallingOutside V us (record { stack = record { frames = frames; rooms = rooms }; standing = st })
-    → is_code frames ≡ true
+    → is_running frames ≡ true
 calling_code V us st rooms [] h = absurd h.1
 calling_code V us st rooms (Active a ∷ frames) h = refl
 calling_code V us st rooms (Marked tag ∷ frames) h = absurd h.1
@@ -77,17 +78,17 @@ module _ (c : Core) (i : InstanceState) (n : MachineState) (h : IsCore c) (fixed
     stack_seen : (s : ModuleState) → IsState c s → s.stack ≡ seen (starting_of c) c.machine.stack.frames
     stack_seen s k = (state_moving c s k moving).1 ∙ stack_called c.phase (starting_of c) c.machine.stack.frames called
 
-    code_next : (s : ModuleState) → IsState c s → is_code c.machine.stack.frames ≡ true
+    code_next : (s : ModuleState) → IsState c s → is_running c.machine.stack.frames ≡ true
         → module_next c.checked.now s s.stack ≡ option_map (seen_next (starting_of c)) (next_of (module_view c.checked.now) c.instance.parts c.instance.memory c.machine.stack.frames)
     code_next s k code =
         ap (λ (fs : List (Frame Starting)). module_next c.checked.now s fs) (stack_seen s k) ∙ seen_step c.checked.now s (starting_of c) c.machine.stack.frames code
         ∙ ap (λ (us : ModuleParts). option_map (seen_next (starting_of c)) (next_of (module_view c.checked.now) us s.memory c.machine.stack.frames)) k.units
         ∙ ap (λ (space : MemoryInstance). option_map (seen_next (starting_of c)) (next_of (module_view c.checked.now) c.instance.parts space c.machine.stack.frames)) k.memory
 
-    code_under : IfSome (next_of (module_view c.checked.now) c.instance.parts c.instance.memory c.machine.stack.frames) (KeepsUnder (is_marked c.phase))
+    code_under : IfSome (next_of (module_view c.checked.now) c.instance.parts c.instance.memory c.machine.stack.frames) (KeepsUnder (module_view c.checked.now) (marks_in c.phase))
     code_under =
-        step_under (module_view c.checked.now) refl c.instance.parts c.instance.memory (is_marked c.phase) c.machine.stack.frames
-        (under_phase c.phase c.machine.stack.frames called (live_moving c h moving)).over
+        step_under (module_view c.checked.now) c.instance.parts c.instance.memory (marks_in c.phase) c.machine.stack.frames
+        (under_phase c.phase c.machine.stack.frames called (live_moving c h moving)).marks
 
     module _ (e : Event) (t : Told (module_view c.checked.now) e (next_of (module_view c.checked.now) c.instance.parts c.instance.memory c.machine.stack.frames) c.machine n (changes c.instance i)) where
       module _ (deep : is_begun e ≡ false) where
@@ -99,7 +100,7 @@ module _ (c : Core) (i : InstanceState) (n : MachineState) (h : IsCore c) (fixed
             (is_deep_event e deep) t
             )
 
-        deep_code : (s : ModuleState) → IsState c s → is_code c.machine.stack.frames ≡ true → Steps e s (with_both c i n)
+        deep_code : (s : ModuleState) → IsState c s → is_running c.machine.stack.frames ≡ true → Steps e s (with_both c i n)
         deep_code s k code =
             subst (λ (x : Event). Steps x s (with_both c i n)) (sym (is_deep_event e deep)) (
             deep_told (with_both c i n) s (starting_of c) (next_of (module_view c.checked.now) c.instance.parts c.instance.memory c.machine.stack.frames) c.machine (changes c.instance i) (code_next s k code)
@@ -115,14 +116,14 @@ module _ (c : Core) (i : InstanceState) (n : MachineState) (h : IsCore c) (fixed
       code_core over true begun = record {
         fixed = fixed ∙ h.fixed;
         over = over;
-        live = live_told (module_view c.checked.now) c.phase c.machine n (changes c.instance i) e (next_of (module_view c.checked.now) c.instance.parts c.instance.memory c.machine.stack.frames) begun called t code_under;
+        live = live_told (module_view c.checked.now) refl c.phase c.machine n (changes c.instance i) e (next_of (module_view c.checked.now) c.instance.parts c.instance.memory c.machine.stack.frames) begun called t code_under;
         start = h.start;
         entry = h.entry;
         own = h.own;
       }
       code_core over false deep = let kept = deep_kept deep in same_core kept.0 kept.1
 
-      code_steps : IsOver (module_view c.checked.now) i.parts n → (begun : Bool) → is_begun e ≡ begun → is_code c.machine.stack.frames ≡ true → (s : ModuleState) → IsState c s → Steps e s (with_both c i n)
+      code_steps : IsOver (module_view c.checked.now) i.parts n → (begun : Bool) → is_begun e ≡ begun → is_running c.machine.stack.frames ≡ true → (s : ModuleState) → IsState c s → Steps e s (with_both c i n)
       code_steps over true begun code s k =
           steps_told (with_both c i n) s c.machine c.instance.parts c.instance.memory e (next_of (module_view c.checked.now) c.instance.parts c.instance.memory c.machine.stack.frames) begun called (state_moving c s k moving).0 k.units k.memory
           (code_next s k code) t code_under over.asked
@@ -219,26 +220,26 @@ module _ (c : Core) (i : InstanceState) (n : MachineState) (h : IsCore c) (movin
       (subst (λ (V : View ModuleParts). LeavesCode (next_of V c.instance.parts c.instance.memory c.machine.stack.frames)) h.fixed leaves)
       code.3.0 code.3.1 code.3.2
 
-  pub quick_steps : (d : Done) → QuickStepped (module_view c.instance.wasm) d c.machine n (changes c.instance i) → (d ≢ done.NoMemory → IsOver (module_view c.instance.wasm) i.parts n)
+  pub quick_steps : (d : Done) → QuickStepped (module_view c.instance.wasm) d c.machine n (changes c.instance i) → IsOver (module_view c.instance.wasm) i.parts n
       → (s : ModuleState) → IsState c s → QuickSteps d s (with_both c i n)
-  quick_steps done.Goes t o s k = (goes_on t, steps_after event.Moved t (o (λ e. cc)) refl s k)
-  quick_steps (done.Trapped why) t o s k = steps_after (event.Trapped why) t (o (λ e. cc)) refl s k
-  quick_steps done.Stuck t o s k = steps_after event.Stuck t (o (λ e. cc)) refl s k
-  quick_steps done.Returned t o s k = steps_after event.Returned t (o (λ e. cc)) refl s k
+  quick_steps done.Goes t o s k = (goes_on t, steps_after event.Moved t o refl s k)
+  quick_steps (done.Trapped why) t o s k = steps_after (event.Trapped why) t o refl s k
+  quick_steps done.Stuck t o s k = steps_after event.Stuck t o refl s k
+  quick_steps done.Returned t o s k = steps_after event.Returned t o refl s k
   quick_steps done.Exited t o s k = subst IsExited moving t.0
   quick_steps done.Marked t o s k = stays_as (t.1, t.2) s k (marked_none s k t.0)
-  quick_steps done.Deep t o s k = deep_none s (steps_after event.Deep t (o (λ e. cc)) refl s k)
+  quick_steps done.Deep t o s k = deep_none s (steps_after event.Deep t o refl s k)
   quick_steps done.Outside t o s k = stays_as (t.1, t.2) s k (outside_none s k t.0 t.3)
   quick_steps done.NoMemory t o s k = tt
 
-  pub quick_core : (d : Done) → QuickStepped (module_view c.instance.wasm) d c.machine n (changes c.instance i) → (d ≢ done.NoMemory → IsOver (module_view c.instance.wasm) i.parts n) → d ≢ done.NoMemory → IsCore (with_both c i n)
-  quick_core done.Goes t o found = core_after event.Moved t (o found)
-  quick_core (done.Trapped why) t o found = core_after (event.Trapped why) t (o found)
-  quick_core done.Stuck t o found = core_after event.Stuck t (o found)
-  quick_core done.Returned t o found = core_after event.Returned t (o found)
+  pub quick_core : (d : Done) → QuickStepped (module_view c.instance.wasm) d c.machine n (changes c.instance i) → IsOver (module_view c.instance.wasm) i.parts n → d ≢ done.NoMemory → IsCore (with_both c i n)
+  quick_core done.Goes t o found = core_after event.Moved t o
+  quick_core (done.Trapped why) t o found = core_after (event.Trapped why) t o
+  quick_core done.Stuck t o found = core_after event.Stuck t o
+  quick_core done.Returned t o found = core_after event.Returned t o
   quick_core done.Exited t o found = same_core c i n h fixed t.1 t.2
   quick_core done.Marked t o found = same_core c i n h fixed t.1 t.2
-  quick_core done.Deep t o found = core_after event.Deep t (o found)
+  quick_core done.Deep t o found = core_after event.Deep t o
   quick_core done.Outside t o found = same_core c i n h fixed t.1 t.2
   quick_core done.NoMemory t o found = absurd (found refl)
 

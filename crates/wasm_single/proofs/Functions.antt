@@ -13,12 +13,13 @@ use Rattle.wasm_form.specs.declared.module.Module.{Module}
 use Rattle.wasm_form.specs.declared.runtime.Ref.{Ref}
 use Rattle.wasm_form.specs.declared.runtime.Ref.TheVariants.{Own, Host}
 use Rattle.spec_binary.specs.Options.{◌>>=◌}
-use Rattle.spec_binary.specs.IndexSpaces.{functions_in, imports_of, function_space}
-use Rattle.spec_validation.specs.Faults.{type_of_function}
+use Rattle.spec_binary.specs.IndexSpaces.{functions_in, imports_of, function_space, imported_count}
+use Rattle.spec_binary.specs.Indices.{function_type}
+use Rattle.spec_binary.proofs.Lists.{slice_get-append-left}
 use Rattle.spec_runtime.specs.Names.{HostName}
 use Rattle.spec_execution.specs.Views.{type_of}
 use Rattle.spec_execution.specs.Ranges.{IsWhole, Exists}
-use Rattle.spec_execution.specs.Instances.{imported_count, function_named, module_target, hosts_in, named_host, imported_hosts, module_hosts, host_type, module_view}
+use Rattle.spec_execution.specs.Instances.{function_named, module_target, hosts_in, named_host, imported_hosts, module_hosts, host_type, module_view}
 
 -- a look-up that went on had a value
 pub went_on : {A B : Type 0} (o : Option A) (f : A → Option B) (b : B) → (o >>= f) ≡ Some b → (a : A) × (o ≡ Some a) × (f a ≡ Some b)
@@ -73,14 +74,9 @@ are_typed : (m : Module) (is : List Import) → length (imports_of functions_in 
 are_typed m [] many = λ k. refl
 are_typed m (i ∷ is) many = typed_here m i i.desc (imported_hosts m is) (imports_of functions_in is) (few_hosts m is) (are_typed m is) many
 
-slice_get-before : {A : Type 0} (xs ys : List A) (k : ℕ) → k < length xs → slice_get (xs ++ ys) k ≡ slice_get xs k
-slice_get-before [] ys k h = absurd (omega arith)
-slice_get-before (x ∷ xs) ys zero h = refl
-slice_get-before (x ∷ xs) ys (suc k) h = slice_get-before xs ys k (omega arith)
-
 -- ---- functions
 
-module _ (m : Module) (whole : IsWhole (module_view m)) (f : ℕ) (ty : FuncType) (typed : type_of_function m f ≡ Some ty) where
+module _ (m : Module) (whole : IsWhole (module_view m)) (f : ℕ) (ty : FuncType) (typed : function_type m f ≡ Some ty) where
   -- the number is one of the module's
   pub number_there : f < length (function_space m)
   number_there = let t = went_on (slice_get (function_space m) f) (λ t. slice_get m.types t) ty typed in slice_get_within (function_space m) f t.0 t.1
@@ -91,7 +87,7 @@ module _ (m : Module) (whole : IsWhole (module_view m)) (f : ℕ) (ty : FuncType
   exists : (g : ℕ) → g < length (function_space m) → Exists (module_view m) (function_named m g)
   exists g inside =
       let found = whole.functions 0 g inside in
-      let t = went_on (type_of_function m g) (λ ty. Some (function_named m g)) found.0 found.1 in
+      let t = went_on (function_type m g) (λ ty. Some (function_named m g)) found.0 found.1 in
       let same : function_named m g ≡ found.0 = cc (t.2) in
       subst (λ (r : Ref). Exists (module_view m) r) (sym same) found.2
 
@@ -110,7 +106,7 @@ module _ (m : Module) (whole : IsWhole (module_view m)) (f : ℕ) (ty : FuncType
   host_is : f < imported_count m → type_of (module_view m) (Host f) ≡ Some ty
   host_is inside =
       let many = enough_hosts (imported_count m) inside refl in
-      let same : slice_get (function_space m) f ≡ slice_get (imports_of functions_in m.imports) f = slice_get-before (imports_of functions_in m.imports) m.funcs f inside in
+      let same : slice_get (function_space m) f ≡ slice_get (imports_of functions_in m.imports) f = slice_get-append-left (imports_of functions_in m.imports) m.funcs f inside in
       are_typed m m.imports many f ∙ ap (type_in m) (sym same) ∙ typed
 
   own_is : nat_lt f (imported_count m) ≡ false → type_of (module_view m) (Own 0 f) ≡ Some ty

@@ -1,9 +1,8 @@
 -- Modules whose imports are met by host functions.
 use Rattle.std.proofs.Common.{◌≡◌, ℕ, true, List, [], ◌∷◌, length, map, Option, Some, None, Result, Ok, Err, refl, ◌∙◌, length-append, arith}
 use Rattle.std.specs.Prelude.{slice_get}
-use Rattle.std.specs.List.{All, list_all}
+use Rattle.std.specs.List.{list_all}
 use Rattle.std.proofs.lemmas.List.{length-map}
-use Rattle.std.proofs.lemmas.List.Elements.{All-nil, All-cons}
 use Rattle.wasm_form.specs.declared.types.FuncType.{FuncType}
 use Rattle.wasm_form.specs.declared.module.Import.{Import}
 use Rattle.wasm_form.specs.declared.module.ImportDesc.{ImportDesc}
@@ -12,11 +11,11 @@ use Rattle.wasm_form.specs.declared.module.Module.{Module}
 use Rattle.spec_binary.specs.IndexSpaces.{functions_in, imports_of}
 use Rattle.spec_runtime.specs.Names.{HostNames}
 use Rattle.spec_execution.specs.Instances.{hosts_in, named_host, imported_hosts}
-use Rattle.spec_execution.specs.OneModule.{OpeningFault, import_met, met_then, imports_met}
-use Rattle.spec_safety.specs.Laws.{IsFunctionImport}
-use Rattle.wasm_instance.specs.Imports.{is_function_import}
+use Rattle.spec_execution.specs.OneModule.{import_met, met_then, imports_met}
+use Rattle.spec_execution.specs.declared.fault.SingleFault.{SingleFault}
+use Rattle.spec_safety.specs.Laws.{is_function_import}
 
-pub both_met : (a b : Result (Unit {0}) OpeningFault) → met_then a b ≡ Ok tt → (a ≡ Ok tt) × (b ≡ Ok tt)
+pub both_met : (a b : Result (Unit {0}) SingleFault) → met_then a b ≡ Ok tt → (a ≡ Ok tt) × (b ≡ Ok tt)
 both_met (Err why) b e = absurd cc
 both_met (Ok met) b e = (refl, e)
 
@@ -58,9 +57,3 @@ module _ (m : Module) (names : HostNames) where
   functions_alone (i ∷ is) met =
       let b = both_met (import_met m names i) (imports_met m names is) met in
       rw ((one_met m names i b.0).function, functions_alone is b.1) refl
-
-  pub all_functions : (is : List Import) → imports_met m names is ≡ Ok tt → All (λ i. IsFunctionImport i.desc) is
-  all_functions [] met = All-nil (λ i. IsFunctionImport i.desc)
-  all_functions (i ∷ is) met =
-      let b = both_met (import_met m names i) (imports_met m names is) met in
-      All-cons (λ i. IsFunctionImport i.desc) i is (rw (one_met m names i b.0).function tt) (all_functions is b.1)

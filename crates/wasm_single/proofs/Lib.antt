@@ -1,5 +1,4 @@
 mod Seen
-mod Under
 mod Functions
 mod Telling
 mod Calling

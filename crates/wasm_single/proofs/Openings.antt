@@ -11,14 +11,15 @@ use Rattle.wasm_runtime.specs.declared.Answer.{Answer}
 use Rattle.spec_binary.specs.WellFormed.{IsWellFormed}
 use Rattle.spec_validation.specs.Faults.{fault}
 use Rattle.spec_runtime.specs.Names.{HostNames}
-use Rattle.spec_execution.specs.Ranges.{HoldsAll, IsFrameInRange}
-use Rattle.spec_execution.specs.Instances.{module_view, imported_hosts, imported_count}
-use Rattle.spec_execution.specs.OneModule.{ModuleState, imports_met, module_entry, opened_state, opened_with, opened_after, module_run}
+use Rattle.spec_execution.specs.Ranges.{IsFrameInRange}
+use Rattle.spec_execution.specs.Instances.{module_view, imported_hosts}
+use Rattle.spec_binary.specs.IndexSpaces.{imported_count}
+use Rattle.spec_execution.specs.OneModule.{ModuleState, imports_met, module_entry, segments_performed, opened_state, opened_with, opened_after, module_run}
 use Rattle.spec_safety.specs.Laws.{IsAlone, CheckedIsInRange, OpenedHolds}
 use Rattle.host_table.specs.Names.{host_name_of}
 use Rattle.host_table.specs.declared.host.HostName.{HostName}
 use Rattle.wasm_instance.specs.States.{InstanceState}
-use Rattle.wasm_instance.specs.Opening.{IsOpened, opened_tables, opened_space}
+use Rattle.spec_execution.specs.Segments.{goes_on}
 use Rattle.wasm_machine.specs.Stacks.{empty_stack}
 use Rattle.wasm_machine.specs.declared.machine.Standing.TheVariants.{Moving}
 use Rattle.wasm_single.specs.declared.bare_run.Core.{Core}
@@ -29,7 +30,7 @@ use Rattle.wasm_single.specs.Singles.{Loads}
 use Rattle.wasm_single.specs.Cores.{IsCore}
 use Rattle.wasm_single.specs.Kept.{IsSingle}
 use Rattle.wasm_single.proofs.Entries.{entry_is, start_is}
-use Rattle.wasm_single.proofs.Imports.{hosts_counted, all_functions}
+use Rattle.wasm_single.proofs.Imports.{hosts_counted, functions_alone}
 
 -- ---- imports
 
@@ -49,16 +50,17 @@ core_of checked entry i = record { checked = checked; instance = i; machine = re
 abbrev inside_of : Core → Vec HostName Global → Vec Answer Global → Inside
 inside_of core hosts answers = record { core = core; hosts = hosts; steps = 0; answers = answers; answered = false; lost = false }
 
+-- the instance is that of the module in its opening state
+abbrev IsOpened : Module → InstanceState → Type 0
+IsOpened m i = (i.wasm ≡ m) × (segments_performed m ≡ Some (goes_on i.parts i.memory))
+
 module _ (m : Module) (entry : ℕ) (i : InstanceState) (found : module_entry m ≡ Some entry) (is : IsOpened m i) where
   opening : ModuleState
-  opening = opened_state m entry i.parts.tables i.memory
+  opening = opened_state m entry i.parts i.memory
 
   opens : opened m ≡ Ok opening
   unfolding opening
-  opens =
-      ap (λ e. opened_with m e (opened_tables m) (opened_space m)) found
-      ∙ ap (λ tables. opened_with m (Some entry) tables (opened_space m)) is.tables
-      ∙ ap (λ memory. opened_with m (Some entry) (Some i.parts.tables) memory) is.memory
+  opens = ap (λ e. opened_with m e (segments_performed m)) found ∙ ap (opened_with m (Some entry)) is.1
 
   pub loaded : (names : HostNames) (answers : List Answer) → imports_met m names m.imports ≡ Ok tt → answers ≡ []
       → Loads m names (Ok (record { wasm = m; steps = 0; answers = answers; answered = false; lost = false }))
@@ -69,18 +71,18 @@ module _ (checked : Bor Module) (entry : ℕ) (i : InstanceState) (found : modul
     (names : HostNames) (met : imports_met checked.now names checked.now.imports ≡ Ok tt) (formed : IsWellFormed checked.now) (valid : fault checked.now ≡ None)
     (code : CheckedIsInRange) (holds : OpenedHolds) where
   alone : IsAlone checked.now
-  alone = record { formed = formed; valid = valid; imports = all_functions checked.now names checked.now.imports met }
+  alone = record { formed = formed; valid = valid; imports = functions_alone checked.now names checked.now.imports met }
 
   core_is : IsCore (core_of checked entry i)
   core_is =
       let m = checked.now in
       let e = entry_is m entry found in
       record {
-        fixed = ap module_view is.wasm;
+        fixed = ap module_view is.0;
         over = record {
           range = record {
             whole = code m alone;
-            units = subst (HoldsAll (module_view m)) (sym (is.units entry)) (holds m entry i.parts.tables i.memory alone is.tables);
+            units = holds m (goes_on i.parts i.memory) alone is.1;
             stack = All-nil (IsFrameInRange (module_view m));
           };
           rooms = refl;
@@ -102,7 +104,7 @@ module _ (checked : Bor Module) (entry : ℕ) (i : InstanceState) (found : modul
         core = λ e. core_is;
         stands = λ e. (
           module_run m (opening m entry i found is) answers.items 0,
-          record { found = refl; opening = opening m entry i found is; opens = opens m entry i found is; run = refl; real = tt; left = none },
-          record { units = sym (is.units entry); memory = refl; standing = (refl, refl) },
+          record { opening = opening m entry i found is; opens = opens m entry i found is; stands = record { found = refl; run = refl; real = tt; left = none } },
+          record { units = refl; memory = refl; standing = (refl, refl) },
         );
       }

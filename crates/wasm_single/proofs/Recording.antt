@@ -28,7 +28,7 @@ pub recorded_single : (a : Answer) (v : SingleRun) (i : Inside) (answers : Vec A
     → IsSingle (with_answers i answers)
 recorded_single a v i answers is h awaits more =
     let w : Awaits (run_of i) a = subst (λ s. Awaits s a) (sym is) awaits in
-    let at = h.stands w.1.1.found in
+    let at = h.stands w.1.1.stands.found in
     let same : w.1.0 ≡ at.0 = stands_same (run_of i) w.1.0 at.0 w.1.1 at.1 in
     let fits : FitsWait a at.0.state.status at.0.state.memory = subst (λ (r : Ran hosts ModuleState). FitsWait a r.state.status r.state.memory) same w.1.2 in
     let call = waited_call a at.0.state.status at.0.state.memory fits in

@@ -12,7 +12,7 @@ use Rattle.spec_runs.specs.Systems.{Status, Moving, Waits, Returned, Exited, Tra
 use Rattle.spec_runtime.specs.Hosts.{HostName, HostCall, hosts, fits_results, all_written, answer_fits}
 use Rattle.spec_execution.specs.Runs.{Frame, returned, taken}
 use Rattle.spec_execution.specs.Instances.{imported_hosts, module_hosts}
-use Rattle.spec_execution.specs.OneModule.{Starting, ModuleState, module_step}
+use Rattle.spec_execution.specs.OneModule.{module_too_deep, Starting, ModuleState, module_step}
 use Rattle.host_table.specs.Names.{host_name_of}
 use Rattle.wasm_machine.specs.declared.machine.Standing.{Standing}
 use Rattle.wasm_machine.specs.declared.machine.Standing.TheVariants as standing
@@ -20,7 +20,7 @@ use Rattle.wasm_machine.specs.declared.event.Event.{Event}
 use Rattle.wasm_machine.specs.declared.event.Event.TheVariants as event
 use Rattle.wasm_single.specs.declared.bare_run.Core.{Core}
 use Rattle.wasm_single.specs.declared.single.Single.TheInside.{Inside}
-use Rattle.wasm_single.specs.Cores.{IsCore, StandsAs, IsState, TellsStatus, is_too_deep, Steps, FitsHost, MayTake}
+use Rattle.wasm_single.specs.Cores.{IsCore, StandsAs, IsState, TellsStatus, Steps, FitsHost, MayTake}
 use Rattle.wasm_single.specs.Singles.{SingleRun, Stands, has_ended, waits, is_waiting, StepMade, RunStepped}
 use Rattle.wasm_single.specs.Steps.{event_of, steps_told}
 use Rattle.wasm_single.specs.Kept.{run_of, IsSingle}
@@ -55,7 +55,7 @@ stands_at i new steps answered t wasm count none h core at q =
     (record { hosts_are = same_hosts i new wasm h; core = λ _. core; stands = λ _. (q.0, stands, subst (IsState new) (sym q.2) at) }, (q.0, stands, q.2))
 
 told_made : (e : Event) (old : SingleRun) (r : Ran hosts ModuleState) (new : SingleRun) → steps_told e ≡ 1 → StepMade e old r new
-    → (r.state.status ≡ Moving → is_too_deep old.wasm r.state ≡ false) → RunStepped e old r new
+    → (r.state.status ≡ Moving → module_too_deep old.wasm r.state ≡ false) → RunStepped e old r new
 told_made event.Moved old r new one made deep = inl (made, deep)
 told_made (event.Waits asked) old r new one made deep = inl (made, deep)
 told_made (event.Loader which first second) old r new one made deep = inl (made, deep)
@@ -70,7 +70,7 @@ told_made event.Stuck old r new one made deep = absurd cc
 
 moved : (e : Event) (i : Inside) (new : Core) (steps : ℕ) (r : Ran hosts ModuleState) → IsSingle i → IsCore new → new.checked.now ≡ i.core.checked.now → steps ≡ suc i.steps
     → Stands (run_of i) r → r.state.status ≡ Moving → steps_told e ≡ 1
-    → (is_too_deep new.checked.now r.state ≡ false) × ((t : ModuleState) × (module_step new.checked.now r.state ≡ Some t) × TellsStatus new.checked.now e t.status × IsState new t)
+    → (module_too_deep new.checked.now r.state ≡ false) × ((t : ModuleState) × (module_step new.checked.now r.state ≡ Some t) × TellsStatus new.checked.now e t.status × IsState new t)
     → IsStepped e (run_of i) (with_core i new steps i.answered)
 moved e i new steps r h core wasm count stands status one made =
     let t = made.1.0 in
@@ -81,7 +81,7 @@ moved e i new steps r h core wasm count stands status one made =
     let new_run = run_of (with_core i new steps i.answered) in
     record {
       single = q.0;
-      stepped = (r, stands, told_made e (run_of i) r new_run one (ap has_ended status, same_run i new steps i.answered wasm count more.0, (q.1.0, q.1.1, tells)) (λ _. ap (λ m. is_too_deep m r.state) (sym wasm) ∙ made.0));
+      stepped = (r, stands, told_made e (run_of i) r new_run one (ap has_ended status, same_run i new steps i.answered wasm count more.0, (q.1.0, q.1.1, tells)) (λ _. ap (λ m. module_too_deep m r.state) (sym wasm) ∙ made.0));
     }
 
 -- no step was made, and the core stands where it stood
@@ -110,7 +110,7 @@ module _ (i : Inside) (new : Core) (told : ℕ) (r : Ran hosts ModuleState) (h :
   stepped_at (event.Exited code) count made = moved (event.Exited code) i new (i.steps + told) r h core wasm (by_one count) stands status refl made
   stepped_at event.Deep count stayed =
       let kept = stays i new (i.steps + told) r h core wasm (by_none count) stands stayed.2 in
-      record { single = kept.0; stepped = (r, stands, (status, ap (λ m. is_too_deep m r.state) (sym wasm) ∙ stayed.0, kept.1)) }
+      record { single = kept.0; stepped = (r, stands, (status, ap (λ m. module_too_deep m r.state) (sym wasm) ∙ stayed.0, kept.1)) }
   stepped_at event.Stuck count stayed =
       let kept = stays i new (i.steps + told) r h core wasm (by_none count) stands stayed.2 in
       record { single = kept.0; stepped = (r, stands, (status, ap (λ m. module_step m r.state) (sym wasm) ∙ stayed.0, kept.1)) }

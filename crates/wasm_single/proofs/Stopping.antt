@@ -5,7 +5,7 @@ use Rattle.wasm_form.specs.declared.runtime.Trap.{Trap}
 use Rattle.spec_runs.specs.Systems.{Status, Moving, Waits, Returned, Exited, Trapped, Ran}
 use Rattle.spec_runtime.specs.Hosts.{HostCall, hosts}
 use Rattle.spec_runtime.specs.Memories.{MemoryInstance}
-use Rattle.spec_execution.specs.Runs.{Frame}
+use Rattle.spec_execution.specs.Runs.{is_running, Frame}
 use Rattle.spec_execution.specs.Instances.{ModuleParts}
 use Rattle.spec_execution.specs.OneModule.{Starting, ModuleState}
 use Rattle.wasm_machine.specs.declared.machine.Standing.{Standing}
@@ -14,7 +14,7 @@ use Rattle.wasm_single.specs.declared.bare_run.Core.{Core}
 use Rattle.wasm_single.specs.declared.bare_run.Phase.{Phase}
 use Rattle.wasm_single.specs.declared.bare_run.Phase.TheVariants as phase
 use Rattle.wasm_single.specs.declared.single.Single.TheInside.{Inside}
-use Rattle.wasm_single.specs.Cores.{starting_of, stack_in, IsState, StandsAs, is_running, IsCodeNext}
+use Rattle.wasm_single.specs.Cores.{starting_of, stack_in, IsState, StandsAs, IsCodeNext}
 use Rattle.wasm_single.specs.Singles.{SingleRun, Stands}
 use Rattle.wasm_single.specs.Steps.{HasStopped}
 use Rattle.wasm_single.specs.Kept.{run_of, IsSingle}
@@ -75,5 +75,5 @@ HasNoneLeft most v = (r : Ran hosts ModuleState) → Stands v r → v.steps < mo
 
 pub none_left : (most : ℕ) (i : Inside) → IsSingle i → (i.lost ≡ false → HasStopped i.core) → HasNoneLeft most (run_of i)
 none_left most i h stopped = λ r stands few code.
-    let q = h.stands stands.found in
-    stopped stands.found q.0.state q.2 (subst (λ (x : Ran hosts ModuleState). IsCodeNext i.core.checked.now x.state) (stands_same (run_of i) r q.0 stands q.1) code)
+    let q = h.stands stands.stands.found in
+    stopped stands.stands.found q.0.state q.2 (subst (λ (x : Ran hosts ModuleState). IsCodeNext i.core.checked.now x.state) (stands_same (run_of i) r q.0 stands q.1) code)

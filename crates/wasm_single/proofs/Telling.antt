@@ -1,5 +1,5 @@
 -- What the machine tells of a step is told of the step of the run.
-use Rattle.std.proofs.Common.{◌≡◌, ◌≢◌, ℕ, List, [], ◌∷◌, Option, Some, None, refl, ap, sym, ◌∙◌, subst, Bool, true, false}
+use Rattle.std.proofs.Common.{◌≡◌, ◌≢◌, ℕ, List, [], ◌∷◌, Option, Some, None, refl, ap, sym, ◌∙◌, subst, true, false}
 use Rattle.std.specs.Prelude.{IfSome}
 use Rattle.std.specs.Option.{option_map}
 use Rattle.std.proofs.lemmas.Option.{same_Some}
@@ -16,7 +16,7 @@ use Rattle.spec_execution.specs.Views.{View}
 use Rattle.spec_execution.specs.Limits.{passes_limit, is_deep}
 use Rattle.spec_execution.specs.Runs.{Frame, Next, Goes, Asks, Loads, Ends, Traps, became, stands}
 use Rattle.spec_execution.specs.Instances.{ModuleParts, module_view, module_hosts, host_type}
-use Rattle.spec_execution.specs.OneModule.{Starting, ModuleState, module_next, module_step}
+use Rattle.spec_execution.specs.OneModule.{module_too_deep, Starting, ModuleState, module_next, module_step}
 use Rattle.wasm_step.specs.Moves.{Changes}
 use Rattle.wasm_machine.specs.Machines.{MachineState, LeavesCode, IsAsked, Told, StandsAt}
 use Rattle.wasm_machine.specs.declared.machine.Standing.{Standing}
@@ -26,9 +26,10 @@ use Rattle.wasm_machine.specs.declared.event.Event.TheVariants as event
 use Rattle.wasm_single.specs.declared.bare_run.Core.{Core}
 use Rattle.wasm_single.specs.declared.bare_run.Phase.{Phase}
 use Rattle.wasm_single.specs.declared.bare_run.Phase.TheVariants as phase
-use Rattle.wasm_single.specs.Cores.{seen, starting_of, stack_in, stack_of, LiesOver, IsInPhase, IsLive, IsState, StandsAs, Steps, is_too_deep, is_begun}
-use Rattle.wasm_single.proofs.Seen.{seen_next, seen_deep}
-use Rattle.wasm_single.proofs.Under.{IsStack, KeepsUnder}
+use Rattle.wasm_single.specs.Cores.{seen, starting_of, stack_in, stack_of, IsInPhase, IsLive, IsState, StandsAs, Steps, is_begun}
+use Rattle.wasm_machine.specs.Marks.{AreMarks, IsStack, KeepsUnder}
+use Rattle.wasm_machine.proofs.Marked.{marked_deep}
+use Rattle.wasm_single.proofs.Seen.{seen_next}
 
 named : (h : Option HostName) (ty : FuncType) → host_type h ≡ Some ty → (x : HostName) × (h ≡ Some x)
 named None ty e = absurd cc
@@ -36,25 +37,25 @@ named (Some x) ty e = (x, refl)
 
 -- ---- phases
 
--- whether a mark lies under the activations
-abbrev pub is_marked : Phase → Bool
-is_marked phase.Opened = false
-is_marked phase.Marked = true
-is_marked phase.Entered = false
+-- the marks under the activations
+abbrev pub marks_in : Phase → ℕ
+marks_in phase.Opened = 0
+marks_in phase.Marked = 1
+marks_in phase.Entered = 0
 
-in_phase : (p : Phase) (frames : List (Frame ℕ)) → p ≢ phase.Opened → IsStack (is_marked p) frames → IsInPhase p frames
+in_phase : (p : Phase) (frames : List (Frame ℕ)) → p ≢ phase.Opened → IsStack (marks_in p) frames → IsInPhase p frames
 in_phase phase.Opened frames called h = absurd (called refl)
-in_phase phase.Marked frames called h = h.over
-in_phase phase.Entered frames called h = (h.some, h.over)
+in_phase phase.Marked frames called h = h.marks
+in_phase phase.Entered frames called h = (h.some, h.marks)
 
-pub under_phase : (p : Phase) (frames : List (Frame ℕ)) → p ≢ phase.Opened → IsInPhase p frames → IsStack (is_marked p) frames
+pub under_phase : (p : Phase) (frames : List (Frame ℕ)) → p ≢ phase.Opened → IsInPhase p frames → IsStack (marks_in p) frames
 under_phase phase.Opened frames called h = absurd (called refl)
-under_phase phase.Marked frames called h = record { some = go frames h; over = h }
+under_phase phase.Marked frames called h = record { some = go frames h; marks = h }
   where
-    go : (fs : List (Frame ℕ)) → LiesOver true fs → fs ≢ []
+    go : (fs : List (Frame ℕ)) → AreMarks 1 fs → fs ≢ []
     go [] h = absurd cc
     go (f ∷ fs) h = λ e. cc
-under_phase phase.Entered frames called h = record { some = h.0; over = h.1 }
+under_phase phase.Entered frames called h = record { some = h.0; marks = h.1 }
 
 pub stack_called : (p : Phase) (starting : Starting) (frames : List (Frame ℕ)) → p ≢ phase.Opened → stack_in p starting frames ≡ seen starting frames
 stack_called phase.Opened starting frames called = absurd (called refl)
@@ -67,7 +68,7 @@ module _ (new : Core) (s : ModuleState) where
   made : (n : Next ModuleParts Starting) → module_next new.checked.now s s.stack ≡ Some n → module_step new.checked.now s ≡ became (module_hosts new.checked.now) s n
   made n e = ap (λ (o : Option (Next ModuleParts Starting)). o >>= became (module_hosts new.checked.now) s) e
 
-  depth : (n : Next ModuleParts Starting) → module_next new.checked.now s s.stack ≡ Some n → is_too_deep new.checked.now s ≡ passes_limit (module_view new.checked.now) (Some n)
+  depth : (n : Next ModuleParts Starting) → module_next new.checked.now s s.stack ≡ Some n → module_too_deep new.checked.now s ≡ passes_limit (module_view new.checked.now) (Some n)
   depth n e = ap (λ (o : Option (Next ModuleParts Starting)). passes_limit (module_view new.checked.now) o) e
 
   seen_stack : (frames : List (Frame ℕ)) → new.phase ≢ phase.Opened → new.machine.stack.frames ≡ frames → seen (starting_of new) frames ≡ stack_of new
@@ -80,7 +81,7 @@ module _ (new : Core) (s : ModuleState) where
     went : (us : ModuleParts) (memory : MemoryInstance) (frames : List (Frame ℕ)) → module_next new.checked.now s s.stack ≡ Some (Goes us memory (seen (starting_of new) frames))
         → StandsAt new.machine frames standing.Moving → is_deep (module_view new.checked.now) frames ≡ false → new.instance.parts ≡ us → new.instance.memory ≡ memory → Steps event.Moved s new
     went us memory frames e at light units space = (
-      depth _ e ∙ seen_deep (module_view new.checked.now) (starting_of new) frames ∙ light,
+      depth _ e ∙ marked_deep (module_view new.checked.now) (λ tag. starting_of new) frames ∙ light,
       (
         record { units = us; memory = memory; stack = seen (starting_of new) frames; status = Moving },
         made _ e,
@@ -132,7 +133,7 @@ Comes m s starting next = module_next m s s.stack ≡ option_map (seen_next star
 pub deep_told : (new : Core) (s : ModuleState) (starting : Starting) (next : Option (Next ModuleParts ℕ)) (old : MachineState) (c : Changes ModuleParts)
     → Comes new.checked.now s starting next → Told (module_view new.checked.now) event.Deep next old new.machine c → new.machine.standing ≡ standing.Moving → IsState new s → Steps event.Deep s new
 deep_told new s starting (Some (Goes us memory frames)) old c comes t moving stays =
-    (depth new s _ comes ∙ seen_deep (module_view new.checked.now) starting frames ∙ t.0, moving, stays)
+    (depth new s _ comes ∙ marked_deep (module_view new.checked.now) (λ tag. starting) frames ∙ t.0, moving, stays)
 deep_told new s starting (Some (Asks entry args frames)) old c comes t moving stays = absurd t
 deep_told new s starting (Some (Loads which args frames)) old c comes t moving stays = absurd t
 deep_told new s starting (Some Ends) old c comes t moving stays = absurd t
@@ -165,12 +166,12 @@ since us memory new = record { old_units = us; old_memory = memory; new_units = 
 -- a step that is made, or code that is stuck
 pub steps_told : (new : Core) (s : ModuleState) (old : MachineState) (us : ModuleParts) (memory : MemoryInstance) (e : Event) (next : Option (Next ModuleParts ℕ))
     → is_begun e ≡ true → new.phase ≢ phase.Opened → s.status ≡ Moving → s.units ≡ us → s.memory ≡ memory → Comes new.checked.now s (starting_of new) next
-    → Told (module_view new.checked.now) e next old new.machine (since us memory new) → IfSome next (KeepsUnder (is_marked new.phase)) → IsAsked (module_view new.checked.now) new.machine.standing
+    → Told (module_view new.checked.now) e next old new.machine (since us memory new) → IfSome next (KeepsUnder (module_view new.checked.now) (marks_in new.phase)) → IsAsked (module_view new.checked.now) new.machine.standing
     → Steps e s new
 steps_told new s old us memory event.Moved (Some (Goes us' memory' frames)) begun called moving units space comes t under host = went new s called us' memory' frames comes t.0 t.1 t.2 t.3
 steps_told new s old us memory (event.Waits a) (Some (Asks entry args frames)) begun called moving units space comes t under host =
     asked new s called a entry args frames t.0 comes t.1 host t.2 t.3 (units ∙ sym t.4.0) (space ∙ sym t.4.1)
-steps_told new s old us memory (event.Loader which first second) (Some (Loads called args frames)) begun called' moving units space comes t under host = absurd under
+steps_told new s old us memory (event.Loader which first second) (Some (Loads called args frames)) begun called' moving units space comes t under host = absurd (let there = under.0 in cc)
 steps_told new s old us memory event.Returned (Some Ends) begun called moving units space comes t under host = returned new s comes t.0.standing_is (units ∙ sym t.1.0) (space ∙ sym t.1.1)
 steps_told new s old us memory (event.Trapped why) (Some (Traps cause)) begun called moving units space comes t under host =
     trapped new s why cause comes t.0.standing_is t.1 (units ∙ sym t.2.0) (space ∙ sym t.2.1)
@@ -182,13 +183,13 @@ steps_told new s old us memory e next begun called moving units space comes t un
 live_at : (p : Phase) (n : MachineState) (frames : List (Frame ℕ)) (st : Standing) → StandsAt n frames st → IsLive st frames p → IsLive n.standing n.stack.frames p
 live_at p n frames st at h = subst (λ (x : Standing). IsLive x n.stack.frames p) (sym at.standing_is) (subst (λ (fs : List (Frame ℕ)). IsLive st fs p) (sym at.frames_are) h)
 
-pub live_told : (V : View ModuleParts) (p : Phase) (old n : MachineState) (c : Changes ModuleParts) (e : Event) (next : Option (Next ModuleParts ℕ))
-    → is_begun e ≡ true → p ≢ phase.Opened → Told V e next old n c → IfSome next (KeepsUnder (is_marked p)) → IsLive n.standing n.stack.frames p
-live_told V p old n c event.Moved (Some (Goes us memory frames)) begun called t under = live_at p n frames standing.Moving t.0 (in_phase p frames called under)
-live_told V p old n c (event.Waits a) (Some (Asks entry args frames)) begun called t under = live_at p n frames (standing.Asking entry t.0) t.1 (in_phase p frames called under, called)
-live_told V p old n c (event.Loader which first second) (Some (Loads called args frames)) begun called' t under = absurd under
-live_told V p old n c event.Returned (Some Ends) begun called t under = live_at p n [] standing.Returned t.0 tt
-live_told V p old n c (event.Trapped why) (Some (Traps cause)) begun called t under = live_at p n [] (standing.Trapped why) t.0 tt
-live_told V p old n c event.Stuck None begun called t under = live_at p n [] standing.Stuck t.0 tt
-live_told V p old n c event.Deep (Some (Goes us memory frames)) begun called t under = absurd cc
-live_told V p old n c e next begun called t under = absurd t
+pub live_told : (V : View ModuleParts) (alone : V.has_loader ≡ false) (p : Phase) (old n : MachineState) (c : Changes ModuleParts) (e : Event) (next : Option (Next ModuleParts ℕ))
+    → is_begun e ≡ true → p ≢ phase.Opened → Told V e next old n c → IfSome next (KeepsUnder V (marks_in p)) → IsLive n.standing n.stack.frames p
+live_told V alone p old n c event.Moved (Some (Goes us memory frames)) begun called t under = live_at p n frames standing.Moving t.0 (in_phase p frames called under)
+live_told V alone p old n c (event.Waits a) (Some (Asks entry args frames)) begun called t under = live_at p n frames (standing.Asking entry t.0) t.1 (in_phase p frames called under, called)
+live_told V alone p old n c (event.Loader which first second) (Some (Loads called args frames)) begun called' t under = absurd (let wrong : true ≡ false = sym under.0 ∙ alone in cc)
+live_told V alone p old n c event.Returned (Some Ends) begun called t under = live_at p n [] standing.Returned t.0 tt
+live_told V alone p old n c (event.Trapped why) (Some (Traps cause)) begun called t under = live_at p n [] (standing.Trapped why) t.0 tt
+live_told V alone p old n c event.Stuck None begun called t under = live_at p n [] standing.Stuck t.0 tt
+live_told V alone p old n c event.Deep (Some (Goes us memory frames)) begun called t under = absurd cc
+live_told V alone p old n c e next begun called t under = absurd t

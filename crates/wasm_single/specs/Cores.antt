@@ -4,17 +4,17 @@ use Rattle.spec_runs.specs.Systems.{Status, Moving, Waits, Returned, Exited, Tra
 use Rattle.wasm_form.specs.declared.module.Module.{Module}
 use Rattle.wasm_form.specs.declared.runtime.Trap.{Trap}
 use Rattle.wasm_runtime.specs.declared.Answer.{Answer}
-use Rattle.spec_binary.specs.SmallForm.{nullary}
-use Rattle.spec_validation.specs.Faults.{type_of_function}
+use Rattle.spec_binary.specs.Indices.{nullary, function_type}
 use Rattle.spec_runtime.specs.Memories.{MemoryInstance}
 use Rattle.spec_runtime.specs.Hosts.{HostCall, fits_results}
-use Rattle.spec_execution.specs.Instances.{imported_count, function_named, module_view, module_hosts}
-use Rattle.spec_execution.specs.Runs.{Frame, Active, Marked, call}
-use Rattle.spec_execution.specs.Limits.{passes_limit}
-use Rattle.spec_execution.specs.OneModule.{Starting, ModuleState, module_next, module_step}
+use Rattle.spec_binary.specs.IndexSpaces.{imported_count}
+use Rattle.spec_execution.specs.Instances.{function_named, module_view, module_hosts}
+use Rattle.spec_execution.specs.Runs.{is_running, Frame, Marked, call}
+use Rattle.spec_execution.specs.OneModule.{Starting, ModuleState, module_step, module_too_deep}
 use Rattle.wasm_step.specs.declared.done.Done.{Done}
 use Rattle.wasm_step.specs.declared.done.Done.TheVariants as done
 use Rattle.wasm_machine.specs.Machines.{MachineState, IsOver, Told}
+use Rattle.wasm_machine.specs.Marks.{marked_stack, AreMarks}
 use Rattle.wasm_machine.specs.declared.machine.Standing.{Standing}
 use Rattle.wasm_machine.specs.declared.machine.Standing.TheVariants as standing
 use Rattle.wasm_machine.specs.declared.event.Event.{Event}
@@ -25,11 +25,9 @@ use Rattle.wasm_single.specs.declared.bare_run.Phase.TheVariants as phase
 
 -- ---- the call stack
 
--- the machine's call stack, where a mark is what is still to be called
+-- the machine's call stack, where each mark stands for what is still to be called
 abbrev pub seen : Starting → List (Frame ℕ) → List (Frame Starting)
-seen starting [] = []
-seen starting (Active a ∷ frames) = Active a ∷ seen starting frames
-seen starting (Marked tag ∷ frames) = Marked starting ∷ seen starting frames
+seen starting = marked_stack (λ tag. starting)
 
 abbrev pub starting_of : Core → Starting
 starting_of c = record { start = c.start; entry = c.entry }
@@ -45,21 +43,15 @@ stack_of c = stack_in c.phase (starting_of c) c.machine.stack.frames
 
 -- ---- what is so of it
 
--- whether a mark lies at the bottom, and no mark above it
-abbrev pub LiesOver : Bool → List (Frame ℕ) → Type 0
-LiesOver marked [] = marked ≡ false
-LiesOver marked (Active a ∷ frames) = LiesOver marked frames
-LiesOver true (Marked tag ∷ frames) = frames ≡ []
-LiesOver false (Marked tag ∷ frames) = ⊥
-
+-- one mark lies at the bottom before the entry is called, and none after it
 abbrev pub IsInPhase : Phase → List (Frame ℕ) → Type 0
 IsInPhase phase.Opened frames = frames ≡ []
-IsInPhase phase.Marked frames = LiesOver true frames
-IsInPhase phase.Entered frames = (frames ≢ []) × LiesOver false frames
+IsInPhase phase.Marked frames = AreMarks 1 frames
+IsInPhase phase.Entered frames = (frames ≢ []) × AreMarks 0 frames
 
 -- a function that may be called first
 abbrev pub IsStartable : Module → ℕ → Type 0
-IsStartable m f = type_of_function m f ≡ Some nullary
+IsStartable m f = function_type m f ≡ Some nullary
 
 -- it goes on or waits: the call stack is there
 abbrev pub IsLive : Standing → List (Frame ℕ) → Phase → Type 0
@@ -109,24 +101,15 @@ TellsStatus m (event.Trapped why) (Trapped cause) = why ≡ cause
 TellsStatus m (event.Exited code) (Exited value) = code ≡ value
 TellsStatus m _ _ = ⊥
 
--- whether the step after a state would pass a limit of depth
-abbrev pub is_too_deep : Module → ModuleState → Bool
-is_too_deep m s = passes_limit (module_view m) (module_next m s s.stack)
-
--- an activation is on top
-abbrev pub is_running : List (Frame Starting) → Bool
-is_running (Active a ∷ frames) = true
-is_running _ = false
-
 -- The next step is one of code that is on top: it passes no limit of depth, and the run goes on by itself after it.
 abbrev pub IsCodeNext : Module → ModuleState → Type 0
-IsCodeNext m s = (s.status ≡ Moving) × (is_running s.stack ≡ true) × (is_too_deep m s ≡ false) × ((t : ModuleState) × (module_step m s ≡ Some t) × (t.status ≡ Moving))
+IsCodeNext m s = (s.status ≡ Moving) × (is_running s.stack ≡ true) × (module_too_deep m s ≡ false) × ((t : ModuleState) × (module_step m s ≡ Some t) × (t.status ≡ Moving))
 
 -- A step was made from a state and is told, or there is none. Where it would be too deep the run stays.
 abbrev pub Steps : Event → ModuleState → Core → Type 0
-Steps event.Deep s new = (is_too_deep new.checked.now s ≡ true) × (new.machine.standing ≡ standing.Moving) × IsState new s
+Steps event.Deep s new = (module_too_deep new.checked.now s ≡ true) × (new.machine.standing ≡ standing.Moving) × IsState new s
 Steps event.Stuck s new = (module_step new.checked.now s ≡ None) × (new.machine.standing ≡ standing.Stuck) × IsState new s
-Steps e s new = (is_too_deep new.checked.now s ≡ false) × ((t : ModuleState) × (module_step new.checked.now s ≡ Some t) × TellsStatus new.checked.now e t.status × IsState new t)
+Steps e s new = (module_too_deep new.checked.now s ≡ false) × ((t : ModuleState) × (module_step new.checked.now s ≡ Some t) × TellsStatus new.checked.now e t.status × IsState new t)
 
 -- the same of a step that the machine tells in few bytes; or it is left to be made with more care, and isn't one of code
 abbrev pub QuickSteps : Done → ModuleState → Core → Type 0

@@ -1,19 +1,20 @@
 -- The run of one module, as contracts see it.
-use Rattle.std.specs.Prelude.{◌≡◌, ◌≤◌, ◌<◌, ◌⊎◌, ℕ, suc, List, [], ◌∷◌, Option, Some, None, Bool, true, false, ◌&&◌, not, Result, Ok, Err, IsTrue, IfSome}
-use Rattle.spec_runs.specs.Systems.{Status, Moving, Waits, Ran, IsReal}
+use Rattle.std.specs.Prelude.{◌≡◌, ◌≤◌, ◌<◌, ◌⊎◌, ℕ, suc, List, [], None, Bool, true, false, Result, Ok, Err, IsTrue, IfSome}
+use Rattle.spec_runs.specs.Systems.{Moving, Ran}
 use Rattle.wasm_form.specs.declared.module.Module.{Module}
-use Rattle.wasm_form.specs.declared.runtime.Trap.{Trap}
 use Rattle.wasm_runtime.specs.declared.Answer.{Answer}
-use Rattle.spec_runtime.specs.Memories.{MemoryInstance}
 use Rattle.spec_runtime.specs.Names.{HostNames, has_integers}
-use Rattle.spec_runtime.specs.Hosts.{HostCall, hosts, numbers_fit, answer_fits}
+use Rattle.spec_runtime.specs.Hosts.{hosts, numbers_fit}
+pub use Rattle.spec_runtime.specs.Recorded.{AreLeft, has_ended, waits, FitsWait}
+use Rattle.spec_runtime.specs.Recorded.{Recorded, waits_unanswered}
+use Rattle.spec_runtime.specs.Recorded as recorded
 use Rattle.spec_execution.specs.Instances.{module_hosts}
-use Rattle.spec_execution.specs.OneModule.{ModuleState, OpeningFault, module_opening, module_system, module_step, module_run}
+use Rattle.spec_execution.specs.OneModule.{ModuleState, module_opening, module_system, module_step, module_too_deep, module_run}
 use Rattle.wasm_machine.specs.declared.event.Event.{Event}
 use Rattle.wasm_machine.specs.declared.event.Event.TheVariants as event
-use Rattle.wasm_single.specs.declared.fault.SingleFault.{SingleFault}
-use Rattle.wasm_single.specs.Starts.{cause_of, opened}
-use Rattle.wasm_single.specs.Cores.{TellsStatus, is_too_deep}
+use Rattle.spec_execution.specs.declared.fault.SingleFault.{SingleFault}
+use Rattle.wasm_single.specs.Starts.{IsTold, opened}
+use Rattle.wasm_single.specs.Cores.{TellsStatus}
 
 -- The module; how many steps were made; the answers that are recorded, in order, and whether the last one is still to be taken; and
 -- whether memory was wanting, after which nothing more is said.
@@ -24,20 +25,15 @@ pub record SingleRun : Type 0 where
   pub answered : Bool
   pub lost : Bool
 
--- what is left of the answers: none, or the one that is recorded for a wait, which fits
-abbrev pub AreLeft : Bool → Status HostCall Trap → MemoryInstance → List Answer → Type 0
-AreLeft false status memory left = left ≡ []
-AreLeft true (Waits call) memory (a ∷ []) = IsTrue (answer_fits call memory a)
-AreLeft true _ memory left = ⊥
+-- its steps and its answers
+abbrev pub recorded_of : SingleRun → Recorded
+recorded_of s = record { steps = s.steps; answers = s.answers; answered = s.answered; lost = s.lost }
 
 -- It stands where the steps lead that were made over the recorded answers from the opening state, and each of them is a real one.
 pub record Stands (s : SingleRun) (r : Ran hosts ModuleState) : Type 0 where
-  pub found : s.lost ≡ false
   pub opening : ModuleState
   pub opens : opened s.wasm ≡ Ok opening
-  pub run : module_run s.wasm opening s.answers s.steps ≡ r
-  pub real : IsReal (module_system s.wasm) s.steps opening s.answers
-  pub left : AreLeft s.answered r.state.status r.state.memory r.left
+  pub stands : recorded.Stands (module_system s.wasm) opening (recorded_of s) r
 
 -- ---- the opening
 
@@ -47,26 +43,13 @@ new_run m = record { wasm = m; steps = 0; answers = []; answered = false; lost =
 -- the run of an opened module that has made no step; or why it isn't opened
 abbrev pub Loads : Module → HostNames → Result SingleRun SingleFault → Type 0
 Loads m names (Ok s) = (s ≡ new_run m) × ((opening : ModuleState) × (module_opening m names ≡ Ok opening))
-Loads m names (Err why) = IsCause (cause_of why)
-  where
-    IsCause : Option OpeningFault → Type 0
-    IsCause None = Unit {0}
-    IsCause (Some cause) = module_opening m names ≡ Err cause
+Loads m names (Err why) = IsTold (module_opening m names) why
 
 -- ---- steps
 
-abbrev pub has_ended : Status HostCall Trap → Bool
-has_ended Moving = false
-has_ended (Waits call) = false
-has_ended _ = true
-
-abbrev pub waits : Status HostCall Trap → Bool
-waits (Waits call) = true
-waits _ = false
-
 -- it waits for an answer that isn't recorded
 abbrev pub is_waiting : SingleRun → Ran hosts ModuleState → Bool
-is_waiting s r = not s.answered && waits r.state.status
+is_waiting s r = waits_unanswered (recorded_of s) r.state.status
 
 -- one step more was made, and is told by how the run stands then
 abbrev pub StepMade : Event → SingleRun → Ran hosts ModuleState → SingleRun → Type 0
@@ -77,10 +60,10 @@ StepMade e old r new =
 -- What is told of a call for a step: the step was made; an end is told again; or the step would be too deep, or there is none, and
 -- nothing has changed.
 abbrev pub RunStepped : Event → SingleRun → Ran hosts ModuleState → SingleRun → Type 0
-RunStepped event.Deep old r new = (r.state.status ≡ Moving) × (is_too_deep old.wasm r.state ≡ true) × (new ≡ old)
+RunStepped event.Deep old r new = (r.state.status ≡ Moving) × (module_too_deep old.wasm r.state ≡ true) × (new ≡ old)
 RunStepped event.Stuck old r new = (r.state.status ≡ Moving) × (module_step old.wasm r.state ≡ None) × (new ≡ old)
 RunStepped e old r new =
-    StepMade e old r new × (r.state.status ≡ Moving → is_too_deep old.wasm r.state ≡ false)
+    StepMade e old r new × (r.state.status ≡ Moving → module_too_deep old.wasm r.state ≡ false)
     ⊎ (has_ended r.state.status ≡ true) × TellsStatus old.wasm e r.state.status × (new ≡ old)
 
 -- what is asked of a host function whose parameters and results are integers fits its parameters
@@ -98,15 +81,10 @@ pub record Advances (most : ℕ) (old new : SingleRun) : Type 0 where
   pub same : new ≡ record old { steps = new.steps; lost = new.lost }
   pub more : old.steps ≤ new.steps
   pub few : (new.steps ≡ old.steps) ⊎ (new.steps ≤ most)
-  pub free : (k : ℕ) (r : Ran hosts ModuleState) → old.steps ≤ k → k < new.steps → IsAfter new k r → (r.state.status ≡ Moving) × (is_too_deep new.wasm r.state ≡ false)
+  pub free : (k : ℕ) (r : Ran hosts ModuleState) → old.steps ≤ k → k < new.steps → IsAfter new k r → (r.state.status ≡ Moving) × (module_too_deep new.wasm r.state ≡ false)
   pub unasked : (r : Ran hosts ModuleState) → Stands new r → old.steps < new.steps → waits r.state.status ≡ false
 
 -- ---- answers
-
--- an answer fits the call that is waited for
-abbrev pub FitsWait : Answer → Status HostCall Trap → MemoryInstance → Type 0
-FitsWait a (Waits call) memory = IsTrue (answer_fits call memory a)
-FitsWait a _ memory = ⊥
 
 -- the run waits for an answer that isn't recorded, and this one fits
 abbrev pub Awaits : SingleRun → Answer → Type 0

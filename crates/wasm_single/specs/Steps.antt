@@ -1,13 +1,13 @@
 -- What a step changes of a run.
 use Rattle.std.specs.Prelude.{◌≡◌, ◌⊎◌, ℕ, suc, ◌^◌, ◌<◌, Some, Bool, true, false}
 use Rattle.std.specs.List.{All}
-use Rattle.spec_execution.specs.OneModule.{ModuleState, module_step}
+use Rattle.spec_execution.specs.OneModule.{ModuleState, module_step, module_too_deep}
 use Rattle.wasm_machine.specs.declared.machine.Standing.{Standing}
 use Rattle.wasm_machine.specs.declared.machine.Standing.TheVariants as standing
 use Rattle.wasm_machine.specs.declared.event.Event.{Event}
 use Rattle.wasm_machine.specs.declared.event.Event.TheVariants as event
 use Rattle.wasm_single.specs.declared.bare_run.Core.{Core}
-use Rattle.wasm_single.specs.Cores.{IsState, is_too_deep, IsCodeNext}
+use Rattle.wasm_single.specs.Cores.{IsState, IsCodeNext}
 use Rattle.wasm_single.specs.Singles.{waits}
 
 -- what is told of a machine after an answer, and of an end again
@@ -30,7 +30,7 @@ AreNumbers _ = Unit {0}
 
 -- a step was made from a state that isn't too deep, and doesn't call a host function
 abbrev pub IsMade : ModuleState → Core → Type 0
-IsMade s new = (is_too_deep new.checked.now s ≡ false) × ((t : ModuleState) × (module_step new.checked.now s ≡ Some t) × IsState new t × (waits t.status ≡ false))
+IsMade s new = (module_too_deep new.checked.now s ≡ false) × ((t : ModuleState) × (module_step new.checked.now s ≡ Some t) × IsState new t × (waits t.status ≡ false))
 
 -- no step of code is next from where the core stands
 abbrev pub HasStopped : Core → Type 0

@@ -131,7 +131,7 @@ impl<'m> Core<'m> {
         ensures wasm { self.new.checked ≡ self.old.checked }
     {
         if self.phase == Phase::Opened {
-            self.machine.mark(alloc, 0)?;
+            self.machine.mark(alloc, &self.instance, 0)?;
             self.phase = Phase::Marked;
         }
         Ok(())
@@ -148,7 +148,7 @@ impl<'m> Core<'m> {
         ensures stands { (s : ModuleState) → IsState self.old s → IsState self.new s }
     {
         if self.phase == Phase::Marked {
-            self.machine.unmark();
+            self.machine.unmark(&self.instance);
             self.phase = Phase::Opened;
         }
     }
@@ -169,7 +169,7 @@ impl<'m> Core<'m> {
 
     /// One step of code, where the machine can tell it in few bytes.
     #[inline(always)]
-    pub fn quick(&mut self) -> Done
+    pub fn quick(&mut self, alloc: Global) -> Done
         requires core { IsCore self.old }
         requires moving { self.old.machine.standing ≡ Standing.Moving }
         requires called { self.old.phase ≢ Phase.Opened }
@@ -178,7 +178,7 @@ impl<'m> Core<'m> {
         ensures wasm { self.new.checked ≡ self.old.checked }
         ensures phase { self.new.phase ≡ self.old.phase }
     {
-        self.machine.quick(&mut self.instance)
+        self.machine.quick(alloc, &mut self.instance)
     }
 
     /// Takes the answer of the host function that is waited for.

@@ -2,11 +2,10 @@
 #![tactic(auto)]
 
 mod bare_run;
-mod fault;
 mod hosts;
 mod load;
 mod single;
 
-pub use fault::SingleFault;
 pub use single::Single;
+pub use spec_execution::SingleFault;
 pub use wasm_machine::{Answer, Asked, Event};

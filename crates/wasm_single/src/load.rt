@@ -1,15 +1,14 @@
 // The opening of a run (section 4.5.4).
 ghost use Rattle.std.specs.Prelude.{◌≡◌};
 ghost use Rattle.spec_binary.specs.Indices.{is_nullary};
-ghost use Rattle.spec_execution.specs.Instances.{imported_count};
 ghost use Rattle.spec_execution.specs.OneModule.{module_entry};
 ghost use Rattle.wasm_single.specs.Singles.{Loads};
 
 use crate::bare_run::{Core, Phase};
-use crate::fault::SingleFault;
 use crate::hosts::hosts_of;
 use crate::single::Single;
 use host_table::HostNames;
+use spec_execution::SingleFault;
 use spec_safety::checked_code_is_in_range;
 use std::alloc::Global;
 use wasm_check::Checked;
@@ -30,7 +29,7 @@ impl<'m> Single<'m> {
         checked_code_is_in_range();
         let m = checked.module();
         let hosts = hosts_of(alloc, m, names, m.imports.items())?;
-        let Some(entry) = entry_of(checked, hosts.len()) else {
+        let Some(entry) = entry_of(checked) else {
             return Err(SingleFault::NoEntry);
         };
         let instance = Instance::open(alloc, checked)?;
@@ -54,15 +53,15 @@ impl<'m> Single<'m> {
 }
 
 /// The function without parameters and results that a module defines and exports as `_start`.
-fn entry_of(checked: &Checked, imported: usize) -> Option<u32>
-    requires { imported ≡ imported_count checked.now }
+fn entry_of(checked: &Checked) -> Option<u32>
     ensures { result ≡ module_entry checked.now }
 {
     let f = exported_function(checked.module(), "_start")?;
-    if (f as usize) < imported || !is_nullary(checked.func_type(f)) {
-        return None;
+    if is_nullary(checked.func_type(f)) {
+        Some(f)
+    } else {
+        None
     }
-    Some(f)
 }
 
 fn is_nullary(ty: &FuncType) -> bool

@@ -85,7 +85,7 @@ fn are_numbers(event: &Event)
 
 /// Makes one step of code, if the machine can tell it in few bytes, and counts it. Whether code goes on.
 #[inline(always)]
-fn quick_step(core: &mut Core, steps: &mut u64, lost: &mut bool) -> bool
+fn quick_step(core: &mut Core, alloc: Global, steps: &mut u64, lost: &mut bool) -> bool
     requires core { IsCore core.old }
     requires moving { core.old.machine.standing ≡ Standing.Moving }
     requires called { core.old.phase ≢ Phase.Opened }
@@ -96,7 +96,7 @@ fn quick_step(core: &mut Core, steps: &mut u64, lost: &mut bool) -> bool
     ensures wasm { core.new.checked ≡ core.old.checked }
     ensures phase { core.new.phase ≡ core.old.phase }
 {
-    match core.quick() {
+    match core.quick(alloc) {
         Done::Goes => {
             *steps += 1;
             true
@@ -154,7 +154,7 @@ impl<'m> Single<'m> {
 
     /// Makes steps of code, up to so many in all, until one is left for `run_step`: a call of the module's start or entry, of a host
     /// function, or one that is too deep; or the run has ended, waits or is stuck.
-    pub fn advance(&mut self, most: u64) -> Result<(), Memory>
+    pub fn advance(&mut self, alloc: Global, most: u64) -> Result<(), Memory>
         ensures advances { Advances most self.old self.new }
         ensures left { OnOk result ((r : Ran hosts ModuleState) → Stands self.new r → self.new.steps < most → IsCodeNext self.new.wasm r.state → ⊥) }
         ensures found { OnOk result (self.new.lost ≡ false) }
@@ -170,7 +170,7 @@ impl<'m> Single<'m> {
             return Ok(());
         }
         'code: while self.steps < most
-            && quick_step(&mut self.core, &mut self.steps, &mut self.lost)
+            && quick_step(&mut self.core, alloc, &mut self.steps, &mut self.lost)
         {}
         if self.lost { Err(Memory) } else { Ok(()) }
     }

@@ -4,8 +4,6 @@
 mod little;
 mod slots;
 mod space;
-#[cfg(test)]
-mod tests;
 
 pub use slots::Slots;
 pub use space::Space;

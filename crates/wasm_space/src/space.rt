@@ -55,7 +55,7 @@ impl Space {
     /// Adds so many pages of zeros and answers the old size in pages, or 4,294,967,295 exactly where the new
     /// size would pass the maximum (section 4.4.7, memory.grow). Without memory for them `Memory`, and the memory
     /// stays as it was.
-    pub fn grow(&mut self, delta: u32) -> Result<u32, Memory>
+    pub fn grow(&mut self, _alloc: Global, delta: u32) -> Result<u32, Memory>
         ensures { GrowsOrStays self.old (grown self.old delta) (pages self.old) result self.new }
     {
         let old = self.pages;

@@ -3,7 +3,7 @@ ghost use Rattle.std.specs.Prelude.{◌≡◌, ◌≢◌, ◌≤◌, ◌<◌, �
 ghost use Rattle.spec_binary.specs.Indices.{declared_locals};
 ghost use Rattle.spec_execution.specs.Values.{take_values, numbers_of};
 ghost use Rattle.spec_execution.specs.Activations.{with_values, pushed};
-ghost use Rattle.wasm_step.specs.Tops.{with_act, IsFull, IsNested, HasRoom, IsLaidOut};
+ghost use Rattle.wasm_step.specs.Tops.{with_act, IsTooHigh, IsTooNested, HasRoom, IsLaidOut};
 ghost use Rattle.wasm_step.specs.Primitives.{number_on, reference_on, with_rest, with_locals, in_block, closed, first_of, arity_of, again_of, first_label, first_level, body_done, Opened, Started, Parked, Dropped, IsIdle, Widened, HasSpare, idle_at, resumed};
 
 use crate::room::{number, of_kind, push_zeros, slide};
@@ -110,7 +110,7 @@ impl<'m> Current<'m> {
     pub fn push(&mut self, v: Value) -> bool
         ensures pushed { result ≡ true → self.new ≡ with_act self.old (pushed self.old.act v) }
         ensures same { result ≡ false → self.new ≡ self.old }
-        ensures full { result ≡ false → IsFull self.old }
+        ensures full { result ≡ false → IsTooHigh self.old (pushed self.old.act v) }
     {
         if self.values.len() >= self.values.capacity() {
             return false;
@@ -260,7 +260,7 @@ impl<'m> Current<'m> {
         requires { n ≤ length self.old.act.values }
         ensures entered { result ≡ true → self.new ≡ with_act self.old (in_block self.old.act n arity (option_map (λ b. b.now) again.entry) body.now) }
         ensures same { result ≡ false → self.new ≡ self.old }
-        ensures full { result ≡ false → IsNested self.old }
+        ensures full { result ≡ false → IsTooNested self.old (in_block self.old.act n arity (option_map (λ b. b.now) again.entry) body.now) }
     {
         if self.labels.len() >= self.labels.capacity() {
             return false;
@@ -384,7 +384,7 @@ impl<'m> Current<'m> {
     }
 
     /// Takes room for so many values more.
-    pub fn spare(&mut self, n: usize) -> Result<(), Memory>
+    pub fn spare(&mut self, _alloc: Global, n: usize) -> Result<(), Memory>
         ensures spare { OnOk result (HasSpare self.new n) }
         ensures same { Widened self.old self.new }
     {
@@ -404,6 +404,7 @@ impl<'m> Current<'m> {
     /// all.
     pub fn open(
         &mut self,
+        _alloc: Global,
         unit: u32,
         func: u32,
         room: usize,
@@ -440,6 +441,7 @@ impl<'m> Current<'m> {
     /// Begins the first activation over what is there, of code without parameters.
     pub fn start(
         &mut self,
+        alloc: Global,
         unit: u32,
         func: u32,
         room: usize,
@@ -451,7 +453,7 @@ impl<'m> Current<'m> {
         requires most { room ≤ 4194304 }
         ensures { OnOk result (Started self.old self.new unit func room results code.now) }
     {
-        self.open(unit, func, room, 0, results, code)?;
+        self.open(alloc, unit, func, room, 0, results, code)?;
         Ok(())
     }
 

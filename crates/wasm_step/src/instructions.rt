@@ -1,12 +1,12 @@
 // One instruction that doesn't call.
-ghost use Rattle.std.specs.Prelude.{◌≡◌, ◌⊎◌, Some, None, false, IsTrue, IsSome, IfSome, length};
+ghost use Rattle.std.specs.Prelude.{◌≡◌, Some, None, false, IsTrue, IsSome, IfSome, length};
 ghost use Rattle.wasm_form.specs.declared.instr.Instr.{out-Instr};
 ghost use Rattle.wasm_opcode.specs.Index.{index_form as index_form_of};
 ghost use Rattle.wasm_opcode.specs.Second.{second_form as second_form_of};
 ghost use Rattle.spec_execution.specs.Activations.{expanded, else_of, index_move, second_move, instr_move};
 ghost use Rattle.spec_execution.specs.Ranges.{IsWhole, HoldsAll, index_in_range, second_in_range, block_in_range};
 ghost use Rattle.wasm_step.specs.Tops.{with_act};
-ghost use Rattle.wasm_step.specs.Moves.{IsUsedUp, acted, Acted};
+ghost use Rattle.wasm_step.specs.Moves.{MakesMove};
 ghost use Rattle.wasm_step.specs.Named.{named_here, is_call, is_call_form, is_growth, is_table_growth};
 
 use crate::control::{
@@ -20,6 +20,7 @@ use crate::store::{
     memory_init, memory_size, refer, table_copy, table_fill, table_get, table_grow, table_init,
     table_set, table_size,
 };
+use std::alloc::Global;
 use wasm_form::{BlockType, Expr, Instr};
 use wasm_opcode::{IndexForm, SecondForm, index_form, second_form};
 use wasm_runtime::Value;
@@ -27,10 +28,10 @@ use wasm_view::View;
 
 /// How many parameters and results a block has.
 fn sizes<'m, V: View<'m>>(view: &V, unit: u32, ty: BlockType) -> (usize, usize)
-    requires named { IsTrue (block_in_range ((V.fixed view.now).counts unit) ty) }
-    requires whole { IsWhole (V.fixed view.now) }
-    ensures there { IsSome (expanded ((V.fixed view.now).declared unit) ty) }
-    ensures sizes { IfSome (expanded ((V.fixed view.now).declared unit) ty) (λ f. (result.0 ≡ length f.params) × (result.1 ≡ length f.results)) }
+    requires named { IsTrue (block_in_range ((V.seen view.now).fixed.counts unit) ty) }
+    requires whole { IsWhole (V.seen view.now).fixed }
+    ensures there { IsSome (expanded ((V.seen view.now).fixed.declared unit) ty) }
+    ensures sizes { IfSome (expanded ((V.seen view.now).fixed.declared unit) ty) (λ f. (result.0 ≡ length f.params) × (result.1 ≡ length f.results)) }
 {
     match ty {
         BlockType::Empty => (0, 0),
@@ -54,13 +55,13 @@ fn else_items<'m>(other: &'m Option<Expr>) -> &'m [Instr]
 
 /// An instruction with one index that is no call.
 fn indexed<'m, V: View<'m>>(top: &mut Current<'m>, view: &mut V, op: u8, n: u32) -> Done
-    requires named { IsTrue (index_in_range ((V.fixed view.old).counts top.old.act.unit) n (index_form_of op)) }
+    requires named { IsTrue (index_in_range ((V.seen view.old).fixed.counts top.old.act.unit) n (index_form_of op)) }
     requires no_call { is_call_form (index_form_of op) ≡ false }
-    requires whole { IsWhole (V.fixed view.old) }
-    requires holds { HoldsAll (V.fixed view.old) (V.units view.old) }
-    ensures acted { Acted result (acted (V.fixed view.old) (V.units view.old) (V.space view.old) (index_move n (index_form_of op) top.old.act)) (IsUsedUp top.old) top.old top.new (record { old_units = V.units view.old; old_memory = V.space view.old; new_units = V.units view.new; new_memory = V.space view.new }) }
+    requires whole { IsWhole (V.seen view.old).fixed }
+    requires holds { HoldsAll (V.seen view.old).fixed (V.seen view.old).units }
+    ensures acted { MakesMove result (index_move n (index_form_of op) top.old.act) ⊥ top.old top.new (V.seen view.old) (V.seen view.new) }
     ensures rest { top.new ≡ with_act top.old top.new.act }
-    ensures fixed { V.fixed view.new ≡ V.fixed view.old }
+    ensures fixed { (V.seen view.new).fixed ≡ (V.seen view.old).fixed }
 {
     match index_form(op) {
         None => Done::Stuck,
@@ -79,13 +80,20 @@ fn indexed<'m, V: View<'m>>(top: &mut Current<'m>, view: &mut V, op: u8, n: u32)
 }
 
 /// An instruction with a second opcode.
-fn prefixed<'m, V: View<'m>>(top: &mut Current<'m>, view: &mut V, op: u32, a: u32, b: u32) -> Done
-    requires named { IsTrue (second_in_range ((V.fixed view.old).counts top.old.act.unit) a b (second_form_of op)) }
-    requires whole { IsWhole (V.fixed view.old) }
-    requires holds { HoldsAll (V.fixed view.old) (V.units view.old) }
-    ensures acted { Acted result (acted (V.fixed view.old) (V.units view.old) (V.space view.old) (second_move (second_form_of op) a b top.old.act)) (IsTrue (is_table_growth (second_form_of op)) ⊎ IsUsedUp top.old) top.old top.new (record { old_units = V.units view.old; old_memory = V.space view.old; new_units = V.units view.new; new_memory = V.space view.new }) }
+fn prefixed<'m, V: View<'m>>(
+    top: &mut Current<'m>,
+    alloc: Global,
+    view: &mut V,
+    op: u32,
+    a: u32,
+    b: u32,
+) -> Done
+    requires named { IsTrue (second_in_range ((V.seen view.old).fixed.counts top.old.act.unit) a b (second_form_of op)) }
+    requires whole { IsWhole (V.seen view.old).fixed }
+    requires holds { HoldsAll (V.seen view.old).fixed (V.seen view.old).units }
+    ensures acted { MakesMove result (second_move (second_form_of op) a b top.old.act) (IsTrue (is_table_growth (second_form_of op))) top.old top.new (V.seen view.old) (V.seen view.new) }
     ensures rest { top.new ≡ with_act top.old top.new.act }
-    ensures fixed { V.fixed view.new ≡ V.fixed view.old }
+    ensures fixed { (V.seen view.new).fixed ≡ (V.seen view.old).fixed }
 {
     match second_form(op) {
         None => Done::Stuck,
@@ -96,21 +104,26 @@ fn prefixed<'m, V: View<'m>>(top: &mut Current<'m>, view: &mut V, op: u32, a: u3
         Some(SecondForm::TableInit) => table_init(top, view, a, b),
         Some(SecondForm::ElemDrop) => elem_drop(top, view, a),
         Some(SecondForm::TableCopy) => table_copy(top, view, a, b),
-        Some(SecondForm::TableGrow) => table_grow(top, view, a),
+        Some(SecondForm::TableGrow) => table_grow(top, alloc, view, a),
         Some(SecondForm::TableSize) => table_size(top, view, a),
         Some(SecondForm::TableFill) => table_fill(top, view, a),
     }
 }
 
 /// One instruction that is no call, past which the activation stands.
-pub fn instruction<'m, V: View<'m>>(top: &mut Current<'m>, view: &mut V, i: &'m Instr) -> Done
-    requires named { IsTrue (named_here ((V.fixed view.old).counts top.old.act.unit) (out-Instr i.now)) }
+pub fn instruction<'m, V: View<'m>>(
+    top: &mut Current<'m>,
+    alloc: Global,
+    view: &mut V,
+    i: &'m Instr,
+) -> Done
+    requires named { IsTrue (named_here ((V.seen view.old).fixed.counts top.old.act.unit) (out-Instr i.now)) }
     requires no_call { is_call (out-Instr i.now) ≡ false }
-    requires whole { IsWhole (V.fixed view.old) }
-    requires holds { HoldsAll (V.fixed view.old) (V.units view.old) }
-    ensures acted { Acted result (acted (V.fixed view.old) (V.units view.old) (V.space view.old) (instr_move ((V.fixed view.old).declared top.old.act.unit) (out-Instr i.now) top.old.act)) (IsTrue (is_growth (out-Instr i.now)) ⊎ IsUsedUp top.old) top.old top.new (record { old_units = V.units view.old; old_memory = V.space view.old; new_units = V.units view.new; new_memory = V.space view.new }) }
+    requires whole { IsWhole (V.seen view.old).fixed }
+    requires holds { HoldsAll (V.seen view.old).fixed (V.seen view.old).units }
+    ensures acted { MakesMove result (instr_move ((V.seen view.old).fixed.declared top.old.act.unit) (out-Instr i.now) top.old.act) (IsTrue (is_growth (out-Instr i.now))) top.old top.new (V.seen view.old) (V.seen view.new) }
     ensures rest { top.new ≡ with_act top.old top.new.act }
-    ensures fixed { V.fixed view.new ≡ V.fixed view.old }
+    ensures fixed { (V.seen view.new).fixed ≡ (V.seen view.old).fixed }
 {
     match i {
         Instr::Plain(op) => plain(top, *op),
@@ -132,11 +145,11 @@ pub fn instruction<'m, V: View<'m>>(top: &mut Current<'m>, view: &mut V, i: &'m 
         Instr::Select(_) => select(top),
         Instr::Access { op, offset, .. } => access(top, view, *op, *offset),
         Instr::MemorySize => memory_size(top, view),
-        Instr::MemoryGrow => memory_grow(top, view),
+        Instr::MemoryGrow => memory_grow(top, alloc, view),
         Instr::I32Const(n) => give(top, Value::Num(u64::from(n.cast_unsigned()))),
         Instr::I64Const(n) => give(top, Value::Num(n.cast_unsigned())),
         Instr::F32Const(_) | Instr::F64Const(_) => Done::Stuck,
         Instr::RefNull(_) => give(top, Value::Func(None)),
-        Instr::Prefixed { op, a, b } => prefixed(top, view, *op, *a, *b),
+        Instr::Prefixed { op, a, b } => prefixed(top, alloc, view, *op, *a, *b),
     }
 }

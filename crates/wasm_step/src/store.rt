@@ -8,11 +8,12 @@ ghost use Rattle.spec_execution.specs.Views.{access_length, load_extended};
 ghost use Rattle.wasm_space.specs.Access.{IsAccessLength};
 ghost use Rattle.spec_execution.specs.Ranges.{HoldsAll, IsWhole};
 ghost use Rattle.wasm_step.specs.Tops.{with_act};
-ghost use Rattle.wasm_step.specs.Moves.{IsUsedUp, acted, Acted};
+ghost use Rattle.wasm_step.specs.Moves.{MakesMove};
 
 use crate::control::{give, pop_i32};
 use crate::current::Current;
 use crate::done::Done;
+use std::alloc::Global;
 use wasm_form::Trap;
 use wasm_num::convert;
 use wasm_opcode::{MemoryAccess, memory_access};
@@ -33,9 +34,9 @@ fn changed(answer: Result<(), Trap>) -> Done
 
 /// A reference to a function of the unit.
 pub(crate) fn refer<'m, V: View<'m>>(top: &mut Current<'m>, view: &V, f: u32) -> Done
-    requires named { f < ((V.fixed view.now).counts top.old.act.unit).functions }
-    requires whole { IsWhole (V.fixed view.now) }
-    ensures acted { Acted result (acted (V.fixed view.now) (V.units view.now) (V.space view.now) (Refers f top.old.act)) (IsUsedUp top.old) top.old top.new (record { old_units = V.units view.now; old_memory = V.space view.now; new_units = V.units view.now; new_memory = V.space view.now }) }
+    requires named { f < ((V.seen view.now).fixed.counts top.old.act.unit).functions }
+    requires whole { IsWhole (V.seen view.now).fixed }
+    ensures acted { MakesMove result (Refers f top.old.act) ⊥ top.old top.new (V.seen view.now) (V.seen view.now) }
     ensures rest { top.new ≡ with_act top.old top.new.act }
 {
     give(top, Value::Func(Some(view.target(top.unit(), f))))
@@ -43,9 +44,9 @@ pub(crate) fn refer<'m, V: View<'m>>(top: &mut Current<'m>, view: &V, f: u32) ->
 
 /// The value of a global.
 pub(crate) fn global_get<'m, V: View<'m>>(top: &mut Current<'m>, view: &V, g: u32) -> Done
-    requires named { g < ((V.fixed view.now).counts top.old.act.unit).globals }
-    requires holds { HoldsAll (V.fixed view.now) (V.units view.now) }
-    ensures acted { Acted result (acted (V.fixed view.now) (V.units view.now) (V.space view.now) (Does (GlobalGet g) top.old.act)) (IsUsedUp top.old) top.old top.new (record { old_units = V.units view.now; old_memory = V.space view.now; new_units = V.units view.now; new_memory = V.space view.now }) }
+    requires named { g < ((V.seen view.now).fixed.counts top.old.act.unit).globals }
+    requires holds { HoldsAll (V.seen view.now).fixed (V.seen view.now).units }
+    ensures acted { MakesMove result (Does (GlobalGet g) top.old.act) ⊥ top.old top.new (V.seen view.now) (V.seen view.now) }
     ensures rest { top.new ≡ with_act top.old top.new.act }
 {
     give(top, view.global(top.unit(), g))
@@ -53,11 +54,11 @@ pub(crate) fn global_get<'m, V: View<'m>>(top: &mut Current<'m>, view: &V, g: u3
 
 /// Sets a global.
 pub(crate) fn global_set<'m, V: View<'m>>(top: &mut Current<'m>, view: &mut V, g: u32) -> Done
-    requires named { g < ((V.fixed view.old).counts top.old.act.unit).globals }
-    requires holds { HoldsAll (V.fixed view.old) (V.units view.old) }
-    ensures acted { Acted result (acted (V.fixed view.old) (V.units view.old) (V.space view.old) (with_top top.old.act.values (λ v vs. Does (GlobalSet g v) (with_values top.old.act vs)))) ⊥ top.old top.new (record { old_units = V.units view.old; old_memory = V.space view.old; new_units = V.units view.new; new_memory = V.space view.new }) }
+    requires named { g < ((V.seen view.old).fixed.counts top.old.act.unit).globals }
+    requires holds { HoldsAll (V.seen view.old).fixed (V.seen view.old).units }
+    ensures acted { MakesMove result (with_top top.old.act.values (λ v vs. Does (GlobalSet g v) (with_values top.old.act vs))) ⊥ top.old top.new (V.seen view.old) (V.seen view.new) }
     ensures rest { top.new ≡ with_act top.old top.new.act }
-    ensures fixed { V.fixed view.new ≡ V.fixed view.old }
+    ensures fixed { (V.seen view.new).fixed ≡ (V.seen view.old).fixed }
 {
     let Some(v) = top.pop() else {
         return Done::Stuck;
@@ -70,9 +71,9 @@ pub(crate) fn global_set<'m, V: View<'m>>(top: &mut Current<'m>, view: &mut V, g
 
 /// An entry of a table.
 pub(crate) fn table_get<'m, V: View<'m>>(top: &mut Current<'m>, view: &V, t: u32) -> Done
-    requires named { t < ((V.fixed view.now).counts top.old.act.unit).tables }
-    requires holds { HoldsAll (V.fixed view.now) (V.units view.now) }
-    ensures acted { Acted result (acted (V.fixed view.now) (V.units view.now) (V.space view.now) (with_i32 top.old.act.values (λ i vs. Does (TableGet t i) (with_values top.old.act vs)))) ⊥ top.old top.new (record { old_units = V.units view.now; old_memory = V.space view.now; new_units = V.units view.now; new_memory = V.space view.now }) }
+    requires named { t < ((V.seen view.now).fixed.counts top.old.act.unit).tables }
+    requires holds { HoldsAll (V.seen view.now).fixed (V.seen view.now).units }
+    ensures acted { MakesMove result (with_i32 top.old.act.values (λ i vs. Does (TableGet t i) (with_values top.old.act vs))) ⊥ top.old top.new (V.seen view.now) (V.seen view.now) }
     ensures rest { top.new ≡ with_act top.old top.new.act }
 {
     let Some(n) = top.number() else {
@@ -89,11 +90,11 @@ pub(crate) fn table_get<'m, V: View<'m>>(top: &mut Current<'m>, view: &V, t: u32
 
 /// Sets an entry of a table.
 pub(crate) fn table_set<'m, V: View<'m>>(top: &mut Current<'m>, view: &mut V, t: u32) -> Done
-    requires named { t < ((V.fixed view.old).counts top.old.act.unit).tables }
-    requires holds { HoldsAll (V.fixed view.old) (V.units view.old) }
-    ensures acted { Acted result (acted (V.fixed view.old) (V.units view.old) (V.space view.old) (with_reference top.old.act.values (λ r vs. with_i32 vs (λ i ws. Does (TableSet t i r) (with_values top.old.act ws))))) ⊥ top.old top.new (record { old_units = V.units view.old; old_memory = V.space view.old; new_units = V.units view.new; new_memory = V.space view.new }) }
+    requires named { t < ((V.seen view.old).fixed.counts top.old.act.unit).tables }
+    requires holds { HoldsAll (V.seen view.old).fixed (V.seen view.old).units }
+    ensures acted { MakesMove result (with_reference top.old.act.values (λ r vs. with_i32 vs (λ i ws. Does (TableSet t i r) (with_values top.old.act ws)))) ⊥ top.old top.new (V.seen view.old) (V.seen view.new) }
     ensures rest { top.new ≡ with_act top.old top.new.act }
-    ensures fixed { V.fixed view.new ≡ V.fixed view.old }
+    ensures fixed { (V.seen view.new).fixed ≡ (V.seen view.old).fixed }
 {
     let Some(r) = top.pop_reference() else {
         return Done::Stuck;
@@ -106,9 +107,9 @@ pub(crate) fn table_set<'m, V: View<'m>>(top: &mut Current<'m>, view: &mut V, t:
 
 /// The size of a table.
 pub(crate) fn table_size<'m, V: View<'m>>(top: &mut Current<'m>, view: &V, t: u32) -> Done
-    requires named { t < ((V.fixed view.now).counts top.old.act.unit).tables }
-    requires holds { HoldsAll (V.fixed view.now) (V.units view.now) }
-    ensures acted { Acted result (acted (V.fixed view.now) (V.units view.now) (V.space view.now) (Does (TableSize t) top.old.act)) (IsUsedUp top.old) top.old top.new (record { old_units = V.units view.now; old_memory = V.space view.now; new_units = V.units view.now; new_memory = V.space view.now }) }
+    requires named { t < ((V.seen view.now).fixed.counts top.old.act.unit).tables }
+    requires holds { HoldsAll (V.seen view.now).fixed (V.seen view.now).units }
+    ensures acted { MakesMove result (Does (TableSize t) top.old.act) ⊥ top.old top.new (V.seen view.now) (V.seen view.now) }
     ensures rest { top.new ≡ with_act top.old top.new.act }
 {
     let size = view.table(top.unit(), t).size();
@@ -116,12 +117,17 @@ pub(crate) fn table_size<'m, V: View<'m>>(top: &mut Current<'m>, view: &V, t: u3
 }
 
 /// Adds entries to a table.
-pub(crate) fn table_grow<'m, V: View<'m>>(top: &mut Current<'m>, view: &mut V, t: u32) -> Done
-    requires named { t < ((V.fixed view.old).counts top.old.act.unit).tables }
-    requires holds { HoldsAll (V.fixed view.old) (V.units view.old) }
-    ensures acted { Acted result (acted (V.fixed view.old) (V.units view.old) (V.space view.old) (with_i32 top.old.act.values (λ n vs. with_reference vs (λ r ws. Does (TableGrow t r n) (with_values top.old.act ws))))) (Unit {0}) top.old top.new (record { old_units = V.units view.old; old_memory = V.space view.old; new_units = V.units view.new; new_memory = V.space view.new }) }
+pub(crate) fn table_grow<'m, V: View<'m>>(
+    top: &mut Current<'m>,
+    alloc: Global,
+    view: &mut V,
+    t: u32,
+) -> Done
+    requires named { t < ((V.seen view.old).fixed.counts top.old.act.unit).tables }
+    requires holds { HoldsAll (V.seen view.old).fixed (V.seen view.old).units }
+    ensures acted { MakesMove result (with_i32 top.old.act.values (λ n vs. with_reference vs (λ r ws. Does (TableGrow t r n) (with_values top.old.act ws)))) (Unit {0}) top.old top.new (V.seen view.old) (V.seen view.new) }
     ensures rest { top.new ≡ with_act top.old top.new.act }
-    ensures fixed { V.fixed view.new ≡ V.fixed view.old }
+    ensures fixed { (V.seen view.new).fixed ≡ (V.seen view.old).fixed }
 {
     let Some(n) = pop_i32(top) else {
         return Done::Stuck;
@@ -129,7 +135,7 @@ pub(crate) fn table_grow<'m, V: View<'m>>(top: &mut Current<'m>, view: &mut V, t
     let Some(Value::Func(r)) = top.value() else {
         return Done::Stuck;
     };
-    match view.table_grow(top.unit(), t, n, r) {
+    match view.table_grow(alloc, top.unit(), t, n, r) {
         Ok(size) => {
             top.set_top(Value::Num(u64::from(size)));
             Done::Goes
@@ -140,11 +146,11 @@ pub(crate) fn table_grow<'m, V: View<'m>>(top: &mut Current<'m>, view: &mut V, t
 
 /// Sets entries of a table to one value.
 pub(crate) fn table_fill<'m, V: View<'m>>(top: &mut Current<'m>, view: &mut V, t: u32) -> Done
-    requires named { t < ((V.fixed view.old).counts top.old.act.unit).tables }
-    requires holds { HoldsAll (V.fixed view.old) (V.units view.old) }
-    ensures acted { Acted result (acted (V.fixed view.old) (V.units view.old) (V.space view.old) (with_i32 top.old.act.values (λ n vs. with_reference vs (λ r ws. with_i32 ws (λ i us. Does (TableFill t i r n) (with_values top.old.act us)))))) ⊥ top.old top.new (record { old_units = V.units view.old; old_memory = V.space view.old; new_units = V.units view.new; new_memory = V.space view.new }) }
+    requires named { t < ((V.seen view.old).fixed.counts top.old.act.unit).tables }
+    requires holds { HoldsAll (V.seen view.old).fixed (V.seen view.old).units }
+    ensures acted { MakesMove result (with_i32 top.old.act.values (λ n vs. with_reference vs (λ r ws. with_i32 ws (λ i us. Does (TableFill t i r n) (with_values top.old.act us))))) ⊥ top.old top.new (V.seen view.old) (V.seen view.new) }
     ensures rest { top.new ≡ with_act top.old top.new.act }
-    ensures fixed { V.fixed view.new ≡ V.fixed view.old }
+    ensures fixed { (V.seen view.new).fixed ≡ (V.seen view.old).fixed }
 {
     let Some(n) = pop_i32(top) else {
         return Done::Stuck;
@@ -165,12 +171,12 @@ pub(crate) fn table_copy<'m, V: View<'m>>(
     t: u32,
     u: u32,
 ) -> Done
-    requires named { t < ((V.fixed view.old).counts top.old.act.unit).tables }
-    requires other { u < ((V.fixed view.old).counts top.old.act.unit).tables }
-    requires holds { HoldsAll (V.fixed view.old) (V.units view.old) }
-    ensures acted { Acted result (acted (V.fixed view.old) (V.units view.old) (V.space view.old) (with_three top.old.act (TableCopy t u))) ⊥ top.old top.new (record { old_units = V.units view.old; old_memory = V.space view.old; new_units = V.units view.new; new_memory = V.space view.new }) }
+    requires named { t < ((V.seen view.old).fixed.counts top.old.act.unit).tables }
+    requires other { u < ((V.seen view.old).fixed.counts top.old.act.unit).tables }
+    requires holds { HoldsAll (V.seen view.old).fixed (V.seen view.old).units }
+    ensures acted { MakesMove result (with_three top.old.act (TableCopy t u)) ⊥ top.old top.new (V.seen view.old) (V.seen view.new) }
     ensures rest { top.new ≡ with_act top.old top.new.act }
-    ensures fixed { V.fixed view.new ≡ V.fixed view.old }
+    ensures fixed { (V.seen view.new).fixed ≡ (V.seen view.old).fixed }
 {
     let Some(n) = pop_i32(top) else {
         return Done::Stuck;
@@ -191,12 +197,12 @@ pub(crate) fn table_init<'m, V: View<'m>>(
     e: u32,
     t: u32,
 ) -> Done
-    requires named { e < ((V.fixed view.old).counts top.old.act.unit).elems }
-    requires other { t < ((V.fixed view.old).counts top.old.act.unit).tables }
-    requires holds { HoldsAll (V.fixed view.old) (V.units view.old) }
-    ensures acted { Acted result (acted (V.fixed view.old) (V.units view.old) (V.space view.old) (with_three top.old.act (TableInit e t))) ⊥ top.old top.new (record { old_units = V.units view.old; old_memory = V.space view.old; new_units = V.units view.new; new_memory = V.space view.new }) }
+    requires named { e < ((V.seen view.old).fixed.counts top.old.act.unit).elems }
+    requires other { t < ((V.seen view.old).fixed.counts top.old.act.unit).tables }
+    requires holds { HoldsAll (V.seen view.old).fixed (V.seen view.old).units }
+    ensures acted { MakesMove result (with_three top.old.act (TableInit e t)) ⊥ top.old top.new (V.seen view.old) (V.seen view.new) }
     ensures rest { top.new ≡ with_act top.old top.new.act }
-    ensures fixed { V.fixed view.new ≡ V.fixed view.old }
+    ensures fixed { (V.seen view.new).fixed ≡ (V.seen view.old).fixed }
 {
     let Some(n) = pop_i32(top) else {
         return Done::Stuck;
@@ -212,11 +218,11 @@ pub(crate) fn table_init<'m, V: View<'m>>(
 
 /// Drops an element segment.
 pub(crate) fn elem_drop<'m, V: View<'m>>(top: &mut Current<'m>, view: &mut V, e: u32) -> Done
-    requires named { e < ((V.fixed view.old).counts top.old.act.unit).elems }
-    requires holds { HoldsAll (V.fixed view.old) (V.units view.old) }
-    ensures acted { Acted result (acted (V.fixed view.old) (V.units view.old) (V.space view.old) (Does (ElemDrop e) top.old.act)) ⊥ top.old top.new (record { old_units = V.units view.old; old_memory = V.space view.old; new_units = V.units view.new; new_memory = V.space view.new }) }
+    requires named { e < ((V.seen view.old).fixed.counts top.old.act.unit).elems }
+    requires holds { HoldsAll (V.seen view.old).fixed (V.seen view.old).units }
+    ensures acted { MakesMove result (Does (ElemDrop e) top.old.act) ⊥ top.old top.new (V.seen view.old) (V.seen view.new) }
     ensures rest { top.new ≡ with_act top.old top.new.act }
-    ensures fixed { V.fixed view.new ≡ V.fixed view.old }
+    ensures fixed { (V.seen view.new).fixed ≡ (V.seen view.old).fixed }
 {
     view.drop_elem(top.unit(), e);
     Done::Goes
@@ -271,7 +277,7 @@ pub(crate) fn load<'m, V: View<'m>>(
 ) -> Done
     requires access { access_of op ≡ Some access }
     requires reads { access.writes ≡ false }
-    ensures acted { Acted result (acted (V.fixed view.now) (V.units view.now) (V.space view.now) (with_i32 top.old.act.values (λ at vs. Does (Load op access offset at) (with_values top.old.act vs)))) ⊥ top.old top.new (record { old_units = V.units view.now; old_memory = V.space view.now; new_units = V.units view.now; new_memory = V.space view.now }) }
+    ensures acted { MakesMove result (with_i32 top.old.act.values (λ at vs. Does (Load op access offset at) (with_values top.old.act vs))) ⊥ top.old top.new (V.seen view.now) (V.seen view.now) }
     ensures rest { top.new ≡ with_act top.old top.new.act }
 {
     let Some(at) = top.number() else {
@@ -296,9 +302,9 @@ pub(crate) fn store<'m, V: View<'m>>(
 ) -> Done
     requires access { access_of op ≡ Some access }
     requires writes { access.writes ≡ true }
-    ensures acted { Acted result (acted (V.fixed view.old) (V.units view.old) (V.space view.old) (with_number top.old.act.values (λ v vs. with_i32 vs (λ at ws. Does (Store access offset at v) (with_values top.old.act ws))))) ⊥ top.old top.new (record { old_units = V.units view.old; old_memory = V.space view.old; new_units = V.units view.new; new_memory = V.space view.new }) }
+    ensures acted { MakesMove result (with_number top.old.act.values (λ v vs. with_i32 vs (λ at ws. Does (Store access offset at v) (with_values top.old.act ws)))) ⊥ top.old top.new (V.seen view.old) (V.seen view.new) }
     ensures rest { top.new ≡ with_act top.old top.new.act }
-    ensures fixed { V.fixed view.new ≡ V.fixed view.old }
+    ensures fixed { (V.seen view.new).fixed ≡ (V.seen view.old).fixed }
 {
     let Some(v) = top.pop_number() else {
         return Done::Stuck;
@@ -316,9 +322,9 @@ pub(crate) fn access<'m, V: View<'m>>(
     op: u8,
     offset: u32,
 ) -> Done
-    ensures acted { Acted result (acted (V.fixed view.old) (V.units view.old) (V.space view.old) (access_move op offset (access_of op) top.old.act)) ⊥ top.old top.new (record { old_units = V.units view.old; old_memory = V.space view.old; new_units = V.units view.new; new_memory = V.space view.new }) }
+    ensures acted { MakesMove result (access_move op offset (access_of op) top.old.act) ⊥ top.old top.new (V.seen view.old) (V.seen view.new) }
     ensures rest { top.new ≡ with_act top.old top.new.act }
-    ensures fixed { V.fixed view.new ≡ V.fixed view.old }
+    ensures fixed { (V.seen view.new).fixed ≡ (V.seen view.old).fixed }
 {
     match memory_access(op) {
         None => Done::Stuck,
@@ -334,7 +340,7 @@ pub(crate) fn access<'m, V: View<'m>>(
 
 /// The size of the memory.
 pub(crate) fn memory_size<'m, V: View<'m>>(top: &mut Current<'m>, view: &V) -> Done
-    ensures acted { Acted result (acted (V.fixed view.now) (V.units view.now) (V.space view.now) (Does MemorySize top.old.act)) (IsUsedUp top.old) top.old top.new (record { old_units = V.units view.now; old_memory = V.space view.now; new_units = V.units view.now; new_memory = V.space view.now }) }
+    ensures acted { MakesMove result (Does MemorySize top.old.act) ⊥ top.old top.new (V.seen view.now) (V.seen view.now) }
     ensures rest { top.new ≡ with_act top.old top.new.act }
 {
     let size = view.memory().size();
@@ -342,15 +348,19 @@ pub(crate) fn memory_size<'m, V: View<'m>>(top: &mut Current<'m>, view: &V) -> D
 }
 
 /// Adds pages to the memory.
-pub(crate) fn memory_grow<'m, V: View<'m>>(top: &mut Current<'m>, view: &mut V) -> Done
-    ensures acted { Acted result (acted (V.fixed view.old) (V.units view.old) (V.space view.old) (with_i32 top.old.act.values (λ n vs. Does (MemoryGrow n) (with_values top.old.act vs)))) (Unit {0}) top.old top.new (record { old_units = V.units view.old; old_memory = V.space view.old; new_units = V.units view.new; new_memory = V.space view.new }) }
+pub(crate) fn memory_grow<'m, V: View<'m>>(
+    top: &mut Current<'m>,
+    alloc: Global,
+    view: &mut V,
+) -> Done
+    ensures acted { MakesMove result (with_i32 top.old.act.values (λ n vs. Does (MemoryGrow n) (with_values top.old.act vs))) (Unit {0}) top.old top.new (V.seen view.old) (V.seen view.new) }
     ensures rest { top.new ≡ with_act top.old top.new.act }
-    ensures fixed { V.fixed view.new ≡ V.fixed view.old }
+    ensures fixed { (V.seen view.new).fixed ≡ (V.seen view.old).fixed }
 {
     let Some(n) = top.number() else {
         return Done::Stuck;
     };
-    match view.memory_grow(low_index(n)) {
+    match view.memory_grow(alloc, low_index(n)) {
         Ok(size) => {
             top.set_top(Value::Num(u64::from(size)));
             Done::Goes
@@ -361,9 +371,9 @@ pub(crate) fn memory_grow<'m, V: View<'m>>(top: &mut Current<'m>, view: &mut V) 
 
 /// Copies bytes of the memory.
 pub(crate) fn memory_copy<'m, V: View<'m>>(top: &mut Current<'m>, view: &mut V) -> Done
-    ensures acted { Acted result (acted (V.fixed view.old) (V.units view.old) (V.space view.old) (with_three top.old.act MemoryCopy)) ⊥ top.old top.new (record { old_units = V.units view.old; old_memory = V.space view.old; new_units = V.units view.new; new_memory = V.space view.new }) }
+    ensures acted { MakesMove result (with_three top.old.act MemoryCopy) ⊥ top.old top.new (V.seen view.old) (V.seen view.new) }
     ensures rest { top.new ≡ with_act top.old top.new.act }
-    ensures fixed { V.fixed view.new ≡ V.fixed view.old }
+    ensures fixed { (V.seen view.new).fixed ≡ (V.seen view.old).fixed }
 {
     let Some(n) = pop_i32(top) else {
         return Done::Stuck;
@@ -379,9 +389,9 @@ pub(crate) fn memory_copy<'m, V: View<'m>>(top: &mut Current<'m>, view: &mut V) 
 
 /// Sets bytes of the memory to one value.
 pub(crate) fn memory_fill<'m, V: View<'m>>(top: &mut Current<'m>, view: &mut V) -> Done
-    ensures acted { Acted result (acted (V.fixed view.old) (V.units view.old) (V.space view.old) (with_three top.old.act (λ to byte n. MemoryFill to (byte % 256) n))) ⊥ top.old top.new (record { old_units = V.units view.old; old_memory = V.space view.old; new_units = V.units view.new; new_memory = V.space view.new }) }
+    ensures acted { MakesMove result (with_three top.old.act (λ to byte n. MemoryFill to (byte % 256) n)) ⊥ top.old top.new (V.seen view.old) (V.seen view.new) }
     ensures rest { top.new ≡ with_act top.old top.new.act }
-    ensures fixed { V.fixed view.new ≡ V.fixed view.old }
+    ensures fixed { (V.seen view.new).fixed ≡ (V.seen view.old).fixed }
 {
     let Some(n) = pop_i32(top) else {
         return Done::Stuck;
@@ -397,11 +407,11 @@ pub(crate) fn memory_fill<'m, V: View<'m>>(top: &mut Current<'m>, view: &mut V) 
 
 /// Copies bytes of a data segment to the memory.
 pub(crate) fn memory_init<'m, V: View<'m>>(top: &mut Current<'m>, view: &mut V, d: u32) -> Done
-    requires named { d < ((V.fixed view.old).counts top.old.act.unit).datas }
-    requires holds { HoldsAll (V.fixed view.old) (V.units view.old) }
-    ensures acted { Acted result (acted (V.fixed view.old) (V.units view.old) (V.space view.old) (with_three top.old.act (MemoryInit d))) ⊥ top.old top.new (record { old_units = V.units view.old; old_memory = V.space view.old; new_units = V.units view.new; new_memory = V.space view.new }) }
+    requires named { d < ((V.seen view.old).fixed.counts top.old.act.unit).datas }
+    requires holds { HoldsAll (V.seen view.old).fixed (V.seen view.old).units }
+    ensures acted { MakesMove result (with_three top.old.act (MemoryInit d)) ⊥ top.old top.new (V.seen view.old) (V.seen view.new) }
     ensures rest { top.new ≡ with_act top.old top.new.act }
-    ensures fixed { V.fixed view.new ≡ V.fixed view.old }
+    ensures fixed { (V.seen view.new).fixed ≡ (V.seen view.old).fixed }
 {
     let Some(n) = pop_i32(top) else {
         return Done::Stuck;
@@ -417,11 +427,11 @@ pub(crate) fn memory_init<'m, V: View<'m>>(top: &mut Current<'m>, view: &mut V, 
 
 /// Drops a data segment.
 pub(crate) fn data_drop<'m, V: View<'m>>(top: &mut Current<'m>, view: &mut V, d: u32) -> Done
-    requires named { d < ((V.fixed view.old).counts top.old.act.unit).datas }
-    requires holds { HoldsAll (V.fixed view.old) (V.units view.old) }
-    ensures acted { Acted result (acted (V.fixed view.old) (V.units view.old) (V.space view.old) (Does (DataDrop d) top.old.act)) ⊥ top.old top.new (record { old_units = V.units view.old; old_memory = V.space view.old; new_units = V.units view.new; new_memory = V.space view.new }) }
+    requires named { d < ((V.seen view.old).fixed.counts top.old.act.unit).datas }
+    requires holds { HoldsAll (V.seen view.old).fixed (V.seen view.old).units }
+    ensures acted { MakesMove result (Does (DataDrop d) top.old.act) ⊥ top.old top.new (V.seen view.old) (V.seen view.new) }
     ensures rest { top.new ≡ with_act top.old top.new.act }
-    ensures fixed { V.fixed view.new ≡ V.fixed view.old }
+    ensures fixed { (V.seen view.new).fixed ≡ (V.seen view.old).fixed }
 {
     view.drop_data(top.unit(), d);
     Done::Goes

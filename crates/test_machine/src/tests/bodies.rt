@@ -1,23 +1,25 @@
 // Rows of bodies, one at least for each instruction that doesn't compute, and some of those that do.
-use super::{checked, push_hex, run};
-use crate::Runner;
-use std::alloc::{AllocError, Global};
+use super::{checked, loaded, push_sized, run};
+use std::alloc::Global;
 use std::test::Fail;
-use wasm_form::put_u32;
-use wasm_machine::{Event, Value};
+use test_rows::{bytes_of, push_hex};
+use wasm_check::Checked;
+use wasm_single::Event;
 
-// The module of each row: type 0 is [] -> [], type 1 is [i32 i32] -> [i32], type 2 is [i32] -> [i32]. Function 0 is the
-// row's, with two locals of type i32 and one of type i64; function 1 subtracts its second argument from its first. The
-// table has 4 entries and at most 6: null, function 1, function 0, null. The memory has 1 page and at most 2, with the
-// bytes 01 02 03 04 at its start. Global 0 is a mutable i64, which is 0. Element segment 1 is passive and has function 1;
+// The module of each row: type 0 is [] -> [], type 1 is [i32 i32] -> [i32], type 2 is [i32] -> [i32], type 3 is [i64] -> [i32].
+// Function 0 is the host function `h.put` of type 3. Function 1 is the row's, with two locals of type i32 and one of type i64;
+// function 2 subtracts its second argument from its first; function 3 is `_start`, which calls function 1 and then puts global 0.
+// The table has 4 entries and at most 6: null, function 2, function 1, null. The memory has 1 page and at most 2, with the
+// bytes 01 02 03 04 at its start. Global 0 is a mutable i64, which is 0. Element segment 1 is passive and has function 2;
 // data segment 1 is passive and has the bytes 61 62 63 64.
-const BEFORE: &str =
-    "00 61 73 6d 01 00 00 00 01 0f 03 60 00 00 60 02 7f 7f 01 7f 60 01 7f 01 7f 03 03 02 00 01 04 05 01 70 \
-01 04 06 05 04 01 01 01 02 06 06 01 7e 01 42 00 0b 09 0c 02 00 41 01 0b 02 01 00 01 00 01 01 0c 01 02";
+const BEFORE: &str = "\
+. 01 14 04 60 00 00 60 02 7f 7f 01 7f 60 01 7f 01 7f 60 01 7e 01 7f 02 09 01 01 68 03 70 75 74 00 03 \
+03 04 03 00 01 00 04 05 01 70 01 04 06 05 04 01 01 01 02 06 06 01 7e 01 42 00 0b \
+07 0a 01 06 5f 73 74 61 72 74 00 03 09 0c 02 00 41 01 0b 02 02 01 01 00 01 02 0c 01 02";
 
 const LOCALS: &str = "02 02 7f 01 7e";
 
-const SECOND: &str = "07 00 20 00 20 01 6b 0b";
+const OTHERS: &str = "07 00 20 00 20 01 6b 0b 09 00 10 01 23 00 10 00 1a 0b";
 
 const AFTER: &str = "0b 10 02 00 41 00 0b 04 01 02 03 04 01 04 61 62 63 64";
 
@@ -52,8 +54,8 @@ br_table, past the default: i32 02 40 02 40 02 40 41 7f 0e 02 00 01 02 0b 41 0a 
 br_table with a value: i32 02 7f 02 7f 41 05 41 00 0e 01 01 00 0b 1a 41 06 0b = 5
 return: none 42 0b 24 00 0f 42 0c 24 00 = 11
 return from a block: none 42 0b 24 00 02 40 02 40 0f 0b 0b 42 0c 24 00 = 11
-call: i32 41 0a 41 03 10 01 = 7
-call over values: i32 41 e4 00 41 0a 41 03 10 01 6a = 107
+call: i32 41 0a 41 03 10 02 = 7
+call over values: i32 41 e4 00 41 0a 41 03 10 02 6a = 107
 call_indirect: i32 41 0a 41 03 41 01 11 01 00 = 7
 call_indirect of a null: i32 41 0a 41 03 41 00 11 01 00 = trap NullEntry
 call_indirect past the table: i32 41 0a 41 03 41 04 11 01 00 = trap TableBounds
@@ -62,23 +64,23 @@ drop: i32 41 01 41 02 1a = 1
 select, the first: i32 41 01 41 02 41 05 1b = 1
 select, the second: i32 41 01 41 02 41 00 1b = 2
 select with a type: i64 42 01 42 02 41 00 1c 01 7e = 2
-select of references: i32 d2 01 d0 70 41 01 1c 01 70 d1 = 0
+select of references: i32 d2 02 d0 70 41 01 1c 01 70 d1 = 0
 local.get of what isn't set: i64 20 02 = 0
 local.set: i32 41 05 21 01 20 01 = 5
 local.tee: i32 41 05 22 01 20 01 6a = 10
 locals don't mix: i32 41 05 21 00 41 06 21 01 20 00 = 5
 global.get: i64 42 05 24 00 23 00 23 00 7c = 10
 ref.null and ref.is_null: i32 d0 70 d1 = 1
-ref.func: i32 d2 01 d1 = 0
+ref.func: i32 d2 02 d1 = 0
 table.get: i32 41 01 25 00 d1 = 0
 table.get of a null: i32 41 03 25 00 d1 = 1
 table.get past the end: i32 41 04 25 00 d1 = trap TableBounds
-table.set: i32 41 00 d2 01 26 00 41 00 25 00 d1 = 0
-table.set past the end: none 41 04 d2 01 26 00 = trap TableBounds
+table.set: i32 41 00 d2 02 26 00 41 00 25 00 d1 = 0
+table.set past the end: none 41 04 d2 02 26 00 = trap TableBounds
 table.size: i32 fc 10 00 = 4
 table.grow: i32 d0 70 41 02 fc 0f 00 = 4
-table.grow and its size: i32 d2 01 41 02 fc 0f 00 1a fc 10 00 = 6
-table.grow gives entries: i32 d2 01 41 02 fc 0f 00 1a 41 05 25 00 d1 = 0
+table.grow and its size: i32 d2 02 41 02 fc 0f 00 1a fc 10 00 = 6
+table.grow gives entries: i32 d2 02 41 02 fc 0f 00 1a 41 05 25 00 d1 = 0
 table.grow past the maximum: i32 d0 70 41 03 fc 0f 00 = 4294967295
 table.fill: i32 41 02 d0 70 41 01 fc 11 00 41 02 25 00 d1 = 1
 table.fill past the end: i32 41 03 d0 70 41 02 fc 11 00 41 00 = trap TableBounds
@@ -147,7 +149,7 @@ i32.extend8_s: i32 41 80 01 c0 = 4294967168
 i64.extend32_s: i64 42 80 80 80 80 08 c4 = 18446744071562067968
 ";
 
-// What puts on global 0 what the body leaves.
+// The end of a body: what it leaves is put on global 0.
 fn kept(kind: &str) -> &'static str {
     match kind {
         "i32" => "ad 24 00 0b",
@@ -156,62 +158,58 @@ fn kept(kind: &str) -> &'static str {
     }
 }
 
-// Appends the number of the bytes and the bytes.
-fn push_sized(to: &mut Vec<u8>, bytes: &[u8]) -> Result<(), Fail> {
-    put_u32(to, u32::try_from(bytes.len())?)?;
-    to.extend_from_slice(bytes)?;
-    Ok(())
-}
-
-// The code of function 0.
-fn code_of(alloc: Global, kind: &str, body: &str) -> Result<Vec<u8>, AllocError> {
-    let mut code = Vec::new(alloc);
-    push_hex(&mut code, LOCALS)?;
-    push_hex(&mut code, body)?;
-    push_hex(&mut code, kept(kind))?;
-    Ok(code)
-}
-
 // The contents of the code section.
 fn codes_of(alloc: Global, kind: &str, body: &str) -> Result<Vec<u8>, Fail> {
-    let code = code_of(alloc, kind, body)?;
+    let mut code = Vec::new(alloc);
+    push_hex(alloc, &mut code, LOCALS)?;
+    push_hex(alloc, &mut code, body)?;
+    push_hex(alloc, &mut code, kept(kind))?;
     let mut codes = Vec::new(alloc);
-    codes.push(2)?;
-    push_sized(&mut codes, &code)?;
-    push_hex(&mut codes, SECOND)?;
+    codes.push(3)?;
+    push_sized(alloc, &mut codes, &code)?;
+    push_hex(alloc, &mut codes, OTHERS)?;
     Ok(codes)
 }
 
 // The module of a row.
 fn module_of(alloc: Global, kind: &str, body: &str) -> Result<Vec<u8>, Fail> {
     let codes = codes_of(alloc, kind, body)?;
-    let mut bytes = Vec::new(alloc);
-    push_hex(&mut bytes, BEFORE)?;
+    let mut bytes = bytes_of(alloc, BEFORE)?;
     bytes.push(10)?;
-    push_sized(&mut bytes, &codes)?;
-    push_hex(&mut bytes, AFTER)?;
+    push_sized(alloc, &mut bytes, &codes)?;
+    push_hex(alloc, &mut bytes, AFTER)?;
     Ok(bytes)
 }
 
-// What comes of function 0: global 0, or a trap.
-fn outcome(alloc: Global, runner: &mut Runner) -> Result<String, Fail> {
-    runner.begin(alloc, 0)?;
-    match run(alloc, runner)? {
-        Event::Returned => match runner.global(0) {
-            Some(Value::Num(n)) => Ok(format!(in alloc; "{n}")?),
-            _ => Ok(String::from_str(alloc, "no number")?),
-        },
-        Event::Trapped(trap) => Ok(format!(in alloc; "trap {trap:?}")?),
-        _ => Ok(String::from_str(alloc, "neither")?),
+// The number that is put, in digits.
+fn number_put(alloc: Global, args: &[u64]) -> Result<String, Fail> {
+    match args.first() {
+        Some(n) => Ok(format!(in alloc; "{n}")?),
+        None => Err(Fail::from("no number is put")),
     }
+}
+
+// What is shown of what a run comes to: the number that it puts, or a trap.
+fn shown(alloc: Global, event: &Event) -> Result<String, Fail> {
+    match event {
+        Event::Waits(asked) => number_put(alloc, asked.args.items()),
+        Event::Trapped(trap) => Ok(format!(in alloc; "trap {trap:?}")?),
+        _ => Err(Fail::from("it comes to something else")),
+    }
+}
+
+// What the run of a module comes to.
+fn event_of(alloc: Global, checked: &Checked) -> Result<Event, Fail> {
+    let mut single = loaded(alloc, checked)?;
+    run(alloc, &mut single)
 }
 
 // What comes of the module of a row.
 fn outcome_of(alloc: Global, kind: &str, body: &str) -> Result<String, Fail> {
     let bytes = module_of(alloc, kind, body)?;
     let checked = checked(alloc, &bytes)?;
-    let mut runner = Runner::new(alloc, &checked)?;
-    outcome(alloc, &mut runner)
+    let event = event_of(alloc, &checked)?;
+    shown(alloc, &event)
 }
 
 // Whether a row has its outcome.

@@ -8,4 +8,4 @@ pub global-requires-clause-fits : goal.global-requires-clause-fits
 global-requires-clause-fits c =
     let m = c.args.m.now in
     let inside : c.loop-g.g-index < length m.globals = grind arith in
-    all_at (global_fits m) m.globals c.loop-g.g-index c.g-item.result inside (cc) (parts_fit m c.requires.valid).globals
+    all_at (global_fits m) m.globals c.loop-g.g-index c.g-item.result inside (cc) (parts_fit m c.requires.alone.valid).globals

@@ -1,11 +1,32 @@
-use Rattle.std.proofs.Common.{ap, ◌∙◌, Some, ◌≡◌}
-use Rattle.std.specs.Prelude.{is_some}
-use Rattle.wasm_instance.specs.Constants.{i32_constant}
-use Rattle.wasm_instance.proofs.Offsets.{is_number}
+use Rattle.std.proofs.Common.{ℕ, ◌<◌, ◌^◌, Option, Some, [], subst, arith}
+use Rattle.wasm_form.specs.declared.types.ValType.TheVariants.{I32}
+use Rattle.wasm_form.specs.declared.runtime.Ref.{Ref}
+use Rattle.spec_validation.specs.Faults.{constant_type}
+use Rattle.spec_runtime.specs.Constants.{constant_of, numbered_globals}
+use Rattle.wasm_check.specs.declared.value.Constant.{Constant}
+use Rattle.wasm_check.specs.Constants.{StandsFor, IsOfType}
+use Rattle.wasm_instance.proofs.Alone.{number_of_globals}
+use Rattle.wasm_instance.proofs.ConstantValues.{has_type, type_there, none_of_types, offset_is}
 use Rattle.wasm_instance.proofs.constants.offset.Goals as goal
 
-pub unwrap-requires : goal.unwrap-requires
-unwrap-requires c =
-    let n = is_number c.args.m.now c.requires.alone c.args.e.now c.requires.number in
-    let found : c.i32_constant.result ≡ Some n.number = c.i32_constant.ensures ∙ ap i32_constant c.items.ensures ∙ n.constant in
-    ap is_some found
+pub constant-requires-clause-typed : goal.constant-requires-clause-typed
+constant-requires-clause-typed c = type_there I32 (constant_type c.args.m.now c.args.e.now.list) c.requires.number
+
+pub constant-requires-clause-numbers : goal.constant-requires-clause-numbers
+constant-requires-clause-numbers c = number_of_globals c.args.m.now c.requires.alone.imports
+
+pub overflow_cast-result : goal.overflow_cast-result
+overflow_cast-result c =
+    let m = c.args.m.now in
+    let small : c.in-Num.n < 2 ^ 32 = subst (IsOfType m I32) c.in-Num.is (c.in_ok-n.ensures.typed I32 (has_type I32 (constant_type m c.args.e.now.list) c.requires.number) (none_of_types m)) in
+    omega (arith, small)
+
+pub unreachable-requires : goal.unreachable-requires
+unreachable-requires c =
+    let m = c.args.m.now in
+    subst (IsOfType m I32) c.in-Func.is (c.in_ok-n.ensures.typed I32 (has_type I32 (constant_type m c.args.e.now.list) c.requires.number) (none_of_types m))
+
+pub returns : goal.returns
+returns c =
+    let P : Constant → Type 0 = λ k. StandsFor (Some k) (λ (functions : ℕ → Option Ref). constant_of functions (numbered_globals []) c.args.e.now) in
+    offset_is c.args.m.now c.in-Num.n c.args.e.now (subst P c.in-Num.is c.in_ok-n.ensures.value)

@@ -10,7 +10,7 @@ use Rattle.wasm_machine.proofs.calls.advance.Goals as goal
 
 pub call-requires : goal.call-requires
 call-requires g c κs =
-    let V = g.V.View.fixed c.args.view.now in
+    let V = (g.V.View.seen c.args.view.now).fixed in
     let e : Some c.in-Some.i.now ≡ first_of c.args.top.now.act.rest = c.in-Some.ensures {u = tt} in
     let q : callee_of (out-Instr c.in-Some.i.now) ≡ Some (callee.Function c.in-Some-Function.f) = cc in
     let r : AreInRange (V.counts c.args.top.now.act.unit) c.args.top.now.act.rest = rest_in_range V c.args.callers.now c.args.top.now c.in-Some.i.now c.requires.live e _ c.requires.range in
@@ -18,7 +18,7 @@ call-requires g c κs =
 
 pub call_indirect-requires : goal.call_indirect-requires
 call_indirect-requires g c κs =
-    let V = g.V.View.fixed c.args.view.now in
+    let V = (g.V.View.seen c.args.view.now).fixed in
     let e : Some c.in-Some.i.now ≡ first_of c.args.top.now.act.rest = c.in-Some.ensures {u = tt} in
     let q : callee_of (out-Instr c.in-Some.i.now) ≡ Some (callee.Entry c.in-Some-Entry.ty c.in-Some-Entry.table) = cc in
     let r : AreInRange (V.counts c.args.top.now.act.unit) c.args.top.now.act.rest = rest_in_range V c.args.callers.now c.args.top.now c.in-Some.i.now c.requires.live e _ c.requires.range in
@@ -26,7 +26,7 @@ call_indirect-requires g c κs =
 
 pub instruction-requires : goal.instruction-requires
 instruction-requires g c κs =
-    let V = g.V.View.fixed c.args.view.now in
+    let V = (g.V.View.seen c.args.view.now).fixed in
     let e : Some c.in-Some.i.now ≡ first_of c.args.top.now.act.rest = c.in-Some.ensures {u = tt} in
     let q : callee_of (out-Instr c.in-Some.i.now) ≡ None = cc in
     let r : AreInRange (V.counts c.args.top.now.act.unit) c.args.top.now.act.rest = rest_in_range V c.args.callers.now c.args.top.now c.in-Some.i.now c.requires.live e _ c.requires.range in
@@ -36,16 +36,16 @@ pub returns-in-Some-Entry-clause-led : goal.returns-in-Some-Entry-clause-led
 returns-in-Some-Entry-clause-led g c =
     let q : callee_of (out-Instr c.in-Some.i.now) ≡ Some (callee.Entry c.in-Some-Entry.ty c.in-Some-Entry.table) = cc in
     let h = rw c.in-Some-Entry.field-0-is at c.call_indirect.ensures.led in
-    led_entry (g.V.View.fixed c.args.view.now) _ _ c.args.callers.now c.args.top.now c.in-Some.i.now c.call_indirect.result _ c.requires.live (c.in-Some.ensures {u = tt}) c.call_indirect.new.callers c.call_indirect.new.top _ _ q h
+    led_entry (g.V.View.seen c.args.view.now).fixed _ _ c.args.callers.now c.args.top.now c.in-Some.i.now c.call_indirect.result _ c.requires.live (c.in-Some.ensures {u = tt}) c.call_indirect.new.callers c.call_indirect.new.top _ _ q h
 
 pub returns-in-None-clause-led : goal.returns-in-None-clause-led
 returns-in-None-clause-led g c =
     let q : callee_of (out-Instr c.in-Some.i.now) ≡ None = cc in
-    led_plain (g.V.View.fixed c.args.view.now) _ _ c.args.callers.now c.args.top.now c.in-Some.i.now c.instruction.result _ c.requires.live (c.in-Some.ensures {u = tt}) c.advance.new.self c.instruction.new.top q c.advance.ensures c.instruction.ensures.acted
+    led_plain (g.V.View.seen c.args.view.now).fixed _ _ c.args.callers.now c.args.top.now c.in-Some.i.now c.instruction.result _ c.requires.live (c.in-Some.ensures {u = tt}) c.advance.new.self c.instruction.new.top q c.advance.ensures c.instruction.ensures.acted
     c.requires.joined c.requires.rooms
 
 pub returns-in-None-clause-rooms : goal.returns-in-None-clause-rooms
 returns-in-None-clause-rooms g c =
     let q : callee_of (out-Instr c.in-Some.i.now) ≡ None = cc in
-    rooms_plain (g.V.View.fixed c.args.view.now) _ _ c.args.callers.now c.args.top.now c.in-Some.i.now c.instruction.result _ c.requires.live (c.in-Some.ensures {u = tt}) c.advance.new.self c.instruction.new.top q c.advance.ensures c.instruction.ensures.acted
+    rooms_plain (g.V.View.seen c.args.view.now).fixed _ _ c.args.callers.now c.args.top.now c.in-Some.i.now c.instruction.result _ c.requires.live (c.in-Some.ensures {u = tt}) c.advance.new.self c.instruction.new.top q c.advance.ensures c.instruction.ensures.acted
     c.requires.rooms c.instruction.ensures.rest

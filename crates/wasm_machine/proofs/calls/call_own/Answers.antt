@@ -15,9 +15,9 @@ use Rattle.wasm_machine.proofs.calls.call_own.Goals.{then-count-gt-MOST_ACTIVATI
 pub returns-then-count-gt-MOST_ACTIVATIONS-clause-led : goal.returns-then-count-gt-MOST_ACTIVATIONS-clause-led
 returns-then-count-gt-MOST_ACTIVATIONS-clause-led g c =
     let args : is_some (take_values (reverse c.type_of-ty.result.now.params) (drop c.args.above c.args.top.now.act.values)) ≡ true = cc in
-    called_deep (g.V.View.fixed c.args.view.now) _ _ (calling (past_call c.args.top.now.act c.args.above) (under_of c.args.callers.now c.args.top.now)) (drop c.args.above c.args.top.now.act.values) c.args.unit c.args.func
+    called_deep (g.V.View.seen c.args.view.now).fixed _ _ (calling (past_call c.args.top.now.act c.args.above) (under_of c.args.callers.now c.args.top.now)) (drop c.args.above c.args.top.now.act.values) c.args.unit c.args.func
     c.type_of-ty.result.now c.type_of-ty.ensures args (c.args.top.now.room ∷ rooms_at (reverse c.args.callers.now)) c.room-room.result _ _
-    (λ _. RoomsAre_live c.args.callers.now c.args.top.now c.requires.live (g.V.View.fixed c.args.view.now) c.requires.rooms) (omega arith)
+    (λ _. RoomsAre_live c.args.callers.now c.args.top.now c.requires.live (g.V.View.seen c.args.view.now).fixed c.requires.rooms) (omega arith)
     (elim c.then-count-gt-MOST_ACTIVATIONS.branch as (λ _. (most_activations < length (c.args.top.now.room ∷ rooms_at (reverse c.args.callers.now)) + 1) ⊎ (most_values < total (c.args.top.now.room ∷ rooms_at (reverse c.args.callers.now)) + c.room-room.result)) [
       | then-count-gt-MOST_ACTIVATIONS-via-then-count-gt-MOST_ACTIVATIONS w ↦ inl (omega arith)
       | then-count-gt-MOST_ACTIVATIONS-via-else-count-gt-MOST_ACTIVATIONS+then-room-gt-MOST_VALUES w ↦ inr (omega arith)
@@ -34,7 +34,7 @@ returns-in-Ok-push-clause-led g c =
     let args : is_some (take_values (reverse c.type_of-ty.result.now.params) (drop c.args.above c.args.top.now.act.values)) ≡ true = cc in
     let e : c.drop_values.new.self ≡ with_act c.args.top.now (past_call c.args.top.now.act c.args.above) = past_is c.args.top.now _ _ _ c.advance.ensures c.drop_values.ensures in
     let o = rw (c.items-params.ensures, c.items-results.ensures) at (c.in-Ok.ensures {u = tt}) in
-    called_goes (g.V.View.fixed c.args.view.now) _ _ (calling (past_call c.args.top.now.act c.args.above) (under_of c.args.callers.now c.args.top.now)) (drop c.args.above c.args.top.now.act.values) c.args.unit c.args.func
+    called_goes (g.V.View.seen c.args.view.now).fixed _ _ (calling (past_call c.args.top.now.act c.args.above) (under_of c.args.callers.now c.args.top.now)) (drop c.args.above c.args.top.now.act.values) c.args.unit c.args.func
     c.type_of-ty.result.now c.type_of-ty.ensures args c.code-code.result.now _ _ (joined c.push.new.self c.open.new.self) c.code-code.ensures.locals c.code-code.ensures.body
     (frames_opened c.args.callers.now c.push.new.self c.args.top.now _ _ _ _ _ _ _ _ _ _ c.requires.live e o (c.in-Ok-push.ensures {u = tt}))
 

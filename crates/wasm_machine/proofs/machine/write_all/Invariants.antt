@@ -6,8 +6,8 @@ use Rattle.wasm_machine.proofs.machine.write_all.Given as goal
 -- the writes that are left fit, and lead to where all of them lead
 abbrev pub invariant-loop-write : goal.invariant-loop-write
 invariant-loop-write g l = record {
-  fit : IsTrue (writes_fit (drop l.write-index l.writes) (g.V.View.space l.view));
-  leads : all_written (drop l.write-index l.writes) (g.V.View.space l.view) ≡ all_written l.writes (g.V.View.space l.fn.view);
-  units : g.V.View.units l.view ≡ g.V.View.units l.fn.view;
-  fixed : g.V.View.fixed l.view ≡ g.V.View.fixed l.fn.view;
+  fit : IsTrue (writes_fit (drop l.write-index l.writes) (g.V.View.seen l.view).memory);
+  leads : all_written (drop l.write-index l.writes) (g.V.View.seen l.view).memory ≡ all_written l.writes (g.V.View.seen l.fn.view).memory;
+  units : (g.V.View.seen l.view).units ≡ (g.V.View.seen l.fn.view).units;
+  fixed : (g.V.View.seen l.view).fixed ≡ (g.V.View.seen l.fn.view).fixed;
 }

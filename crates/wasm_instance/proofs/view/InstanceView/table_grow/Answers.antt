@@ -8,4 +8,4 @@ use Rattle.wasm_instance.proofs.view.InstanceView.table_grow.Goals as goal
 pub returns-clause-table : goal.returns-clause-table
 returns-clause-table c =
     let parts = ap (λ (s : InstanceState). s.parts) c.self.view_is in
-    table_grows c.args.self.now.wasm (parts_of c.self.inside) c.args.self.now.parts parts c.args.arg2 c.args.t c.index_mut.result.now c.grow.new.self c.index_mut.ensures.value (λ (x : TableInstance). entries_grown x c.args.delta c.args.value) c.grow.result c.grow.ensures
+    table_grows c.args.self.now.wasm (parts_of c.self.inside) c.args.self.now.parts parts c.args.arg3 c.args.t c.index_mut.result.now c.grow.new.self c.index_mut.ensures.value (λ (x : TableInstance). entries_grown x c.args.delta c.args.value) c.grow.result c.grow.ensures

@@ -8,7 +8,7 @@ pub index-requires : goal.index-requires
 index-requires c =
     let i = c.self.inside in
     let wasm = ap (λ (s : InstanceState). s.wasm) c.self.view_is in
-    let within = host_within i.checked.now c.args.self.now.wasm i.host_types.items c.args.r c.in-Host.entry c.self.invariant.source.valid wasm c.self.invariant.hosts c.in-Host.is c.requires in
+    let within = host_within i.checked.now c.args.self.now.wasm i.host_types.items c.args.r c.in-Host.entry c.self.invariant.source.alone.valid wasm c.self.invariant.hosts c.in-Host.is c.requires in
     omega (arith, within, i.host_types.ok.0)
 
 pub bounds-items-index : goal.bounds-items-index
@@ -16,7 +16,7 @@ bounds-items-index c =
     let i = c.self.inside in
     let wasm = ap (λ (s : InstanceState). s.wasm) c.self.view_is in
     let types : c.items.result.now ≡ i.checked.now.types = c.items.ensures ∙ ap (λ (x : Module). x.types) c.module.ensures.same in
-    host_type_within i.checked.now c.args.self.now.wasm i.host_types.items c.args.r c.in-Host.entry c.self.invariant.source.valid wasm c.self.invariant.hosts c.in-Host.is c.requires c.index.result.now c.items.result.now c.index.ensures types
+    host_type_within i.checked.now c.args.self.now.wasm i.host_types.items c.args.r c.in-Host.entry c.self.invariant.source.alone.valid wasm c.self.invariant.hosts c.in-Host.is c.requires c.index.result.now c.items.result.now c.index.ensures types
 
 pub unreachable-requires : goal.unreachable-requires
 unreachable-requires c = no_loader c.args.self.now.wasm c.args.r c.in-Loader.field-0 c.in-Loader.is c.requires
@@ -29,4 +29,4 @@ returns-in-Host c =
     let i = c.self.inside in
     let wasm = ap (λ (s : InstanceState). s.wasm) c.self.view_is in
     let types : c.items.result.now ≡ i.checked.now.types = c.items.ensures ∙ ap (λ (x : Module). x.types) c.module.ensures.same in
-    host_type_is i.checked.now c.args.self.now.wasm i.host_types.items c.args.r c.in-Host.entry c.self.invariant.source.valid wasm c.self.invariant.hosts c.in-Host.is c.requires c.index.result.now c.items.result.now c.index-items-index.result c.index.ensures types c.index-items-index.is
+    host_type_is i.checked.now c.args.self.now.wasm i.host_types.items c.args.r c.in-Host.entry c.self.invariant.source.alone.valid wasm c.self.invariant.hosts c.in-Host.is c.requires c.index.result.now c.items.result.now c.index-items-index.result c.index.ensures types c.index-items-index.is

@@ -10,10 +10,10 @@ returns-in-Goes-clause-told g c =
     let moving : c.self.inside.standing ≡ standing.Moving = search rules in
     let idle : is_live c.self.inside.top ≡ false = search rules in
     let started : c.args.self.now.standing ≡ standing.Moving = search rules in
-    (started, begun_told_at (g.V.View.fixed c.args.view.now) (Unit {0}) (g.V.View.units c.args.view.now) (g.V.View.space c.args.view.now) c.self.inside.callers c.self.inside.top c.begin_own.new.top c.self.inside.standing (Own c.in-Own.unit c.in-Own.func) idle moving c.in-Goes.ensures.led (c.in-Goes.ensures.rooms refl) c.args.self.now c.args.r c.self.view_is c.in-Own.is (c.in-Goes.ensures.joined (λ e. cc)).bounded)
+    (started, begun_told_at (g.V.View.seen c.args.view.now).fixed (Unit {0}) (g.V.View.seen c.args.view.now).units (g.V.View.seen c.args.view.now).memory c.self.inside.callers c.self.inside.top c.begin_own.new.top c.self.inside.standing (Own c.in-Own.unit c.in-Own.func) idle moving c.in-Goes.ensures.led (c.in-Goes.ensures.rooms refl) c.args.self.now c.args.r c.self.view_is c.in-Own.is (c.in-Goes.ensures.joined (λ e. cc)).bounded)
 
 pub returns-in-Goes-clause-over : goal.returns-in-Goes-clause-over
 returns-in-Goes-clause-over g c =
     let moving : c.self.inside.standing ≡ standing.Moving = search rules in
     let idle : is_live c.self.inside.top ≡ false = search rules in
-    begun_over (g.V.View.fixed c.args.view.now) (Unit {0}) (g.V.View.units c.args.view.now) (g.V.View.space c.args.view.now) c.self.inside.callers c.self.inside.top c.begin_own.new.top c.self.inside.standing (Own c.in-Own.unit c.in-Own.func) idle moving c.in-Goes.ensures.led (c.in-Goes.ensures.rooms refl) (rw (← c.self.view_is) at c.requires.over)
+    begun_over (g.V.View.seen c.args.view.now).fixed (Unit {0}) (g.V.View.seen c.args.view.now).units (g.V.View.seen c.args.view.now).memory c.self.inside.callers c.self.inside.top c.begin_own.new.top c.self.inside.standing (Own c.in-Own.unit c.in-Own.func) idle moving c.in-Goes.ensures.led (c.in-Goes.ensures.rooms refl) (rw (← c.self.view_is) at c.requires.over)

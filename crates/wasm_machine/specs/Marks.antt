@@ -1,0 +1,45 @@
+-- The call stack of a machine, where each mark stands for something of a run.
+use Rattle.std.specs.Prelude.{◌≡◌, ◌≢◌, ℕ, zero, suc, List, [], ◌∷◌, true}
+use Rattle.spec_execution.specs.Views.{View}
+use Rattle.spec_execution.specs.Runs.{Frame, Active, Marked, Next, Goes, Asks, Loads, Ends, Traps}
+
+-- the call stack of the run, by what the mark of each number stands for
+abbrev pub marked_stack : {Mark : Type 0} → (ℕ → Mark) → List (Frame ℕ) → List (Frame Mark)
+marked_stack h [] = []
+marked_stack h (Active a ∷ frames) = Active a ∷ marked_stack h frames
+marked_stack h (Marked tag ∷ frames) = Marked (h tag) ∷ marked_stack h frames
+
+-- what a step comes to, as the run sees it
+abbrev pub marked_next : {Units Mark : Type 0} → (ℕ → Mark) → Next Units ℕ → Next Units Mark
+marked_next h (Goes us memory frames) = Goes us memory (marked_stack h frames)
+marked_next h (Asks entry args frames) = Asks entry args (marked_stack h frames)
+marked_next h (Loads which args frames) = Loads which args (marked_stack h frames)
+marked_next h Ends = Ends
+marked_next h (Traps why) = Traps why
+
+-- what lies under the mark of a number: nothing under the first, and under each other an activation that waits
+abbrev pub LiesUnder : ℕ → List (Frame ℕ) → Type 0
+LiesUnder zero frames = frames ≡ []
+LiesUnder (suc n) [] = ⊥
+LiesUnder (suc n) (Active a ∷ frames) = Unit {0}
+LiesUnder (suc n) (Marked tag ∷ frames) = ⊥
+
+-- so many marks, numbered from the lowest on
+abbrev pub AreMarks : ℕ → List (Frame ℕ) → Type 0
+AreMarks n [] = n ≡ 0
+AreMarks n (Active a ∷ frames) = AreMarks n frames
+AreMarks zero (Marked tag ∷ frames) = ⊥
+AreMarks (suc n) (Marked tag ∷ frames) = (tag ≡ n) × LiesUnder n frames × AreMarks n frames
+
+-- a call stack with something on it, and so many marks
+pub record IsStack (n : ℕ) (frames : List (Frame ℕ)) : Type 0 where
+  pub some : frames ≢ []
+  pub marks : AreMarks n frames
+
+-- what a step leaves on the call stack; a function of the loader is called only where there are those
+abbrev pub KeepsUnder : {Units : Type 0} → View Units → ℕ → Next Units ℕ → Type 0
+KeepsUnder V n (Goes us memory frames) = IsStack n frames
+KeepsUnder V n (Asks entry args frames) = IsStack n frames
+KeepsUnder V n (Loads which args frames) = (V.has_loader ≡ true) × IsStack n frames
+KeepsUnder V n Ends = Unit {0}
+KeepsUnder V n (Traps why) = Unit {0}
