@@ -2,8 +2,9 @@
 ghost use Rattle.std.specs.Prelude.{◌≡◌, ◌≢◌, ◌≤◌, ◌↔◌, length, IfOk};
 ghost use Rattle.std.specs.IoError.{error_kind};
 ghost use Rattle.std.specs.Option.{ForSome};
-ghost use Rattle.dyl_outside.specs.Adapters.{IsWhole};
+ghost use Rattle.dyl_outside.specs.Adapters.{IsWhole, read_fault};
 
+use crate::fault::system_fault;
 use crate::room::room;
 use crate::stream_sink::write_whole;
 use crate::{FileFault, Files, IoFault};
@@ -43,15 +44,15 @@ impl<'a, R: FileSystem> DiskFiles<'a, R> {
 impl<R: FileSystem> Files for DiskFiles<'_, R> {
     ghost use Rattle.std.specs.Prelude.{None};
 
-    ghost told = { λ _. None };
+    ghost seen = { λ s. record {
+      told = None;
+      read_faults = s.read_faults;
+      write_faults = s.write_faults;
+      absents = s.absents;
+    } };
 
-    ghost read_faults = { λ s. s.read_faults };
-
-    ghost write_faults = { λ s. s.write_faults };
-
-    ghost absents = { λ s. s.absents };
-
-    /// Absent comes exactly where opening says that nothing is found. A folder at that path, a path
+    /// Absent comes exactly where opening says that nothing is found, and Memory where opening or reading
+    /// says that memory is short, or none could be had here. A folder at that path, a path
     /// through a plain file and a file that may not be read are Failed.
     fn fetch(&mut self, alloc: Global, path: &str, most: usize) -> Result<Vec<u8>, FileFault> {
         let answer = match fs::open(self.rt, path) {
@@ -66,27 +67,44 @@ impl<R: FileSystem> Files for DiskFiles<'_, R> {
         answer
     }
 
-    /// A path that can't be made or written, as in a folder that is missing, is Failed.
+    /// A path that can't be made or written, as in a folder that is missing, is Failed; once the file is
+    /// made, want of memory is too.
     fn store(&mut self, _alloc: Global, path: &str, bytes: &[u8]) -> Result<(), IoFault> {
-        if let Ok(mut file) = fs::create(self.rt, path) {
-            if write_whole(&mut file, bytes).is_ok() {
-                return Ok(());
-            }
+        let fault = match fs::create(self.rt, path) {
+            Ok(mut file) => match write_whole(&mut file, bytes) {
+                Ok(()) => return Ok(()),
+                Err(_) => IoFault::Failed,
+            },
+            Err(error) => system_fault(&error),
+        };
+        if fault == IoFault::Failed {
+            self.write_faults = self.write_faults.saturating_add(1);
         }
-        self.write_faults = self.write_faults.saturating_add(1);
-        Err(IoFault::Failed)
+        Err(fault)
     }
 }
 
 /// What it means for a fetch that opening the file failed so.
 fn open_fault(error: &io::Error) -> FileFault
     ensures absent { (result ≡ FileFault.Absent) ↔ (error_kind error.now ≡ ErrorKind.NotFound) }
-    ensures else_failed { result ≢ FileFault.Absent → result ≡ FileFault.Failed }
+    ensures memory { (result ≡ FileFault.Memory) ↔ (error_kind error.now ≡ ErrorKind.OutOfMemory) }
+    ensures else_failed { result ≢ FileFault.TooLong }
 {
-    if error.kind() == ErrorKind::NotFound {
-        return FileFault::Absent;
+    match error.kind() {
+        ErrorKind::NotFound => FileFault::Absent,
+        ErrorKind::OutOfMemory => FileFault::Memory,
+        _ => FileFault::Failed,
     }
-    FileFault::Failed
+}
+
+/// What it means for a fetch that reading the file failed so.
+fn read_fault(fault: IoFault) -> FileFault
+    ensures { result ≡ read_fault fault }
+{
+    match fault {
+        IoFault::Failed => FileFault::Failed,
+        IoFault::Memory => FileFault::Memory,
+    }
 }
 
 /// The bytes up to the end of a file, of which there are at most this many.
@@ -111,7 +129,7 @@ fn read_whole<R: Read>(file: &mut R, alloc: Global, most: usize) -> Result<Vec<u
             }
             Err(error) => {
                 if error.kind() != ErrorKind::Interrupted {
-                    return Err(FileFault::Failed);
+                    return Err(read_fault(system_fault(&error)));
                 }
             }
         }

@@ -13,13 +13,12 @@ mod mem_ambient;
 mod mem_files;
 mod mem_sink;
 mod mem_source;
+mod random_file;
 mod room;
 mod sink;
 mod source;
 mod stream_sink;
 mod stream_source;
-#[cfg(test)]
-mod tests;
 
 pub use ambient::Ambient;
 pub use disk_files::DiskFiles;

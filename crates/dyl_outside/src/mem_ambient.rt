@@ -67,11 +67,7 @@ impl MemAmbient {
 impl Ambient for MemAmbient {
     ghost use Rattle.std.specs.Prelude.{Some};
 
-    ghost times = { λ s. Some s.times };
-
-    ghost words = { λ s. Some s.words };
-
-    ghost faults = { λ s. s.faults };
+    ghost seen = { λ s. record { times = Some s.times; words = Some s.words; faults = s.faults } };
 
     fn now(&mut self, _alloc: Global) -> Result<u64, IoFault>
         ensures answer { IsNext self.old.times result (Some self.new.times) }

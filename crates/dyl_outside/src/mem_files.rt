@@ -1,5 +1,5 @@
 // Files in memory.
-ghost use Rattle.std.specs.Prelude.{◌≡◌, ◌≤◌, ◌↔◌, ◌∷◌, [], ◌++◌, List, ℕ, length, IfOk, OnOk, OnErr, Contains};
+ghost use Rattle.std.specs.Prelude.{◌≡◌, ◌≤◌, ◌↔◌, ◌∷◌, [], ◌++◌, length, IfOk, OnOk, OnErr, Contains};
 ghost use Rattle.std.specs.FinMap.{empty, get, insert};
 ghost use Rattle.std.specs.Option.{option_copied};
 ghost use Rattle.dyl_outside.specs.MemFiles.{files_of};
@@ -79,13 +79,12 @@ impl MemFiles {
 impl Files for MemFiles {
     ghost use Rattle.std.specs.Prelude.{Some};
 
-    ghost told = { λ s. Some s.files };
-
-    ghost read_faults = { λ s. s.read_faults };
-
-    ghost write_faults = { λ s. s.write_faults };
-
-    ghost absents = { λ s. s.absents };
+    ghost seen = { λ s. record {
+      told = Some s.files;
+      read_faults = s.read_faults;
+      write_faults = s.write_faults;
+      absents = s.absents;
+    } };
 
     fn fetch(&mut self, alloc: Global, path: &str, most: usize) -> Result<Vec<u8>, FileFault>
         ensures answer { IsFetched self.old.files path.now most result }

@@ -62,9 +62,7 @@ impl MemSink {
 impl Sink for MemSink {
     ghost use Rattle.std.specs.Prelude.{Some};
 
-    ghost held = { λ s. Some s.held };
-
-    ghost faults = { λ s. s.faults };
+    ghost seen = { λ s. record { held = Some s.held; faults = s.faults } };
 
     fn put(&mut self, _alloc: Global, bytes: &[u8]) -> Result<(), IoFault>
         ensures answer { IsPut self.old.held bytes.now result (Some self.new.held) }

@@ -61,11 +61,7 @@ impl MemSource {
 impl Source for MemSource {
     ghost use Rattle.std.specs.Prelude.{Some, true};
 
-    ghost left = { λ s. Some s.left };
-
-    ghost full = { λ _. true };
-
-    ghost faults = { λ s. s.faults };
+    ghost seen = { λ s. record { left = Some s.left; full = true; faults = s.faults } };
 
     fn take(&mut self, alloc: Global, most: usize) -> Result<Vec<u8>, IoFault>
         requires { 0 < most }

@@ -4,6 +4,7 @@ ghost use Rattle.std.specs.Option.{ForSome};
 ghost use Rattle.dyl_outside.specs.Faults.{FaultCount};
 ghost use Rattle.dyl_outside.specs.Source.{IsTaken};
 
+use crate::fault::system_fault;
 use crate::room::room;
 use crate::{IoFault, Source};
 use std::alloc::Global;
@@ -32,11 +33,7 @@ impl<R: Read> StreamSource<R> {
 impl<R: Read> Source for StreamSource<R> {
     ghost use Rattle.std.specs.Prelude.{None, false};
 
-    ghost left = { λ _. None };
-
-    ghost full = { λ _. false };
-
-    ghost faults = { λ s. s.faults };
+    ghost seen = { λ s. record { left = None; full = false; faults = s.faults } };
 
     fn take(&mut self, alloc: Global, most: usize) -> Result<Vec<u8>, IoFault>
         requires { 0 < most }
@@ -54,7 +51,8 @@ impl<R: Read> Source for StreamSource<R> {
     }
 }
 
-/// What the next read that isn't interrupted gives. The room for it is had before.
+/// What the next read that isn't interrupted gives. The room for it is had before. Memory comes where that
+/// can't be had, or the read says that memory is short.
 fn read_some<R: Read>(reader: &mut R, alloc: Global, most: usize) -> Result<Vec<u8>, IoFault>
     requires { 0 < most }
     ensures answer { ForSome (R.remaining reader.old) (λ before. IsTaken before false most result (R.remaining reader.new)) }
@@ -71,7 +69,7 @@ fn read_some<R: Read>(reader: &mut R, alloc: Global, most: usize) -> Result<Vec<
             }
             Err(error) => {
                 if error.kind() != ErrorKind::Interrupted {
-                    return Err(IoFault::Failed);
+                    return Err(system_fault(&error));
                 }
             }
         }

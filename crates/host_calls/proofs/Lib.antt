@@ -1,3 +1,4 @@
 pub mod Entries
+pub mod Pointwise
 pub mod Replies
 pub mod WasiTypes

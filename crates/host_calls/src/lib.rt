@@ -1,7 +1,9 @@
 //! The answer to a host call: of WASI, or of a host table.
 #![tactic(auto)]
 
-mod call;
+mod binding;
+mod hosts;
 mod table;
 
-pub use call::ask;
+pub use binding::Binding;
+pub use hosts::Hosts;

@@ -3,12 +3,11 @@ ghost use Rattle.std.specs.Prelude.{◌≡◌, false, Some, bytes_eq, IfOk, IsTr
 ghost use Rattle.spec_runtime.specs.Names.{host_match, Fits};
 ghost use Rattle.spec_runtime.specs.Hosts.{numbers_fit, answer_fits};
 ghost use Rattle.spec_hosts.specs.Calls.{wasi_name};
-ghost use Rattle.spec_hosts.specs.Laws.{run_names};
-ghost use Rattle.host_table.specs.Names.{host_name_of};
-ghost use Rattle.host_table.specs.Table.{functions_of, entry_number};
-ghost use Rattle.host_calls.specs.Replies.{answer_of, HasType, AnswersCall};
+ghost use Rattle.host_table.specs.Table.{entry_number};
+ghost use Rattle.host_calls.specs.Replies.{answer_of, HasType};
+ghost use Rattle.host_calls.specs.Embedders.{names_of, answers_of, call_of};
 
-use host_table::{Callback, HostName, HostTable, Reply};
+use host_table::{HostName, HostTable, Reply};
 use host_wasi::little_bytes;
 use spec_hosts::names_have_their_types;
 use std::alloc::Global;
@@ -38,36 +37,39 @@ fn answer_of(alloc: Global, ty: &FuncType, reply: Reply) -> Result<Answer, Memor
     })
 }
 
-/// The number of the entry of a function that is declared and isn't of WASI.
-fn entry_of(table: &HostTable, host: &HostName) -> u32
-    requires other { bytes_eq host.now.«module» wasi_name ≡ false }
-    requires declared { host_match (run_names (functions_of table.now)) host.now.«module» host.now.name host.now.ty ≡ Fits }
-    ensures found { entry_number table.now host.now.«module» host.now.name ≡ Some result }
-    ensures typed { HasType table.now result host.now.ty }
-{
-    names_have_their_types();
-    match table.find(host.module.as_str(), host.name.as_str()) {
-        Some(entry) => entry,
-        None => unreachable!(),
-    }
-}
-
 /// The answer of the callback of a function that is declared and isn't of WASI.
 pub(crate) fn ask_table(
     alloc: Global,
     table: &HostTable,
     host: &HostName,
+    entry: Option<u32>,
     asked: &Asked,
     memory: &Space,
 ) -> Result<Answer, Memory>
     requires other { bytes_eq host.now.«module» wasi_name ≡ false }
-    requires declared { host_match (run_names (functions_of table.now)) host.now.«module» host.now.name host.now.ty ≡ Fits }
+    requires bound { entry ≡ entry_number table.now host.now.«module» host.now.name }
+    requires declared { host_match (names_of table.now) host.now.«module» host.now.name host.now.ty ≡ Fits }
     requires arguments { IsTrue (numbers_fit host.now.ty.params asked.now.args) }
-    ensures answered { IfOk result (λ a. AnswersCall (⟦<Callback as Fn(&[u64], u64) -> Reply>⟧.post) table.now (record { host = host_name_of host.now; args = asked.now.args }) memory.now a) }
-    ensures fits { IfOk result (λ a. IsTrue (answer_fits (record { host = host_name_of host.now; args = asked.now.args }) memory.now a)) }
+    ensures answered { IfOk result (λ a. (answers_of table.now) (call_of host.now asked.now) memory.now a) }
+    ensures fits { IfOk result (λ a. IsTrue (answer_fits (call_of host.now asked.now) memory.now a)) }
 {
-    let entry = entry_of(table, host);
+    let entry = declared_entry(table, host, entry);
     let size = u64::from(memory.size()) * 65536;
     let reply = table.call(entry, asked.args.items(), size);
     answer_of(alloc, &host.ty, reply)
+}
+
+/// The entry of a function that is declared and isn't of WASI, which is there.
+fn declared_entry(table: &HostTable, host: &HostName, entry: Option<u32>) -> u32
+    requires other { bytes_eq host.now.«module» wasi_name ≡ false }
+    requires bound { entry ≡ entry_number table.now host.now.«module» host.now.name }
+    requires declared { host_match (names_of table.now) host.now.«module» host.now.name host.now.ty ≡ Fits }
+    ensures found { entry_number table.now host.now.«module» host.now.name ≡ Some result }
+    ensures typed { HasType table.now result host.now.ty }
+{
+    names_have_their_types();
+    match entry {
+        Some(entry) => entry,
+        None => unreachable!(),
+    }
 }

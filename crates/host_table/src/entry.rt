@@ -2,10 +2,12 @@
 ghost use Rattle.std.specs.Prelude.{◌≡◌, ◌≤◌, length, OnOk, IsTrue};
 ghost use Rattle.spec_runtime.specs.Names.{with_name, has_integers};
 ghost use Rattle.spec_runtime.specs.Hosts.{numbers_fit};
-ghost use Rattle.host_table.specs.Names.{host_name_of, is_called};
+ghost use Rattle.host_table.specs.Names.{host_name_of};
 ghost use Rattle.host_table.specs.Answers.{Keeps, ReplyFits, AnswersAt};
+ghost use Rattle.host_table.specs.Numbered.{AreNumbered};
 
 use crate::copies::copied_type;
+use crate::numbers::Numbers;
 use crate::{Callback, HostName, HostNames, Reply};
 use std::alloc::Global;
 use wasm_form::Memory;
@@ -20,13 +22,6 @@ pub struct Entry {
 }
 
 impl Entry {
-    // Whether it is that of a module and a name.
-    pub fn is_called(&self, from: &str, name: &str) -> bool
-        ensures { result ≡ is_called from.now name.now (host_name_of self.now.host) }
-    {
-        self.host.module.as_str() == from && self.host.name.as_str() == name
-    }
-
     // Calls it.
     pub fn ask(&self, args: &[u64], size: u64) -> Reply
         requires fit { IsTrue (numbers_fit self.now.host.ty.params args.now) }
@@ -70,5 +65,7 @@ pub struct AddRefused {
 #[derive(Drop)]
 pub struct HostTable {
     pub(crate) entries: Vec<Entry>,
+    pub(crate) numbers: Numbers,
     ghost room: { length entries.items ≤ 4294967295 },
+    ghost numbered: { AreNumbered (λ e. host_name_of e.host) numbers entries.items },
 }

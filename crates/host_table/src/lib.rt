@@ -7,9 +7,8 @@ mod entry;
 mod host;
 mod module;
 mod names;
+mod numbers;
 mod table;
-#[cfg(test)]
-mod tests;
 mod types;
 
 pub use entry::{AddFault, AddRefused, HostTable};

@@ -1,13 +1,15 @@
 // Host functions with their callbacks.
-ghost use Rattle.std.specs.Prelude.{◌≡◌, ◌<◌, ◌≤◌, ◌+◌, length, [], OnOk, OnErr, IfErr, IfOk, is_some, false, IsTrue};
+ghost use Rattle.std.specs.Prelude.{◌≡◌, ◌<◌, ◌≤◌, ◌+◌, length, vec_capacity, [], OnOk, OnErr, IfErr, IfOk, is_some, None, false, IsTrue};
 ghost use Rattle.std.specs.List.{All};
 ghost use Rattle.spec_runtime.specs.Names.{has_integers, with_names};
 ghost use Rattle.host_table.specs.Names.{host_name_of};
 ghost use Rattle.host_table.specs.Answers.{Keeps};
+ghost use Rattle.host_table.specs.Numbers.{number_of, with_number};
 ghost use Rattle.host_table.specs.Table.{is_same_name, functions_of, entry_count, entry_number, FitEntry, FitsEntry, GivesAnswer, Adds, IsUnchanged};
 
 use crate::copies::owned;
 use crate::entry::{AddFault, AddRefused, Entry, HostTable};
+use crate::numbers::Numbers;
 use crate::{Callback, HostName, HostNames, Reply};
 use std::alloc::Global;
 use wasm_form::{FuncType, Memory, Text};
@@ -20,6 +22,7 @@ impl HostTable {
     {
         HostTable {
             entries: Vec::new(alloc),
+            numbers: Numbers::new(alloc),
         }
     }
 
@@ -27,16 +30,7 @@ impl HostTable {
     pub fn find(&self, from: &str, name: &str) -> Option<u32>
         ensures { result ≡ entry_number self.now from.now name.now }
     {
-        let mut at: u32 = 0;
-        let mut rest = self.entries.as_slice();
-        while let Some((entry, tail)) = rest.split_first() {
-            if entry.is_called(from, name) {
-                return Some(at);
-            }
-            at += 1;
-            rest = tail;
-        }
-        None
+        self.numbers.find(from, name)
     }
 
     /// Adds a host function of integer parameters and at most one integer result, at the end. It is refused, with its
@@ -68,7 +62,7 @@ impl HostTable {
             });
         }
         match named(alloc, from, name, ty) {
-            Ok(host) => self.push(host, call),
+            Ok(host) => self.push(alloc, host, call),
             Err(_) => Err(AddRefused {
                 fault: AddFault::Memory,
                 call,
@@ -76,9 +70,10 @@ impl HostTable {
         }
     }
 
-    // Adds an entry at the end.
-    fn push(&mut self, host: HostName, call: Callback) -> Result<(), AddRefused>
+    // Adds an entry at the end, whose module and name no entry has.
+    fn push(&mut self, alloc: Global, host: HostName, call: Callback) -> Result<(), AddRefused>
         requires room { entry_count self.old < 4294967295 }
+        requires fresh { entry_number self.old host.«module» host.name ≡ None }
         requires integers { IsTrue (has_integers host.ty) }
         requires keeps { Keeps (Callback.pre call) (Callback.post call) host.ty }
         ensures added { OnOk result (Adds self.old (host_name_of host) call self.new) }
@@ -87,11 +82,14 @@ impl HostTable {
         ensures unchanged { OnErr result (IsUnchanged self.old self.new) }
         ensures count { entry_count self.new ≤ entry_count self.old + 1 }
     {
-        match self.entries.push(Entry { host, call }) {
-            Ok(()) => Ok(()),
-            Err(back) => Err(AddRefused {
+        match prepare(alloc, &host, &mut self.entries, &mut self.numbers) {
+            Ok(()) => match self.entries.push(Entry { host, call }) {
+                Ok(()) => Ok(()),
+                Err(_) => unreachable!(),
+            },
+            Err(Memory) => Err(AddRefused {
                 fault: AddFault::Memory,
-                call: back.value.call,
+                call,
             }),
         }
     }
@@ -121,6 +119,25 @@ impl HostTable {
         }
         Ok(names)
     }
+}
+
+// Makes room for one entry more, and numbers the host function that it will have.
+fn prepare(
+    alloc: Global,
+    host: &HostName,
+    entries: &mut Vec<Entry>,
+    numbers: &mut Numbers,
+) -> Result<(), Memory>
+    requires few { length entries.old.items < 4294967295 }
+    requires new { number_of numbers.old host.now.«module» host.now.name ≡ None }
+    ensures entries { entries.new.items ≡ entries.old.items }
+    ensures room { OnOk result (length entries.new.items < vec_capacity entries.new) }
+    ensures ok { OnOk result (numbers.new ≡ with_number host.now.«module» host.now.name (length entries.old.items) numbers.old) }
+    ensures err { OnErr result (numbers.new ≡ numbers.old) }
+{
+    entries.reserve(1)?;
+    let number = entries.len() as u32;
+    numbers.add(alloc, host.module.as_str(), host.name.as_str(), number)
 }
 
 // A host function of this module, name and type.

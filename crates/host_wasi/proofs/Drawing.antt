@@ -1,28 +1,35 @@
 -- Words that are drawn one after the other.
-use Rattle.std.proofs.Common.{◌≡◌, ℕ, suc, ◌+◌, ◌-◌, ◌<◌, List, [], ◌∷◌, ◌++◌, Ok, Err, subst, refl, arith}
+use Rattle.std.proofs.Common.{◌≡◌, ℕ, suc, ◌+◌, ◌-◌, ◌<◌, List, [], ◌∷◌, ◌++◌, Result, Ok, Err, inr, subst, refl, arith}
 use Rattle.dyl_outside.specs.declared.fault.IoFault.{IoFault}
 use Rattle.dyl_outside.specs.declared.fault.IoFault.TheVariants.{Failed, Memory}
+use Rattle.dyl_outside.specs.Ambient.{AmbientState, GivesWord}
 use Rattle.wasm_runtime.specs.declared.Answer.{Answer}
 use Rattle.spec_hosts.specs.Calls.{refused, io}
-use Rattle.spec_hosts.specs.Devices.{Clock, GivesWord}
-use Rattle.spec_hosts.specs.Hosted.{Draws}
+use Rattle.spec_hosts.specs.Hosted.{Draws, DrawsSome}
+use Rattle.spec_hosts.proofs.Begun.{none_drawn}
 use Rattle.host_wasi.specs.Uses.{Drawn}
 
 -- from here on the rest of the words makes the whole
-abbrev pub LeadsFrom : Clock → ℕ → Clock → ℕ → List ℕ → Type 0
-LeadsFrom first count clock left words = (go : List ℕ → Answer) (answer : Answer) (last : Clock) → Draws left words go answer clock last → Draws count [] go answer first last
+pub record LeadsFrom (first : AmbientState) (count : ℕ) (clock : AmbientState) (left : ℕ) (words : List ℕ) : Type 0 where
+  pub drawn : (go : List ℕ → Answer) (answer : Answer) (last : AmbientState) → Draws left words go answer clock last → Draws count [] go answer first last
+  pub some : (last : AmbientState) → DrawsSome left clock last → DrawsSome count first last
 
--- one more word was given
-pub leads_on : (first clock next : Clock) (count i : ℕ) (words : List ℕ) (word : ℕ) → i < count → GivesWord (Ok word) clock next
-    → LeadsFrom first count clock (count - i) words → LeadsFrom first count next (count - (i + 1)) (words ++ word ∷ [])
-leads_on first clock next count i words word lt given so_far go answer last more =
-    let is : suc (count - (i + 1)) ≡ count - i = omega arith in
-    so_far go answer last (subst (λ n. Draws n words go answer clock last) is (Ok word, next, given, more))
+module _ (first clock next : AmbientState) (count i : ℕ) (words : List ℕ) (lt : i < count) where
+  one_more : suc (count - (i + 1)) ≡ count - i
+  one_more = omega arith
 
--- no word was given
-pub ends_here : (first clock next : Clock) (count i : ℕ) (words : List ℕ) (fault : IoFault) → i < count → GivesWord (Err fault) clock next
-    → LeadsFrom first count clock (count - i) words → Drawn count (Err fault) first next
-ends_here first clock next count i words Failed lt given so_far = λ go.
-    let is : suc (count - (i + 1)) ≡ count - i = omega arith in
-    so_far go (refused io) next (subst (λ n. Draws n words go (refused io) clock next) is (Err Failed, next, given, (refl, refl)))
-ends_here first clock next count i words Memory lt given so_far = tt
+  -- one more word was given
+  pub leads_on : (word : ℕ) → GivesWord (Ok word) clock next → LeadsFrom first count clock (count - i) words → LeadsFrom first count next (count - (i + 1)) (words ++ word ∷ [])
+  leads_on word given so_far = record {
+    drawn = λ go answer last more. so_far.drawn go answer last (subst (λ n. Draws n words go answer clock last) one_more (Ok word, next, given, more));
+    some = λ last more. so_far.some last (subst (λ n. DrawsSome n clock last) one_more (inr (Ok word, next, given, more)));
+  }
+
+  -- this was the last word that was asked for
+  pub some_here : (result : Result ℕ IoFault) → GivesWord result clock next → LeadsFrom first count clock (count - i) words → DrawsSome count first next
+  some_here result given so_far = so_far.some next (subst (λ n. DrawsSome n clock next) one_more (inr (result, next, given, none_drawn (count - (i + 1)) next next refl)))
+
+  -- no word was given
+  pub ends_here : (fault : IoFault) → GivesWord (Err fault) clock next → LeadsFrom first count clock (count - i) words → Drawn count (Err fault) first next
+  ends_here Failed given so_far = λ go. so_far.drawn go (refused io) next (subst (λ n. Draws n words go (refused io) clock next) one_more (Err Failed, next, given, (refl, refl)))
+  ends_here Memory given so_far = tt

@@ -1,8 +1,8 @@
 mod NamedCalls
 mod Bytes
 mod Drawing
-mod OneUse
 mod Asks
 mod Fronts
 mod Moves
 mod Vectors
+mod Wanting

@@ -1,5 +1,5 @@
 -- What a call wants, as the code keeps it.
-use Rattle.std.specs.Prelude.{ℕ, ◌+◌, ◌/◌, ◌<◌, List, ◌++◌, length, map, take, IfSome, IsTrue}
+use Rattle.std.specs.Prelude.{ℕ, ◌+◌, ◌/◌, ◌<◌, List, ◌++◌, length, map, take, Option, IfSome, IsTrue}
 use Rattle.spec_runtime.specs.Memories.{little}
 use Rattle.spec_runtime.specs.Hosts.{numbers_fit}
 use Rattle.spec_hosts.specs.Calls as calls
@@ -25,9 +25,13 @@ meant call.ClockTimeGet = calls.ClockTimeGet
 meant call.RandomGet = calls.RandomGet
 meant call.ProcExit = calls.ProcExit
 
+-- the arguments fit the type of a call, if there is one
+abbrev pub FitWhere : Option calls.WasiCall → List ℕ → Type 0
+FitWhere call args = IfSome call (λ c. IsTrue (numbers_fit (calls.params_of c) args))
+
 -- the arguments fit the type of the name, where it is that of a call
 abbrev pub ArgumentsFit : List ℕ → List ℕ → Type 0
-ArgumentsFit name args = IfSome (calls.call_named name) (λ c. IsTrue (numbers_fit (calls.params_of c) args))
+ArgumentsFit name args = FitWhere (calls.call_named name) args
 
 abbrev pub pairs : List Buffer → List (ℕ × ℕ)
 pairs buffers = map (λ b. (b.at, b.len)) buffers

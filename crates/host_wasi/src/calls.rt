@@ -9,7 +9,7 @@ use wasm_form::{FuncType, List, Memory, ValType};
 
 /// A call of WASI preview 1.
 #[derive(Clone, Copy, Debug, PartialEq, Eq)]
-pub(crate) enum Call {
+pub enum Call {
     ArgsSizesGet,
     ArgsGet,
     EnvironSizesGet,
@@ -80,7 +80,7 @@ impl Call {
     }
 
     /// The types of its parameters.
-    pub(crate) fn params(self) -> &'static [ValType]
+    pub fn params(self) -> &'static [ValType]
         ensures { result.now ≡ calls.params_of (meant self) }
     {
         match self {
@@ -111,8 +111,8 @@ impl Call {
     }
 }
 
-/// The call of a name.
-pub(crate) fn call_named(name: &str) -> Option<Call>
+/// The call of a name, if it is that of one.
+pub fn call_named(name: &str) -> Option<Call>
     ensures { option_map meant result ≡ calls.call_named name.now }
 {
     for call in &CALLS {

@@ -9,11 +9,10 @@ mod descriptors;
 mod fulfil;
 mod names;
 mod replies;
-#[cfg(test)]
-mod tests;
 mod want;
 mod wasi;
 
+pub use calls::{Call, call_named};
 pub use names::declare;
 pub use replies::little_bytes;
 pub use wasi::Wasi;

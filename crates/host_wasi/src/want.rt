@@ -1,15 +1,15 @@
-// What a call wants of the outside, with what the memory holds before it.
+// What a call wants of the devices, with what the memory holds before it.
 ghost use Rattle.std.specs.Prelude.{◌≡◌, ℕ, List, ◌∷◌, [], IfOk, IsTrue};
+ghost use Rattle.std.specs.Option.{option_map};
 ghost use Rattle.spec_runtime.specs.Hosts.{numbers_fit};
 ghost use Rattle.spec_runtime.specs.Memories.{MemoryInstance};
-ghost use Rattle.spec_hosts.specs.Calls.{wanted};
 ghost use Rattle.spec_hosts.specs.Calls as calls;
-ghost use Rattle.host_wasi.specs.Wants.{wanted_by, meant, ArgumentsFit, Asks};
+ghost use Rattle.host_wasi.specs.Wants.{wanted_by, meant, FitWhere, Asks};
 
 use crate::access::is_in;
 use crate::arguments::{args_get, args_sizes_get};
 use crate::buffers::{MOST_BYTES, fd_read, fd_write};
-use crate::calls::{Call, call_named};
+use crate::calls::Call;
 use crate::descriptors::{fd_close, fd_fdstat_get, fd_seek};
 use crate::replies::{refused, success};
 use std::alloc::Global;
@@ -20,7 +20,7 @@ use wasm_space::Space;
 /// The errno of a descriptor that can't be used so.
 pub(crate) const BADF: u64 = 8;
 
-/// The errno of bytes outside the memory.
+/// The errno of bytes that don't lie in the memory.
 pub(crate) const FAULT: u64 = 21;
 
 /// The errno of an argument that can't be.
@@ -39,7 +39,7 @@ pub(crate) struct Buffer {
     pub len: u32,
 }
 
-/// An answer at once; or one use of the outside, and where to write what comes of it.
+/// An answer at once; or one use of a device, and where to write what comes of it.
 #[derive(Drop)]
 pub(crate) enum Want {
     Says(Answer),
@@ -69,19 +69,19 @@ pub(crate) enum Want {
     },
 }
 
-/// What a call of a name wants, with the texts of the program's arguments and its own arguments.
+/// What a call wants, if the name is that of one, with the texts of the program's arguments and its own arguments.
 pub(crate) fn want_of(
     alloc: Global,
     texts: &[Text],
     memory: &Space,
-    name: &str,
+    call: Option<Call>,
     args: &[u64],
 ) -> Result<Want, Memory>
-    requires { ArgumentsFit name.now args.now }
-    ensures wanted { IfOk result (λ w. wanted_by w ≡ wanted texts.now memory.now name.now args.now) }
+    requires { FitWhere (option_map meant call) args.now }
+    ensures wanted { IfOk result (λ w. wanted_by w ≡ calls.wanted_where texts.now memory.now (option_map meant call) args.now) }
     ensures asks { IfOk result Asks }
 {
-    match call_named(name) {
+    match call {
         Some(call) => want_of_call(alloc, texts, memory, call, args),
         None => refuse(alloc, NOSYS),
     }

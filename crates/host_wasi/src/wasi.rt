@@ -1,10 +1,13 @@
 // The answer to a call.
-ghost use Rattle.std.specs.Prelude.{◌≡◌, IfOk, OnErr};
+ghost use Rattle.std.specs.Prelude.{◌≡◌};
+ghost use Rattle.std.specs.Option.{option_map};
 ghost use Rattle.spec_hosts.specs.Calls.{wanted};
-ghost use Rattle.spec_hosts.specs.Devices.{outside_of, KeepsFronts};
-ghost use Rattle.spec_hosts.specs.Hosted.{IsAnswered};
-ghost use Rattle.host_wasi.specs.Wants.{ArgumentsFit};
+ghost use Rattle.spec_hosts.specs.Devices.{devices};
+ghost use Rattle.spec_hosts.specs.Hosted.{ComesTo};
+ghost use Rattle.host_wasi.specs.Uses.{ComesToWhere};
+ghost use Rattle.host_wasi.specs.Wants.{ArgumentsFit, FitWhere, meant};
 
+use crate::calls::{Call, call_named};
 use crate::fulfil::fulfil;
 use crate::want::want_of;
 use dyl_outside::{Ambient, Sink, Source};
@@ -37,8 +40,8 @@ impl Wasi {
     }
 
     /// The answer to one call of a name of `wasi_snapshot_preview1`, over the memory at the call. Errno 29 comes only where the
-    /// count of faults of the object that the call used rose in this call. At want of memory bytes may have been taken or put,
-    /// and times or words may have been taken.
+    /// count of faults of the object that the call used rose in this call. At want of memory what the call wants of the devices may
+    /// have been begun.
     pub fn ask<I: Source, O: Sink, E: Sink, A: Ambient>(
         &self,
         alloc: Global,
@@ -51,10 +54,36 @@ impl Wasi {
         ambient: &mut A,
     ) -> Result<Answer, Memory>
         requires { ArgumentsFit name.now asked.now.args }
-        ensures answered { IfOk result (λ a. IsAnswered (wanted self.now memory.now name.now asked.now.args) a (outside_of (I.left input.old) (I.full input.old) (I.faults input.old) (O.held output.old) (O.faults output.old) (E.held errors.old) (E.faults errors.old) (A.times ambient.old) (A.words ambient.old) (A.faults ambient.old)) (outside_of (I.left input.new) (I.full input.new) (I.faults input.new) (O.held output.new) (O.faults output.new) (E.held errors.new) (E.faults errors.new) (A.times ambient.new) (A.words ambient.new) (A.faults ambient.new))) }
-        ensures fronts { OnErr result (KeepsFronts (outside_of (I.left input.old) (I.full input.old) (I.faults input.old) (O.held output.old) (O.faults output.old) (E.held errors.old) (E.faults errors.old) (A.times ambient.old) (A.words ambient.old) (A.faults ambient.old)) (outside_of (I.left input.new) (I.full input.new) (I.faults input.new) (O.held output.new) (O.faults output.new) (E.held errors.new) (E.faults errors.new) (A.times ambient.new) (A.words ambient.new) (A.faults ambient.new))) }
+        ensures { ComesTo (wanted self.now memory.now name.now asked.now.args) result (devices (I.seen input.old) (O.seen output.old) (E.seen errors.old) (A.seen ambient.old)) (devices (I.seen input.new) (O.seen output.new) (E.seen errors.new) (A.seen ambient.new)) }
     {
-        let want = want_of(alloc, self.texts.items(), memory, name, asked.args.items())?;
+        self.answer(
+            alloc,
+            call_named(name),
+            asked,
+            memory,
+            input,
+            output,
+            errors,
+            ambient,
+        )
+    }
+
+    /// The same where it is known which call the name is that of, or that it is that of none.
+    pub fn answer<I: Source, O: Sink, E: Sink, A: Ambient>(
+        &self,
+        alloc: Global,
+        call: Option<Call>,
+        asked: &Asked,
+        memory: &Space,
+        input: &mut I,
+        output: &mut O,
+        errors: &mut E,
+        ambient: &mut A,
+    ) -> Result<Answer, Memory>
+        requires { FitWhere (option_map meant call) asked.now.args }
+        ensures { ComesToWhere self.now memory.now call asked.now.args result (devices (I.seen input.old) (O.seen output.old) (E.seen errors.old) (A.seen ambient.old)) (devices (I.seen input.new) (O.seen output.new) (E.seen errors.new) (A.seen ambient.new)) }
+    {
+        let want = want_of(alloc, self.texts.items(), memory, call, asked.args.items())?;
         fulfil(alloc, want, input, output, errors, ambient)
     }
 }

@@ -72,7 +72,7 @@ module _ (names : HostNames) (opening : ModuleState) (d : Driver) (running : IsR
 
   -- no step was made
   none_made : next old.steps ≡ old
-  none_made = λ i. record d.single { lost = sym running.stands.found i }
+  none_made = λ i. record d.single { lost = sym running.stands.stands.found i }
 
   same_run : (s : SingleRun) → s ≡ old → IsRunning names opening (driver s) × KeepsCalls opening old s
   same_run s e = subst (λ s. IsRunning names opening (driver s) × KeepsCalls opening old s) (sym e) (running, record { answers = refl; calls = λ calls h. h })

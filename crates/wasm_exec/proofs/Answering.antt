@@ -15,15 +15,15 @@ use Rattle.spec_runtime.specs.Names.{HostName, HostNames}
 use Rattle.spec_runtime.specs.Hosts.{HostCall, hosts, answer_fits, numbers_fit}
 use Rattle.spec_execution.specs.Instances.{imported_hosts, module_hosts}
 use Rattle.spec_execution.specs.OneModule.{ModuleState, module_system}
-use Rattle.spec_hosts.specs.Devices.{Outside}
-use Rattle.spec_hosts.specs.Hosted.{IsHosted, Hosted}
-use Rattle.spec_hosts.specs.Ends.{bytes_written, are_many, taken_of, AreHosted}
+use Rattle.spec_hosts.specs.Devices.{Devices}
+use Rattle.spec_hosts.specs.Hosted.{Embedder, IsHosted, Hosted, IsBroken, BreaksOff}
+use Rattle.spec_hosts.specs.Ends.{bytes_written, are_many, taken_of}
 use Rattle.host_table.specs.Names.{host_name_of}
 use Rattle.host_table.specs.declared.host.HostName as code
 use Rattle.wasm_single.specs.Starts.{opened}
 use Rattle.wasm_single.specs.Singles.{SingleRun, Stands, AreLeft, Awaits}
 use Rattle.wasm_exec.specs.declared.driver.Driver.{Driver}
-use Rattle.wasm_exec.specs.Driving.{IsAskedOf, reached, IsRunning, IsReady, IsDriven, IsAnswered}
+use Rattle.wasm_exec.specs.Driving.{IsAskedOf, reached, IsRunning, IsReady, IsDriven, IsPrepared}
 use Rattle.wasm_exec.proofs.Hosting.{hosted_last}
 use Rattle.wasm_exec.proofs.Limits.{taken_append, free_append}
 use Rattle.wasm_exec.proofs.Openings.{opening_parts}
@@ -37,18 +37,18 @@ pub record IsCall (m : Module) (status : Status HostCall Trap) (asked : Asked) :
   pub args : asked.args ≡ call.args
   pub fits : IsTrue (numbers_fit call.host.ty.params call.args)
 
-pub call_of : (m : Module) (status : Status HostCall Trap) (asked : Asked) → IsAskedOf m status (Some asked) → IsCall m status asked
-call_of m (Waits call) asked asks = record { call = call; waits = refl; host = asks.0; args = asks.1; fits = asks.2 }
-call_of m Moving asked asks = absurd asks
-call_of m Returned asked asks = absurd asks
-call_of m (Exited code) asked asks = absurd asks
-call_of m (Trapped why) asked asks = absurd asks
+pub asked_call_of : (m : Module) (status : Status HostCall Trap) (asked : Asked) → IsAskedOf m status (Some asked) → IsCall m status asked
+asked_call_of m (Waits call) asked asks = record { call = call; waits = refl; host = asks.0; args = asks.1; fits = asks.2 }
+asked_call_of m Moving asked asks = absurd asks
+asked_call_of m Returned asked asks = absurd asks
+asked_call_of m (Exited code) asked asks = absurd asks
+asked_call_of m (Trapped why) asked asks = absurd asks
 
 -- the host function of an entry, as the code keeps it
 pub host_of_entry : (m : Module) (all : List code.HostName) (entry : ℕ) (host : code.HostName) → map host_name_of all ≡ imported_hosts m m.imports → slice_get all entry ≡ Some host → module_hosts m entry ≡ Some (host_name_of host)
 host_of_entry m all entry host same at = ap (λ hs. slice_get hs entry) (sym same) ∙ slice_get-map host_name_of all entry ∙ ap (option_map host_name_of) at
 
-taken_all : (given : List Answer) → taken_of given [] ≡ given
+pub taken_all : (given : List Answer) → taken_of given [] ≡ given
 taken_all given = ap (λ n. take n given) (sub-zero (length given)) ∙ take-length given
 
 written_more : (given : List Answer) (a : Answer) → sum (map bytes_written (given ++ a ∷ [])) ≡ sum (map bytes_written given) + bytes_written a
@@ -67,18 +67,21 @@ module _ (names : HostNames) (opening : ModuleState) (d : Driver) (running : IsR
   real : IsReal (module_system old.wasm) old.steps opening old.answers
   real = stands_real old opening opens at running.stands
 
-  left_none : at.left ≡ []
-  left_none = subst (λ b. AreLeft b at.state.status at.state.memory at.left) running.taken running.stands.left
+  pub none_left : at.left ≡ []
+  none_left = subst (λ b. AreLeft b at.state.status at.state.memory at.left) running.taken running.stands.stands.left
 
   module _ (asked : Asked) (asks : d.asked ≡ Some asked) (h : HostName) (there : module_hosts old.wasm asked.entry ≡ Some h) where
     abbrev asked_call : HostCall
     asked_call = record { host = h; args = asked.args }
 
     is_call : IsCall old.wasm at.state.status asked
-    is_call = call_of old.wasm at.state.status asked (subst (IsAskedOf old.wasm at.state.status) asks running.asks)
+    is_call = asked_call_of old.wasm at.state.status asked (subst (IsAskedOf old.wasm at.state.status) asks running.asks)
 
     same_call : is_call.call ≡ asked_call
     same_call = λ i. record { host = same_Some is_call.call.host h (sym is_call.host ∙ there) i; args = sym is_call.args i }
+
+    pub call_fits : IsTrue (numbers_fit h.ty.params asked.args)
+    call_fits = subst (λ (c : HostCall). IsTrue (numbers_fit c.host.ty.params c.args)) same_call is_call.fits
 
     waits_so : at.state.status ≡ Waits asked_call
     waits_so = is_call.waits ∙ ap Waits same_call
@@ -97,16 +100,18 @@ module _ (names : HostNames) (opening : ModuleState) (d : Driver) (running : IsR
       appended = run_append (module_system old.wasm) old.steps opening old.answers (a ∷ []) real
 
       left_one : reached opening next ≡ record at { left = a ∷ [] }
-      left_one = appended ∙ ap (λ l. let q : Ran hosts ModuleState = record at { left = l ++ a ∷ [] } in q) left_none
+      left_one = appended ∙ ap (λ l. let q : Ran hosts ModuleState = record at { left = l ++ a ∷ [] } in q) none_left
 
       stands_next : Stands next (reached opening next)
       stands_next = record {
-        found = running.stands.found;
         opening = opening;
         opens = opens;
-        run = refl;
-        real = real_append (module_system old.wasm) old.steps opening old.answers (a ∷ []) real;
-        left = subst (λ (q : Ran hosts ModuleState). AreLeft true q.state.status q.state.memory q.left) (sym left_one) (rw waits_so answer_fits_there);
+        stands = record {
+          found = running.stands.stands.found;
+          run = refl;
+          real = real_append (module_system old.wasm) old.steps opening old.answers (a ∷ []) real;
+          left = subst (λ (q : Ran hosts ModuleState). AreLeft true q.state.status q.state.memory q.left) (sym left_one) (rw waits_so answer_fits_there);
+        };
       }
 
       abbrev driver : ℕ → Driver
@@ -119,32 +124,39 @@ module _ (names : HostNames) (opening : ModuleState) (d : Driver) (running : IsR
         stands = stands_next;
         answered = refl;
         within = λ waiting. ap (λ (q : Ran hosts ModuleState). are_many (taken_of next.answers q.left)) appended
-            ∙ ap are_many (taken_append old.answers at.left (a ∷ []) ∙ ap (taken_of old.answers) left_none ∙ taken_all old.answers) ∙ room;
+            ∙ ap are_many (taken_append old.answers at.left (a ∷ []) ∙ ap (taken_of old.answers) none_left ∙ taken_all old.answers) ∙ room;
         free = free_append old.wasm opening old.answers (a ∷ []) old.steps real running.free;
         written = counted ∙ ap (λ n. n + bytes_written a) running.written ∙ sym (written_more old.answers a);
       }
 
-      module _ (texts : List (List ℕ)) (callback : HostCall → MemoryInstance → Answer → Type 0) (begun middle now : Outside) where
-        events_next : (calls : List (HostCall × MemoryInstance)) → at.events ≡ calls ++ event (module_system old.wasm) at.state → (reached opening next).events ≡ calls ++ (asked_call, memory) ∷ []
-        events_next calls e =
-            ap (λ (q : Ran hosts ModuleState). q.events) appended ∙ e
-            ∙ ap (λ status. calls ++ event_at status at.state.memory) waits_so
-            ∙ ap (λ x. calls ++ (asked_call, x) ∷ []) (sym seen)
+      events_next : (calls : List (HostCall × MemoryInstance)) → at.events ≡ calls ++ event (module_system old.wasm) at.state → (reached opening next).events ≡ calls ++ (asked_call, memory) ∷ []
+      events_next calls e =
+          ap (λ (q : Ran hosts ModuleState). q.events) appended ∙ e
+          ∙ ap (λ status. calls ++ event_at status at.state.memory) waits_so
+          ∙ ap (λ x. calls ++ (asked_call, x) ∷ []) (sym seen)
 
-        answered_next : (new : SingleRun) (w : ℕ) → new ≡ next → w ≡ d.written + bytes_written a → are_many old.answers ≡ false → AreHosted (module_system old.wasm) texts callback at old.answers begun middle
-            → IsHosted texts callback (asked_call, memory) a middle now → IsAnswered names opening texts callback (record d { single = new; written = w }) begun now
-        answered_next new w same counted room hosted last =
-            subst (λ s. IsAnswered names opening texts callback (record d { single = s; written = w }) begun now) (sym same) (record {
-              ready = ready_next w counted room;
-              hosted = subst (λ es. Hosted texts callback es next.answers begun now) (sym (events_next hosted.0 hosted.1)) (hosted_last texts callback hosted.0 old.answers (asked_call, memory) a begun middle now hosted.2 last);
-            })
+    -- the call that is waited for, over the memory
+    pub waiting_event : (memory : MemoryInstance) → memory ≡ at.state.memory → event (module_system old.wasm) at.state ≡ (asked_call, memory) ∷ []
+    waiting_event memory seen = ap (λ status. event_at status at.state.memory) waits_so ∙ ap (λ x. (asked_call, x) ∷ []) (sym seen)
 
-module _ {names : HostNames} {opening : ModuleState} {texts : List (List ℕ)} {callback : HostCall → MemoryInstance → Answer → Type 0} {d : Driver} {begun middle : Outside} (driven : IsDriven names opening texts callback d begun middle) where
-  -- the run with its answer, and what was done to the outside
-  pub is_answered : (asked : Asked) → d.asked ≡ Some asked → (h : HostName) → module_hosts d.single.wasm asked.entry ≡ Some h
-      → (a : Answer) (memory : MemoryInstance) → memory ≡ (reached opening d.single).state.memory → IsTrue (answer_fits (record { host = h; args = asked.args }) memory a)
-      → (now : Outside) → IsHosted texts callback (record { host = h; args = asked.args }, memory) a middle now → are_many d.single.answers ≡ false
+module _ {embedder : Embedder} {opening : ModuleState} {d : Driver} {begun middle : Devices} (driven : IsDriven embedder opening d begun middle)
+    (asked : Asked) (asks : d.asked ≡ Some asked) (h : HostName) (there : module_hosts d.single.wasm asked.entry ≡ Some h) (memory : MemoryInstance) (seen : memory ≡ (reached opening d.single).state.memory) where
+  abbrev called : HostCall
+  called = record { host = h; args = asked.args }
+
+  -- the run with its answer, and what was done to the devices
+  pub is_prepared : (a : Answer) → IsTrue (answer_fits called memory a) → (now : Devices) → IsHosted embedder (called, memory) a middle now → are_many d.single.answers ≡ false
       → (new : SingleRun) (w : ℕ) → new ≡ record d.single { answers = d.single.answers ++ a ∷ []; answered = true } → w ≡ d.written + bytes_written a
-      → IsAnswered names opening texts callback (record d { single = new; written = w }) begun now
-  is_answered asked asks h there a memory seen fits now last room new w same counted =
-      answered_next names opening d driven.running asked asks h there a memory seen fits texts callback begun middle now new w same counted room driven.hosted last
+      → IsPrepared embedder opening (record d { single = new; written = w }) begun now
+  is_prepared a fits now last room new w same counted =
+      subst (λ s. IsPrepared embedder opening (record d { single = s; written = w }) begun now) (sym same) (record {
+        ready = ready_next embedder.names opening d driven.running asked asks h there a memory seen fits w counted room;
+        hosted =
+            let hosted = driven.hosted in
+            let es = events_next embedder.names opening d driven.running asked asks h there a memory seen fits hosted.0 hosted.1 in
+            subst (λ es. Hosted embedder es (d.single.answers ++ a ∷ []) begun now) (sym es) (hosted_last embedder hosted.0 d.single.answers (called, memory) a begun middle now hosted.2 last);
+      })
+
+  -- at most the use of the call that is waited for was begun
+  pub breaks_off : (now : Devices) → IsBroken embedder (called, memory) middle now → BreaksOff embedder (event (module_system d.single.wasm) (reached opening d.single).state) middle now
+  breaks_off now broken = subst (λ es. BreaksOff embedder es middle now) (sym (waiting_event embedder.names opening d driven.running asked asks h there memory seen)) broken

@@ -9,9 +9,9 @@ use Rattle.wasm_form.specs.declared.types.ValType.{ValType}
 use Rattle.wasm_form.specs.declared.types.ValType.TheVariants.{I32}
 use Rattle.wasm_form.specs.declared.types.FuncType.{FuncType}
 use Rattle.spec_binary.specs.SameTypes.{same_type}
-use Rattle.spec_runtime.specs.Names.{HostName, Fits, host_match, is_integer, has_integers, is_one_i32, is_rest_type}
+use Rattle.spec_runtime.specs.Names.{HostName, Fits, host_match, is_integer, has_integers, is_one_i32}
 use Rattle.spec_hosts.specs.Calls.{WasiCall, ProcExit, wasi_name, call_named, type_of_call}
-use Rattle.spec_hosts.specs.Laws.{run_names, host_called, IsWasiType, WasiGoesFirst, OthersAreOfTheTable}
+use Rattle.spec_hosts.specs.Laws.{run_names, host_called, IsTypeWhere, WasiGoesFirst, OthersAreOfTheTable}
 use Rattle.host_table.specs.Names.{is_called}
 use Rattle.wasm_exec.specs.Driving.{HaveIntegers}
 
@@ -25,15 +25,11 @@ call_integers : (c : WasiCall) → has_integers (type_of_call c) ≡ true
 call_integers ProcExit = refl
 call_integers _ = refl
 
-wasi_integers : (name : List ℕ) (ty : FuncType) → IsWasiType name ty → IsTrue (has_integers ty)
-wasi_integers name ty typed = by (call_named name) refl
-  where
-    by : (found : Option WasiCall) → call_named name ≡ found → IsTrue (has_integers ty)
-    by (Some c) e = let same : ty ≡ type_of_call c = rw (e, IsWasiType) at typed in ap has_integers same ∙ call_integers c
-    by None e =
-        let rest : IsTrue (is_rest_type ty) = rw (e, IsWasiType) at typed in
-        let both = and_parts (list_all is_integer ty.params) (is_one_i32 ty.results) rest in
-        and_from (list_all is_integer ty.params) (list_all is_integer ty.results) both.0 (one_integer ty.results both.1)
+type_integers : (call : Option WasiCall) (ty : FuncType) → IsTypeWhere call ty → IsTrue (has_integers ty)
+type_integers (Some c) ty typed = ap has_integers typed ∙ call_integers c
+type_integers None ty typed =
+    let both = and_parts (list_all is_integer ty.params) (is_one_i32 ty.results) typed in
+    and_from (list_all is_integer ty.params) (list_all is_integer ty.results) both.0 (one_integer ty.results both.1)
 
 called_integers : (from name : List ℕ) (ty : FuncType) (table : List HostName) → All (λ h. IsTrue (has_integers h.ty)) table → IsSomeAnd (host_called from name table) (λ h. h.ty ≡ ty) → IsTrue (has_integers ty)
 called_integers from name ty [] all called = absurd called
@@ -47,5 +43,5 @@ pub have_integers : WasiGoesFirst → OthersAreOfTheTable → (table : List Host
 have_integers first others table all from name ty fits = by (bytes_eq from wasi_name) refl
   where
     by : (wasi : Bool) → bytes_eq from wasi_name ≡ wasi → IsTrue (has_integers ty)
-    by true e = wasi_integers name ty (first table name ty (subst (λ f. host_match (run_names table) f name ty ≡ Fits) ((bytes_eq-Decides from wasi_name).0 e) fits))
+    by true e = type_integers (call_named name) ty (first table name ty (subst (λ f. host_match (run_names table) f name ty ≡ Fits) ((bytes_eq-Decides from wasi_name).0 e) fits))
     by false e = called_integers from name ty table all (others table from name ty e fits)

@@ -10,7 +10,7 @@ use Rattle.spec_runs.proofs.Runs.{run_append}
 use Rattle.spec_runtime.specs.Hosts.{HostCall, hosts}
 use Rattle.spec_execution.specs.OneModule.{ModuleState, module_system, module_run}
 use Rattle.spec_hosts.specs.Ends.{are_many, taken_of, is_due}
-use Rattle.wasm_single.specs.Cores.{is_too_deep}
+use Rattle.spec_execution.specs.OneModule.{module_too_deep}
 use Rattle.wasm_single.specs.Singles.{waits}
 use Rattle.wasm_exec.specs.Driving.{IsFree}
 use Rattle.wasm_exec.proofs.Growth.{real_front}
@@ -26,11 +26,11 @@ taken_append given left further =
 
 module _ (m : Module) where
   -- none is due where the step isn't too deep, or the answers are not too many
-  pub not_due : (s : ModuleState) (given : List Answer) → (s.status ≡ Moving → is_too_deep m s ≡ false) → (waits s.status ≡ true → are_many given ≡ false)
-      → is_due (module_system m) (is_too_deep m) s given ≡ false
+  pub not_due : (s : ModuleState) (given : List Answer) → (s.status ≡ Moving → module_too_deep m s ≡ false) → (waits s.status ≡ true → are_many given ≡ false)
+      → is_due (module_system m) (module_too_deep m) s given ≡ false
   not_due s given flat few = by s.status refl
     where
-      by : (status : Status HostCall Trap) → s.status ≡ status → is_due (module_system m) (is_too_deep m) s given ≡ false
+      by : (status : Status HostCall Trap) → s.status ≡ status → is_due (module_system m) (module_too_deep m) s given ≡ false
       by Moving e = rw (e, is_due) (flat e)
       by (Waits call) e = rw (e, is_due) (few (ap waits e))
       by Returned e = rw (e, is_due) refl
@@ -39,7 +39,7 @@ module _ (m : Module) where
 
 module _ (m : Module) (opening : ModuleState) where
   abbrev DueAt : List Answer → ℕ → Bool
-  DueAt given k = is_due (module_system m) (is_too_deep m) (module_run m opening given k).state (taken_of given (module_run m opening given k).left)
+  DueAt given k = is_due (module_system m) (module_too_deep m) (module_run m opening given k).state (taken_of given (module_run m opening given k).left)
 
   -- more steps before which none is due
   pub free_to : (given : List Answer) (n more : ℕ) → IsFree m opening n given → ((k : ℕ) → n ≤ k → k < more → DueAt given k ≡ false) → IsFree m opening more given
@@ -49,7 +49,7 @@ module _ (m : Module) (opening : ModuleState) where
   pub free_append : (given further : List Answer) (n : ℕ) → IsReal (module_system m) n opening given → IsFree m opening n given → IsFree m opening n (given ++ further)
   free_append given further n real before k lt =
       let e = run_append (module_system m) k opening given further (real_front (module_system m) k n opening given (omega arith) real) in
-      let due : ModuleState → List Answer → Bool = λ s taken. is_due (module_system m) (is_too_deep m) s taken in
+      let due : ModuleState → List Answer → Bool = λ s taken. is_due (module_system m) (module_too_deep m) s taken in
       ap (λ (r : Ran hosts ModuleState). due r.state (taken_of (given ++ further) r.left)) e
       ∙ ap (due (module_run m opening given k).state) (taken_append given (module_run m opening given k).left further)
       ∙ before k lt

@@ -8,20 +8,21 @@ use Rattle.wasm_form.specs.declared.module.ImportDesc.TheVariants as imported
 use Rattle.wasm_form.specs.declared.module.Module.{Module}
 use Rattle.spec_runtime.specs.Names.{HostName, HostNames, HostMatch, Unknown, Fits, OtherType, host_match}
 use Rattle.spec_execution.specs.Instances.{hosts_in, named_host, imported_hosts}
-use Rattle.spec_execution.specs.OneModule.{ModuleState, OpeningFault, import_matched, import_met, imports_met, opened_after, module_opening}
+use Rattle.spec_execution.specs.OneModule.{ModuleState, import_matched, import_met, imports_met, opened_after, module_opening}
+use Rattle.spec_execution.specs.declared.fault.SingleFault.{SingleFault}
 use Rattle.wasm_single.specs.Starts.{opened}
 use Rattle.wasm_single.proofs.Imports.{both_met}
 use Rattle.wasm_exec.specs.Driving.{HaveIntegers, AreDeclared}
 
 -- there is at most one opening state
-pub one_opening : {r : Result ModuleState OpeningFault} {a b : ModuleState} → r ≡ Ok a → r ≡ Ok b → a ≡ b
+pub one_opening : {r : Result ModuleState SingleFault} {a b : ModuleState} → r ≡ Ok a → r ≡ Ok b → a ≡ b
 one_opening first second = cc (first, second)
 
 -- an opening state is one whose imports are met
 pub opening_parts : (m : Module) (names : HostNames) (opening : ModuleState) → module_opening m names ≡ Ok opening → (imports_met m names m.imports ≡ Ok tt) × (opened m ≡ Ok opening)
 opening_parts m names opening opens = by (imports_met m names m.imports) refl opens
   where
-    by : (met : Result (Unit {0}) OpeningFault) → imports_met m names m.imports ≡ met → opened_after m met ≡ Ok opening → (imports_met m names m.imports ≡ Ok tt) × (opened m ≡ Ok opening)
+    by : (met : Result (Unit {0}) SingleFault) → imports_met m names m.imports ≡ met → opened_after m met ≡ Ok opening → (imports_met m names m.imports ≡ Ok tt) × (opened m ≡ Ok opening)
     by (Ok u) e opens = (e, opens)
     by (Err fault) e opens = absurd cc
 

@@ -9,7 +9,7 @@ use Rattle.spec_execution.specs.OneModule.{ModuleState}
 use Rattle.spec_hosts.specs.Ends.{goes_on}
 use Rattle.wasm_single.specs.Singles.{SingleRun, has_ended, waits, is_waiting}
 use Rattle.wasm_exec.specs.declared.driver.Driver.{Driver}
-use Rattle.wasm_exec.specs.declared.ran.RunEnd.TheVariants as end
+use Rattle.spec_hosts.specs.declared.ran.RunEnd.TheVariants as end
 use Rattle.wasm_exec.specs.Driving.{reached, IsRunning, IsReady, HasEnded}
 use Rattle.wasm_exec.proofs.Openings.{opening_parts}
 use Rattle.wasm_exec.proofs.Standing.{stands_real}
@@ -43,8 +43,10 @@ module _ (names : HostNames) (opening : ModuleState) (d : Driver) (running : IsR
   -- a run that goes on is ended by the limit of its steps
   pub limited : has_ended (reached opening d.single).state.status ≡ false → HasEnded opening d.single.steps end.StepLimit d.single
   limited unended = record {
-    few = le_refl d.single.steps;
-    real = stands_real d.single opening (opening_parts d.single.wasm names opening running.opens).1 (reached opening d.single) running.stands;
-    free = running.free;
+    made = record {
+      few = le_refl d.single.steps;
+      real = stands_real d.single opening (opening_parts d.single.wasm names opening running.opens).1 (reached opening d.single) running.stands;
+      free = running.free;
+    };
     ends = (refl, live (reached opening d.single).state.status unended);
   }

@@ -12,7 +12,7 @@ module _ (s : SingleRun) (opening : ModuleState) (opens : opened s.wasm ≡ Ok o
   same_opening = cc (opens, stands.opens)
 
   pub stands_reached : reached opening s ≡ r
-  stands_reached = ap (λ o. module_run s.wasm o s.answers s.steps) (sym same_opening) ∙ stands.run
+  stands_reached = ap (λ o. module_run s.wasm o s.answers s.steps) (sym same_opening) ∙ stands.stands.run
 
   pub stands_real : IsReal (module_system s.wasm) s.steps opening s.answers
-  stands_real = subst (λ o. IsReal (module_system s.wasm) s.steps o s.answers) same_opening stands.real
+  stands_real = subst (λ o. IsReal (module_system s.wasm) s.steps o s.answers) same_opening stands.stands.real

@@ -1,22 +1,18 @@
 // A run that is driven by its host.
-ghost use Rattle.std.specs.Prelude.{◌≡◌, ◌<◌, ◌≤◌, ◌+◌, ◌&&◌, map, sum, length, slice_get, Some, None, true, false, is_some, nat_lt, OnOk, OnErr, IfOk};
+ghost use Rattle.std.specs.Prelude.{◌≡◌, ◌<◌, ◌≤◌, ◌+◌, ◌&&◌, map, sum, length, slice_get, Some, None, false, is_some, nat_lt, OnOk, IfOk};
 ghost use Rattle.spec_execution.specs.OneModule.{ModuleState};
 ghost use Rattle.spec_runtime.specs.Names.{HostNames};
-ghost use Rattle.spec_hosts.specs.Devices.{Outside, outside_of, KeepsFronts};
-ghost use Rattle.spec_hosts.specs.Laws.{run_names};
+ghost use Rattle.spec_hosts.specs.Devices.{devices};
 ghost use Rattle.spec_hosts.specs.Ends.{bytes_written, are_many};
-ghost use Rattle.host_table.specs.Table.{functions_of};
-ghost use Rattle.host_calls.specs.Replies.{AnswersCall};
-ghost use Rattle.wasm_exec.specs.Driving.{reached, IsRunning, IsReady, HasEnded, KeepsCalls, StepGives, IsDriven, IsAnswered, Proceeds, ran_of};
+ghost use Rattle.host_calls.specs.Embedders.{names_of, embedder};
+ghost use Rattle.wasm_exec.specs.Driving.{AreBound, IsRunning, IsReady, HasEnded, KeepsCalls, StepGives, IsUnderWay, GoesOn, IsServed, ran_of};
 
-use crate::ran::{Ran, RunEnd};
-use crate::told::{asked_by, end_told};
+use crate::events::{asked_by, end_by};
 use crate::written::bytes_written;
 use dyl_outside::{Ambient, Sink, Source};
-use host_calls::ask;
-use host_table::{Callback, HostName, HostTable, Reply};
-use host_wasi::Wasi;
-use spec_hosts::wasi_answers_fit;
+use host_calls::Hosts;
+use host_table::HostName;
+use spec_hosts::{Ran, RunEnd};
 use std::alloc::Global;
 use wasm_form::Memory;
 use wasm_machine::{Answer, Asked};
@@ -41,34 +37,32 @@ impl<'m> Driver<'m> {
         &mut self,
         alloc: Global,
         most: u64,
-        wasi: &Wasi,
-        table: &HostTable,
+        hosts: &Hosts,
         input: &mut I,
         output: &mut O,
         errors: &mut E,
         ambient: &mut A,
     ) -> Result<Option<RunEnd>, Memory>
         requires few { self.old.single.steps < most }
-        requires driven { (opening : ModuleState) × (begun : Outside) × IsDriven (run_names (functions_of table.now)) opening wasi.now (AnswersCall (⟦<Callback as Fn(&[u64], u64) -> Reply>⟧.post) table.now) self.old begun (outside_of (I.left input.old) (I.full input.old) (I.faults input.old) (O.held output.old) (O.faults output.old) (E.held errors.old) (E.faults errors.old) (A.times ambient.old) (A.words ambient.old) (A.faults ambient.old)) }
-        ensures proceeds { (opening : ModuleState) (begun : Outside) → IsDriven (run_names (functions_of table.now)) opening wasi.now (AnswersCall (⟦<Callback as Fn(&[u64], u64) -> Reply>⟧.post) table.now) self.old begun (outside_of (I.left input.old) (I.full input.old) (I.faults input.old) (O.held output.old) (O.faults output.old) (E.held errors.old) (E.faults errors.old) (A.times ambient.old) (A.words ambient.old) (A.faults ambient.old)) → IfOk result (λ o. Proceeds (run_names (functions_of table.now)) opening wasi.now (AnswersCall (⟦<Callback as Fn(&[u64], u64) -> Reply>⟧.post) table.now) most o self.new begun (outside_of (I.left input.new) (I.full input.new) (I.faults input.new) (O.held output.new) (O.faults output.new) (E.held errors.new) (E.faults errors.new) (A.times ambient.new) (A.words ambient.new) (A.faults ambient.new))) }
-        ensures fronts { (opening : ModuleState) (begun : Outside) → IsDriven (run_names (functions_of table.now)) opening wasi.now (AnswersCall (⟦<Callback as Fn(&[u64], u64) -> Reply>⟧.post) table.now) self.old begun (outside_of (I.left input.old) (I.full input.old) (I.faults input.old) (O.held output.old) (O.faults output.old) (E.held errors.old) (E.faults errors.old) (A.times ambient.old) (A.words ambient.old) (A.faults ambient.old)) → OnErr result (KeepsFronts begun (outside_of (I.left input.new) (I.full input.new) (I.faults input.new) (O.held output.new) (O.faults output.new) (E.held errors.new) (E.faults errors.new) (A.times ambient.new) (A.words ambient.new) (A.faults ambient.new))) }
+        requires bound { AreBound hosts.now self.old.single.wasm }
+        requires driven { IsUnderWay (embedder hosts.now) self.old (devices (I.seen input.old) (O.seen output.old) (E.seen errors.old) (A.seen ambient.old)) }
+        ensures proceeds { GoesOn (embedder hosts.now) most result self.old self.new (devices (I.seen input.old) (O.seen output.old) (E.seen errors.old) (A.seen ambient.old)) (devices (I.seen input.new) (O.seen output.new) (E.seen errors.new) (A.seen ambient.new)) }
         ensures wasm { self.new.single.wasm ≡ self.old.single.wasm }
         ensures more { IfOk result (λ o. o ≡ None → self.old.single.steps < self.new.single.steps) }
         ensures few { OnOk result (self.new.single.steps ≤ most) }
     {
-        wasi_answers_fit();
-        if !self.advance(most)? {
+        if !self.advance(alloc, most)? {
             return Ok(None);
         }
         if self.is_full() {
             return Ok(Some(RunEnd::HostCallLimit));
         }
-        self.answer(alloc, wasi, table, input, output, errors, ambient)?;
+        self.answer(alloc, hosts, input, output, errors, ambient)?;
         self.step(alloc)
     }
 
     /// Makes steps of code. Whether a further step may be made.
-    fn advance(&mut self, most: u64) -> Result<bool, Memory>
+    fn advance(&mut self, alloc: Global, most: u64) -> Result<bool, Memory>
         requires few { self.old.single.steps ≤ most }
         ensures running { (names : HostNames) (opening : ModuleState) → IsRunning names opening self.old → OnOk result (IsRunning names opening self.new × KeepsCalls opening self.old.single self.new.single) }
         ensures left { IfOk result (λ left. left ≡ nat_lt self.new.single.steps most) }
@@ -76,7 +70,7 @@ impl<'m> Driver<'m> {
         ensures more { self.old.single.steps ≤ self.new.single.steps }
         ensures few { self.new.single.steps ≤ most }
     {
-        self.single.advance(most)?;
+        self.single.advance(alloc, most)?;
         Ok(self.single.steps() < most)
     }
 
@@ -93,29 +87,25 @@ impl<'m> Driver<'m> {
     fn answer<I: Source, O: Sink, E: Sink, A: Ambient>(
         &mut self,
         alloc: Global,
-        wasi: &Wasi,
-        table: &HostTable,
+        hosts: &Hosts,
         input: &mut I,
         output: &mut O,
         errors: &mut E,
         ambient: &mut A,
     ) -> Result<(), Memory>
-        requires running { (opening : ModuleState) × IsRunning (run_names (functions_of table.now)) opening self.old }
+        requires bound { AreBound hosts.now self.old.single.wasm }
+        requires running { (opening : ModuleState) × IsRunning (names_of hosts.now.table.now) opening self.old }
         requires room { (is_some self.old.asked && are_many self.old.single.answers) ≡ false }
-        ensures answered { (opening : ModuleState) (begun : Outside) → IsDriven (run_names (functions_of table.now)) opening wasi.now (AnswersCall (⟦<Callback as Fn(&[u64], u64) -> Reply>⟧.post) table.now) self.old begun (outside_of (I.left input.old) (I.full input.old) (I.faults input.old) (O.held output.old) (O.faults output.old) (E.held errors.old) (E.faults errors.old) (A.times ambient.old) (A.words ambient.old) (A.faults ambient.old)) → OnOk result (IsAnswered (run_names (functions_of table.now)) opening wasi.now (AnswersCall (⟦<Callback as Fn(&[u64], u64) -> Reply>⟧.post) table.now) self.new begun (outside_of (I.left input.new) (I.full input.new) (I.faults input.new) (O.held output.new) (O.faults output.new) (E.held errors.new) (E.faults errors.new) (A.times ambient.new) (A.words ambient.new) (A.faults ambient.new))) }
-        ensures fronts { (opening : ModuleState) (begun : Outside) → IsDriven (run_names (functions_of table.now)) opening wasi.now (AnswersCall (⟦<Callback as Fn(&[u64], u64) -> Reply>⟧.post) table.now) self.old begun (outside_of (I.left input.old) (I.full input.old) (I.faults input.old) (O.held output.old) (O.faults output.old) (E.held errors.old) (E.faults errors.old) (A.times ambient.old) (A.words ambient.old) (A.faults ambient.old)) → OnErr result (KeepsFronts begun (outside_of (I.left input.new) (I.full input.new) (I.faults input.new) (O.held output.new) (O.faults output.new) (E.held errors.new) (E.faults errors.new) (A.times ambient.new) (A.words ambient.new) (A.faults ambient.new))) }
+        ensures served { IsServed (embedder hosts.now) result self.old self.new (devices (I.seen input.old) (O.seen output.old) (E.seen errors.old) (A.seen ambient.old)) (devices (I.seen input.new) (O.seen output.new) (E.seen errors.new) (A.seen ambient.new)) }
         ensures wasm { self.new.single.wasm ≡ self.old.single.wasm }
         ensures steps { self.new.single.steps ≡ self.old.single.steps }
     {
-        wasi_answers_fit();
         let Some(asked) = &self.asked else {
             return Ok(());
         };
         let host = host_at(self.single.hosts(), asked.entry);
-        let answer = ask(
+        let answer = hosts.ask(
             alloc,
-            wasi,
-            table,
             host,
             asked,
             self.single.memory(),
@@ -138,7 +128,7 @@ impl<'m> Driver<'m> {
         ensures few { self.new.single.steps ≤ self.old.single.steps + 1 }
     {
         let event = self.single.run_step(alloc)?;
-        let end = end_told(&event);
+        let end = end_by(&event);
         self.asked = asked_by(event);
         Ok(end)
     }
@@ -154,7 +144,7 @@ impl<'m> Driver<'m> {
             return Ok(RunEnd::StepLimit);
         }
         let event = self.single.run_step(alloc)?;
-        match end_told(&event) {
+        match end_by(&event) {
             Some(end) => Ok(end),
             None => unreachable!(),
         }

@@ -1,18 +1,16 @@
 // A run of one module.
-ghost use Rattle.std.specs.Prelude.{◌≡◌, ◌<◌, ◌≤◌, IfOk, OnOk, Ok};
-ghost use Rattle.spec_execution.specs.OneModule.{ModuleState, module_opening};
-ghost use Rattle.spec_hosts.specs.Devices.{outside_of};
-ghost use Rattle.spec_hosts.specs.Laws.{run_names};
-ghost use Rattle.host_table.specs.Table.{functions_of};
-ghost use Rattle.host_calls.specs.Replies.{AnswersCall};
-ghost use Rattle.wasm_exec.specs.Driving.{HaveIntegers, IsDriven, RunGives, Executes};
+ghost use Rattle.std.specs.Prelude.{◌≡◌, ◌<◌, ◌≤◌, IfOk, OnOk};
+ghost use Rattle.spec_hosts.specs.Devices.{devices, KeepsFronts};
+ghost use Rattle.host_calls.specs.Embedders.{names_of, embedder_of, embedder};
+ghost use Rattle.wasm_exec.specs.Executed.{Executes};
+ghost use Rattle.wasm_exec.specs.Driving.{HaveIntegers, AreBound, IsBegun, IsDrivenTo};
 
 use crate::driver::Driver;
-use crate::ran::Ran;
 use dyl_outside::{Ambient, Sink, Source};
-use host_table::{Callback, HostNames, HostTable, Reply};
+use host_calls::Hosts;
+use host_table::{HostNames, HostTable};
 use host_wasi::{Wasi, declare};
-use spec_hosts::{names_have_their_types, wasi_answers_fit};
+use spec_hosts::{Ran, names_have_their_types};
 use std::alloc::Global;
 use wasm_check::Checked;
 use wasm_form::{List, Memory, Text};
@@ -20,8 +18,8 @@ use wasm_single::{Single, SingleFault};
 
 /// The names of WASI, and then those of a table.
 fn names_of(alloc: Global, table: &HostTable) -> Result<HostNames, Memory>
-    ensures names { IfOk result (λ names. names ≡ run_names (functions_of table.now)) }
-    ensures integers { OnOk result (HaveIntegers (run_names (functions_of table.now))) }
+    ensures names { IfOk result (λ names. names ≡ names_of table.now) }
+    ensures integers { OnOk result (HaveIntegers (names_of table.now)) }
 {
     names_have_their_types();
     let names = declare(alloc, HostNames::new(alloc))?;
@@ -43,19 +41,18 @@ pub fn execute<I: Source, O: Sink, E: Sink, A: Ambient>(
     ambient: &mut A,
 ) -> Result<Ran, SingleFault>
     requires { most < 18446744073709551615 }
-    ensures { Executes checked.now (run_names (functions_of table.now)) args (AnswersCall (⟦<Callback as Fn(&[u64], u64) -> Reply>⟧.post) table.now) most result (outside_of (I.left input.old) (I.full input.old) (I.faults input.old) (O.held output.old) (O.faults output.old) (E.held errors.old) (E.faults errors.old) (A.times ambient.old) (A.words ambient.old) (A.faults ambient.old)) (outside_of (I.left input.new) (I.full input.new) (I.faults input.new) (O.held output.new) (O.faults output.new) (E.held errors.new) (E.faults errors.new) (A.times ambient.new) (A.words ambient.new) (A.faults ambient.new)) }
+    ensures executes { Executes checked.now (embedder_of args table.now) most result (devices (I.seen input.old) (O.seen output.old) (E.seen errors.old) (A.seen ambient.old)) (devices (I.seen input.new) (O.seen output.new) (E.seen errors.new) (A.seen ambient.new)) }
+    ensures fronts { KeepsFronts (devices (I.seen input.old) (O.seen output.old) (E.seen errors.old) (A.seen ambient.old)) (devices (I.seen input.new) (O.seen output.new) (E.seen errors.new) (A.seen ambient.new)) }
 {
     let names = names_of(alloc, table)?;
     let single = Single::load(alloc, checked, &names)?;
+    let hosts = Hosts::bind(alloc, Wasi::new(args), table, single.hosts())?;
     let driver = Driver {
         single,
         asked: None,
         written: 0,
     };
-    let wasi = Wasi::new(args);
-    match drive(
-        alloc, driver, most, &wasi, table, input, output, errors, ambient,
-    ) {
+    match drive(alloc, driver, most, &hosts, input, output, errors, ambient) {
         Ok(ran) => Ok(ran),
         Err(Memory) => Err(SingleFault::Memory),
     }
@@ -66,8 +63,7 @@ fn drive<I: Source, O: Sink, E: Sink, A: Ambient>(
     alloc: Global,
     driver: Driver,
     most: u64,
-    wasi: &Wasi,
-    table: &HostTable,
+    hosts: &Hosts,
     input: &mut I,
     output: &mut O,
     errors: &mut E,
@@ -75,15 +71,13 @@ fn drive<I: Source, O: Sink, E: Sink, A: Ambient>(
 ) -> Result<Ran, Memory>
     requires most { most < 18446744073709551615 }
     requires few { driver.single.steps ≤ most }
-    requires driven { (opening : ModuleState) × IsDriven (run_names (functions_of table.now)) opening wasi.now (AnswersCall (⟦<Callback as Fn(&[u64], u64) -> Reply>⟧.post) table.now) driver (outside_of (I.left input.old) (I.full input.old) (I.faults input.old) (O.held output.old) (O.faults output.old) (E.held errors.old) (E.faults errors.old) (A.times ambient.old) (A.words ambient.old) (A.faults ambient.old)) (outside_of (I.left input.old) (I.full input.old) (I.faults input.old) (O.held output.old) (O.faults output.old) (E.held errors.old) (E.faults errors.old) (A.times ambient.old) (A.words ambient.old) (A.faults ambient.old)) }
-    ensures { (opening : ModuleState) → module_opening driver.entry.single.wasm (run_names (functions_of table.now)) ≡ Ok opening → RunGives driver.entry.single.wasm opening wasi.now (AnswersCall (⟦<Callback as Fn(&[u64], u64) -> Reply>⟧.post) table.now) most result (outside_of (I.left input.old) (I.full input.old) (I.faults input.old) (O.held output.old) (O.faults output.old) (E.held errors.old) (E.faults errors.old) (A.times ambient.old) (A.words ambient.old) (A.faults ambient.old)) (outside_of (I.left input.new) (I.full input.new) (I.faults input.new) (O.held output.new) (O.faults output.new) (E.held errors.new) (E.faults errors.new) (A.times ambient.new) (A.words ambient.new) (A.faults ambient.new)) }
+    requires bound { AreBound hosts.now driver.single.wasm }
+    requires driven { IsBegun (embedder hosts.now) driver (devices (I.seen input.old) (O.seen output.old) (E.seen errors.old) (A.seen ambient.old)) }
+    ensures { IsDrivenTo (embedder hosts.now) most result driver.entry (devices (I.seen input.old) (O.seen output.old) (E.seen errors.old) (A.seen ambient.old)) (devices (I.seen input.new) (O.seen output.new) (E.seen errors.new) (A.seen ambient.new)) }
 {
-    wasi_answers_fit();
     let mut driver = driver;
     while driver.single.steps() < most {
-        if let Some(end) = driver.proceed(
-            alloc, most, wasi, table, input, output, errors, ambient,
-        )? {
+        if let Some(end) = driver.proceed(alloc, most, hosts, input, output, errors, ambient)? {
             return Ok(driver.finish(end));
         }
     }

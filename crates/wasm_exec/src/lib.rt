@@ -2,10 +2,9 @@
 #![tactic(auto)]
 
 mod driver;
+mod events;
 mod exec;
-mod ran;
-mod told;
 mod written;
 
 pub use exec::execute;
-pub use ran::{Ran, RunEnd};
+pub use spec_hosts::{Ran, RunEnd};

@@ -11,5 +11,5 @@ returns-clause-fits g c =
     let ty = c.args.host.now.ty in
     let r = c.call-reply.result in
     let whole : c.from-size.result * 65536 ≡ length memory.bytes = rw c.from-size.ensures (sym c.size.ensures.whole) in
-    let fits = entry_fits (λ e. e.host.ty) (slice_get c.args.table.now.entries.items c.entry_of-entry.result) ty memory (c.from-size.result * 65536) r c.entry_of-entry.ensures.typed c.call-reply.ensures.fits whole in
+    let fits = entry_fits (λ e. e.host.ty) (slice_get c.args.table.now.entries.items c.declared_entry-entry.result) ty memory (c.from-size.result * 65536) r c.declared_entry-entry.ensures.typed c.call-reply.ensures.fits whole in
     IfOk-weaker c.answer_of.result _ _ (λ a e. subst (λ x. IsTrue (fits_results ty.results memory x)) (sym e) fits) c.answer_of.ensures

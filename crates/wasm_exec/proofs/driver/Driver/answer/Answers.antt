@@ -1,16 +1,39 @@
 -- The host call that is answered is the one that the run waits for.
 use Rattle.std.proofs.Common.{◌≡◌, ◌+◌, ap, false}
-use Rattle.std.proofs.lemmas.Result.{on_ok_weaker}
+use Rattle.std.proofs.lemmas.Result.{on_ok_weaker, err_from_is_err_and}
+use Rattle.spec_runtime.specs.Memories.{MemoryInstance}
+use Rattle.spec_runtime.specs.Hosts.{HostCall}
 use Rattle.host_table.specs.Names.{host_name_of}
 use Rattle.spec_hosts.specs.Ends.{are_many}
+use Rattle.spec_hosts.proofs.Fronts.{asked_broken}
+use Rattle.host_calls.specs.Embedders.{embedder, call_of}
 use Rattle.wasm_exec.specs.Driving.{reached}
-use Rattle.wasm_exec.proofs.Answering.{host_of_entry, awaits, is_answered}
-use Rattle.wasm_exec.proofs.Hosting.{at_fault, fronts_trans, driven_fronts, fronts_after}
+use Rattle.wasm_exec.proofs.Answering.{host_of_entry, call_fits, awaits, is_prepared, breaks_off}
 use Rattle.wasm_exec.proofs.driver.Driver.answer.Goals as goal
 
-pub returns-in_err-answer-clause-fronts : goal.returns-in_err-answer-clause-fronts
-returns-in_err-answer-clause-fronts g c = λ opening begun driven.
-    at_fault c.from_residual.result (fronts_trans (driven_fronts c.wasi_answers_fit.ensures.fronts driven) c.in_err-answer.ensures.fronts)
+pub ask-requires-clause-bound : goal.ask-requires-clause-bound
+ask-requires-clause-bound g c =
+    c.requires.bound c.in-Some.asked.entry (host_name_of c.host_at-host.result.now) (host_of_entry c.args.self.now.single.wasm c.hosts.result.now c.in-Some.asked.entry c.host_at-host.result.now c.hosts.ensures c.host_at-host.ensures)
+
+pub ask-requires-clause-declared : goal.ask-requires-clause-declared
+ask-requires-clause-declared g c =
+    (c.requires.running.1.declared c.in-Some.asked.entry (host_name_of c.host_at-host.result.now) (host_of_entry c.args.self.now.single.wasm c.hosts.result.now c.in-Some.asked.entry c.host_at-host.result.now c.hosts.ensures c.host_at-host.ensures)).0
+
+pub ask-requires-clause-arguments : goal.ask-requires-clause-arguments
+ask-requires-clause-arguments g c =
+    let there = host_of_entry c.args.self.now.single.wasm c.hosts.result.now c.in-Some.asked.entry c.host_at-host.result.now c.hosts.ensures c.host_at-host.ensures in
+    call_fits _ c.requires.running.0 c.args.self.now c.requires.running.1 c.in-Some.asked c.in-Some.is (host_name_of c.host_at-host.result.now) there
+
+pub returns-in_err-answer-clause-served : goal.returns-in_err-answer-clause-served
+returns-in_err-answer-clause-served g c = λ opening begun driven.
+    let d = c.args.self.now in
+    let there = host_of_entry d.single.wasm c.hosts.result.now c.in-Some.asked.entry c.host_at-host.result.now c.hosts.ensures c.host_at-host.ensures in
+    let event : HostCall × MemoryInstance = (call_of c.host_at-host.result.now c.in-Some.asked, c.memory.result.now) in
+    let p = err_from_is_err_and c.from_residual.result c.from_residual.ensures.1 in
+    rw p.1 (
+      tt,
+      breaks_off driven c.in-Some.asked c.in-Some.is (host_name_of c.host_at-host.result.now) there c.memory.result.now (c.memory.ensures (reached opening d.single) driven.running.stands) _ (asked_broken (embedder c.args.hosts.now) event c.ask.result _ _ c.ask.ensures.asked),
+    )
 
 pub answer-requires : goal.answer-requires
 answer-requires g c =
@@ -19,17 +42,17 @@ answer-requires g c =
     awaits _ c.requires.running.0 d c.requires.running.1 c.in-Some.asked c.in-Some.is (host_name_of c.host_at-host.result.now) there
     c.in_ok-answer.answer c.memory.result.now (c.memory.ensures (reached c.requires.running.0 d.single) c.requires.running.1.stands) c.in_ok-answer.ensures.fits
 
-pub returns-clause-answered : goal.returns-clause-answered
-returns-clause-answered g c = λ opening begun driven.
+pub returns-clause-served : goal.returns-clause-served
+returns-clause-served g c = λ opening begun driven.
     let d = c.args.self.now in
+    let h = host_name_of c.host_at-host.result.now in
     let there = host_of_entry d.single.wasm c.hosts.result.now c.in-Some.asked.entry c.host_at-host.result.now c.hosts.ensures c.host_at-host.ensures in
-    let room : are_many d.single.answers ≡ false = rw c.in-Some.is at c.requires.room in
-    on_ok_weaker c.answer.result
-    (λ same. is_answered driven c.in-Some.asked c.in-Some.is (host_name_of c.host_at-host.result.now) there
-    c.in_ok-answer.answer c.memory.result.now (c.memory.ensures (reached opening d.single) driven.running.stands) c.in_ok-answer.ensures.fits
-    _ c.in_ok-answer.ensures.answered room c.answer.new.self (d.written + c.bytes_written.result) same (ap (λ n. d.written + n) c.bytes_written.ensures.bytes))
-    c.answer.ensures.recorded
-
-pub returns-clause-fronts : goal.returns-clause-fronts
-returns-clause-fronts g c = λ opening begun driven.
-    at_fault c.answer.result (fronts_after c.wasi_answers_fit.ensures.fronts driven (record { host = host_name_of c.host_at-host.result.now; args = c.in-Some.asked.args }, c.memory.result.now) c.in_ok-answer.answer _ c.in_ok-answer.ensures.answered)
+    let event : HostCall × MemoryInstance = (call_of c.host_at-host.result.now c.in-Some.asked, c.memory.result.now) in
+    let seen = c.memory.ensures (reached opening d.single) driven.running.stands in
+    let room : are_many d.single.answers ≡ false = rw c.in-Some.is at c.requires.room in (
+      on_ok_weaker c.answer.result
+          (λ same. is_prepared driven c.in-Some.asked c.in-Some.is h there c.memory.result.now seen c.in_ok-answer.answer c.in_ok-answer.ensures.fits
+          _ c.in_ok-answer.ensures.asked room c.answer.new.self (d.written + c.bytes_written.result) same (ap (λ n. d.written + n) c.bytes_written.ensures.bytes))
+          c.answer.ensures.recorded,
+      breaks_off driven c.in-Some.asked c.in-Some.is h there c.memory.result.now seen _ (asked_broken (embedder c.args.hosts.now) event c.ask.result _ _ c.ask.ensures.asked),
+    )

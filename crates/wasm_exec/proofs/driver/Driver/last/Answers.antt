@@ -18,4 +18,4 @@ returns-clause-ended c = λ names opening running.
     let d = c.args.self.now in
     let told = c.in_ok-event.ensures.stepped in
     let ended : has_ended (reached opening d.single).state.status ≡ true = sym (c.has_ended.ensures (reached opening d.single) running.stands) ∙ search rules in
-    ended_again names opening d (ready_still names opening d running (ended_still (reached opening d.single).state.status ended)) c.in_ok-event.event c.run_step.new.self c.in-Some.end (sym c.end_told.ensures ∙ c.in-Some.is) ended told.0 told.1 told.2
+    ended_again names opening d (ready_still names opening d running (ended_still (reached opening d.single).state.status ended)) c.in_ok-event.event c.run_step.new.self c.in-Some.end (sym c.end_by.ensures ∙ c.in-Some.is) ended told.0 told.1 told.2
