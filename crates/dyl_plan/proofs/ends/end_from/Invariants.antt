@@ -1,0 +1,11 @@
+use Rattle.std.proofs.Common.{◌≡◌, ◌≤◌, ◌+◌, ◌*◌, ◌^◌, map, drop}
+use Rattle.spec_linking.specs.Plans.{end_of}
+use Rattle.dyl_plan.specs.Regions.{region_of, size_in, align_in}
+use Rattle.dyl_plan.proofs.ends.end_from.Given as goal
+
+abbrev pub invariant-loop-region : goal.invariant-loop-region
+invariant-loop-region l = record {
+  above : l.start ≤ l.end;
+  small : l.end ≤ 2 ^ 40 + l.region-index * 2 ^ 33;
+  rest : end_of (size_in l.space) (align_in l.space) l.end (map region_of (drop l.region-index l.regions)) ≡ end_of (size_in l.space) (align_in l.space) l.start (map region_of l.regions);
+}

@@ -1,0 +1,9 @@
+//! Placement of members' regions in the one memory and in the one table (DynamicLinking.md of the WebAssembly tool conventions).
+#![tactic(auto)]
+
+mod ends;
+mod plan;
+mod region;
+
+pub use plan::{Plan, place};
+pub use region::{Region, Sizes};

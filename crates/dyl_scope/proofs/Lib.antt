@@ -1,0 +1,8 @@
+pub mod Entries
+pub mod Lookups
+pub mod Resolved
+pub mod Distinct
+pub mod Walks
+pub mod Reached
+pub mod Told
+pub mod OwnData

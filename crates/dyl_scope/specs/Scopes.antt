@@ -1,0 +1,89 @@
+-- The definition of a name, by what is kept of a set.
+use Rattle.std.specs.Prelude.{◌≡◌, ℕ, ◌<◌, unwrap_or, List, [], ◌∷◌, length, map, Bool, Option, slice_get}
+use Rattle.std.specs.Map.{lookup}
+use Rattle.std.specs.Str.{bytes_eq}
+use Rattle.wasm_form.specs.declared.module.Module.{Module}
+use Rattle.spec_binary.specs.Options.{◌>>=◌}
+use Rattle.spec_linking.specs.Sets.{Member, ClosedSet}
+use Rattle.spec_linking.specs.Orders.{closure, post_order, with_numbers}
+use Rattle.spec_linking.specs.Definitions as defined
+use Rattle.dyl_scope.specs.Names.{Defined, defined_in, definition_value}
+use Rattle.dyl_scope.specs.declared.maker.Told as declared
+use Rattle.dyl_scope.specs.declared.def.Def.{Def}
+use Rattle.dyl_scope.specs.declared.def.Def.TheVariants as def
+
+-- a definition, as the meaning sees it
+abbrev pub meaning_of : Def → defined.Definition
+meaning_of (def.Loader call) = defined.LoaderFunction call
+meaning_of def.HeapBase = defined.HeapBase
+meaning_of def.HeapEnd = defined.HeapEnd
+meaning_of (def.Function m f) = defined.MemberFunction m f
+meaning_of (def.Datum m place) = defined.MemberData m place
+meaning_of (def.Host n) = defined.HostFunction
+meaning_of def.Weak = defined.WeakSymbol
+meaning_of def.Nothing = defined.Undefined
+
+-- it isn't a host function
+abbrev pub IsInside : Def → Type 0
+IsInside d = (n : ℕ) → d ≡ def.Host n → ⊥
+
+-- ---- what is told of a member: what its exports define, and the numbers of the members that it needs, each once
+
+pub record Told : Type 0 where
+  pub definitions : Defined
+  pub needed : List ℕ
+
+abbrev pub told_by : Module → List ℕ → Told
+told_by wasm needed = record { definitions = defined_in wasm wasm.exports; needed = with_numbers [] needed }
+
+abbrev pub told_of : Member → Told
+told_of m = told_by m.wasm m.needed
+
+abbrev pub told_value : declared.Told → Told
+told_value t = record { definitions = map definition_value t.definitions; needed = t.needed }
+
+-- ---- what is kept of a set: the names that each member defines, its closure and its post-order
+
+pub record Scopes : Type 0 where
+  pub names : List Defined
+  pub closures : List (List ℕ)
+  pub orders : List (List ℕ)
+
+abbrev pub list_at : List (List ℕ) → ℕ → List ℕ
+list_at lists m = unwrap_or (slice_get lists m) []
+
+-- what a member defines a name as
+abbrev pub symbol_in : ClosedSet → ℕ → List ℕ → Option defined.Symbol
+symbol_in S m name = slice_get S.members m >>= λ member. defined.symbol_of member.wasm name
+
+-- they are those of a set, whose startup list is the closure of its first member
+pub record AreOf (S : ClosedSet) (s : Scopes) : Type 0 where
+  pub names : (m : ℕ) (name : List ℕ) → (slice_get s.names m >>= lookup (bytes_eq name)) ≡ symbol_in S m name
+  pub count : length s.names ≡ length S.members
+  pub closures : (m : ℕ) → m < length S.members → list_at s.closures m ≡ closure S m
+  pub orders : (m : ℕ) → m < length S.members → list_at s.orders m ≡ post_order S m
+  pub startup : S.startup ≡ closure S 0
+  pub some : 0 < length S.members
+
+-- ---- by the names that the members define, the definition of a name by a member
+
+abbrev pub by_member : List Defined → ℕ → List ℕ → defined.Definition
+by_member names m name = defined.defined_by m (slice_get names m >>= lookup (bytes_eq name))
+
+-- and by the first of some members that defines it
+abbrev pub by_first : List Defined → List ℕ → List ℕ → defined.Definition
+by_first names [] name = defined.Undefined
+by_first names (m ∷ ms) name = defined.or_defined (by_member names m name) (by_first names ms name)
+
+-- in a scope: in the startup list, or else in the closure of the member
+abbrev pub in_scope : List Defined → List ℕ → List ℕ → List ℕ → defined.Definition
+in_scope names startup closure name = defined.or_defined (by_first names startup name) (by_first names closure name)
+
+-- the host's, where there is one, or else nothing where it is weak
+abbrev pub outside : Bool → Bool → defined.Definition
+outside declared weak = defined.or_defined (defined.where_so declared defined.HostFunction) (defined.where_so weak defined.WeakSymbol)
+
+abbrev pub resolved_in : Scopes → ℕ → List ℕ → Bool → Bool → defined.Definition
+resolved_in s m name declared weak =
+    defined.or_defined (defined.named_in defined.loader_names name)
+    (defined.or_defined (in_scope s.names (list_at s.closures 0) (list_at s.closures m) name) (outside declared weak))

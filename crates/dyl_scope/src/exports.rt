@@ -1,0 +1,174 @@
+// The names that the exports of a module define.
+ghost use Rattle.std.specs.Prelude.{◌≡◌, ◌<◌, ◌++◌, map, ◌^◌, length, IsTrue, IfOk, OnOk};
+ghost use Rattle.std.specs.List.{list_all};
+ghost use Rattle.spec_binary.specs.IndexSpaces.{imports_of, functions_in, globals_in};
+ghost use Rattle.spec_validation.specs.Faults.{global_fits};
+ghost use Rattle.spec_linking.specs.Definitions as defined;
+ghost use Rattle.dyl_scope.specs.Names.{maybe_symbol, symbol_value, definition_value, defined_as, defined_in, data_at, own_data, Counts};
+
+use crate::globals::data_symbol;
+use crate::symbol::{Definition, Symbol};
+use std::alloc::Global;
+use wasm_form::{Export, ExportDesc, Import, ImportDesc, Memory, Module, Text};
+
+// How many functions are imported.
+fn imported_functions(imports: &[Import]) -> u32
+    requires { length imports.now < 2 ^ 32 }
+    ensures { result ≡ length (imports_of functions_in imports.now) }
+{
+    let mut count = 0;
+    for import in imports {
+        match import.desc {
+            ImportDesc::Func(_) => count += 1,
+            ImportDesc::Table(_) | ImportDesc::Space(_) | ImportDesc::Global(_) => {}
+        }
+    }
+    count
+}
+
+fn imported_globals(imports: &[Import]) -> u32
+    requires { length imports.now < 2 ^ 32 }
+    ensures { result ≡ length (imports_of globals_in imports.now) }
+{
+    let mut count = 0;
+    for import in imports {
+        match import.desc {
+            ImportDesc::Global(_) => count += 1,
+            ImportDesc::Table(_) | ImportDesc::Space(_) | ImportDesc::Func(_) => {}
+        }
+    }
+    count
+}
+
+fn is_reserved(name: &str) -> bool
+    ensures { result ≡ defined.is_one_of name.now defined.reserved_names }
+{
+    match name {
+        "__wasm_apply_data_relocs"
+        | "__wasm_call_ctors"
+        | "__dso_handle"
+        | "_start"
+        | "_initialize" => true,
+        _ => false,
+    }
+}
+
+// How many functions and globals are imported.
+#[derive(Clone, Copy)]
+pub(crate) struct Imported {
+    functions: u32,
+    globals: u32,
+}
+
+fn own_function(m: &Module, imported: Imported, f: u32) -> Option<u32>
+    requires counted { Counts m.now imported }
+    ensures { result ≡ defined.own_only m.now f }
+{
+    if f < imported.functions {
+        return None;
+    }
+    let place = (f - imported.functions) as usize;
+    if place < m.funcs.items().len() {
+        Some(f)
+    } else {
+        None
+    }
+}
+
+// What a global of the module's own defines a name as, by its place among these.
+fn data_at(m: &Module, place: u32) -> Option<Symbol>
+    requires { IsTrue (list_all (global_fits m.now) m.now.globals) }
+    ensures { maybe_symbol result ≡ data_at m.now place }
+{
+    match m.globals.items().get(place as usize) {
+        Some(global) => data_symbol(m, global),
+        None => None,
+    }
+}
+
+fn own_global(m: &Module, imported: Imported, g: u32) -> Option<Symbol>
+    requires counted { Counts m.now imported }
+    requires fit { IsTrue (list_all (global_fits m.now) m.now.globals) }
+    ensures { maybe_symbol result ≡ own_data m.now g }
+{
+    if g < imported.globals {
+        return None;
+    }
+    data_at(m, g - imported.globals)
+}
+
+fn desc_symbol(m: &Module, imported: Imported, desc: ExportDesc) -> Option<Symbol>
+    requires counted { Counts m.now imported }
+    requires fit { IsTrue (list_all (global_fits m.now) m.now.globals) }
+    ensures { maybe_symbol result ≡ defined.desc_symbol m.now desc }
+{
+    match desc {
+        ExportDesc::Func(f) => match own_function(m, imported, f) {
+            Some(own) => Some(Symbol::Function(own)),
+            None => None,
+        },
+        ExportDesc::Table(_) | ExportDesc::Space(_) => None,
+        ExportDesc::Global(g) => own_global(m, imported, g),
+    }
+}
+
+fn export_symbol(m: &Module, imported: Imported, e: &Export) -> Option<Symbol>
+    requires counted { Counts m.now imported }
+    requires fit { IsTrue (list_all (global_fits m.now) m.now.globals) }
+    ensures { maybe_symbol result ≡ defined.export_symbol m.now e.now }
+{
+    if is_reserved(e.name.as_str()) {
+        return None;
+    }
+    desc_symbol(m, imported, e.desc)
+}
+
+// A name and what it is defined as, by a copy of the name.
+fn definition(alloc: Global, name: &str, symbol: Symbol) -> Result<Definition, Memory>
+    ensures { IfOk result (λ d. definition_value d ≡ (name.now, symbol_value symbol)) }
+{
+    let mut copy = String::new(alloc);
+    copy.push_str(name)?;
+    Ok(Definition {
+        name: Text::of(copy),
+        symbol,
+    })
+}
+
+fn define_export(
+    alloc: Global,
+    definitions: &mut Vec<Definition>,
+    m: &Module,
+    imported: Imported,
+    e: &Export,
+) -> Result<(), Memory>
+    requires counted { Counts m.now imported }
+    requires fit { IsTrue (list_all (global_fits m.now) m.now.globals) }
+    ensures { OnOk result (map definition_value definitions.new.items ≡ map definition_value definitions.old.items ++ defined_as e.now.name (defined.export_symbol m.now e.now)) }
+{
+    match export_symbol(m, imported, e) {
+        Some(symbol) => {
+            let d = definition(alloc, e.name.as_str(), symbol)?;
+            definitions.push(d)?;
+            Ok(())
+        }
+        None => Ok(()),
+    }
+}
+
+// What the exports of a module define, in order.
+pub(crate) fn definitions_of(alloc: Global, m: &Module) -> Result<Vec<Definition>, Memory>
+    requires few { length m.now.imports < 2 ^ 32 }
+    requires fit { IsTrue (list_all (global_fits m.now) m.now.globals) }
+    ensures { IfOk result (λ definitions. map definition_value definitions.items ≡ defined_in m.now m.now.exports) }
+{
+    let imported = Imported {
+        functions: imported_functions(m.imports.items()),
+        globals: imported_globals(m.imports.items()),
+    };
+    let mut definitions = Vec::new(alloc);
+    for e in m.exports.items() {
+        define_export(alloc, &mut definitions, m, imported, e)?;
+    }
+    Ok(definitions)
+}

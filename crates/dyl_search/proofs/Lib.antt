@@ -1,0 +1,12 @@
+mod Known
+mod Loading
+mod Slashes
+mod Origins
+mod Finding
+mod NextFile
+mod NextMember
+mod Beginning
+mod GatheredSet
+mod Closures
+mod Whole
+mod Only

@@ -1,0 +1,30 @@
+use Rattle.std.proofs.Common.{ap, subst, length, Err, List, ℕ}
+use Rattle.dyl_search.specs.Loaded.{IsLoaded, IsModule, Holds}
+use Rattle.std.proofs.lemmas.Result.{err_from_is_err_and}
+use Rattle.dyl_search.proofs.NextMember.{no_member, stands_more}
+use Rattle.dyl_search.proofs.Whole.{loaded_whole, search_whole}
+use Rattle.dyl_search.proofs.step.step.Goals as goal
+
+pub returns-in_err-loaded-clause-stops : goal.returns-in_err-loaded-clause-stops
+returns-in_err-loaded-clause-stops g c =
+    let p = err_from_is_err_and c.from_residual-in_err-loaded.result c.from_residual-in_err-loaded.ensures.1 in
+    let P : List ℕ → Type 0 = λ bytes. IsLoaded (length c.as_slice.result.now) bytes (Err c.in_err-loaded.field-0.0) in
+    rw (p.1, p.2) (no_member (g.F.Files.seen c.args.files.now).told c.args.o.now c.args.g.now c.requires.stands c.in_ok-found.found c.in_ok-found.ensures.found
+    (length c.as_slice.result.now) c.in_err-loaded.field-0.0 (ap length c.as_slice.ensures.value) (subst P c.as_slice-2.ensures.value c.in_err-loaded.ensures))
+
+pub returns-clause-stands : goal.returns-clause-stands
+returns-clause-stands g c =
+    let P : List ℕ → Type 0 = λ bytes. Holds bytes (λ wasm. IsModule wasm c.in_ok-loaded.loaded) in
+    stands_more (g.F.Files.seen c.args.files.now).told c.args.o.now c.args.g.now c.requires.stands c.in_ok-found.found c.in_ok-found.ensures.found c.in_ok-loaded.loaded (subst P c.as_slice-2.ensures.value c.in_ok-loaded.ensures)
+    (length c.as_slice.result.now) c.in_ok-member.member c.add_member.new.g c.next_member.new.names (ap length c.as_slice.ensures.value) c.in_ok-member.ensures.made c.in_ok-member.ensures.known
+    c.in_ok-add_member.ensures.members c.in_ok-add_member.ensures.names c.in_ok-add_member.ensures.total
+
+pub returns-in_err-loaded-clause-whole : goal.returns-in_err-loaded-clause-whole
+returns-in_err-loaded-clause-whole g c =
+    let p = err_from_is_err_and c.from_residual-in_err-loaded.result c.from_residual-in_err-loaded.ensures.1 in
+    rw (p.1, p.2) (loaded_whole (length c.as_slice.result.now) c.as_slice-2.result.now c.in_err-loaded.field-0.0 c.in_err-loaded.ensures)
+
+pub returns-in_err-found-clause-whole : goal.returns-in_err-found-clause-whole
+returns-in_err-found-clause-whole g c =
+    let p = err_from_is_err_and c.from_residual.result c.from_residual.ensures.1 in
+    rw (p.1, p.2) (search_whole c.in_err-found.field-0.0 c.in_err-found.ensures.fault)

@@ -1,0 +1,18 @@
+//! The closed set of a main module, gathered from files (DynamicLinking.md of the WebAssembly tool conventions).
+#![tactic(auto)]
+
+mod copies;
+mod find;
+mod gathered;
+mod load;
+mod names;
+mod next;
+mod paths;
+mod progress;
+mod set;
+mod startup;
+mod step;
+
+pub use gathered::gather;
+pub use set::{ClosedSet, Member, SetOptions};
+pub use spec_linking::SetFault;

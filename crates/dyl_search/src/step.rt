@@ -1,0 +1,109 @@
+// One member more.
+ghost use Rattle.std.specs.Prelude.{◌≡◌, ◌≤◌, ◌<◌, ◌+◌, ◌∷◌, ◌++◌, [], ℕ, List, map, take, length, IfOk, IfErr, OnOk, Ok, Err};
+ghost use Rattle.std.specs.Option.{ForSome};
+ghost use Rattle.std.specs.FinMap.{get};
+ghost use Rattle.dyl_outside.specs.Faults.{Rises};
+ghost use Rattle.spec_linking.specs.Wanted.{with_names, with_one_of, with_later, number_of};
+ghost use Rattle.dyl_search.specs.Found.{Leaves};
+ghost use Rattle.dyl_search.specs.Gathers.{options_of, members_of, Stands, IsNextFile, Stops, IsWhole};
+ghost use Rattle.dyl_search.specs.Steps.{IsMade};
+ghost use Rattle.spec_linking.specs.declared.fault.SetFault.TheVariants as faults;
+
+use crate::copies::owned;
+use crate::find::Found;
+use crate::load::{Loaded, load};
+use crate::names::Names;
+use crate::next::find_next;
+use crate::progress::Progress;
+use crate::set::{Member, SetOptions};
+use dyl_outside::Files;
+use spec_linking::SetFault;
+use std::alloc::Global;
+use wasm_form::{List as Listing, Memory, Text};
+
+// The numbers of the names that a member needs, of which those without a number get the next ones.
+fn number_names(
+    alloc: Global,
+    names: &mut Names,
+    needed_by: u32,
+    needed: &[Text],
+) -> Result<Vec<u32>, Memory>
+    ensures known { OnOk result (names.new ≡ with_names needed_by names.old needed.now) }
+    ensures numbers { IfOk result (λ v. v.items ≡ map (number_of names.new) needed.now) }
+{
+    let mut numbers = Vec::new(alloc);
+    for name in needed {
+        let number = names.number(alloc, name.as_str(), needed_by)?;
+        numbers.push(number)?;
+    }
+    Ok(numbers)
+}
+
+// The member whose file is found next. The names that it needs get numbers.
+fn next_member(
+    alloc: Global,
+    names: &mut Names,
+    number: u32,
+    found: Found,
+    loaded: Loaded,
+) -> Result<Member, Memory>
+    requires more { number < length names.old }
+    requires few_bytes { length found.bytes.items ≤ 16777216 }
+    ensures made { IfOk result (IsMade names.old number found loaded) }
+    ensures known { OnOk result (names.new ≡ with_names number names.old loaded.dylink.needed) }
+{
+    let Some((name, _)) = names.get(number as usize) else {
+        unreachable!()
+    };
+    let name = owned(alloc, name)?;
+    let size = found.bytes.as_slice().len() as u32;
+    let needed = number_names(alloc, names, number, loaded.dylink.needed.items())?;
+    Ok(Member {
+        name: Text::of(name),
+        path: found.path,
+        size,
+        dylink: loaded.dylink,
+        checked: loaded.checked,
+        needed: Listing::of(needed),
+    })
+}
+
+// A member is added. Where no name is left to be found, one of those to be opened later gets the next number.
+fn add_member(alloc: Global, o: &SetOptions, g: &mut Progress, member: Member) -> Result<(), Memory>
+    requires few { length g.old.members.items < 256 }
+    requires few_bytes { g.old.total + member.size ≤ 16777216 }
+    ensures members { OnOk result (g.new.members.items ≡ g.old.members.items ++ member ∷ []) }
+    ensures names { OnOk result (g.new.names ≡ with_later (options_of o.now) (length g.old.members.items + 1) g.old.names) }
+    ensures total { OnOk result (g.new.total ≡ g.old.total + member.size) }
+{
+    g.total += member.size as usize;
+    g.members.push(member)?;
+    if g.names.len() == g.members.as_slice().len() {
+        g.names.add_one_of(alloc, o.dl.items())?;
+    }
+    Ok(())
+}
+
+// The member that is found next.
+pub fn step<F: Files>(
+    alloc: Global,
+    files: &mut F,
+    o: &SetOptions,
+    g: &mut Progress,
+) -> Result<(), SetFault>
+    requires stands { Stands (F.seen files.old).told o.now g.old }
+    requires more { length g.old.members.items < length g.old.names }
+    ensures stands { OnOk result (Stands (F.seen files.old).told o.now g.new) }
+    ensures one_more { OnOk result (length g.new.members.items ≡ length g.old.members.items + 1) }
+    ensures stops { IfErr result (λ e. ForSome (F.seen files.old).told (λ m. Stops (get m) (options_of o.now) e)) }
+    ensures whole { IfErr result IsWhole }
+    ensures outside { Leaves result (F.seen files.old) (F.seen files.new) }
+    ensures absent { (name : List ℕ) → result ≡ Err (faults.Missing name) → Rises (F.seen files.old).absents (F.seen files.new).absents }
+{
+    let found = find_next(alloc, files, o, g)?;
+    let number = g.members.as_slice().len() as u32;
+    let loaded = load(alloc, number, found.bytes.as_slice())?;
+    let member = next_member(alloc, &mut g.names, number, found, loaded)?;
+    add_member(alloc, o, g, member)?;
+    Ok(())
+}
