@@ -2,7 +2,8 @@
 use Rattle.std.proofs.Common.{◌≡◌, ℕ, ◌≤◌, List, [], ◌∷◌, length, get_or, sym, ap, ◌∙◌, arith}
 use Rattle.std.specs.Prelude.{◌↔◌}
 use Rattle.wasm_form.specs.declared.module.Custom.{Custom}
-use Rattle.spec_binary.specs.SmallForm.{small_custom, dylink_name, no_memory_info}
+use Rattle.merge_whole.specs.SmallForm.{small_custom, no_memory_info}
+use Rattle.spec_linking.specs.Records.{dylink_name}
 
 only_one : (xs : List Custom) (x : Custom) → 1 ≤ length xs → length xs ≤ 1 → x ≡ get_or xs 0 x → xs ≡ x ∷ []
 only_one [] x h k e = absurd (omega arith)

@@ -2,10 +2,11 @@
 use Rattle.std.proofs.Common.{◌≡◌, ℕ, ◌<◌, List, length, Option, Some, None, Bool, true, false, if◌then◌else◌, refl, ◌∙◌}
 use Rattle.wasm_form.specs.declared.module.Module.{Module}
 use Rattle.spec_binary.specs.Options.{◌>>=◌}
-use Rattle.spec_binary.specs.SmallForm.{IsSmall}
-use Rattle.spec_binary.specs.Indices.{function_type, nullary_at, own_function}
-use Rattle.spec_validation.proofs.Small.{own_in_range}
-use Rattle.spec_linking.specs.Definitions.{start_name, main_function_name, entry_function, entry_of}
+use Rattle.merge_whole.specs.SmallForm.{IsSmall}
+use Rattle.spec_binary.specs.Indices.{function_type, nullary_at}
+use Rattle.spec_binary.specs.Exports.{own_function, start_name}
+use Rattle.merge_whole.proofs.SmallNumbers.{own_in_range}
+use Rattle.spec_linking.specs.Definitions.{main_function_name, entry_function, entry_of}
 
 kept : (m : Module) (o : Option ℕ) (f : ℕ) → (o >>= λ x. if nullary_at (function_type m x) then Some x else None) ≡ Some f → o ≡ Some f
 kept m None f e = absurd cc

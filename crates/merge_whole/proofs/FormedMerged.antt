@@ -12,7 +12,8 @@ use Rattle.wasm_form.specs.declared.module.Code.{Code}
 use Rattle.wasm_form.specs.declared.module.Module.{Module}
 use Rattle.spec_binary.specs.Operands.{control_operands}
 use Rattle.spec_binary.specs.Trees.{nesting_here, nesting_inside, nesting, nesting_all, every_here, every_inside, every, every_of}
-use Rattle.spec_binary.specs.SmallForm.{nullary, IsSmallCode}
+use Rattle.spec_binary.specs.Indices.{nullary}
+use Rattle.merge_whole.specs.SmallForm.{IsSmallCode}
 use Rattle.spec_binary.specs.WellFormed.{has_form, IsFormedType, IsFormedImport, IsFormedTable, IsFormedGlobal, IsFormedExport, IsFormedElem, IsFormedCode, IsFormedData, none, IsDataCounted, IsWellFormed}
 use Rattle.wasm_encode.specs.SectionSizes.{IsFirstTooLong}
 use Rattle.spec_loading.proofs.Rows.{texts_length}

@@ -1,10 +1,14 @@
+pub mod SmallShape
+pub mod SmallNumbers
+pub mod SmallValid
 pub mod Levels
 pub mod Entry
 pub mod Valid
-pub mod NoImports
 pub mod SmallMoves
 pub mod Matching
 pub mod Opening
+pub mod SmallSlots
+pub mod SmallLinks
 pub mod Startup
 pub mod Headline
 pub mod Seeing
@@ -14,4 +18,3 @@ pub mod Fits
 pub mod FormedMerged
 mod Names
 pub mod CustomTest
-pub mod Rows

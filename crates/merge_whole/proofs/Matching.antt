@@ -1,10 +1,10 @@
 -- A loaded set of one small module and its merged module make the same steps, once both have begun.
-use Rattle.std.proofs.Common.{◌≡◌, ℕ, List, [], ◌∷◌, ◌++◌, length, reverse, map, Option, Some, None, refl, sym, ap, ◌∙◌, subst, slice_get}
+use Rattle.std.proofs.Common.{◌≡◌, ℕ, if◌then◌else◌, List, [], ◌∷◌, ◌++◌, length, reverse, map, Option, Some, None, refl, sym, ap, ◌∙◌, subst, slice_get}
 use Rattle.std.specs.List.{All}
 use Rattle.wasm_form.specs.declared.types.FuncType.{FuncType}
 use Rattle.wasm_form.specs.declared.module.Module.{Module}
 use Rattle.wasm_form.specs.declared.runtime.Ref.{Ref}
-use Rattle.wasm_form.specs.declared.runtime.Ref.TheVariants.{Own}
+use Rattle.wasm_form.specs.declared.runtime.Ref.TheVariants.{Own, Host}
 use Rattle.wasm_runtime.specs.declared.Value.{Value}
 use Rattle.wasm_runtime.specs.declared.Value.TheVariants.{Num}
 use Rattle.wasm_runtime.specs.declared.Answer.{Answer}
@@ -12,8 +12,10 @@ use Rattle.wasm_runtime.specs.declared.Answer.TheVariants.{Reply, Exit}
 use Rattle.spec_runs.specs.Systems.{Trapped}
 use Rattle.spec_runs.specs.Agreement.{StepLaw}
 use Rattle.spec_binary.specs.Options.{◌>>=◌}
-use Rattle.spec_binary.specs.SmallForm.{IsSmallInstr, IsSmall}
+use Rattle.merge_whole.specs.SmallForm.{IsSmallInstr, IsSmall}
 use Rattle.spec_binary.specs.Indices.{Function, function_type, function_at}
+use Rattle.wasm_form.specs.declared.module.Export.{Export}
+use Rattle.wasm_form.specs.declared.module.Code.{Code}
 use Rattle.spec_runtime.specs.Memories.{MemoryInstance}
 use Rattle.spec_runtime.specs.Hosts.{all_written}
 use Rattle.spec_execution.specs.Values.{take_values}
@@ -22,11 +24,14 @@ use Rattle.spec_execution.specs.Runs.{Frame, Next, Goes, Asks, Loads, Ends, Trap
 use Rattle.spec_execution.specs.Runs as frames
 use Rattle.spec_execution.specs.Instances.{ModuleParts, module_hosts, module_view, module_target}
 use Rattle.spec_execution.specs.OneModule.{Starting, ModuleState, module_next, module_step, module_system}
-use Rattle.spec_linking.specs.Links.{LinkedSet}
+use Rattle.spec_runtime.specs.Names.{HostNames}
+use Rattle.spec_linking.specs.LinkedSets.{LinkedSet, set_hosts}
 use Rattle.spec_loading.specs.Phases.{LoaderFrame}
-use Rattle.spec_loading.specs.LoadedSet.{SetParts, SetState, set_hosts, set_view, set_step, set_system}
+use Rattle.spec_loading.specs.Members.{Store, set_view}
+use Rattle.spec_loading.specs.Loading.{LoadedState, with_run, comes_to, went, came_to}
+use Rattle.spec_loading.specs.LoadedSet.{SetState, set_loading, set_step, set_system}
 use Rattle.merge_whole.specs.MergedModule.{linked_alone, merged_alone}
-use Rattle.merge_whole.proofs.NoImports.{same_target, same_function}
+use Rattle.merge_whole.proofs.SmallShape.{small_of, not_imported}
 use Rattle.merge_whole.proofs.SmallMoves.{IsSmallActivation, IsSmallMove, move_small, body_small}
 
 -- ---- what matches, where n functions may be called
@@ -38,19 +43,19 @@ Same n (frames.Active a ∷ fs) (frames.Active b ∷ gs) = (a ≡ b) × IsSmallA
 Same n _ _ = ⊥
 
 pub record Matches (n : ℕ) (s : SetState) (t : ModuleState) : Type 0 where
-  pub memory : t.memory ≡ s.memory
-  pub status : t.status ≡ s.status
-  pub stacks : Same n s.stack t.stack
+  pub memory : t.memory ≡ s.run.memory
+  pub status : t.status ≡ s.run.status
+  pub stacks : Same n s.run.stack t.stack
 
 -- steps that come to the same
-abbrev Alike : ℕ → Next SetParts LoaderFrame → Next ModuleParts Starting → Type 0
+abbrev Alike : ℕ → Next Store LoaderFrame → Next ModuleParts Starting → Type 0
 Alike n (Goes us memory fs) (Goes vs other gs) = (other ≡ memory) × Same n fs gs
 Alike n Ends Ends = Unit {0}
 Alike n (Traps why) (Traps other) = other ≡ why
 Alike n _ _ = ⊥
 
 -- both have no step, or two that come to the same
-abbrev BothNext : ℕ → Option (Next SetParts LoaderFrame) → Option (Next ModuleParts Starting) → Type 0
+abbrev BothNext : ℕ → Option (Next Store LoaderFrame) → Option (Next ModuleParts Starting) → Type 0
 BothNext n None None = Unit {0}
 BothNext n (Some x) (Some y) = Alike n x y
 BothNext n None (Some y) = ⊥
@@ -71,7 +76,7 @@ given_same : (n : ℕ) (values : List Value) (a b : Activation) → a ≡ b → 
 given_same n values a b same small =
     (ap (λ (x : Activation). with_values x (values ++ x.values)) same, record { unit = small.unit; rest = small.rest; levels = small.levels })
 
-left_same : (n : ℕ) (us : SetParts) (vs : ModuleParts) (memory other : MemoryInstance) → other ≡ memory → (values : List Value) (fs : List (Frame LoaderFrame)) (gs : List (Frame Starting)) → Same n fs gs
+left_same : (n : ℕ) (us : Store) (vs : ModuleParts) (memory other : MemoryInstance) → other ≡ memory → (values : List Value) (fs : List (Frame LoaderFrame)) (gs : List (Frame Starting)) → Same n fs gs
     → Alike n (left_with us memory values fs) (left_with vs other values gs)
 left_same n us vs memory other is values [] [] same = tt
 left_same n us vs memory other is values [] (g ∷ gs) same = absurd same
@@ -80,8 +85,8 @@ left_same n us vs memory other is values (frames.Active a ∷ fs) (frames.Active
     (is, (given.0, given.1, same.2))
 left_same n us vs memory other is values (f ∷ fs) gs same = absurd same
 
-returned_same : (n : ℕ) (s : SetState) (t : ModuleState) → t.memory ≡ s.memory → (values : List Value) (fs : List (Frame LoaderFrame)) (gs : List (Frame Starting)) → Same n fs gs
-    → Matches n (returned s values fs) (returned t values gs)
+returned_same : (n : ℕ) (s : SetState) (t : ModuleState) → t.memory ≡ s.run.memory → (values : List Value) (fs : List (Frame LoaderFrame)) (gs : List (Frame Starting)) → Same n fs gs
+    → Matches n (with_run s (returned s.run values fs)) (returned t values gs)
 returned_same n s t memory values [] [] same = record { memory = memory; status = refl; stacks = tt }
 returned_same n s t memory values [] (g ∷ gs) same = absurd same
 returned_same n s t memory values (frames.Active a ∷ fs) (frames.Active b ∷ gs) same =
@@ -90,24 +95,27 @@ returned_same n s t memory values (frames.Active a ∷ fs) (frames.Active b ∷ 
 returned_same n s t memory values (f ∷ fs) gs same = absurd same
 
 -- what both take of the host
-pub answered_same : (n : ℕ) (s : SetState) (t : ModuleState) → Matches n s t → (answer : Answer) → Matches n (taken answer s) (taken answer t)
+pub answered_same : (n : ℕ) (s : SetState) (t : ModuleState) → Matches n s t → (answer : Answer) → Matches n (with_run s (taken answer s.run)) (taken answer t)
 answered_same n s t m (Reply results writes) =
-    returned_same n (record s { memory = all_written writes s.memory }) (record t { memory = all_written writes t.memory }) (ap (all_written writes) m.memory) (reverse (map Num results)) s.stack t.stack m.stacks
+    returned_same n (with_run s (record s.run { memory = all_written writes s.run.memory })) (record t { memory = all_written writes t.memory }) (ap (all_written writes) m.memory) (reverse (map Num results)) s.run.stack t.stack m.stacks
 answered_same n s t m (Exit code) = record { memory = m.memory; status = refl; stacks = tt }
 
 -- ---- the two runs
 
-module _ (name path : List ℕ) (size : ℕ) (wasm : Module) (small : IsSmall wasm) (entry : ℕ) where
+module _ (names : HostNames) (name path : List ℕ) (size : ℕ) (types : List FuncType) (funcs : List ℕ) (exports : List Export) (codes : List Code) (small : IsSmall (small_of types funcs exports codes)) (entry : ℕ) where
+  abbrev wasm : Module
+  wasm = small_of types funcs exports codes
+
   abbrev n : ℕ
-  n = length wasm.funcs
+  n = length funcs
 
   abbrev set : LinkedSet
-  set = linked_alone name path size wasm
+  set = linked_alone names name path size wasm
 
   abbrev merged : Module
   merged = merged_alone wasm entry
 
-  module _ (us : SetParts) (vs : ModuleParts) (memory other : MemoryInstance) (is : other ≡ memory) (fs : List (Frame LoaderFrame)) (gs : List (Frame Starting)) (same : Same n fs gs) (a : Activation) (runs : IsSmallActivation n a) where
+  module _ (us : Store) (vs : ModuleParts) (memory other : MemoryInstance) (is : other ≡ memory) (fs : List (Frame LoaderFrame)) (gs : List (Frame Starting)) (same : Same n fs gs) (a : Activation) (runs : IsSmallActivation n a) where
     taken_same : (f : ℕ) (x : Function) → All (IsSmallInstr n) x.body → (o : Option (List Value × List Value))
         → BothNext n (o >>= λ p. Some (Goes us memory (frames.Active (entered 0 f x p.0) ∷ calling a fs p.1))) (o >>= λ p. Some (Goes vs other (frames.Active (entered 0 f x p.0) ∷ calling a gs p.1)))
     taken_same f x body None = tt
@@ -119,9 +127,7 @@ module _ (name path : List ℕ) (size : ℕ) (wasm : Module) (small : IsSmall wa
     entered_same f (Some x) e = taken_same f x (body_small wasm small f x e) (take_values (reverse x.ty.params) a.values)
 
     function_same : (f : ℕ) → BothNext n (call (set_view set) us memory (calling a fs) a.values (Own 0 f)) (call (module_view merged) vs other (calling a gs) a.values (Own 0 f))
-    function_same f =
-        subst (λ (o : Option Function). BothNext n (function_at wasm f >>= call_own us memory (calling a fs) a.values 0 f) (o >>= call_own vs other (calling a gs) a.values 0 f)) (sym (same_function merged refl f))
-        (entered_same f (function_at wasm f) refl)
+    function_same f = entered_same f (function_at wasm f) refl
 
     called_same : (f : ℕ) (o : Option FuncType)
         → BothNext n (o >>= (λ ty. Some (Own 0 f)) >>= call (set_view set) us memory (calling a fs) a.values) (o >>= (λ ty. Some (Own 0 f)) >>= call (module_view merged) vs other (calling a gs) a.values)
@@ -132,12 +138,12 @@ module _ (name path : List ℕ) (size : ℕ) (wasm : Module) (small : IsSmall wa
     target_same : (f : ℕ) → BothNext n ((set_view set).target a.unit f >>= call (set_view set) us memory (calling a fs) a.values) (module_target merged f >>= call (module_view merged) vs other (calling a gs) a.values)
     target_same f =
         let here : (set_view set).target a.unit f ≡ (function_type wasm f >>= λ ty. Some (Own 0 f)) = ap (λ u. (set_view set).target u f) runs.unit in
-        let there : module_target merged f ≡ (function_type wasm f >>= λ ty. Some (Own 0 f)) = same_target merged refl f in
+        let there : module_target merged f ≡ (function_type wasm f >>= λ ty. Some (Own 0 f)) = ap (λ b. function_type wasm f >>= λ ty. Some (if b then Host f else Own 0 f)) (not_imported f) in
         subst (λ (o : Option Ref). BothNext n (o >>= call (set_view set) us memory (calling a fs) a.values) (module_target merged f >>= call (module_view merged) vs other (calling a gs) a.values)) (sym here)
         (subst (λ (o : Option Ref). BothNext n ((function_type wasm f >>= λ ty. Some (Own 0 f)) >>= call (set_view set) us memory (calling a fs) a.values) (o >>= call (module_view merged) vs other (calling a gs) a.values)) (sym there)
         (called_same f (function_type wasm f)))
 
-  module _ (us : SetParts) (vs : ModuleParts) (memory other : MemoryInstance) (is : other ≡ memory) (fs : List (Frame LoaderFrame)) (gs : List (Frame Starting)) (same : Same n fs gs) where
+  module _ (us : Store) (vs : ModuleParts) (memory other : MemoryInstance) (is : other ≡ memory) (fs : List (Frame LoaderFrame)) (gs : List (Frame Starting)) (same : Same n fs gs) where
     carried_same : (x : Move) → IsSmallMove n x → BothNext n (carried_out (set_view set) us memory fs x) (carried_out (module_view merged) vs other gs x)
     carried_same (On a) runs = (is, (refl, runs, same))
     carried_same (Calls f a) runs = target_same us vs memory other is fs gs same a runs f
@@ -148,28 +154,28 @@ module _ (name path : List ℕ) (size : ℕ) (wasm : Module) (small : IsSmall wa
     carried_same (Fails why) runs = refl
     carried_same Stuck runs = tt
 
-  became_alike : (s : SetState) (t : ModuleState) → t.memory ≡ s.memory → (x : Next SetParts LoaderFrame) (y : Next ModuleParts Starting) → Alike n x y → Paired n (became (set_hosts set) s x) (became (module_hosts merged) t y)
-  became_alike s t memory (Goes us own fs) (Goes vs other gs) alike = record { memory = alike.0; status = refl; stacks = alike.1 }
-  became_alike s t memory Ends Ends alike = record { memory = memory; status = refl; stacks = tt }
-  became_alike s t memory (Traps why) (Traps other) alike = record { memory = memory; status = ap Trapped alike; stacks = tt }
-  became_alike s t memory _ _ alike = absurd alike
+  went_alike : (s : SetState) (t : ModuleState) → t.memory ≡ s.run.memory → (x : Next Store LoaderFrame) (y : Next ModuleParts Starting) → Alike n x y → Paired n (went (set_loading set) s x) (became (module_hosts merged) t y)
+  went_alike s t memory (Goes us own fs) (Goes vs other gs) alike = record { memory = alike.0; status = refl; stacks = alike.1 }
+  went_alike s t memory Ends Ends alike = record { memory = memory; status = refl; stacks = tt }
+  went_alike s t memory (Traps why) (Traps other) alike = record { memory = memory; status = ap Trapped alike; stacks = tt }
+  went_alike s t memory _ _ alike = absurd alike
 
-  became_same : (s : SetState) (t : ModuleState) → t.memory ≡ s.memory → (o : Option (Next SetParts LoaderFrame)) (p : Option (Next ModuleParts Starting)) → BothNext n o p
-      → Paired n (o >>= became (set_hosts set) s) (p >>= became (module_hosts merged) t)
-  became_same s t memory None None both = tt
-  became_same s t memory (Some x) (Some y) both = became_alike s t memory x y both
-  became_same s t memory None (Some y) both = absurd both
-  became_same s t memory (Some x) None both = absurd both
+  came_same : (s : SetState) (t : ModuleState) → t.memory ≡ s.run.memory → (o : Option (Next Store LoaderFrame)) (p : Option (Next ModuleParts Starting)) → BothNext n o p
+      → Paired n (comes_to s o >>= λ x. came_to (set_loading set) x.state x.next) (p >>= became (module_hosts merged) t)
+  came_same s t memory None None both = tt
+  came_same s t memory (Some x) (Some y) both = went_alike s t memory x y both
+  came_same s t memory None (Some y) both = absurd both
+  came_same s t memory (Some x) None both = absurd both
 
-  step_same : (s : SetState) (t : ModuleState) → t.memory ≡ s.memory → (fs : List (Frame LoaderFrame)) (gs : List (Frame Starting)) → Same n fs gs
+  step_same : (s : SetState) (t : ModuleState) → t.memory ≡ s.run.memory → (fs : List (Frame LoaderFrame)) (gs : List (Frame Starting)) → Same n fs gs
       → Paired n (set_step set s fs) (module_next merged t gs >>= became (module_hosts merged) t)
   step_same s t memory [] [] same = tt
   step_same s t memory [] (g ∷ gs) same = absurd same
   step_same s t memory (frames.Active a ∷ fs) (frames.Active b ∷ gs) same =
-      let declared : (set_view set).declared a.unit ≡ slice_get wasm.types = ap (λ u. (set_view set).declared u) same.1.unit in
-      subst (λ (x : Activation). Paired n (carried_out (set_view set) s.units s.memory fs (move ((set_view set).declared a.unit) a) >>= became (set_hosts set) s) (carried_out (module_view merged) t.units t.memory gs (move (slice_get wasm.types) x) >>= became (module_hosts merged) t)) same.0
-      (subst (λ (types : ℕ → Option FuncType). Paired n (carried_out (set_view set) s.units s.memory fs (move types a) >>= became (set_hosts set) s) (carried_out (module_view merged) t.units t.memory gs (move (slice_get wasm.types) a) >>= became (module_hosts merged) t)) (sym declared)
-      (became_same s t memory _ _ (carried_same s.units t.units s.memory t.memory memory fs gs same.2 (move (slice_get wasm.types) a) (move_small n (slice_get wasm.types) a same.1))))
+      let declared : (set_view set).declared a.unit ≡ slice_get types = ap (λ u. (set_view set).declared u) same.1.unit in
+      subst (λ (x : Activation). Paired n (comes_to s (carried_out (set_view set) s.run.units s.run.memory fs (move ((set_view set).declared a.unit) a)) >>= λ y. came_to (set_loading set) y.state y.next) (carried_out (module_view merged) t.units t.memory gs (move (slice_get types) x) >>= became (module_hosts merged) t)) same.0
+      (subst (λ (ts : ℕ → Option FuncType). Paired n (comes_to s (carried_out (set_view set) s.run.units s.run.memory fs (move ts a)) >>= λ y. came_to (set_loading set) y.state y.next) (carried_out (module_view merged) t.units t.memory gs (move (slice_get types) a) >>= became (module_hosts merged) t)) (sym declared)
+      (came_same s t memory _ _ (carried_same s.run.units t.units s.run.memory t.memory memory fs gs same.2 (move (slice_get types) a) (move_small n (slice_get types) a same.1))))
   step_same s t memory (f ∷ fs) gs same = absurd same
 
   stepped : (s : SetState) (o : Option SetState) (p : Option ModuleState) → Paired n o p → o ≡ Some s → (t : ModuleState) × (p ≡ Some t) × Matches n s t
@@ -182,8 +188,8 @@ module _ (name path : List ℕ) (size : ℕ) (wasm : Module) (small : IsSmall wa
   halted None (Some t) m e = absurd m
   halted (Some s) p m e = absurd cc
 
-  paired : (s : SetState) (t : ModuleState) → Matches n s t → Paired n (set_step set s s.stack) (module_step merged t)
-  paired s t m = step_same s t m.memory s.stack t.stack m.stacks
+  paired : (s : SetState) (t : ModuleState) → Matches n s t → Paired n (set_step set s s.run.stack) (module_step merged t)
+  paired s t m = step_same s t m.memory s.run.stack t.stack m.stacks
 
   pub one_step : StepLaw (set_system set) (module_system merged) (Matches n)
   one_step = record {

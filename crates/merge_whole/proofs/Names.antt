@@ -1,7 +1,7 @@
 -- The export names of a module without a fault are told once.
 use Rattle.std.proofs.Common.{◌≡◌, map, None}
 use Rattle.wasm_form.specs.declared.module.Module.{Module}
-use Rattle.spec_binary.specs.SmallForm.{AllDistinct, name_of}
+use Rattle.spec_binary.specs.Exports.{AllDistinct, name_of}
 use Rattle.spec_validation.specs.Faults.{fault}
 use Rattle.spec_validation.proofs.Names.{tested_distinct}
 use Rattle.spec_validation.proofs.Parts.{parts_fit}

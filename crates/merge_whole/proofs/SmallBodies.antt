@@ -11,8 +11,8 @@ use Rattle.spec_binary.specs.Trees.{nesting_here, nesting_inside, nesting, nesti
 use Rattle.spec_binary.specs.BodyLimits.{IsWithinLimits}
 use Rattle.spec_binary.specs.Modules.{SpellsModule}
 use Rattle.spec_binary.specs.WellFormed.{names_no_data, IsDataCounted, CountsAgree}
-use Rattle.spec_binary.specs.Answers.{Answers, spelled}
-use Rattle.spec_binary.specs.SmallForm.{IsSmallStep, IsSmallInstr, IsSmallCode, IsSmall}
+use Rattle.spec_binary.specs.DecodeAnswers.{DecodeAnswer, spelled}
+use Rattle.merge_whole.specs.SmallForm.{IsSmallStep, IsSmallInstr, IsSmallCode, IsSmall}
 
 -- the same instruction, from its one level
 rolled : (i : Instr) (x : Open.Instr-F Instr Expr) → out-Instr i ≡ x → i ≡ roll-Instr x
@@ -80,5 +80,5 @@ small_counts m small = record {
 }
 
 -- what bytes of a small module answer
-pub small_answer : (m : Module) (bytes : List ℕ) → SpellsModule m bytes → IsSmall m → Answers bytes (Ok m)
+pub small_answer : (m : Module) (bytes : List ℕ) → SpellsModule m bytes → IsSmall m → DecodeAnswer bytes (Ok m)
 small_answer m bytes s small = spelled s (All-weaker (IsSmallCode (length m.funcs)) IsWithinLimits (code_within (length m.funcs)) m.codes small.codes) (small_counts m small)

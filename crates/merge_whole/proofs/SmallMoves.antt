@@ -1,5 +1,5 @@
 -- Small code goes on, calls functions of its unit, returns or traps, and does nothing else.
-use Rattle.std.proofs.Common.{◌≡◌, ℕ, zero, suc, List, [], ◌∷◌, length, Option, Some, None, Bool, true, false, if◌then◌else◌, refl, sym, subst, arith, nat_eq, slice_get}
+use Rattle.std.proofs.Common.{◌≡◌, ℕ, zero, suc, List, [], ◌∷◌, length, Option, Some, None, Bool, true, false, if◌then◌else◌, refl, sym, ◌∙◌, subst, arith, nat_eq, slice_get}
 use Rattle.std.specs.List.{All}
 use Rattle.std.proofs.lemmas.List.Elements.{All-head, All-tail}
 use Rattle.wasm_form.specs.declared.types.FuncType.{FuncType}
@@ -10,10 +10,11 @@ use Rattle.wasm_form.specs.declared.module.Code.{Code}
 use Rattle.wasm_form.specs.declared.module.Module.{Module}
 use Rattle.wasm_opcode.specs.Index.{index_form}
 use Rattle.spec_binary.specs.Options.{◌>>=◌}
-use Rattle.spec_binary.specs.SmallForm.{IsSmallStep, IsSmallInstr, IsSmallCode, IsSmall}
+use Rattle.merge_whole.specs.SmallForm.{IsSmallStep, IsSmallInstr, IsSmallCode, IsSmall}
 use Rattle.spec_binary.specs.Indices.{Function, function_type, function_with, function_at}
 use Rattle.spec_execution.specs.Activations.{Level, Activation, Move, On, Calls, CallsEntry, Refers, Does, Leaves, Fails, Stuck, index_move, instr_move, end_move, code_move, move}
-use Rattle.spec_validation.proofs.Small.{holds_at}
+use Rattle.spec_binary.proofs.Lists.{holds_at}
+use Rattle.merge_whole.proofs.SmallShape.{own_at}
 
 -- an activation of unit 0 that runs small code, with no block open
 pub record IsSmallActivation (n : ℕ) (a : Activation) : Type 0 where
@@ -64,6 +65,9 @@ body_small m small f x e = go (slice_get m.codes f) refl
     typed c is None e = absurd cc
     typed c is (Some ty) e = let same : function_with ty c ≡ x = cc in subst (λ (y : Function). All (IsSmallInstr (length m.funcs)) y.body) same is.body
 
+    own : (slice_get m.codes f >>= λ c. function_type m f >>= λ ty. Some (function_with ty c)) ≡ Some x
+    own = sym (own_at m small.imports f) ∙ e
+
     go : (o : Option Code) → slice_get m.codes f ≡ o → All (IsSmallInstr (length m.funcs)) x.body
-    go None there = absurd (let none = rw there at e in cc)
-    go (Some c) there = typed c (holds_at (IsSmallCode (length m.funcs)) m.codes f c small.codes there) (function_type m f) (rw there at e)
+    go None there = absurd (let none = rw there at own in cc)
+    go (Some c) there = typed c (holds_at (IsSmallCode (length m.funcs)) m.codes f c small.codes there) (function_type m f) (rw there at own)

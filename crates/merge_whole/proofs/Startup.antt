@@ -1,39 +1,40 @@
 -- The loaded set of one small module makes five silent steps: four tasks, and the call of the entry.
-use Rattle.std.proofs.Common.{◌≡◌, ℕ, ◌+◌, ◌≤◌, List, [], ◌∷◌, length, map, Option, Some, None, Bool, true, false, if◌then◌else◌, refl, ap, ◌∙◌, arith, nat_lt, slice_set}
-use Rattle.std.proofs.lemmas.Bool.{lt-ltb}
-use Rattle.std.proofs.lemmas.List.{length-replicate, length-map, length-set, length-append}
+use Rattle.std.proofs.Common.{◌≡◌, ℕ, ◌+◌, ◌≤◌, List, [], ◌∷◌, ◌++◌, length, map, take, drop, Option, Some, None, Bool, true, false, if◌then◌else◌, refl, sym, ap, ◌∙◌, arith, nat_le, max}
+use Rattle.std.specs.Prelude.{filter}
+use Rattle.std.proofs.lemmas.Bool.{le-leb}
+use Rattle.std.proofs.lemmas.List.{length-replicate, length-map, length-append, length-take, length-drop}
+use Rattle.wasm_form.specs.declared.types.FuncType.{FuncType}
+use Rattle.wasm_form.specs.declared.module.Export.{Export}
+use Rattle.wasm_form.specs.declared.module.Code.{Code}
 use Rattle.wasm_form.specs.declared.module.Module.{Module}
 use Rattle.wasm_form.specs.declared.runtime.Ref.{Ref}
 use Rattle.wasm_form.specs.declared.runtime.Ref.TheVariants.{Own}
 use Rattle.spec_runs.specs.Systems.{Moving}
 use Rattle.spec_runs.specs.Agreement.{Silent}
 use Rattle.spec_binary.specs.Options.{◌>>=◌}
-use Rattle.spec_binary.specs.SmallForm.{nullary, IsSmall, constructors_name}
-use Rattle.spec_binary.specs.Indices.{Function, function_with, own_function}
-use Rattle.spec_runtime.specs.Tables.{TableInstance, nulls, new_table}
-use Rattle.spec_execution.specs.Runs.{Frame, entered, call_own, call, became}
+use Rattle.spec_binary.specs.Indices.{nullary, Function, function_with}
+use Rattle.spec_binary.specs.Exports.{constructors_name, own_function}
+use Rattle.spec_runtime.specs.Names.{HostNames}
+use Rattle.spec_runtime.specs.Tables.{TableInstance, nulls, entries_overwritten, entries_written}
+use Rattle.spec_execution.specs.Runs.{Frame, entered, call_own}
 use Rattle.spec_execution.specs.Runs as frames
 use Rattle.spec_linking.specs.Definitions.{entry_of, enters_at_start}
-use Rattle.spec_linking.specs.Plans.{default_link}
-use Rattle.spec_linking.specs.Slots.{defined_functions, table_growth, table_entries}
-use Rattle.spec_linking.specs.Links.{LinkedSet}
-use Rattle.spec_loading.specs.Phases.{Phase, Start, Relocate, Construct, Task, CallEntry, LoaderFrame, phase_function}
-use Rattle.spec_loading.specs.LoadedSet.{SetState, set_hosts, set_view, set_step, set_system, set_opening, slots_written, place_with, call_with, raised}
-use Rattle.merge_whole.specs.MergedModule.{set_alone, linked_alone, slots_of}
-use Rattle.spec_validation.proofs.Small.{no_relocations, no_constructors}
+use Rattle.spec_linking.specs.Slots.{defined_functions, fresh_of, fresh_functions}
+use Rattle.spec_linking.specs.LinkedSets.{LinkedSet}
+use Rattle.spec_loading.specs.declared.task.Phase.{Phase}
+use Rattle.spec_loading.specs.declared.task.Phase.TheVariants.{Start, Relocate, Construct}
+use Rattle.spec_loading.specs.declared.task.Task.{Task}
+use Rattle.spec_loading.specs.declared.task.After.TheVariants.{CallEntry}
+use Rattle.spec_loading.specs.Phases.{LoaderFrame, phase_function}
+use Rattle.spec_loading.specs.Members.{Store, opening_table, opening_store}
+use Rattle.spec_loading.specs.Loading.{comes_to, call_next, place_next, raised, came_to}
+use Rattle.spec_loading.specs.LoadedSet.{SetState, with_slots, slots_after, callee_of, set_loading, set_step, set_system, set_opening, own_functions}
+use Rattle.merge_whole.specs.MergedModule.{linked_alone, slots_of}
+use Rattle.merge_whole.specs.SmallForm.{IsSmall}
+use Rattle.merge_whole.proofs.SmallNumbers.{no_relocations, no_constructors}
+use Rattle.merge_whole.proofs.SmallShape.{small_of}
+use Rattle.merge_whole.proofs.SmallSlots.{fresh_small, entries_small}
 use Rattle.merge_whole.proofs.Opening.{text_memory, entry_code, entry_function_is}
-
--- functions can be written to slots that are within the table
-slots_fit : (i : ℕ) (rs : List Ref) (t : TableInstance) → i + length rs ≤ length t.entries → (u : TableInstance) × (slots_written i rs t ≡ Some u)
-slots_fit i [] t le = (t, refl)
-slots_fit i (r ∷ rs) t le =
-    let here : nat_lt i (length t.entries) ≡ true = lt-ltb i (length t.entries) (omega arith) in
-    let more = slots_fit (i + 1) rs (record t { entries = slice_set t.entries i (Some r) }) (omega (arith, length-set t.entries i (Some r))) in
-    (more.0, rw here more.1)
-
-length-nulls : (n : ℕ) → length (nulls n) ≡ n
-unfolding nulls
-length-nulls n = length-replicate {A = Option Ref} n None
 
 -- main's constructors are not called by the loader
 no_construct : (m : Module) → IsSmall m → phase_function Construct 0 m ≡ None
@@ -43,62 +44,80 @@ no_construct m small = go (enters_at_start m)
     go true = refl
     go false = no_constructors m small
 
-module _ (name path : List ℕ) (size : ℕ) (wasm : Module) (entry : ℕ) (small : IsSmall wasm) (is : entry_of wasm ≡ Some entry) where
+module _ (names : HostNames) (name path : List ℕ) (size : ℕ) (types : List FuncType) (funcs : List ℕ) (exports : List Export) (codes : List Code) (entry : ℕ) (small : IsSmall (small_of types funcs exports codes)) (is : entry_of (small_of types funcs exports codes) ≡ Some entry) where
+  abbrev wasm : Module
+  wasm = small_of types funcs exports codes
+
   abbrev L : LinkedSet
-  L = linked_alone name path size wasm
+  L = linked_alone names name path size wasm
 
   abbrev pub opening : SetState
   opening = set_opening L
 
-  abbrev first_table : TableInstance
-  first_table = new_table (slots_of wasm) (slots_of wasm + table_growth)
+  abbrev own_slots : List (Option Ref)
+  own_slots = map Some (own_functions L 0)
 
-  abbrev own_slots : List Ref
-  own_slots = map (Own 0) (defined_functions wasm.exports)
+  -- the slots are within the table
+  slots_fit : nat_le (1 + 0 + length own_slots) (length (opening_table L).entries) ≡ true
+  slots_fit =
+      le-leb _ _ (omega (arith, length-map (own_functions L 0) Some, length-map (fresh_of L 0) (Own 0), ap length (fresh_small names name path size types funcs exports codes), entries_small names name path size types funcs exports codes))
 
-  pub own_slots_fit : (u : TableInstance) × (slots_written 1 own_slots first_table ≡ Some u)
-  own_slots_fit = slots_fit 1 own_slots first_table (omega (arith, length-nulls (slots_of wasm), length-map (defined_functions wasm.exports) (Own 0)))
+  abbrev filled : TableInstance
+  filled = record (opening_table L) { entries = entries_overwritten (opening_table L).entries 1 own_slots }
 
-  slots_count : table_entries (set_alone name path size wasm) default_link ≡ slots_of wasm
-  slots_count = omega (arith, length-append own_slots [], length-map (defined_functions wasm.exports) (Own 0))
+  slots_are_written : entries_written (opening_table L) 1 own_slots ≡ Some filled
+  slots_are_written = rw slots_fit refl
+
+  abbrev store : Store
+  store = record (opening_store L) { tables = filled ∷ [] }
 
   abbrev later : Phase → Task
   later phase = record { phase = phase; member = 0 }
 
-  -- the loader has come so far
-  abbrev stage : ℕ → List Task → SetState
-  stage n tasks = record {
-    units = record { stages = n ∷ []; table = own_slots_fit.0 };
-    memory = text_memory;
-    stack = frames.Marked (record { tasks = tasks; after = CallEntry }) ∷ [];
-    status = Moving;
-  }
-
   abbrev frame : List Task → List (Frame LoaderFrame)
   frame tasks = frames.Marked (record { tasks = tasks; after = CallEntry }) ∷ []
 
-  placed : set_step L opening opening.stack ≡ Some (stage 1 (later Start ∷ later Relocate ∷ later Construct ∷ []))
-  placed =
-      ap (λ n. Some (place_with (raised opening 0 1) (frame (later Start ∷ later Relocate ∷ later Construct ∷ [])) (slots_written 1 own_slots (new_table n (n + table_growth))))) slots_count
-      ∙ ap (λ o. Some (place_with (raised opening 0 1) (frame (later Start ∷ later Relocate ∷ later Construct ∷ [])) o)) own_slots_fit.1
+  -- the loader has come so far
+  abbrev stage : ℕ → List Task → SetState
+  stage n tasks = record {
+    loader = record { stages = n ∷ []; error = 0 };
+    run = record { units = store; memory = text_memory; stack = frame tasks; status = Moving };
+  }
 
-  started : set_step L (stage 1 (later Start ∷ later Relocate ∷ later Construct ∷ [])) (frame (later Start ∷ later Relocate ∷ later Construct ∷ [])) ≡ Some (stage 2 (later Relocate ∷ later Construct ∷ []))
-  started = ap (call_with L (raised (stage 1 (later Start ∷ later Relocate ∷ later Construct ∷ [])) 0 2) (frame (later Relocate ∷ later Construct ∷ [])) 0) small.start
+  abbrev after_place : List Task
+  after_place = later Start ∷ later Relocate ∷ later Construct ∷ []
+
+  placed : set_step L opening opening.run.stack ≡ Some (stage 1 after_place)
+  placed =
+      ap (λ (o : Option TableInstance). (Some (with_slots (opening_store L) text_memory o) >>= place_next (raised opening 0 1) (frame after_place)) >>= λ x. came_to (set_loading L) x.state x.next) slots_are_written
+
+  -- a phase that calls nothing
+  passed : (n : ℕ) (phase : Phase) (tasks : List Task) → phase_function phase 0 wasm ≡ None
+      → (callee_of L 0 (phase_function phase 0 wasm) >>= call_next (set_loading L) (raised (stage n (later phase ∷ tasks)) 0 (n + 1)) (frame tasks) >>= λ x. came_to (set_loading L) x.state x.next)
+      ≡ Some (record (raised (stage n (later phase ∷ tasks)) 0 (n + 1)) { run = record (stage n tasks).run { stack = frame tasks } })
+  passed n phase tasks none =
+      ap (λ o. callee_of L 0 o >>= call_next (set_loading L) (raised (stage n (later phase ∷ tasks)) 0 (n + 1)) (frame tasks) >>= λ x. came_to (set_loading L) x.state x.next) none
+
+  started : set_step L (stage 1 after_place) (frame after_place) ≡ Some (stage 2 (later Relocate ∷ later Construct ∷ []))
+  started = passed 1 Start (later Relocate ∷ later Construct ∷ []) refl
 
   relocated : set_step L (stage 2 (later Relocate ∷ later Construct ∷ [])) (frame (later Relocate ∷ later Construct ∷ [])) ≡ Some (stage 3 (later Construct ∷ []))
-  relocated = ap (call_with L (raised (stage 2 (later Relocate ∷ later Construct ∷ [])) 0 3) (frame (later Construct ∷ [])) 0) (no_relocations wasm small)
+  relocated = passed 2 Relocate (later Construct ∷ []) (no_relocations wasm small)
 
   constructed : set_step L (stage 3 (later Construct ∷ [])) (frame (later Construct ∷ [])) ≡ Some (stage 4 [])
-  constructed = ap (call_with L (raised (stage 3 (later Construct ∷ [])) 0 4) (frame []) 0) (no_construct wasm small)
+  constructed = passed 3 Construct [] (no_construct wasm small)
 
   -- the entry runs
   abbrev pub begun : SetState
-  begun = record (stage 4 []) { stack = frames.Active (entered 0 entry (function_with nullary (entry_code wasm entry small is)) []) ∷ [] }
+  begun = record (stage 4 []) { run = record (stage 4 []).run { stack = frames.Active (entered 0 entry (function_with nullary (entry_code types funcs exports codes entry small is)) []) ∷ [] } }
+
+  abbrev entered_by : Option Ref → Option SetState
+  entered_by o = (o >>= λ r. call_next (set_loading L) (stage 4 []) [] (Some r)) >>= λ x. came_to (set_loading L) x.state x.next
 
   entered_entry : set_step L (stage 4 []) (frame []) ≡ Some begun
   entered_entry =
-      ap (λ o. o >>= λ f. call (set_view L) (stage 4 []).units text_memory (λ values. []) [] (Own 0 f) >>= became (set_hosts L) (stage 4 [])) is
-      ∙ ap (λ (o : Option Function). o >>= call_own (stage 4 []).units text_memory (λ values. []) [] 0 entry >>= became (set_hosts L) (stage 4 [])) (entry_function_is wasm entry small is)
+      ap (λ (o : Option ℕ). entered_by (o >>= λ f. Some (Own 0 f))) is
+      ∙ ap (λ (o : Option Function). comes_to (stage 4 []) (o >>= call_own store text_memory (λ values. []) [] 0 entry) >>= λ x. came_to (set_loading L) x.state x.next) (entry_function_is types funcs exports codes entry small is)
 
   -- the five steps
   pub starts : Silent (set_system L) 5 opening begun

@@ -10,14 +10,14 @@ use Rattle.wasm_form.specs.declared.types.TableType.{TableType}
 use Rattle.wasm_form.specs.declared.module.Export.{Export}
 use Rattle.wasm_form.specs.declared.module.Data.{Data}
 use Rattle.wasm_form.specs.declared.module.Module.{Module}
-use Rattle.spec_binary.specs.SmallForm.{IsSmall}
+use Rattle.merge_whole.specs.SmallForm.{IsSmall}
 use Rattle.spec_binary.specs.Modules.{SpellsModule}
 use Rattle.spec_linking.specs.Records.{empty_record}
 use Rattle.spec_linking.specs.Sets.{Member, ClosedSet, most_bytes}
 use Rattle.spec_linking.specs.Plans.{default_link}
 use Rattle.spec_linking.specs.Slots.{defined_functions, table_growth}
-use Rattle.spec_linking.specs.Links.{LinkedSet}
-use Rattle.spec_runtime.specs.Hosts.{no_names}
+use Rattle.spec_linking.specs.LinkedSets.{LinkedSet}
+use Rattle.spec_runtime.specs.Names.{HostNames}
 use Rattle.spec_loading.specs.Texts.{error_texts}
 use Rattle.spec_loading.specs.Merged.{Merged}
 
@@ -28,9 +28,9 @@ main_member name path size wasm = record { name = name; path = path; size = size
 abbrev pub set_alone : List ℕ → List ℕ → ℕ → Module → ClosedSet
 set_alone name path size wasm = record { members = main_member name path size wasm ∷ []; startup = 0 ∷ [] }
 
--- the set of this module alone, linked with the default options
-abbrev pub linked_alone : List ℕ → List ℕ → ℕ → Module → LinkedSet
-linked_alone name path size wasm = record { set = set_alone name path size wasm; options = default_link; names = no_names }
+-- the set of this module alone, linked with the default options, where these host functions are declared
+abbrev pub linked_alone : HostNames → List ℕ → List ℕ → ℕ → Module → LinkedSet
+linked_alone names name path size wasm = record { set = set_alone name path size wasm; options = default_link; names = names }
 
 -- the module is small, and some bytes spell it, no more than a set may have
 pub record IsSmallInput (wasm : Module) : Type 0 where
@@ -45,7 +45,7 @@ texts_offset = record { list = I32Const (pos 66560) ∷ [] }
 
 -- the initial entries of the table: null, and a slot for each function that is defined under a name
 abbrev pub slots_of : Module → ℕ
-slots_of wasm = 1 + length (defined_functions wasm.exports)
+slots_of wasm = 1 + length (defined_functions wasm)
 
 -- the table that has them
 abbrev pub slot_table : ℕ → TableType

@@ -1,7 +1,8 @@
 -- The parts of the small form that are tested together.
 use Rattle.std.specs.Prelude.{◌≡◌, ◌<◌, ◌≤◌, [], ◌∷◌, length, All, None}
 use Rattle.wasm_form.specs.declared.module.Module.{Module}
-use Rattle.spec_binary.specs.SmallForm.{nullary, small_custom, most_exports, IsSmallExport, IsSmallCode}
+use Rattle.spec_binary.specs.Indices.{nullary}
+use Rattle.merge_whole.specs.SmallForm.{small_custom, most_exports, IsSmallExport, IsSmallCode}
 
 -- nothing but types, functions, exports, bodies and custom sections
 pub record HasNoMore (m : Module) : Type 0 where

@@ -1,6 +1,6 @@
 // The merged module, part by part.
 ghost use Rattle.std.specs.Prelude.{◌≡◌, ◌^◌, ◌<◌, ◌≤◌, [], ◌∷◌, IfOk};
-ghost use Rattle.spec_binary.specs.SmallForm.{IsSmall};
+ghost use Rattle.merge_whole.specs.SmallForm.{IsSmall};
 ghost use Rattle.spec_loading.specs.Texts.{error_texts};
 ghost use Rattle.merge_whole.specs.MergedModule.{slots_of, slot_table, entry_exports, texts_data, merged_alone};
 
@@ -84,7 +84,7 @@ fn slot_count(alloc: Global, wasm: &Module) -> Result<u32, Memory>
     ensures count { IfOk result (λ n. n ≡ slots_of wasm.now) }
     ensures few { IfOk result (λ n. n ≤ 65537) }
 {
-    let known = functions_of(alloc, wasm.exports.items(), wasm.funcs.items().len())?;
+    let known = functions_of(alloc, wasm)?;
     Ok(known.len() as u32 + 1)
 }
 

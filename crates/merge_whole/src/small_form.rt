@@ -1,18 +1,9 @@
 // Whether a module is of the form that is built so far.
 ghost use Rattle.std.specs.Prelude.{◌≡◌, ℕ, ◌<◌, ◌≤◌, ◌↔◌, ◌∷◌, [], length, All, IsTrue, None};
-ghost use Rattle.spec_binary.specs.SmallForm.{
-  nullary,
-  small_custom,
-  dylink_name,
-  no_memory_info,
-  relocations_name,
-  constructors_name,
-  most_exports,
-  IsSmallInstr,
-  IsSmallCode,
-  IsSmallExport,
-  IsSmall,
-};
+ghost use Rattle.spec_binary.specs.Indices.{nullary};
+ghost use Rattle.merge_whole.specs.SmallForm.{small_custom, no_memory_info, most_exports, IsSmallInstr, IsSmallCode, IsSmallExport, IsSmall};
+ghost use Rattle.spec_linking.specs.Records.{dylink_name};
+ghost use Rattle.spec_binary.specs.Exports.{relocations_name, constructors_name};
 ghost use Rattle.spec_validation.specs.Faults.{fault};
 ghost use Rattle.merge_whole.specs.SmallParts.{HasNoMore, HasSmallParts};
 

@@ -1,5 +1,6 @@
 // The bytes of the merged module.
 ghost use Rattle.std.specs.Prelude.{◌≡◌, ℕ, List, Some, IfOk};
+ghost use Rattle.spec_runtime.specs.Names.{HostNames};
 ghost use Rattle.spec_linking.specs.Definitions.{entry_of};
 ghost use Rattle.spec_binary.specs.Modules.{SpellsModule};
 ghost use Rattle.merge_whole.specs.MergedModule.{IsSmallInput, linked_alone, merged_alone, IsMergedInput, MergedAs};
@@ -11,12 +12,12 @@ use wasm_form::{Memory, Module};
 
 /// Merges the set of one module with this entry, which is linked with the default options. The module that is
 /// written keeps the functions and their numbers, has the planned memory and table, exports the entry as `_start` and
-/// the memory as `memory` and nothing else, and agrees with the loaded set, whatever the name, path and size of its
-/// member.
+/// the memory as `memory` and nothing else, and agrees with the loaded set, whatever host functions are declared and
+/// whatever the name, path and size of its member.
 pub fn merge(alloc: Global, wasm: Module, entry: u32) -> Result<Vec<u8>, Memory>
     requires input { IsSmallInput wasm }
     requires entry { entry_of wasm ≡ Some entry }
-    ensures { IfOk result (λ bytes. (name path : List ℕ) (size : ℕ) → MergedAs (merged_alone wasm entry) (linked_alone name path size wasm) bytes.items) }
+    ensures { IfOk result (λ bytes. (names : HostNames) (name path : List ℕ) (size : ℕ) → MergedAs (merged_alone wasm entry) (linked_alone names name path size wasm) bytes.items) }
 {
     let merged = merged_module(alloc, wasm, entry)?;
     encoded(alloc, &merged)

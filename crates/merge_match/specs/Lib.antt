@@ -1,0 +1,9 @@
+pub mod Renumbering
+pub mod Moves
+pub mod Following
+pub mod Matching
+pub mod Parts
+pub mod Endings
+pub mod Joined
+pub mod Carrying
+pub mod Laws

@@ -1,0 +1,46 @@
+-- What is the same in the beginning.
+use Rattle.std.proofs.Common.{◌≡◌, ℕ, zero, suc, ◌<◌, ◌≤◌, List, [], ◌∷◌, ◌++◌, length, map, slice_get, Some, refl, ap, ◌∙◌, arith}
+use Rattle.std.proofs.lemmas.List.{length-map}
+use Rattle.wasm_runtime.specs.declared.Value.{Value}
+use Rattle.wasm_runtime.specs.declared.Value.TheVariants.{Num}
+use Rattle.spec_linking.specs.LinkedSets.{LinkedSet}
+use Rattle.spec_loading.specs.Members.{opening_table, opening_store, from_members}
+use Rattle.spec_loading.specs.LoadedSet.{set_opening}
+use Rattle.merge_match.specs.Renumbering.{Numbers}
+use Rattle.merge_match.proofs.Openings.{opening_is_inside}
+use Rattle.spec_execution.specs.Instances.{ModuleParts}
+use Rattle.spec_execution.specs.OneModule.{opened_table}
+use Rattle.merge_start.specs.Words.{Starts}
+use Rattle.merge_start.specs.Started.{Same, IsOpened}
+
+module _ {A : Type 0} where
+  zeros : (xs : List A) → map (λ x. Num 0) xs ≡ map Num (map (λ x. 0) xs)
+  zeros [] = refl
+  zeros (x ∷ xs) = ap (λ (l : List Value). Num 0 ∷ l) (zeros xs)
+
+  low : (xs : List A) (m stage : ℕ) → slice_get (map (λ x. 0) xs) m ≡ Some stage → stage ≤ 4
+  low [] m stage e = absurd cc
+  low (x ∷ xs) zero stage e = (let none : stage ≡ 0 = cc in omega (arith, none))
+  low (x ∷ xs) (suc m) stage e = low xs m stage e
+
+  some : (x : A) (xs : List A) → 0 < length (x ∷ xs)
+  some x xs = omega arith
+
+pub opened_same : (L : LinkedSet) (n : Numbers) (x : Starts) (parts : ModuleParts) → IsOpened L n x parts
+    → Same L n x (set_opening L).loader (opening_store L) parts
+opened_same L n x parts is = record {
+  store = record {
+    more = is.more;
+    whole = is.whole;
+    kept = record {
+      sized = length-map L.set.members (λ m. 0);
+      low = low L.set.members;
+      others = is.others;
+      guards = is.guards ∙ ap (λ (l : List Value). l ++ is.others) (zeros L.set.members);
+      slots = is.slots;
+    };
+    inside = opening_is_inside L;
+    few = is.few;
+  };
+  sized = record { globals = is.first_guard; elems = is.first_slots; tables = some (opening_table L) (from_members (λ m wasm. map opened_table wasm.tables) 0 L.set.members) };
+}

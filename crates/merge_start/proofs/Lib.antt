@@ -1,0 +1,12 @@
+pub mod Reaching
+pub mod Keeping
+pub mod Placing
+pub mod Returning
+pub mod Calling
+pub mod Frames
+pub mod Startup
+pub mod Ranges
+pub mod Beginning
+pub mod Opening
+pub mod Nested
+pub mod Typed

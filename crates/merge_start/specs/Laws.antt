@@ -1,0 +1,78 @@
+-- What is so of a merged module with the generated code beside the set.
+use Rattle.std.specs.Prelude.{◌≡◌, ℕ, ◌<◌, List, [], ◌∷◌, length, Option, Some, false}
+use Rattle.wasm_form.specs.declared.instr.Instr.{Instr, Index}
+use Rattle.wasm_form.specs.declared.module.Module.{Module}
+use Rattle.spec_runs.specs.Systems.{Moving}
+use Rattle.spec_runs.specs.Agreement.{StepLaw, Agree}
+use Rattle.spec_runtime.specs.Memories.{MemoryInstance}
+use Rattle.spec_execution.specs.Activations.{Activation}
+use Rattle.spec_execution.specs.Segments.{Performed}
+use Rattle.spec_execution.specs.Runs.{Frame}
+use Rattle.spec_execution.specs.Runs as frames
+use Rattle.spec_execution.specs.Instances.{ModuleParts}
+use Rattle.spec_execution.specs.OneModule.{Starting, ModuleState, module_step, module_system, opened_state}
+use Rattle.spec_linking.specs.Gathering.{IsSet}
+use Rattle.spec_linking.specs.LinkedSets.{LinkedSet}
+use Rattle.spec_loading.specs.Phases.{LoaderFrame, open_frame}
+use Rattle.spec_loading.specs.Loading.{LoaderState, goes_on}
+use Rattle.spec_loading.specs.Members.{Store, uses_loader}
+use Rattle.spec_loading.specs.LoadedSet.{SetState, member_placed, set_loading, set_system, set_opening}
+use Rattle.merge_match.specs.Renumbering.{Numbers}
+use Rattle.merge_match.specs.Matching.{Below, FramesMatch}
+use Rattle.merge_match.specs.Laws.{HasParts}
+use Rattle.merge_start.specs.Words.{Starts, place_code}
+use Rattle.merge_start.specs.Running.{Does}
+use Rattle.merge_start.specs.Started.{Same, IsOpened, MemberReady, IsReady, StartReady, OpenReady}
+use Rattle.merge_start.specs.Points.{HandsOn, places, Matched}
+
+-- What placing comes to is what the code comes to: the store is the same after both, the memory is equal, and so is the trap.
+pub record PlacedAs (L : LinkedSet) (n : Numbers) (x : Starts) (merged : Module) (loader : LoaderState) (o : Option (Performed Store))
+    (code : List Instr) (before : ModuleParts) (memory : MemoryInstance) : Type 0 where
+  pub placed : Performed Store
+  pub is_placed : o ≡ Some placed
+  pub parts : ModuleParts
+  pub same : Same L n x loader placed.units parts
+  pub runs : Does merged code (record { units = before; memory = memory }) [] (record { units = parts; memory = placed.memory }) [] placed.trap
+
+abbrev pub PlacingIsDone : Type 0
+PlacingIsDone = (L : LinkedSet) (n : Numbers) (x : Starts) (merged : Module) → HasParts L n merged → (loader : LoaderState) (m : ℕ)
+    → m < length L.set.members → (member : MemberReady L n x merged m) → (us : Store) (parts : ModuleParts) (memory : MemoryInstance)
+    → Same L n x loader us parts
+    → PlacedAs L n x merged loader (member_placed L m us memory) (place_code L n x m member.wasm) parts memory
+
+-- where a frame of the loader is on top, the module steps as it does, and takes the host's answers as it does
+abbrev pub FramesStepAsMerged : Type 0
+FramesStepAsMerged = (L : LinkedSet) (n : Numbers) (x : Starts) (merged : Module) → HasParts L n merged → IsReady L n x merged
+    → FramesMatch n (places L n x) (Same L n x) (set_loading L) (module_step merged)
+
+-- ---- opening while the program runs
+
+-- the function that opens member m is about to be called
+abbrev pub calls_opening : Starts → ℕ → Activation → List (Frame Starting) → ModuleParts → MemoryInstance → ModuleState
+calls_opening x m b hs parts memory = record {
+  units = parts;
+  memory = memory;
+  stack = frames.Active (record b { rest = Index 0x10 (x.opening m) ∷ b.rest }) ∷ hs;
+  status = Moving;
+}
+
+-- The call leads to what stands for the frame that opens the member, where the handle will be returned to what called.
+abbrev pub MembersOpenAsMerged : Type 0
+MembersOpenAsMerged = (L : LinkedSet) (n : Numbers) (x : Starts) (merged : Module) → IsSet L.set → (m : ℕ) → m < length L.set.members
+    → OpenReady L n x merged m → (s : SetState) (parts : ModuleParts) → Same L n x s.loader s.run.units parts
+    → (fs : List (Frame LoaderFrame)) (hs : List (Frame Starting)) → Below n (places L n x) 1 fs hs → (b : Activation) → HandsOn b
+    → (u : ModuleState) × (module_step merged (calls_opening x m b hs parts s.run.memory) ≡ Some u)
+    × Matched L n x (goes_on s (frames.Marked (open_frame L.set m) ∷ fs)) u
+
+-- ---- no member uses the loader
+
+abbrev pub SetsStepAsMerged : Type 0
+SetsStepAsMerged = (L : LinkedSet) (n : Numbers) (x : Starts) (merged : Module) → HasParts L n merged → IsReady L n x merged
+    → uses_loader L ≡ false → StepLaw (set_system L) (module_system merged) (Matched L n x)
+
+-- The runs agree from the opening states on, where the module has the parts of the members and the generated code, and begins with what
+-- they begin with.
+abbrev pub SetsRunAsMerged : Type 0
+SetsRunAsMerged = (L : LinkedSet) (n : Numbers) (x : Starts) (merged : Module) → HasParts L n merged → IsReady L n x merged
+    → StartReady L n x merged → uses_loader L ≡ false → IsSet L.set → (parts : ModuleParts) → IsOpened L n x parts
+    → Agree (set_system L) (module_system merged) (set_opening L) (opened_state merged x.starting parts (set_opening L).run.memory)

@@ -1,0 +1,78 @@
+-- The points of generated code that stand for the loader's frames.
+use Rattle.std.specs.Prelude.{◌≡◌, ℕ, ◌+◌, ◌<◌, List, [], ◌∷◌, length, None}
+use Rattle.wasm_form.specs.declared.instr.Instr.{Instr, Plain}
+use Rattle.spec_execution.specs.Activations.{Activation}
+use Rattle.spec_execution.specs.Runs.{Frame}
+use Rattle.spec_execution.specs.Runs as frames
+use Rattle.spec_execution.specs.OneModule.{Starting, ModuleState}
+use Rattle.spec_linking.specs.LinkedSets.{LinkedSet}
+use Rattle.spec_loading.specs.declared.task.Task.{Task}
+use Rattle.spec_loading.specs.declared.task.After.{After}
+use Rattle.spec_loading.specs.declared.task.After.TheVariants.{CallEntry, GiveHandle}
+use Rattle.spec_loading.specs.Phases.{LoaderFrame}
+use Rattle.spec_loading.specs.LoadedSet.{SetState}
+use Rattle.merge_match.specs.Renumbering.{Numbers}
+use Rattle.merge_match.specs.Matching.{Places, gives_back, Matches}
+use Rattle.merge_match.specs.Endings.{at_end, IsBottom}
+use Rattle.merge_start.specs.Words.{Starts, frame_code}
+use Rattle.merge_start.specs.Started.{Same, IsWord}
+
+-- a function without locals has this code left, in no block
+abbrev pub before_code : ℕ → ℕ → List Instr → Activation
+before_code f results code = record { unit = 0; func = f; results = results; locals = []; values = []; rest = code; levels = [] }
+
+-- the function that goes through the tasks of a frame
+abbrev pub opening_function : Starts → After → ℕ
+opening_function x CallEntry = x.starting
+opening_function x (GiveHandle m) = x.opening m
+
+-- it stands before the calls for the tasks that are left
+abbrev pub before_tasks : LinkedSet → Numbers → Starts → LoaderFrame → Activation
+before_tasks L n x frame = before_code (opening_function x frame.after) (gives_back frame.after) (frame_code L n x frame)
+
+-- the function of a phase has called a function, behind which nothing is left
+abbrev pub behind_call : ℕ → Activation
+behind_call f = record (before_code f 0 []) { levels = record { below = []; arity = 0; again = None; after = [] } ∷ [] }
+
+-- an activation that returns the value that it is given
+pub record HandsOn (a : Activation) : Type 0 where
+  pub more : List Instr
+  pub rest : a.rest ≡ Plain 0x0F ∷ more
+  pub results : a.results ≡ 1
+
+-- What stands under the function that goes through the tasks, and under that once the tasks are done. The entry function stands over
+-- nothing, and stays at the bottom with nothing left; the function that opens a member was called by what hands on the handle.
+abbrev pub IsOuter : Starts → After → List (Frame Starting) → List (Frame Starting) → Type 0
+IsOuter x CallEntry os hs = (os ≡ []) × (hs ≡ frames.Active (at_end x.starting) ∷ [])
+IsOuter x (GiveHandle m) os hs = (a : Activation) × (os ≡ frames.Active a ∷ hs) × HandsOn a × IsWord (m + 1)
+
+-- the tasks are of members of the set
+abbrev pub AreOf : LinkedSet → List Task → Type 0
+AreOf L [] = Unit {0}
+AreOf L (task ∷ tasks) = (task.member < length L.set.members) × AreOf L tasks
+
+pub record IsTop (L : LinkedSet) (n : Numbers) (x : Starts) (frame : LoaderFrame) (gs hs : List (Frame Starting)) : Type 0 where
+  pub outer : List (Frame Starting)
+  pub stack : gs ≡ frames.Active (before_tasks L n x frame) ∷ outer
+  pub under : IsOuter x frame.after outer hs
+  pub tasks : AreOf L frame.tasks
+
+pub record IsUnder (L : LinkedSet) (n : Numbers) (x : Starts) (r : ℕ) (frame : LoaderFrame) (gs hs : List (Frame Starting)) : Type 0 where
+  pub none : r ≡ 0
+  pub phase : ℕ
+  pub outer : List (Frame Starting)
+  pub stack : gs ≡ frames.Active (behind_call phase) ∷ frames.Active (before_tasks L n x frame) ∷ outer
+  pub under : IsOuter x frame.after outer hs
+  pub tasks : AreOf L frame.tasks
+
+abbrev pub places : LinkedSet → Numbers → Starts → Places Starting
+places L n x = record {
+  Bottom = IsBottom x.starting;
+  Under = λ r frame gs hs. IsUnder L n x r frame gs hs;
+  Top = λ frame gs hs. IsTop L n x frame gs hs;
+}
+
+-- The matching of a state of the set and one of the module: the memories are equal, the store is the same, and the call stacks are, where
+-- a frame of the loader is one of these points.
+abbrev pub Matched : LinkedSet → Numbers → Starts → SetState → ModuleState → Type 0
+Matched L n x s t = Matches n (places L n x) (Same L n x) s t

@@ -1,0 +1,114 @@
+-- What a merged module must have for its code to do the loader's work, and what is the same of the loader's state.
+use Rattle.std.specs.Prelude.{◌≡◌, ℕ, ◌+◌, ◌<◌, ◌≤◌, ◌^◌, List, [], ◌∷◌, ◌++◌, length, map, Option, Some, None, slice_get}
+use Rattle.wasm_form.specs.declared.module.Module.{Module}
+use Rattle.wasm_form.specs.declared.runtime.Ref.{Ref}
+use Rattle.wasm_form.specs.declared.runtime.Ref.TheVariants.{Own}
+use Rattle.wasm_runtime.specs.declared.Value.{Value}
+use Rattle.wasm_runtime.specs.declared.Value.TheVariants.{Num}
+use Rattle.spec_binary.specs.Indices.{function_at}
+use Rattle.spec_execution.specs.Activations.{Effect, TableInit, ElemDrop, MemoryInit, DataDrop}
+use Rattle.spec_execution.specs.Segments.{segment_effects}
+use Rattle.spec_execution.specs.Instances.{ModuleParts, module_target}
+use Rattle.spec_linking.specs.LinkedSets.{LinkedSet, wasm_of}
+use Rattle.spec_linking.specs.Slots.{member_number}
+use Rattle.spec_linking.specs.Links.{set_entry}
+use Rattle.spec_loading.specs.declared.task.Phase.{Phase}
+use Rattle.spec_loading.specs.Phases.{phase_function}
+use Rattle.spec_loading.specs.Loading.{LoaderState, stage_in}
+use Rattle.spec_loading.specs.Addresses.{table_address, elem_address, data_address}
+use Rattle.spec_loading.specs.Members.{Store, set_instances, set_view, opening_store}
+use Rattle.spec_loading.specs.LoadedSet.{first_slot, own_functions}
+use Rattle.spec_loading.specs.Laws.{IsCallable}
+use Rattle.merge_match.specs.Renumbering.{Numbers, entry}
+use Rattle.merge_match.specs.Parts.{extended, AreFew, SameStore}
+use Rattle.merge_start.specs.Words.{Starts, phase_code, entry_code, open_code, nullary_function, handle_function}
+
+-- ---- what is the same
+
+-- the references of the fresh slots of a member, in the module
+abbrev pub slot_items : LinkedSet → Numbers → ℕ → List (Option Ref)
+slot_items L n m = map (entry n) (map Some (own_functions L m))
+
+-- What the merger adds: the guards hold the stages, and the first of the segments are those of the fresh slots.
+pub record Started (L : LinkedSet) (n : Numbers) (loader : LoaderState) (more : ModuleParts) : Type 0 where
+  pub sized : length loader.stages ≡ length L.set.members
+  pub low : (m stage : ℕ) → stage_in loader m ≡ Some stage → stage ≤ 4
+  pub others : List Value
+  pub guards : more.globals ≡ map Num loader.stages ++ others
+  pub slots : (m : ℕ) → m < length L.set.members → slice_get more.elems m ≡ Some (slot_items L n m)
+
+-- what is added has its numbers behind those of the store, which has the shared table
+pub record IsSized (x : Starts) (us : Store) : Type 0 where
+  pub globals : length us.globals ≡ x.guards
+  pub elems : length us.elems ≡ x.slots
+  pub tables : 0 < length us.tables
+
+pub record Same (L : LinkedSet) (n : Numbers) (x : Starts) (loader : LoaderState) (us parts : ModuleParts) : Type 0 where
+  pub store : SameStore n (set_instances L) (Started L n) loader us parts
+  pub sized : IsSized x us
+
+-- what the module's parts are in the beginning: what the members begin with, guards that hold 0, and the segments of fresh slots
+pub record IsOpened (L : LinkedSet) (n : Numbers) (x : Starts) (parts : ModuleParts) : Type 0 where
+  pub more : ModuleParts
+  pub whole : parts ≡ extended n (opening_store L) more
+  pub few : AreFew parts
+  pub others : List Value
+  pub guards : more.globals ≡ map (λ m. Num 0) L.set.members ++ others
+  pub slots : (m : ℕ) → m < length L.set.members → slice_get more.elems m ≡ Some (slot_items L n m)
+  pub first_guard : length (opening_store L).globals ≡ x.guards
+  pub first_slots : length (opening_store L).elems ≡ x.slots
+
+-- ---- what members must be
+
+abbrev pub IsWord : ℕ → Type 0
+IsWord k = k < 2 ^ 32
+
+abbrev pub HasAddress : Option ℕ → Type 0
+HasAddress o = (a : ℕ) × (o ≡ Some a)
+
+-- an effect of segments, whose numbers are words, and name what the store has
+abbrev pub IsEffectReady : LinkedSet → ℕ → Effect → Type 0
+IsEffectReady L m (TableInit e t to from count) =
+    IsWord to × IsWord from × IsWord count × HasAddress (table_address L m t) × HasAddress (elem_address L m e)
+IsEffectReady L m (ElemDrop e) = HasAddress (elem_address L m e)
+IsEffectReady L m (MemoryInit d to from count) = IsWord to × IsWord from × IsWord count × HasAddress (data_address L m d)
+IsEffectReady L m (DataDrop d) = HasAddress (data_address L m d)
+IsEffectReady L m _ = ⊥
+
+abbrev pub AreEffectsReady : LinkedSet → ℕ → List Effect → Type 0
+AreEffectsReady L m [] = Unit {0}
+AreEffectsReady L m (x ∷ xs) = IsEffectReady L m x × AreEffectsReady L m xs
+
+-- A member of the set, and the functions of its phases in the module.
+pub record MemberReady (L : LinkedSet) (n : Numbers) (x : Starts) (merged : Module) (m : ℕ) : Type 0 where
+  pub wasm : Module
+  pub found : wasm_of L m ≡ Some wasm
+  pub effects : AreEffectsReady L m (segment_effects (member_number L m) wasm)
+  pub slot : IsWord (first_slot L m)
+  pub fresh : IsWord (length (own_functions L m))
+  pub target : (p : Phase) → module_target merged (x.phase m p) ≡ Some (Own 0 (x.phase m p))
+  pub code : (p : Phase) → function_at merged (x.phase m p) ≡ Some (nullary_function (phase_code L n x m wasm p))
+  pub callable : (p : Phase) (f : ℕ) → phase_function p m wasm ≡ Some f → (r : Ref) × ((set_view L).target m f ≡ Some r) × IsCallable L r
+
+-- the entry of the set is a function of main without parameters and results
+pub record EntryReady (L : LinkedSet) : Type 0 where
+  pub function : ℕ
+  pub entry : set_entry L.set.members ≡ Some function
+  pub target : (set_view L).target 0 function ≡ Some (Own 0 function)
+  pub callable : IsCallable L (Own 0 function)
+
+-- The functions that the loader's frames stand in. The module itself has no start function.
+pub record StartReady (L : LinkedSet) (n : Numbers) (x : Starts) (merged : Module) : Type 0 where
+  pub start : merged.start ≡ None
+  pub target : module_target merged x.starting ≡ Some (Own 0 x.starting)
+  pub code : function_at merged x.starting ≡ Some (nullary_function (entry_code L n x))
+
+pub record OpenReady (L : LinkedSet) (n : Numbers) (x : Starts) (merged : Module) (m : ℕ) : Type 0 where
+  pub target : module_target merged (x.opening m) ≡ Some (Own 0 (x.opening m))
+  pub code : function_at merged (x.opening m) ≡ Some (handle_function (open_code L n x m))
+  pub word : IsWord (m + 1)
+
+-- what the code of frames stands on
+pub record IsReady (L : LinkedSet) (n : Numbers) (x : Starts) (merged : Module) : Type 0 where
+  pub members : (m : ℕ) → m < length L.set.members → MemberReady L n x merged m
+  pub entry : EntryReady L

@@ -1,0 +1,118 @@
+-- The code that a merged module has for the loader's work: the phases of each member, and what goes through them.
+use Rattle.std.specs.Prelude.{ℕ, ◌+◌, List, [], ◌∷◌, ◌++◌, length, Option, Some, None, option_map}
+use Rattle.std.specs.Int.{cast_signed, w32}
+use Rattle.wasm_form.specs.declared.types.ValType.TheVariants.{I32}
+use Rattle.wasm_form.specs.declared.instr.BlockType.TheVariants.{Empty}
+use Rattle.wasm_form.specs.declared.instr.Instr.{Instr, Plain, Index, If, I32Const, Prefixed}
+use Rattle.wasm_form.specs.declared.module.Module.{Module}
+use Rattle.spec_binary.specs.Indices.{Function, nullary}
+use Rattle.spec_execution.specs.Activations.{Effect, TableInit, ElemDrop, MemoryInit, DataDrop}
+use Rattle.spec_execution.specs.Segments.{segment_effects}
+use Rattle.spec_linking.specs.LinkedSets.{LinkedSet}
+use Rattle.spec_linking.specs.Slots.{member_number}
+use Rattle.spec_linking.specs.Links.{set_entry}
+use Rattle.spec_loading.specs.declared.task.Phase.{Phase}
+use Rattle.spec_loading.specs.declared.task.Phase.TheVariants.{Place, Start, Relocate, Construct}
+use Rattle.spec_loading.specs.declared.task.Task.{Task}
+use Rattle.spec_loading.specs.declared.task.After.{After}
+use Rattle.spec_loading.specs.declared.task.After.TheVariants.{CallEntry, GiveHandle}
+use Rattle.spec_loading.specs.Phases.{stage_of, phase_function, LoaderFrame, startup_frame, open_frame}
+use Rattle.spec_loading.specs.Addresses.{shared_table_address}
+use Rattle.spec_loading.specs.LoadedSet.{first_slot, own_functions}
+use Rattle.merge_match.specs.Renumbering.{Numbers}
+use Rattle.merge_match.specs.Moves.{effect}
+
+-- The numbers of what the merger adds. The guard of member m is the m-th of some globals, and holds its stage; the segment of its fresh
+-- slots is the m-th of some segments; there is a function of each phase of it, and one that opens it. The entry function opens main.
+pub record Starts : Type 0 where
+  pub guards : ℕ
+  pub slots : ℕ
+  pub phase : ℕ → Phase → ℕ
+  pub starting : ℕ
+  pub opening : ℕ → ℕ
+
+-- ---- effects
+
+-- a number as a constant
+abbrev pub number : ℕ → Instr
+number k = I32Const (cast_signed w32 k)
+
+abbrev pub on_three : ℕ → ℕ → ℕ → Instr → List Instr
+on_three to from count i = number to ∷ number from ∷ number count ∷ i ∷ []
+
+-- what has an effect of segments; the others are of no use to the loader
+abbrev pub effect_code : Effect → List Instr
+effect_code (TableInit e t to from count) = on_three to from count (Prefixed 12 e t)
+effect_code (ElemDrop e) = Prefixed 13 e 0 ∷ []
+effect_code (MemoryInit d to from count) = on_three to from count (Prefixed 8 d 0)
+effect_code (DataDrop d) = Prefixed 9 d 0 ∷ []
+effect_code _ = []
+
+-- effects of member m in order, by the numbers of the module
+abbrev pub effects_code : Numbers → ℕ → List Effect → List Instr
+effects_code n m [] = []
+effects_code n m (x ∷ xs) = effect_code (effect n m x) ++ effects_code n m xs
+
+-- ---- phases
+
+-- the fresh slots of a member are written to the shared table, from the segment that has them
+abbrev pub slots_effect : LinkedSet → Starts → ℕ → Effect
+slots_effect L x m = TableInit (x.slots + m) shared_table_address (first_slot L m) 0 (length (own_functions L m))
+
+abbrev pub place_code : LinkedSet → Numbers → Starts → ℕ → Module → List Instr
+place_code L n x m wasm = effects_code n m (segment_effects (member_number L m) wasm) ++ effect_code (slots_effect L x m)
+
+-- a function is called, if there is one
+abbrev pub call_code : Option ℕ → List Instr
+call_code None = []
+call_code (Some f) = Index 0x10 f ∷ []
+
+-- a function of member m is, if there is one
+abbrev pub member_call : Numbers → ℕ → Option ℕ → List Instr
+member_call n m f = call_code (option_map (n.named m) f)
+
+abbrev pub work_code : LinkedSet → Numbers → Starts → ℕ → Module → Phase → List Instr
+work_code L n x m wasm Place = place_code L n x m wasm
+work_code L n x m wasm Start = member_call n m (phase_function Start m wasm)
+work_code L n x m wasm Relocate = member_call n m (phase_function Relocate m wasm)
+work_code L n x m wasm Construct = member_call n m (phase_function Construct m wasm)
+
+-- where the guard is below the stage it is raised to it, and then the work is done
+unfoldable pub guarded : ℕ → ℕ → List Instr → List Instr
+guarded guard stage work =
+    Index 0x23 guard ∷ number stage ∷ Plain 0x49 ∷ If Empty (record { list = number stage ∷ Index 0x24 guard ∷ work }) None ∷ []
+
+-- the body of the function of a phase
+abbrev pub phase_code : LinkedSet → Numbers → Starts → ℕ → Module → Phase → List Instr
+phase_code L n x m wasm p = guarded (x.guards + m) (stage_of p) (work_code L n x m wasm p)
+
+-- ---- frames
+
+-- the functions of the tasks are called in order
+abbrev pub tasks_code : Starts → List Task → List Instr
+tasks_code x [] = []
+tasks_code x (task ∷ tasks) = Index 0x10 (x.phase task.member task.phase) ∷ tasks_code x tasks
+
+-- what follows them: the entry of main is called, or a handle given
+abbrev pub after_code : LinkedSet → Numbers → After → List Instr
+after_code L n CallEntry = member_call n 0 (set_entry L.set.members)
+after_code L n (GiveHandle m) = number (m + 1) ∷ []
+
+abbrev pub frame_code : LinkedSet → Numbers → Starts → LoaderFrame → List Instr
+frame_code L n x frame = tasks_code x frame.tasks ++ after_code L n frame.after
+
+-- the body of the entry function, and that of the function that opens a member
+abbrev pub entry_code : LinkedSet → Numbers → Starts → List Instr
+entry_code L n x = frame_code L n x (startup_frame L.set)
+
+abbrev pub open_code : LinkedSet → Numbers → Starts → ℕ → List Instr
+open_code L n x m = frame_code L n x (open_frame L.set m)
+
+-- ---- functions
+
+abbrev pub nullary_function : List Instr → Function
+nullary_function code = record { ty = nullary; locals = []; body = code }
+
+-- a function that gives a handle
+abbrev pub handle_function : List Instr → Function
+handle_function code = record { ty = record { params = []; results = I32 ∷ [] }; locals = []; body = code }

@@ -1,0 +1,36 @@
+//! The code that a merged module has for the loader's work, its runs by the definition of code steps, and the law of one step for the
+//! frames of the loader.
+//!
+//! `specs/` has the words of the code, what runs of pieces of code are, what a merged module must have for it, and the points of it that
+//! stand for the loader's frames.
+#![tactic(auto)]
+
+ghost use Rattle.merge_start.specs.Laws.{FramesStepAsMerged, MembersOpenAsMerged, PlacingIsDone, SetsRunAsMerged, SetsStepAsMerged};
+ghost use Rattle.merge_start.specs.Typed.{GeneratedIsTyped};
+
+/// The code that places a member leaves the store and the memory that the loader's placing leaves, where a trap ends both too.
+pub fn generated_code_places()
+    ensures { PlacingIsDone }
+{}
+
+/// A frame of the loader on top of the call stack steps as the generated code does that stands for it: a task, the call of the entry, the
+/// answer of a handle.
+pub fn frames_step_as_merged()
+    ensures { FramesStepAsMerged }
+{}
+
+/// The call of the function that opens a member leads to what stands for the frame of the loader that opens it.
+pub fn members_open_as_merged()
+    ensures { MembersOpenAsMerged }
+{}
+
+/// A linked set that doesn't use the loader steps as its merged module does, and the two runs agree from the opening states on.
+pub fn sets_run_as_merged()
+    ensures step { SetsStepAsMerged }
+    ensures runs { SetsRunAsMerged }
+{}
+
+/// The generated code is well typed (WebAssembly Core 2.0, section 3.3), where the module has what it names.
+pub fn generated_code_is_typed()
+    ensures { GeneratedIsTyped }
+{}
