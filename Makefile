@@ -24,6 +24,7 @@ demo: bin/wdyl
 
 bench: bin/wdyl
 	python3 bench/merge.py bin/wdyl
+	python3 bench/random.py bin/wdyl
 	@if command -v node >/dev/null; then node bench/recursion.mjs bin/wdyl; \
 	else echo "node is missing: the merged module that recurses for ever isn't run"; fi
 

@@ -1,203 +1,221 @@
--- At most one outcome is due.
-use Rattle.std.proofs.Common.{◌≡◌, ℕ, List, Option, Some, None, Result, Ok, Err, refl, sym, ap, ◌∙◌, subst, arith}
+-- At most one outcome is due; so what an answer tells says what it is where one is due.
+use Rattle.std.proofs.Common.{◌≡◌, ◌⊎◌, ℕ, List, [], Bool, true, false, Option, Some, None, Result, Ok, Err, refl, sym, ap, ◌∙◌, subst, inl, inr}
 use Rattle.wasm_form.specs.declared.module.Module.{Module}
-use Rattle.spec_binary.specs.Answers.{Fault, Answers}
-use Rattle.spec_binary.specs.SmallForm.{IsSmall}
-use Rattle.spec_validation.specs.Faults as validation
-use Rattle.spec_validation.proofs.Valid.{small_valid}
-use Rattle.spec_linking.specs.Sets.{Files, ClosedSet, most_bytes}
+use Rattle.dyl_outside.specs.Files.{FilesState}
+use Rattle.dyl_outside.specs.Faults.{Rose}
+use Rattle.spec_runtime.specs.Names.{HostNames}
+use Rattle.spec_execution.specs.declared.fault.SingleFault.{SingleFault}
+use Rattle.spec_execution.specs.OneModule.{ModuleState, module_opening}
+use Rattle.spec_hosts.specs.declared.ran.RunEnd.TheVariants as end
+use Rattle.spec_linking.specs.declared.fault.LinkFault.{LinkFault}
+use Rattle.spec_linking.specs.declared.fault.LinkFault.TheVariants as link
+use Rattle.spec_linking.specs.declared.fault.SetFault.{SetFault}
+use Rattle.spec_linking.specs.declared.fault.SetFault.TheVariants.{ReadFault}
+use Rattle.spec_linking.specs.Sets.{Files, ClosedSet, default_options, main_name}
 use Rattle.spec_linking.specs.Definitions.{entry_of}
-use Rattle.spec_linking.specs.Links.{LinkFault, NoEntry, set_entry, fault_without, link_fault}
-use Rattle.merge_whole.proofs.SmallBodies.{small_answer}
-use Rattle.wasm_decode.specs.declared.fault.DecodeFault.{DecodeFault}
-use Rattle.dyl_section.specs.declared.fault.RecordFault.{RecordFault}
-use Rattle.dyl_section.proofs.RecordLaws.{one_answer}
-use Rattle.wasm_check.specs.declared.fault.CheckFault.{CheckFault}
-use Rattle.dyl_app.proofs.OneFile.{one_file, no_file, read_as, IsThere, there, not_too_long, FileOf, missing_is, too_long_is}
-use Rattle.dyl_app.proofs.SmallRecords.{small_recorded}
-use Rattle.dyl_app.specs.declared.outcome.SetFault.TheVariants.{Missing, ReadFault, Decode, Record, Check, SetSize}
-use Rattle.dyl_app.specs.declared.outcome.LinkFault.TheVariants as link
-use Rattle.dyl_app.specs.declared.outcome.Outcome.{Outcome}
-use Rattle.dyl_app.specs.declared.outcome.Outcome.TheVariants.{Done, Ran, Usage, Set, Unbuilt, Link, Single, WriteFault, Memory}
-use Rattle.dyl_app.specs.declared.outcome.SetFault.{SetFault}
-use Rattle.dyl_app.specs.declared.gather.InputFault.TheVariants as input
-use Rattle.dyl_app.specs.Due.{linked, GathersSmall, decode_fault, record_fault, check_fault, IsRecorded, HasRecordFault, HasCheckFault, IsNotSmall, LinksAt, MergeDue, Yields}
-use Rattle.dyl_app.specs.Gathered.{IsInput, Gathered}
+use Rattle.spec_linking.specs.Links.{fault_without, link_fault}
+use Rattle.spec_linking.specs.Laws.{OneAnswer, OneRecord, OneGathered}
+use Rattle.spec_reading.specs.Laws.{ReadingAnswers}
+use Rattle.dyl_section.specs.Laws.{OneRecordAnswer}
+use Rattle.merge_whole.specs.SmallForm.{IsSmall}
+use Rattle.merge_whole.specs.Laws.{SmallSetsLink}
+use Rattle.merge_whole.specs.MergedModule.{set_alone}
+use Rattle.dyl_front.specs.declared.outcome.UsageKind.{UsageKind}
+use Rattle.dyl_front.specs.declared.outcome.Outcome.{Outcome}
+use Rattle.dyl_front.specs.declared.outcome.Outcome.TheVariants.{Done, Ran, Usage, Set, Unbuilt, Link, Single, WriteFault, Memory}
+use Rattle.dyl_front.specs.declared.order.Order.{Order}
+use Rattle.dyl_front.specs.declared.order.Order.TheVariants as order
+use Rattle.dyl_app.specs.OneFile.{main_file, run_file, OfFile}
+use Rattle.dyl_app.specs.Due.{linked, GathersSmall, MergeDue, ExecDue, DueFor, TellsFor, is_run, Yields, IsComplete}
+use Rattle.dyl_app.specs.Causes.{Caused}
+use Rattle.dyl_app.proofs.OneFile.{one_of_file}
+use Rattle.dyl_app.proofs.SmallSets.{small_set}
+
+-- what is so of definitions
+pub record Laws : Type 0 where
+  pub one_answer : OneAnswer
+  pub one_record : OneRecord
+  pub one_gathered : OneGathered
+  pub small_sets_link : SmallSetsLink
 
 -- the outcome by the entry
 abbrev pub verdict : Option ℕ → Outcome
 verdict None = Link link.NoEntry
 verdict (Some entry) = Done
 
--- what is due by the module that is read
-abbrev ClassOf : Module → Outcome → Type 0
-ClassOf wasm Done = IsSmall wasm × (fault_without (entry_of wasm) ≡ None)
-ClassOf wasm (Link link.NoEntry) = IsSmall wasm × (fault_without (entry_of wasm) ≡ Some NoEntry)
-ClassOf wasm Unbuilt = IsNotSmall wasm
-ClassOf wasm (Set (Record member fault)) = (member ≡ 0) × HasRecordFault wasm fault
-ClassOf wasm (Set (Check member fault)) = (member ≡ 0) × HasCheckFault wasm fault
-ClassOf wasm _ = ⊥
+-- the same outcome, or two runs
+abbrev pub Alike : Outcome → Outcome → Type 0
+Alike due answer = (due ≡ answer) ⊎ ((is_run due ≡ true) × (is_run answer ≡ true))
 
--- what is due by what is to say of the file
-abbrev DueBy : Result Module Fault → Outcome → Type 0
-DueBy (Ok wasm) o = ClassOf wasm o
-DueBy (Err why) o = o ≡ Set (Decode 0 (decode_fault why))
+module _ (laws : Laws) (names : HostNames) (files : Files) (path : List ℕ) where
+  -- ---- merging, by what there is to say of the file
 
--- what has a record has no fault of it, and a fault of a record is one
-no_record_fault : (wasm : Module) (fault : RecordFault) → HasRecordFault wasm fault → IsRecorded wasm → ⊥
-no_record_fault wasm fault h r = let same = one_answer wasm (Err h.why) (Ok r.dylink) h.answer r.answer in cc
+  abbrev ByFile : Result Module SetFault → Outcome → Type 0
+  ByFile (Ok wasm) due = (IsSmall wasm × (due ≡ verdict (entry_of wasm))) ⊎ ((IsSmall wasm → ⊥) × (due ≡ Unbuilt))
+  ByFile (Err fault) due = due ≡ Set fault
 
-same_record_fault : (wasm : Module) (a b : RecordFault) → HasRecordFault wasm a → HasRecordFault wasm b → a ≡ b
-same_record_fault wasm a b h k =
-    let same = one_answer wasm (Err h.why) (Err k.why) h.answer k.answer in
-    let why : h.why ≡ k.why = cc in
-    h.is ∙ ap record_fault why ∙ sym k.is
-
-no_check_fault : (wasm : Module) (fault : CheckFault) → HasCheckFault wasm fault → validation.fault wasm ≡ None → ⊥
-no_check_fault wasm fault h none = let found = h.found in cc
-
-same_check_fault : (wasm : Module) (a b : CheckFault) → HasCheckFault wasm a → HasCheckFault wasm b → a ≡ b
-same_check_fault wasm a b h k =
-    let found = h.found in
-    let other = k.found in
-    let why : h.why ≡ k.why = cc in
-    h.is ∙ ap check_fault why ∙ sym k.is
-
-module _ (wasm : Module) where
-  record_is : (fault : RecordFault) → HasRecordFault wasm fault → (o : Outcome) → ClassOf wasm o → o ≡ Set (Record 0 fault)
-  record_is fault h Done c = absurd (no_record_fault wasm fault h (small_recorded wasm c.0))
-  record_is fault h (Link link.NoEntry) c = absurd (no_record_fault wasm fault h (small_recorded wasm c.0))
-  record_is fault h Unbuilt c = absurd (no_record_fault wasm fault h c.recorded)
-  record_is fault h (Set (Record member other)) c = ap (λ n. Set (Record n other)) c.0 ∙ ap (λ f. Set (Record 0 f)) (same_record_fault wasm other fault c.1 h)
-  record_is fault h (Set (Check member other)) c = absurd (no_record_fault wasm fault h c.1.recorded)
-  record_is fault h _ c = absurd c
-
-  check_is : (fault : CheckFault) → HasCheckFault wasm fault → (o : Outcome) → ClassOf wasm o → o ≡ Set (Check 0 fault)
-  check_is fault h Done c = absurd (no_check_fault wasm fault h (small_valid wasm c.0))
-  check_is fault h (Link link.NoEntry) c = absurd (no_check_fault wasm fault h (small_valid wasm c.0))
-  check_is fault h Unbuilt c = absurd (no_check_fault wasm fault h c.valid)
-  check_is fault h (Set (Record member other)) c = absurd (no_record_fault wasm other c.1 h.recorded)
-  check_is fault h (Set (Check member other)) c = ap (λ n. Set (Check n other)) c.0 ∙ ap (λ f. Set (Check 0 f)) (same_check_fault wasm other fault c.1 h)
-  check_is fault h _ c = absurd c
-
-  unbuilt_is : IsNotSmall wasm → (o : Outcome) → ClassOf wasm o → o ≡ Unbuilt
-  unbuilt_is h Done c = absurd (h.not_small c.0)
-  unbuilt_is h (Link link.NoEntry) c = absurd (h.not_small c.0)
-  unbuilt_is h Unbuilt c = refl
-  unbuilt_is h (Set (Record member other)) c = absurd (no_record_fault wasm other c.1 h.recorded)
-  unbuilt_is h (Set (Check member other)) c = absurd (no_check_fault wasm other c.1 h.valid)
-  unbuilt_is h _ c = absurd c
+  one_by_file : (said : Result Module SetFault) (a b : Outcome) → ByFile said a → ByFile said b → a ≡ b
+  one_by_file (Ok wasm) a b (inl h) (inl k) = h.1 ∙ sym k.1
+  one_by_file (Ok wasm) a b (inl h) (inr k) = absurd (k.0 h.0)
+  one_by_file (Ok wasm) a b (inr h) (inl k) = absurd (h.0 k.0)
+  one_by_file (Ok wasm) a b (inr h) (inr k) = h.1 ∙ sym k.1
+  one_by_file (Err fault) a b h k = h ∙ sym k
 
   linked_is : (entry : Option ℕ) → fault_without entry ≡ None → Done ≡ verdict entry
   linked_is None l = absurd cc
   linked_is (Some entry) l = refl
 
-  no_entry_is : (entry : Option ℕ) → fault_without entry ≡ Some NoEntry → Link link.NoEntry ≡ verdict entry
-  no_entry_is None l = refl
-  no_entry_is (Some entry) l = absurd cc
+  refused_is : (entry : Option ℕ) (fault : LinkFault) → fault_without entry ≡ Some fault → Link fault ≡ verdict entry
+  refused_is None fault l = let same : link.NoEntry ≡ fault = cc in ap Link (sym same)
+  refused_is (Some entry) fault l = absurd cc
 
-  small_is : IsSmall wasm → (o : Outcome) → ClassOf wasm o → o ≡ verdict (entry_of wasm)
-  small_is small Done c = linked_is (entry_of wasm) c.1
-  small_is small (Link link.NoEntry) c = no_entry_is (entry_of wasm) c.1
-  small_is small Unbuilt c = absurd (c.not_small small)
-  small_is small (Set (Record member other)) c = absurd (no_record_fault wasm other c.1 (small_recorded wasm small))
-  small_is small (Set (Check member other)) c = absurd (no_check_fault wasm other c.1 (small_valid wasm small))
-  small_is small _ c = absurd c
+  -- the set of the module that is read
+  pub fault_of_set : (S : ClosedSet) (g : GathersSmall files path S) → link_fault (linked names S) ≡ fault_without (entry_of g.wasm)
+  fault_of_set S g =
+      let found = small_set files path g.wasm g.file g.small in
+      let one = laws.one_gathered laws.one_answer laws.one_record files (default_options path) _ _ (Ok S) (Ok (set_alone (main_name path) path found.0 g.wasm)) g.gathered found.1 in
+      let answer = one.1 in
+      let same : S ≡ set_alone (main_name path) path found.0 g.wasm = cc in
+      ap (λ s. link_fault (linked names s)) same ∙ laws.small_sets_link names (main_name path) path found.0 g.wasm g.small
 
-module _ (files : Files) (path : List ℕ) (answer : Result Module Fault) (input : IsInput most_bytes files path answer) where
-  -- what is due for one answer is due for the other
-  by_answer : (other : Result Module Fault) (o : Outcome) → other ≡ answer → DueBy other o → DueBy answer o
-  by_answer other o same due = subst (λ a. DueBy a o) same due
+  abbrev SeenBy : Outcome → Type 0
+  SeenBy due = (said : Result Module SetFault) × OfFile main_file files path said × ByFile said due
 
-  small_as : (S : ClosedSet) (g : GathersSmall files path S) → Ok g.gathered.main.wasm ≡ answer
-  small_as S g =
-      let main = g.gathered.main in
-      let file : files path ≡ Some g.gathered.found.bytes = subst (λ p. files p ≡ Some g.gathered.found.bytes) g.gathered.path g.gathered.found.found in
-      let told = small_answer main.wasm g.gathered.found.bytes g.gathered.found.spelled g.small in
-      input.answers.only (Ok main.wasm) (subst (λ bytes. Answers bytes (Ok main.wasm)) (one_file files path _ _ file input.file) told)
+  seen_by : (due : Outcome) → MergeDue names files path due → SeenBy due
+  seen_by Done d = (Ok d.gathered.wasm, d.gathered.file, inl (d.gathered.small, linked_is (entry_of d.gathered.wasm) (sym (fault_of_set d.set d.gathered) ∙ d.links)))
+  seen_by (Set fault) d = (Err fault, d, refl)
+  seen_by Unbuilt d = (Ok d.wasm, d.file, inr (d.not_small, refl))
+  seen_by (Link fault) d = (Ok d.gathered.wasm, d.gathered.file, inl (d.gathered.small, refused_is (entry_of d.gathered.wasm) fault (sym (fault_of_set d.set d.gathered) ∙ d.found)))
+  seen_by _ d = absurd d
 
-  small_link : (S : ClosedSet) (g : GathersSmall files path S) (fault : Option LinkFault) → link_fault (linked S) ≡ fault → fault_without (entry_of g.gathered.main.wasm) ≡ fault
-  small_link S g fault e = sym (ap (λ ms. fault_without (set_entry ms)) g.gathered.members) ∙ e
+  one_merge_due : (a b : Outcome) → MergeDue names files path a → MergeDue names files path b → a ≡ b
+  one_merge_due a b h k =
+      let x = seen_by a h in
+      let y = seen_by b k in
+      let same = one_of_file laws.one_answer laws.one_record main_file path files x.0 y.0 x.1 y.1 in
+      one_by_file y.0 a b (subst (λ said. ByFile said a) same x.2) y.2
 
-  due_by : (o : Outcome) → MergeDue files path o → DueBy answer o
-  due_by Done d = by_answer (Ok d.gathered.gathered.main.wasm) Done (small_as d.set d.gathered) (d.gathered.small, small_link d.set d.gathered None d.links)
-  due_by (Usage kind) d = absurd d
-  due_by (Set (Missing name)) d = absurd (no_file files path _ d.0 input.file)
-  due_by (Set (ReadFault at)) d = absurd d
-  due_by (Set (Decode member fault)) d = by_answer (Err d.why) _ (read_as files path most_bytes answer input (Err d.why) d.read) (ap (λ n. Set (Decode n fault)) d.first ∙ ap (λ f. Set (Decode 0 f)) d.is)
-  due_by (Set (Record member fault)) d = by_answer (Ok d.wasm) (Set (Record member fault)) (read_as files path most_bytes answer input (Ok d.wasm) d.read) (d.first, d.is)
-  due_by (Set (Check member fault)) d = by_answer (Ok d.wasm) (Set (Check member fault)) (read_as files path most_bytes answer input (Ok d.wasm) d.read) (d.first, d.is)
-  due_by (Set SetSize) d = absurd (not_too_long files path most_bytes (input.bytes, input.file, input.few) d)
-  due_by Unbuilt d = by_answer (Ok d.wasm) Unbuilt (read_as files path most_bytes answer input (Ok d.wasm) d.read) d.is
-  due_by (Link link.NoEntry) d = by_answer (Ok d.gathered.gathered.main.wasm) (Link link.NoEntry) (small_as d.set d.gathered) (d.gathered.small, small_link d.set d.gathered (Some NoEntry) d.fault)
-  due_by WriteFault d = absurd d
-  due_by Memory d = absurd d
-  due_by (Ran ran) d = absurd d
-  due_by (Single fault) d = absurd d
+  -- ---- running a module
 
--- by the module that is read
-class_of : (files : Files) (path : List ℕ) (wasm : Module) → IsInput most_bytes files path (Ok wasm) → (o : Outcome) → MergeDue files path o → ClassOf wasm o
-class_of files path wasm input o d = due_by files path (Ok wasm) input o d
+  abbrev RunBy : Result Module SetFault → Outcome → Type 0
+  RunBy (Ok wasm) due = ((opening : ModuleState) × (module_opening wasm names ≡ Ok opening) × (is_run due ≡ true)) ⊎ ((fault : SingleFault) × (module_opening wasm names ≡ Err fault) × (due ≡ Single fault))
+  RunBy (Err fault) due = due ≡ Set fault
 
-pub due_input : (files : Files) (path : List ℕ) (wasm : Module) → IsInput most_bytes files path (Ok wasm) → IsSmall wasm → (o : Outcome) → MergeDue files path o → o ≡ verdict (entry_of wasm)
-due_input files path wasm input small o d = small_is wasm small o (class_of files path wasm input o d)
+  one_run_by : (said : Result Module SetFault) (a b : Outcome) → RunBy said a → RunBy said b → Alike a b
+  one_run_by (Ok wasm) a b (inl h) (inl k) = inr (h.2, k.2)
+  one_run_by (Ok wasm) a b (inl h) (inr k) = absurd (let opens = h.1 in let refused = k.1 in cc)
+  one_run_by (Ok wasm) a b (inr h) (inl k) = absurd (let refused = h.1 in let opens = k.1 in cc)
+  one_run_by (Ok wasm) a b (inr h) (inr k) =
+      let one = h.1 in
+      let two = k.1 in
+      let same : h.0 ≡ k.0 = cc in
+      inl (h.2 ∙ ap Single same ∙ sym k.2)
+  one_run_by (Err fault) a b h k = inl (h ∙ sym k)
 
--- where a file is not built
-pub unbuilt_due : (files : Files) (path : List ℕ) → ((wasm : Module) × IsInput most_bytes files path (Ok wasm) × IsNotSmall wasm) → (o : Outcome) → MergeDue files path o → o ≡ Unbuilt
-unbuilt_due files path u o d = unbuilt_is u.0 u.2 o (class_of files path u.0 u.1 o d)
+  run_by : (due : Outcome) → ExecDue names files path due → (said : Result Module SetFault) × OfFile run_file files path said × RunBy said due
+  run_by (Ran ran) d = (Ok d.wasm, d.file, inl (d.opening, d.opens, refl))
+  run_by (Set fault) d = (Err fault, d, refl)
+  run_by (Single fault) d = (Ok d.wasm, d.file, inr (fault, d.refused, refl))
+  run_by _ d = absurd d
 
-module _ (files : Files) (path : List ℕ) where
-  -- the file of a gathered set
-  set_file : (S : ClosedSet) → GathersSmall files path S → IsThere files path most_bytes
-  set_file S g =
-      let found = g.gathered.found in
-      (found.bytes, subst (λ p. files p ≡ Some found.bytes) g.gathered.path found.found, omega (arith, g.gathered.few_bytes, found.size))
+  one_exec_due : (a b : Outcome) → ExecDue names files path a → ExecDue names files path b → Alike a b
+  one_exec_due a b h k =
+      let x = run_by a h in
+      let y = run_by b k in
+      let same = one_of_file laws.one_answer laws.one_record run_file path files x.0 y.0 x.1 y.1 in
+      one_run_by y.0 a b (subst (λ said. RunBy said a) same x.2) y.2
 
-  -- the file where this is due
-  file_of : (o : Outcome) → MergeDue files path o → FileOf files path most_bytes o
-  file_of Done d = set_file d.set d.gathered
-  file_of (Usage kind) d = absurd d
-  file_of (Set (Missing name)) d = d
-  file_of (Set (ReadFault at)) d = absurd d
-  file_of (Set (Decode member fault)) d = there files path most_bytes (Err d.why) d.read
-  file_of (Set (Record member fault)) d = there files path most_bytes (Ok d.wasm) d.read
-  file_of (Set (Check member fault)) d = there files path most_bytes (Ok d.wasm) d.read
-  file_of (Set SetSize) d = d
-  file_of Unbuilt d = there files path most_bytes (Ok d.wasm) d.read
-  file_of (Link link.NoEntry) d = set_file d.set d.gathered
-  file_of WriteFault d = absurd d
-  file_of Memory d = absurd d
-  file_of (Ran ran) d = absurd d
-  file_of (Single fault) d = absurd d
+-- ---- what is asked
 
-  -- where a file is not decoded
-  fault_due : (member : ℕ) (fault : DecodeFault) → ((why : Fault) × IsInput most_bytes files path (Err why) × (member ≡ 0) × (fault ≡ decode_fault why))
-      → (o : Outcome) → MergeDue files path o → o ≡ Set (Decode member fault)
-  fault_due member fault u o d = due_by files path (Err u.0) u.1 o d ∙ sym (ap (λ n. Set (Decode n fault)) u.2 ∙ ap (λ f. Set (Decode 0 f)) u.3)
+module _ (laws : Laws) (names : HostNames) (files : Files) where
+  one_due : (asked : Result Order UsageKind) (a b : Outcome) → DueFor names files asked a → DueFor names files asked b → Alike a b
+  one_due (Err kind) a b h k = inl (h ∙ sym k)
+  one_due (Ok (order.Merge main out)) a b h k = inl (one_merge_due laws names files main a b h k)
+  one_due (Ok (order.Exec file steps args)) a b h k = one_exec_due laws names files file a b h k
 
-  -- where a module has no record
-  record_due : (member : ℕ) (fault : RecordFault) → ((wasm : Module) × IsInput most_bytes files path (Ok wasm) × (member ≡ 0) × HasRecordFault wasm fault)
-      → (o : Outcome) → MergeDue files path o → o ≡ Set (Record member fault)
-  record_due member fault u o d = record_is u.0 fault u.3 o (class_of files path u.0 u.1 o d) ∙ sym (ap (λ n. Set (Record n fault)) u.2)
+  no_run : (due answer : Outcome) → is_run answer ≡ false → Alike due answer → due ≡ answer
+  no_run due answer none (inl same) = same
+  no_run due answer none (inr runs) = absurd (let run = runs.1 in cc)
 
-  -- where a module has a fault
-  check_due : (member : ℕ) (fault : CheckFault) → ((wasm : Module) × IsInput most_bytes files path (Ok wasm) × (member ≡ 0) × HasCheckFault wasm fault)
-      → (o : Outcome) → MergeDue files path o → o ≡ Set (Check member fault)
-  check_due member fault u o d = check_is u.0 fault u.3 o (class_of files path u.0 u.1 o d) ∙ sym (ap (λ n. Set (Check n fault)) u.2)
+  a_run : (due answer : Outcome) → is_run answer ≡ true → Alike due answer → is_run due ≡ true
+  a_run due answer run (inl same) = ap is_run same ∙ run
+  a_run due answer run (inr runs) = runs.0
 
-  -- where there is no closed set
-  pub set_due : (fault : SetFault) → Gathered files path (Err (input.Set fault)) → (o : Outcome) → MergeDue files path o → Yields o (Set fault)
-  set_due (Missing name) g o d = missing_is files path most_bytes name g o (file_of o d)
-  set_due (ReadFault at) g o d = λ kind is. absurd (subst (MergeDue files path) is d)
-  set_due (Decode member fault) g o d = fault_due member fault g o d
-  set_due (Record member fault) g o d = record_due member fault g o d
-  set_due (Check member fault) g o d = check_due member fault g o d
-  set_due SetSize g o d = too_long_is files path most_bytes g o (file_of o d)
+  no_usage : (asked : Result Order UsageKind) (at : List ℕ) (due : Outcome) → TellsFor names files asked (Set (ReadFault at)) → DueFor names files asked due → (kind : UsageKind) → due ≡ Usage kind → ⊥
+  no_usage (Err other) at due tells d kind is = tells
+  no_usage (Ok (order.Merge main out)) at due tells d kind is = subst (MergeDue names files main) is d
+  no_usage (Ok (order.Exec file steps args)) at due tells d kind is = subst (ExecDue names files file) is d
 
-  pub set_links : (fault : SetFault) → Gathered files path (Err (input.Set fault)) → LinksAt files path → ((at : List ℕ) → fault ≡ ReadFault at → ⊥) → ⊥
-  set_links (Missing name) g l read = let is = missing_is files path most_bytes name g Done (file_of Done l) in cc
-  set_links (ReadFault at) g l read = read at refl
-  set_links (Decode member fault) g l read = let is = fault_due member fault g Done l in cc
-  set_links (Record member fault) g l read = let is = record_due member fault g Done l in cc
-  set_links (Check member fault) g l read = let is = check_due member fault g Done l in cc
-  set_links SetSize g l read = let is = too_long_is files path most_bytes g Done (file_of Done l) in cc
+  -- where an outcome is due, the answer is that one, or yields
+  pub told_yields : (asked : Result Order UsageKind) (answer : Outcome) → TellsFor names files asked answer → (due : Outcome) → DueFor names files asked due → Yields due answer
+  told_yields asked answer tells due d = go answer tells
+    where
+      go : (o : Outcome) → TellsFor names files asked o → Yields due o
+      go Memory t = tt
+      go (Set (ReadFault at)) t = no_usage asked at due t d
+      go WriteFault t = no_run due Done refl (one_due asked due Done d t)
+      go (Ran ran) t = a_run due (Ran ran) refl (one_due asked due (Ran ran) d t)
+      go Done t = no_run due Done refl (one_due asked due Done d t)
+      go (Usage kind) t = no_run due (Usage kind) refl (one_due asked due (Usage kind) d t)
+      go Unbuilt t = no_run due Unbuilt refl (one_due asked due Unbuilt d t)
+      go (Link fault) t = no_run due (Link fault) refl (one_due asked due (Link fault) d t)
+      go (Single fault) t = no_run due (Single fault) refl (one_due asked due (Single fault) d t)
+      go (Set fault) t = of_set fault t
+        where
+          of_set : (fault : SetFault) → TellsFor names files asked (Set fault) → Yields due (Set fault)
+          of_set (ReadFault at) t = no_usage asked at due t d
+          of_set other t = no_run due (Set other) refl (one_due asked due (Set other) d t)
+
+  -- ---- completeness
+
+  abbrev any_run : Outcome
+  any_run = Ran (record { end = end.Return; steps = 0; answers = [] })
+
+  module _ (old new : FilesState) where
+    merged_whole : (main out : List ℕ) (answer : Outcome) → Yields Done answer → Caused (Ok (order.Merge main out)) answer old new
+        → ¬ Rose old.read_faults new.read_faults → ¬ Rose old.write_faults new.write_faults → (answer ≡ Done) ⊎ (answer ≡ Memory)
+    merged_whole main out Done y caused reads writes = inl refl
+    merged_whole main out Memory y caused reads writes = inr refl
+    merged_whole main out WriteFault y caused reads writes = absurd (writes caused.1.rose)
+    merged_whole main out (Ran ran) y caused reads writes = absurd cc
+    merged_whole main out (Usage kind) y caused reads writes = absurd cc
+    merged_whole main out Unbuilt y caused reads writes = absurd cc
+    merged_whole main out (Link fault) y caused reads writes = absurd cc
+    merged_whole main out (Single fault) y caused reads writes = absurd cc
+    merged_whole main out (Set fault) y caused reads writes = of_set fault y caused
+      where
+        of_set : (fault : SetFault) → Yields Done (Set fault) → Caused (Ok (order.Merge main out)) (Set fault) old new → (Set fault ≡ Done) ⊎ (Set fault ≡ Memory)
+        of_set (ReadFault at) y caused = absurd (reads caused.1.rose)
+        of_set other y caused = absurd cc
+
+    run_whole : (file : List ℕ) (steps : ℕ) (args : List (List ℕ)) (answer : Outcome) → Yields any_run answer → Caused (Ok (order.Exec file steps args)) answer old new
+        → ¬ Rose old.read_faults new.read_faults → (is_run answer ≡ true) ⊎ (answer ≡ Memory)
+    run_whole file steps args (Ran ran) y caused reads = inl refl
+    run_whole file steps args Memory y caused reads = inr refl
+    run_whole file steps args WriteFault y caused reads = absurd cc
+    run_whole file steps args Done y caused reads = absurd cc
+    run_whole file steps args (Usage kind) y caused reads = absurd cc
+    run_whole file steps args Unbuilt y caused reads = absurd cc
+    run_whole file steps args (Link fault) y caused reads = absurd cc
+    run_whole file steps args (Single fault) y caused reads = absurd cc
+    run_whole file steps args (Set fault) y caused reads = of_set fault y caused
+      where
+        of_set : (fault : SetFault) → Yields any_run (Set fault) → Caused (Ok (order.Exec file steps args)) (Set fault) old new → (is_run (Set fault) ≡ true) ⊎ (Set fault ≡ Memory)
+        of_set (ReadFault at) y caused = absurd (reads caused.1.rose)
+        of_set other y caused = absurd cc
+
+    pub told_complete : (asked : Result Order UsageKind) (answer : Outcome) → TellsFor names files asked answer → Caused asked answer old new → IsComplete names files asked answer old new
+    told_complete (Err kind) answer tells caused = tt
+    told_complete (Ok (order.Merge main out)) answer tells caused = λ links reads writes.
+        merged_whole main out answer (told_yields (Ok (order.Merge main out)) answer tells Done links) caused reads writes
+    told_complete (Ok (order.Exec file steps args)) answer tells caused = λ opens reads.
+        run_whole file steps args answer (told_yields (Ok (order.Exec file steps args)) answer tells any_run opens) caused reads
+
+-- the laws, as they are told
+pub laws_of : ReadingAnswers → OneRecordAnswer → OneGathered → SmallSetsLink → Laws
+laws_of answers records gathers links = record {
+  one_answer = λ bytes one other h k. (answers bytes).1 one h ∙ sym ((answers bytes).1 other k);
+  one_record = records;
+  one_gathered = gathers;
+  small_sets_link = links;
+}

@@ -2,10 +2,11 @@
 use Rattle.std.proofs.Common.{◌≡◌, ℕ, List, Option, Some, None, if◌then◌else◌, refl, sym, ap}
 use Rattle.wasm_form.specs.declared.module.Module.{Module}
 use Rattle.spec_binary.specs.Options.{◌>>=◌}
-use Rattle.spec_binary.specs.SmallForm.{IsSmall}
-use Rattle.spec_binary.specs.Indices.{function_type, nullary_at, own_function}
-use Rattle.spec_validation.proofs.Small.{small_type, own_in_range}
-use Rattle.spec_linking.specs.Definitions.{start_name, main_function_name, entry_of}
+use Rattle.merge_whole.specs.SmallForm.{IsSmall}
+use Rattle.spec_binary.specs.Indices.{function_type, nullary_at}
+use Rattle.spec_binary.specs.Exports.{own_function, start_name}
+use Rattle.merge_whole.proofs.SmallNumbers.{small_type, own_in_range}
+use Rattle.spec_linking.specs.Definitions.{main_function_name, entry_of}
 
 -- a function of a small module has no parameters and results
 entered : (m : Module) → IsSmall m → (name : List ℕ) (o : Option ℕ) → own_function m name ≡ o → (o >>= λ f. if nullary_at (function_type m f) then Some f else None) ≡ o

@@ -1,90 +1,89 @@
--- What comes of a module that is run, and what telling of it leaves.
-use Rattle.std.proofs.Common.{◌≡◌, ◌⊎◌, ℕ, List, Option, None, true, Ok, refl, sym, ap, subst, inl, inr}
+-- What comes of a module that was read and is run.
+use Rattle.std.proofs.Common.{◌≡◌, ◌≢◌, ◌⊎◌, ℕ, List, Option, Some, None, Result, Ok, Err, refl, sym, ap, ◌∙◌, subst, inl, inr}
 use Rattle.std.specs.Option.{ForSome}
 use Rattle.std.specs.FinMap.{get}
 use Rattle.wasm_form.specs.declared.module.Module.{Module}
-use Rattle.wasm_runtime.specs.declared.Answer.{Answer}
 use Rattle.dyl_outside.specs.FileMap.{FileMap}
+use Rattle.dyl_outside.specs.Files.{FilesState}
 use Rattle.spec_validation.specs.Faults as validation
-use Rattle.spec_runtime.specs.Memories.{MemoryInstance}
-use Rattle.spec_runtime.specs.Names.{HostNames}
-use Rattle.spec_runtime.specs.Hosts.{HostCall}
-use Rattle.spec_linking.specs.Sets.{Files}
-use Rattle.spec_hosts.specs.Devices.{Outside, Output, KeepsFronts}
-use Rattle.spec_hosts.specs.Laws.{WasiKeepsFronts}
-use Rattle.wasm_exec.specs.declared.ran.Ran as run
-use Rattle.wasm_exec.specs.Ended.{IsRunOf}
-use Rattle.wasm_exec.specs.Driving as driving
-use Rattle.dyl_app.specs.declared.outcome.Outcome.{Outcome}
-use Rattle.dyl_app.specs.declared.outcome.Outcome.TheVariants.{Ran, Single, Memory}
-use Rattle.dyl_app.specs.Due.{most_file, IsModuleAt, OpensAt, ExecDue, ExecTells, Yields, is_run}
-use Rattle.dyl_app.specs.Gathered.{IsInput}
-use Rattle.dyl_app.specs.Told.{IsTold, TellsErrors}
-use Rattle.dyl_app.specs.Runs.{guest_arguments, Executes, HasExecuted, IsExecuted}
-use Rattle.dyl_app.proofs.ExecDues.{run_due, refused_due, any_run}
-use Rattle.wasm_exec.proofs.Hosting.{fronts_itself, hosted_fronts}
+use Rattle.spec_execution.specs.declared.fault.SingleFault.{SingleFault}
+use Rattle.spec_execution.specs.declared.fault.SingleFault.TheVariants as single
+use Rattle.spec_hosts.specs.declared.ran.Ran as ran
+use Rattle.spec_hosts.specs.Devices.{Devices}
+use Rattle.spec_hosts.specs.Hosted.{Embedder}
+use Rattle.wasm_exec.specs.Executed as run
+use Rattle.dyl_front.specs.declared.outcome.Outcome.{Outcome}
+use Rattle.dyl_front.specs.declared.outcome.Outcome.TheVariants.{Done, Ran, Usage, Set, Unbuilt, Link, Single, WriteFault, Memory}
+use Rattle.dyl_front.specs.declared.order.Order.TheVariants as order
+use Rattle.dyl_app.specs.OneFile.{run_file, OfFile}
+use Rattle.dyl_app.specs.Fetched.{Reads}
+use Rattle.dyl_app.specs.Runs.{guest_arguments, Works}
+use Rattle.spec_linking.specs.declared.fault.SetFault.{SetFault}
+use Rattle.spec_linking.specs.declared.fault.SetFault.TheVariants as set
+use Rattle.dyl_app.specs.Told.{IsTold}
+use Rattle.dyl_app.specs.Served.{Serves, Executes, set_outcome}
 
--- the file there is the module
-pub is_module : (files : Files) (path : List ℕ) (wasm : Module) → IsInput most_file files path (Ok wasm) → validation.fault wasm ≡ None → IsModuleAt files path wasm
-is_module files path wasm input valid = record { read = record { bytes = input.bytes; file = input.file; few = input.few; told = input.answers.told }; valid = valid }
+-- what is refused, but for want of memory
+pub refused_is : (wasm : Module) (embedder : Embedder) (steps : ℕ) (fault : SingleFault) (old new : Devices) → (fault ≡ single.Memory → ⊥) → run.IsRefused wasm embedder steps fault old new
+    → Executes wasm embedder steps (Single fault) old new
+refused_is wasm embedder steps single.Memory old new other h = absurd (other refl)
+refused_is wasm embedder steps _ old new other h = h
 
-module _ (wasm : Module) (steps : ℕ) (args : List (List ℕ)) (names : HostNames) (callback : HostCall → MemoryInstance → Answer → Type 0) (old new : Outside) where
-  abbrev Executed : Outcome → Type 0
-  Executed answer = IsExecuted wasm steps args names callback answer old new
+module _ (embedder : List (List ℕ) → Embedder) (path : List ℕ) (steps : ℕ) (args : List (List ℕ)) (wasm : Module) (old mid : FilesState) (read : Reads run_file path (Ok wasm) old mid) (begun now : Devices) where
+  -- the arguments that the guest sees make no difference to the names
+  module _ (E : Embedder) (is : E ≡ embedder (guest_arguments args)) where
+    exec_serves : (answer : Outcome) → Executes wasm E steps answer begun now → Serves E.names (Ok (order.Exec path steps args)) answer old mid
+    exec_serves (Ran r) h = record {
+      tells = λ files told. record { wasm = wasm; file = read.tells files told; opening = h.0; opens = h.1 };
+      leaves = λ files told. read.files ∙ told;
+      caused = tt;
+      inner = refl;
+    }
+    exec_serves (Single single.Memory) h = absurd h
+    exec_serves (Single fault) h = record {
+      tells = λ files told. record { wasm = wasm; file = read.tells files told; refused = h.0 };
+      leaves = λ files told. read.files ∙ told;
+      caused = tt;
+      inner = refl;
+    }
+    exec_serves Memory h = record { tells = λ files told. tt; leaves = λ files told. read.files ∙ told; caused = tt; inner = refl }
+    exec_serves _ h = absurd h
 
-  -- it was run with the arguments that the guest sees
-  pub with_arguments : (texts : List (List ℕ)) → texts ≡ guest_arguments args → (r : run.Ran) → driving.Executes wasm names texts callback steps (Ok r) old new → Executed (Ran r)
-  with_arguments texts same r h = (h.0, h.1, subst (λ t. IsRunOf wasm h.0 t callback steps r old new) same h.2)
+  pub executed_serves : (answer : Outcome) → Executes wasm (embedder (guest_arguments args)) steps answer begun now → Serves (embedder (guest_arguments args)).names (Ok (order.Exec path steps args)) answer old mid
+  executed_serves answer h = exec_serves (embedder (guest_arguments args)) refl answer h
 
-  module _ (files : Files) (path : List ℕ) (input : IsInput most_file files path (Ok wasm)) (valid : validation.fault wasm ≡ None) where
-    pub executed_due : (answer : Outcome) → Executed answer → (due : Outcome) → ExecDue names files path due → Yields due answer
-    executed_due (Ran ran) h due d = run_due names files path wasm input valid h.0 h.1 due d
-    executed_due (Single fault) h due d = refused_due names files path wasm input valid fault h.0 due d
-    executed_due Memory h due d = tt
-    executed_due _ h due d = absurd h
+  -- it is valid
+  pub is_valid : validation.fault wasm ≡ None
+  is_valid = ap validation.fault read.spelled.said.2.0 ∙ read.spelled.said.2.2
 
-    pub executed_tells : (answer : Outcome) → Executed answer → ExecTells names files path answer
-    executed_tells (Ran ran) h = record { wasm = wasm; file = is_module files path wasm input valid; opening = h.0; opens = h.1 }
-    executed_tells (Single fault) h = record { wasm = wasm; file = is_module files path wasm input valid; refused = h.0 }
-    executed_tells Memory h = tt
-    executed_tells _ h = absurd h
+  pub executed_works : (answer : Outcome) → Executes wasm (embedder (guest_arguments args)) steps answer begun now → Works old.told embedder (Ok (order.Exec path steps args)) answer begun now
+  executed_works (Ran r) h = record { wasm = wasm; opening = h.0; begun = record { file = read.tells; valid = is_valid; opens = h.1 }; run = h.2 }
+  executed_works (Single single.Memory) h = absurd h
+  executed_works (Single fault) h = h.1
+  executed_works Memory (inl same) = inl same
+  executed_works Memory (inr cut) = inr (record { wasm = wasm; opening = cut.0; begun = record { file = read.tells; valid = is_valid; opens = cut.1 }; cut = cut.2 })
+  executed_works _ h = absurd h
 
-    pub executed_complete : (answer : Outcome) → Executed answer → OpensAt names files path → (is_run answer ≡ true) ⊎ (answer ≡ Memory)
-    executed_complete (Ran ran) h opens = inl refl
-    executed_complete (Single fault) h opens = absurd (let is = refused_due names files path wasm input valid fault h.0 any_run opens in cc)
-    executed_complete Memory h opens = inr refl
-    executed_complete _ h opens = absurd h
+-- the arguments are those that the guest sees
+pub with_arguments : (wasm : Module) (embedder : List (List ℕ) → Embedder) (texts wanted : List (List ℕ)) → texts ≡ wanted → (steps : ℕ) (r : Result ran.Ran SingleFault) (old new : Devices)
+    → run.Executes wasm (embedder texts) steps r old new → run.Executes wasm (embedder wanted) steps r old new
+with_arguments wasm embedder texts wanted same steps r old new h = subst (λ t. run.Executes wasm (embedder t) steps r old new) same h
 
-  -- what is told of the run of the module at a path
-  pub executed_run : (told : Option FileMap) (path : List ℕ) → ForSome told (λ files. IsModuleAt (get files) path wasm) → validation.fault wasm ≡ None → (answer : Outcome) → Executed answer
-      → HasExecuted told path steps args names callback answer old new
-  executed_run told path file valid (Ran ran) h = record { wasm = wasm; valid = valid; file = file; opening = h.0; opens = h.1; run = h.2 }
-  executed_run told path file valid (Single fault) h = h.1
-  executed_run told path file valid Memory h = h
-  executed_run told path file valid _ h = absurd h
+-- a run never answers Done
+pub never_done : (wasm : Module) (embedder : Embedder) (steps : ℕ) (answer : Outcome) (old new : Devices) → Executes wasm embedder steps answer old new → answer ≢ Done
+never_done wasm embedder steps answer old new h is = subst (λ o. Executes wasm embedder steps o old new) is h
 
--- ---- the line
+pub set_not_done : (fault : SetFault) → set_outcome fault ≢ Done
+set_not_done set.Memory is = cc
+set_not_done fault is = cc
 
-module _ (law : WasiKeepsFronts) (told : Option FileMap) (path : List ℕ) (steps : ℕ) (args : List (List ℕ)) (names : HostNames) (callback : HostCall → MemoryInstance → Answer → Type 0) where
-  -- the sinks keep what they held
-  fronts_kept : (outcome : Outcome) (old middle : Outside) → HasExecuted told path steps args names callback outcome old middle → KeepsFronts old middle
-  fronts_kept (Ran ran) old middle h = hosted_fronts (guest_arguments args) callback law h.run.hosted.0 ran.answers old middle h.run.hosted.2
-  fronts_kept Memory old middle h = h
-  fronts_kept _ old middle h = subst (KeepsFronts old) (sym h) (fronts_itself old)
+pub not_told_done : (outcome answer : Outcome) → IsTold outcome answer → outcome ≢ Done → answer ≢ Done
+not_told_done outcome answer (inl same) other is = other (sym same ∙ is)
+not_told_done outcome answer (inr none) other is = let m : Memory ≡ Done = sym none.0 ∙ is in cc
 
-  -- after the line of an answer, which changed the errors alone
-  module _ (old middle : Outside) (errors : Output) where
-    abbrev new : Outside
-    new = record middle { errors = errors }
+-- what is answered with
+pub ran_is : (wasm : Module) (embedder : Embedder) (steps : ℕ) (r : ran.Ran) (old new : Devices) → run.Executes wasm embedder steps (Ok r) old new → Executes wasm embedder steps (Ran r) old new
+ran_is wasm embedder steps r old new h = h
 
-    line_put : (answer : Outcome) → HasExecuted told path steps args names callback answer old middle → TellsErrors answer middle.errors errors → Executes told path steps args names callback answer old new
-    line_put (Ran ran) h tells = record { wasm = h.wasm; valid = h.valid; file = h.file; opening = h.opening; opens = h.opens; errors = middle.errors; run = h.run; line = tells }
-    line_put Memory h tells = record { errors = middle.errors; fronts = h; line = tells }
-    line_put answer h tells = record { same = ap (λ (o : Outside). record o { errors = errors }) h; told = subst (λ (o : Outside). TellsErrors answer o.errors errors) h tells }
-
-    pub told_executes : (outcome answer : Outcome) → IsTold outcome answer → HasExecuted told path steps args names callback outcome old middle → TellsErrors answer middle.errors errors
-        → Executes told path steps args names callback answer old new
-    told_executes outcome answer (inl same) h tells = line_put answer (subst (λ o. HasExecuted told path steps args names callback o old middle) (sym same) h) tells
-    told_executes outcome answer (inr none) h tells =
-        subst (λ o. Executes told path steps args names callback o old new) (sym none.0)
-        (line_put Memory (fronts_kept outcome old middle h) (subst (λ o. TellsErrors o middle.errors errors) none.0 tells))
+pub memory_is : (wasm : Module) (embedder : Embedder) (steps : ℕ) (fault : SingleFault) (old new : Devices) → fault ≡ single.Memory → run.Executes wasm embedder steps (Err fault) old new → Executes wasm embedder steps Memory old new
+memory_is wasm embedder steps fault old new is h = subst (λ f. run.IsRefused wasm embedder steps f old new) is h

@@ -1,48 +1,102 @@
--- What is at one path is one: how the file is where an outcome is due.
-use Rattle.std.proofs.Common.{◌≡◌, ℕ, ◌≤◌, List, length, Some, None, Result, refl, sym, ap, ◌∙◌, subst, arith}
+-- There is one thing to say of the file at a path.
+use Rattle.std.proofs.Common.{◌≡◌, ◌⊎◌, ℕ, ◌<◌, ◌≤◌, List, length, Bool, true, false, Option, Some, None, Result, Ok, Err, refl, sym, ap, ◌∙◌, subst, inl, inr, arith}
+use Rattle.std.specs.Prelude.{IsSomeAnd}
 use Rattle.wasm_form.specs.declared.module.Module.{Module}
-use Rattle.spec_binary.specs.Answers.{Fault, Answers}
+use Rattle.spec_binary.specs.declared.fault.DecodeFault.{DecodeFault}
+use Rattle.spec_binary.specs.DecodeAnswers.{DecodeAnswer}
+use Rattle.spec_linking.specs.declared.fault.RecordFault.{RecordFault}
+use Rattle.spec_linking.specs.declared.fault.SetFault.{SetFault}
+use Rattle.spec_linking.specs.declared.fault.SetFault.TheVariants.{Missing, ReadFault, Decode, Record, Check, SetSize}
+use Rattle.spec_linking.specs.Records.{RecordAnswer}
 use Rattle.spec_linking.specs.Sets.{Files, main_name}
-use Rattle.dyl_app.specs.declared.outcome.SetFault.TheVariants.{Missing, SetSize}
-use Rattle.dyl_app.specs.declared.outcome.Outcome.{Outcome}
-use Rattle.dyl_app.specs.declared.outcome.Outcome.TheVariants.{Set}
-use Rattle.dyl_app.specs.Due.{IsMissing, IsTooLong, IsRead}
-use Rattle.dyl_app.specs.Gathered.{IsInput}
+use Rattle.spec_linking.specs.Laws.{OneAnswer, OneRecord}
+use Rattle.dyl_app.specs.declared.module.Reading.{Reading}
+use Rattle.dyl_app.specs.OneFile.{HasNeeded, OfModule, OfBytes, OfFile}
 
-module _ (files : Files) (path : List ℕ) where
-  pub one_file : (a b : List ℕ) → files path ≡ Some a → files path ≡ Some b → a ≡ b
-  one_file a b p q = cc
+module _ (one_answer : OneAnswer) (one_record : OneRecord) where
+  -- ---- of a module
 
-  pub no_file : (a : List ℕ) → files path ≡ None → files path ≡ Some a → ⊥
-  no_file a p q = cc
+  -- a record that is needed is there, or it isn't
+  not_both : (recorded : Bool) (wasm : Module) (fault : RecordFault) → recorded ≡ true → RecordAnswer wasm (Err fault) → HasNeeded recorded wasm → ⊥
+  not_both false wasm fault needed answer there = absurd cc
+  not_both true wasm fault needed answer there = let same = one_record wasm (Err fault) (Ok there.0) answer there.1 in cc
 
-  module _ (most : ℕ) where
-    -- what is to say of the file is what was said
-    pub read_as : (answer : Result Module Fault) → IsInput most files path answer → (other : Result Module Fault) → IsRead most files path other → other ≡ answer
-    read_as answer input other read = input.answers.only other (subst (λ bytes. Answers bytes other) (one_file _ _ read.file input.file) read.told)
+  one_of_module : (recorded : Bool) (wasm : Module) (a b : Result Module SetFault) → OfModule recorded wasm a → OfModule recorded wasm b → a ≡ b
+  one_of_module recorded wasm (Ok x) (Ok y) h k = ap Ok (h.0 ∙ sym k.0)
+  one_of_module recorded wasm (Ok x) (Err (Record member fault)) h k = absurd (not_both recorded wasm fault k.1 k.2 h.1)
+  one_of_module recorded wasm (Ok x) (Err (Check member fault)) h k = absurd (let none = h.2 in let some = k.2 in cc)
+  one_of_module recorded wasm (Ok x) _ h k = absurd k
+  one_of_module recorded wasm (Err (Record member fault)) (Ok y) h k = absurd (not_both recorded wasm fault h.1 h.2 k.1)
+  one_of_module recorded wasm (Err (Record member fault)) (Err (Record number other)) h k =
+      let same = one_record wasm (Err fault) (Err other) h.2 k.2 in
+      let faults : fault ≡ other = cc in
+      let members : member ≡ number = h.0 ∙ sym k.0 in
+      ap (λ n. Err (Record n fault)) members ∙ ap (λ f. Err (Record number f)) faults
+  one_of_module recorded wasm (Err (Record member fault)) (Err (Check number other)) h k = absurd (not_both recorded wasm fault h.1 h.2 k.1)
+  one_of_module recorded wasm (Err (Record member fault)) _ h k = absurd k
+  one_of_module recorded wasm (Err (Check member fault)) (Ok y) h k = absurd (let some = h.2 in let none = k.2 in cc)
+  one_of_module recorded wasm (Err (Check member fault)) (Err (Record number other)) h k = absurd (not_both recorded wasm other k.1 k.2 h.1)
+  one_of_module recorded wasm (Err (Check member fault)) (Err (Check number other)) h k =
+      let one = h.2 in
+      let two = k.2 in
+      let faults : fault ≡ other = cc in
+      let members : member ≡ number = h.0 ∙ sym k.0 in
+      ap (λ n. Err (Check n fault)) members ∙ ap (λ f. Err (Check number f)) faults
+  one_of_module recorded wasm (Err (Check member fault)) _ h k = absurd k
+  one_of_module recorded wasm _ b h k = absurd h
 
-    -- there is a file of no more bytes than may be
-    abbrev pub IsThere : Type 0
-    IsThere = (bytes : List ℕ) × (files path ≡ Some bytes) × (length bytes ≤ most)
+  -- ---- of bytes
 
-    pub there : (answer : Result Module Fault) → IsRead most files path answer → IsThere
-    there answer read = (read.bytes, read.file, read.few)
+  module _ (recorded : Bool) (bytes : List ℕ) where
+    -- they spell no module, or one of which this is to say
+    abbrev Seen : Result Module SetFault → Type 0
+    Seen said = ((fault : DecodeFault) × DecodeAnswer bytes (Err fault) × (said ≡ Err (Decode 0 fault))) ⊎ ((wasm : Module) × DecodeAnswer bytes (Ok wasm) × OfModule recorded wasm said)
 
-    pub not_too_long : IsThere → IsTooLong most files path → ⊥
-    not_too_long file too_long = let same = ap length (one_file _ _ file.1 too_long.file) in omega (arith, file.2, same, too_long.long)
+    seen : (said : Result Module SetFault) → OfBytes recorded bytes said → Seen said
+    seen (Err (Decode member fault)) h = inl (fault, h.1, ap (λ n. Err (Decode n fault)) h.0)
+    seen _ h = inr h
 
-    -- the file where an outcome is due
-    abbrev pub FileOf : Outcome → Type 0
-    FileOf (Set (Missing name)) = IsMissing files path × (name ≡ main_name path)
-    FileOf (Set SetSize) = IsTooLong most files path
-    FileOf _ = IsThere
+    one_seen : (a b : Result Module SetFault) → Seen a → Seen b → a ≡ b
+    one_seen a b (inl h) (inl k) =
+        let same = one_answer bytes (Err h.0) (Err k.0) h.1 k.1 in
+        let faults : h.0 ≡ k.0 = cc in
+        h.2 ∙ ap (λ f. Err (Decode 0 f)) faults ∙ sym k.2
+    one_seen a b (inl h) (inr k) = absurd (let same = one_answer bytes (Err h.0) (Ok k.0) h.1 k.1 in cc)
+    one_seen a b (inr h) (inl k) = absurd (let same = one_answer bytes (Ok h.0) (Err k.0) h.1 k.1 in cc)
+    one_seen a b (inr h) (inr k) =
+        let same = one_answer bytes (Ok h.0) (Ok k.0) h.1 k.1 in
+        let modules : k.0 ≡ h.0 = cc in
+        one_of_module recorded h.0 a b h.2 (subst (λ wasm. OfModule recorded wasm b) modules k.2)
 
-    pub missing_is : (name : List ℕ) → IsMissing files path × (name ≡ main_name path) → (o : Outcome) → FileOf o → o ≡ Set (Missing name)
-    missing_is name missing (Set (Missing other)) file = ap (λ n. Set (Missing n)) (file.1 ∙ sym missing.1)
-    missing_is name missing (Set SetSize) file = absurd (no_file _ missing.0 file.file)
-    missing_is name missing _ file = absurd (no_file _ missing.0 file.1)
+    one_of_bytes : (a b : Result Module SetFault) → OfBytes recorded bytes a → OfBytes recorded bytes b → a ≡ b
+    one_of_bytes a b h k = one_seen a b (seen a h) (seen b k)
 
-    pub too_long_is : IsTooLong most files path → (o : Outcome) → FileOf o → o ≡ Set SetSize
-    too_long_is too_long (Set (Missing other)) file = absurd (no_file _ file.0 too_long.file)
-    too_long_is too_long (Set SetSize) file = refl
-    too_long_is too_long _ file = absurd (not_too_long file too_long)
+  -- ---- of a file
+
+  module _ (r : Reading) (path : List ℕ) where
+    -- what is there, if anything is, and what is said of it
+    abbrev There : Option (List ℕ) → Result Module SetFault → Type 0
+    There o said =
+        ((o ≡ None) × (said ≡ Err (Missing (main_name path))))
+        ⊎ ((IsSomeAnd o (λ bytes. r.most < length bytes) × (said ≡ Err SetSize)) ⊎ IsSomeAnd o (λ bytes. (length bytes ≤ r.most) × OfBytes r.recorded bytes said))
+
+    there : (files : Files) (said : Result Module SetFault) → OfFile r files path said → There (files path) said
+    there files (Err (Missing name)) h = inl (h.0, ap (λ n. Err (Missing n)) h.1)
+    there files (Err SetSize) h = inr (inl (h, refl))
+    there files _ h = inr (inr h)
+
+    one_there : (o : Option (List ℕ)) (a b : Result Module SetFault) → There o a → There o b → a ≡ b
+    one_there o a b (inl h) (inl k) = h.1 ∙ sym k.1
+    one_there None a b (inl h) (inr (inl k)) = absurd k.0
+    one_there None a b (inl h) (inr (inr k)) = absurd k
+    one_there (Some bytes) a b (inl h) (inr k) = absurd (let none = h.0 in cc)
+    one_there None a b (inr (inl h)) k = absurd h.0
+    one_there None a b (inr (inr h)) k = absurd h
+    one_there (Some bytes) a b (inr h) (inl k) = absurd (let none = k.0 in cc)
+    one_there (Some bytes) a b (inr (inl h)) (inr (inl k)) = h.1 ∙ sym k.1
+    one_there (Some bytes) a b (inr (inl h)) (inr (inr k)) = absurd (omega (arith, h.0, k.0))
+    one_there (Some bytes) a b (inr (inr h)) (inr (inl k)) = absurd (omega (arith, h.0, k.0))
+    one_there (Some bytes) a b (inr (inr h)) (inr (inr k)) = one_of_bytes r.recorded bytes a b h.1 k.1
+
+    pub one_of_file : (files : Files) (a b : Result Module SetFault) → OfFile r files path a → OfFile r files path b → a ≡ b
+    one_of_file files a b h k = one_there (files path) a b (there files a h) (there files b k)

@@ -2,9 +2,8 @@
 use Rattle.std.proofs.Common.{◌∷◌, [], refl, arith}
 use Rattle.wasm_form.specs.declared.module.Module.{Module}
 use Rattle.wasm_form.specs.Number.{SpellsUnsigned, last}
-use Rattle.spec_binary.specs.SmallForm.{IsSmall, small_custom, no_memory_info}
-use Rattle.spec_linking.specs.Records.{empty_record, memory_information, done, next, HasRecord, recorded}
-use Rattle.dyl_app.specs.Due.{IsRecorded}
+use Rattle.merge_whole.specs.SmallForm.{IsSmall, small_custom, no_memory_info}
+use Rattle.spec_linking.specs.Records.{empty_record, memory_information, done, next, HasRecord}
 
 zero_byte : SpellsUnsigned 32 0 (0 ∷ [])
 zero_byte = last (omega arith) (omega arith)
@@ -17,6 +16,3 @@ small_record wasm small = record {
   count = 1;
   said = next {code = 1} {size = 4 ∷ []} {contents = 0 ∷ 0 ∷ 0 ∷ 0 ∷ []} {rest = []} (last (omega arith) (omega arith)) (memory_information (omega arith) (omega arith) zero_byte zero_byte zero_byte zero_byte) done;
 }
-
-pub small_recorded : (wasm : Module) → IsSmall wasm → IsRecorded wasm
-small_recorded wasm small = record { dylink = empty_record; answer = recorded (small_record wasm small) }

@@ -1,9 +1,9 @@
-pub mod Status
-pub mod Orders
+pub mod OneFile
+pub mod Causes
 pub mod Due
-pub mod Gathered
-pub mod Finish
 pub mod Files
-pub mod Lines
 pub mod Told
 pub mod Runs
+pub mod Fetched
+pub mod Served
+pub mod Clauses

@@ -1,18 +1,17 @@
 // Telling what came of an order.
 ghost use Rattle.std.specs.Prelude.{◌≡◌, true, false, Some, None, IsSome};
-ghost use Rattle.dyl_app.specs.Lines.{line_of, outcome_text};
+ghost use Rattle.dyl_front.specs.Lines.{line_of, outcome_text};
 ghost use Rattle.dyl_app.specs.Told.{IsTold, TellsErrors};
 
-use crate::line::line;
-use crate::outcome::Outcome;
+use dyl_front::{Outcome, line};
 use dyl_outside::{IoFault, Sink};
+use spec_hosts::RunEnd;
 use std::alloc::Global;
-use wasm_exec::RunEnd;
 
 /// Puts the line of Memory, which is made without any.
 fn tell_memory<E: Sink>(alloc: Global, errors: &mut E) -> Outcome
     ensures answer { result ≡ Outcome.Memory }
-    ensures told { TellsErrors Outcome.Memory (record { held = E.held errors.old; faults = E.faults errors.old }) (record { held = E.held errors.new; faults = E.faults errors.new }) }
+    ensures told { TellsErrors Outcome.Memory (E.seen errors.old) (E.seen errors.new) }
 {
     match errors.put(alloc, b"wdyl: out of memory\n") {
         Ok(()) | Err(IoFault::Failed | IoFault::Memory) => Outcome::Memory,
@@ -23,7 +22,7 @@ fn tell_memory<E: Sink>(alloc: Global, errors: &mut E) -> Outcome
 fn tell_line<E: Sink>(alloc: Global, outcome: Outcome, line: &[u8], errors: &mut E) -> Outcome
     requires { line_of outcome ≡ Some line.now }
     ensures answer { IsTold outcome result }
-    ensures told { TellsErrors result (record { held = E.held errors.old; faults = E.faults errors.old }) (record { held = E.held errors.new; faults = E.faults errors.new }) }
+    ensures told { TellsErrors result (E.seen errors.old) (E.seen errors.new) }
 {
     match errors.put(alloc, line) {
         Ok(()) => outcome,
@@ -36,7 +35,7 @@ fn tell_line<E: Sink>(alloc: Global, outcome: Outcome, line: &[u8], errors: &mut
 fn tell_other<E: Sink>(alloc: Global, outcome: Outcome, errors: &mut E) -> Outcome
     requires { IsSome (outcome_text outcome) }
     ensures answer { IsTold outcome result }
-    ensures told { TellsErrors result (record { held = E.held errors.old; faults = E.faults errors.old }) (record { held = E.held errors.new; faults = E.faults errors.new }) }
+    ensures told { TellsErrors result (E.seen errors.old) (E.seen errors.new) }
 {
     match line(alloc, &outcome) {
         Ok(line) => tell_line(alloc, outcome, &line, errors),
@@ -59,7 +58,7 @@ fn is_silent(outcome: &Outcome) -> bool
 /// Tells of an outcome by its line, if it has one, and answers it; or Memory, where none could be had for that.
 pub fn tell<E: Sink>(alloc: Global, outcome: Outcome, errors: &mut E) -> Outcome
     ensures answer { IsTold outcome result }
-    ensures told { TellsErrors result (record { held = E.held errors.old; faults = E.faults errors.old }) (record { held = E.held errors.new; faults = E.faults errors.new }) }
+    ensures told { TellsErrors result (E.seen errors.old) (E.seen errors.new) }
     ensures quiet { line_of result ≡ None → errors.new ≡ errors.old }
 {
     if is_silent(&outcome) {

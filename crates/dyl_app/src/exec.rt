@@ -1,37 +1,23 @@
 // Running one module.
-ghost use Rattle.std.specs.Prelude.{◌≡◌, ◌≢◌, ◌≤◌, ◌⊎◌, List, ℕ, None, true, false, IfOk};
-ghost use Rattle.std.specs.Option.{ForSome};
-ghost use Rattle.std.specs.FinMap.{get};
-ghost use Rattle.dyl_outside.specs.Faults.{Rises, Rose};
-ghost use Rattle.spec_validation.specs.Faults as validation;
-ghost use Rattle.spec_hosts.specs.Devices.{outside_of};
-ghost use Rattle.spec_hosts.specs.Laws.{run_names};
-ghost use Rattle.spec_linking.specs.Sets.{main_name};
-ghost use Rattle.host_table.specs.Table.{functions_of};
-ghost use Rattle.host_calls.specs.Replies.{AnswersCall};
-ghost use Rattle.wasm_decode.specs.declared.fault.DecodeFault.{DecodeFault};
-ghost use Rattle.wasm_decode.specs.declared.fault.DecodeFault.TheVariants as decode;
-ghost use Rattle.dyl_section.specs.declared.fault.RecordFault.{RecordFault};
-ghost use Rattle.wasm_check.specs.declared.fault.CheckFault.{CheckFault};
-ghost use Rattle.wasm_check.specs.declared.fault.CheckFault.TheVariants as check_faults;
-ghost use Rattle.wasm_single.specs.declared.fault.SingleFault.{SingleFault as SingleSeen};
-ghost use Rattle.wasm_single.specs.declared.fault.SingleFault.TheVariants as single_faults;
-ghost use Rattle.dyl_app.specs.declared.outcome.SetFault.TheVariants as set;
-ghost use Rattle.dyl_app.specs.declared.outcome.UsageKind.{UsageKind};
-ghost use Rattle.dyl_app.specs.Due.{OpensAt, ExecDue, ExecTells, Yields, is_run};
-ghost use Rattle.dyl_app.specs.Runs.{guest_arguments, IsExecuted, HasExecuted};
+ghost use Rattle.std.specs.Prelude.{◌≡◌, ◌≢◌, ◌≤◌, IfOk, Ok};
+ghost use Rattle.host_calls.specs.Embedders.{names_of};
+ghost use Rattle.dyl_app.specs.Runs.{guest_arguments};
+ghost use Rattle.dyl_app.specs.Served.{Serves};
+ghost use Rattle.dyl_app.specs.Clauses.{ModuleDoes, ExecWorks};
 
-use crate::gather::InputFault;
-use crate::module::fetch_module;
-use crate::outcome::Outcome;
-use crate::words::owned;
+use crate::merge::refused;
+use crate::module::{Reading, read_module};
+use dyl_front::{Order, Outcome, owned};
 use dyl_outside::{Ambient, Files, Sink, Source};
-use host_table::{Callback, HostTable, Reply};
+use host_table::HostTable;
+use spec_execution::SingleFault;
 use std::alloc::Global;
 use wasm_check::Checked;
 use wasm_exec::execute;
 use wasm_form::{List, Memory, Text};
-use wasm_single::SingleFault;
+
+/// The most bytes of a file that is run.
+const MOST_FILE: usize = 67_108_864;
 
 /// The arguments that a guest sees: the name `program`, and then these.
 fn guest_arguments(alloc: Global, args: &[Text]) -> Result<List<Text>, Memory>
@@ -45,7 +31,7 @@ fn guest_arguments(alloc: Global, args: &[Text]) -> Result<List<Text>, Memory>
     Ok(List::of(texts))
 }
 
-/// Runs a module without a fault.
+/// Runs a module that was read.
 fn exec_module<I: Source, O: Sink, E: Sink, A: Ambient>(
     alloc: Global,
     checked: &Checked,
@@ -58,7 +44,7 @@ fn exec_module<I: Source, O: Sink, E: Sink, A: Ambient>(
     host: &HostTable,
 ) -> Outcome
     requires { steps ≤ 9223372036854775807 }
-    ensures { IsExecuted checked.now steps args.now (run_names (functions_of host.now)) (AnswersCall (⟦<Callback as Fn(&[u64], u64) -> Reply>⟧.post) host.now) result (outside_of (I.left input.old) (I.full input.old) (I.faults input.old) (O.held output.old) (O.faults output.old) (E.held errors.old) (E.faults errors.old) (A.times ambient.old) (A.words ambient.old) (A.faults ambient.old)) (outside_of (I.left input.new) (I.full input.new) (I.faults input.new) (O.held output.new) (O.faults output.new) (E.held errors.new) (E.faults errors.new) (A.times ambient.new) (A.words ambient.new) (A.faults ambient.new)) }
+    ensures { ModuleDoes host.now checked.now args.now steps result (I.seen input.old) (O.seen output.old) (E.seen errors.old) (A.seen ambient.old) (I.seen input.new) (O.seen output.new) (E.seen errors.new) (A.seen ambient.new) }
 {
     let Ok(args) = guest_arguments(alloc, args) else {
         return Outcome::Memory;
@@ -86,31 +72,18 @@ pub fn exec_file<F: Files, I: Source, O: Sink, E: Sink, A: Ambient>(
     host: &HostTable,
 ) -> Outcome
     requires { steps ≤ 9223372036854775807 }
-    ensures due { ForSome (F.told files.old) (λ told. (due : Outcome) → ExecDue (run_names (functions_of host.now)) (get told) file.now due → Yields due result) }
-    ensures tells { ForSome (F.told files.old) (λ told. ExecTells (run_names (functions_of host.now)) (get told) file.now result) }
-    ensures files { F.told files.new ≡ F.told files.old }
-    ensures run { HasExecuted (F.told files.old) file.now steps args.now (run_names (functions_of host.now)) (AnswersCall (⟦<Callback as Fn(&[u64], u64) -> Reply>⟧.post) host.now) result (outside_of (I.left input.old) (I.full input.old) (I.faults input.old) (O.held output.old) (O.faults output.old) (E.held errors.old) (E.faults errors.old) (A.times ambient.old) (A.words ambient.old) (A.faults ambient.old)) (outside_of (I.left input.new) (I.full input.new) (I.faults input.new) (O.held output.new) (O.faults output.new) (E.held errors.new) (E.faults errors.new) (A.times ambient.new) (A.words ambient.new) (A.faults ambient.new)) }
-    ensures complete { ForSome (F.told files.old) (λ told. OpensAt (run_names (functions_of host.now)) (get told) file.now
-        → ¬ Rose (F.read_faults files.old) (F.read_faults files.new)
-        → (is_run result ≡ true) ⊎ (result ≡ Outcome.Memory)) }
-
-    // Whatever is told.
-    ensures no_usage { (kind : UsageKind) → result ≢ Outcome.Usage kind }
-    ensures no_merge { (result ≢ Outcome.Done) × (result ≢ Outcome.WriteFault) × (result ≢ Outcome.Unbuilt) }
-    ensures writes { F.write_faults files.new ≡ F.write_faults files.old }
-    ensures missing { (name : List ℕ) → result ≡ Outcome.Set (set.Missing name) → (name ≡ main_name file.now) × Rises (F.absents files.old) (F.absents files.new) }
-    ensures read_fault { (at : List ℕ) → result ≡ Outcome.Set (set.ReadFault at) → (at ≡ file.now) × Rises (F.read_faults files.old) (F.read_faults files.new) }
-    ensures decode { (member : ℕ) (fault : DecodeFault) → result ≡ Outcome.Set (set.Decode member fault) → (member ≡ 0) × (fault ≢ decode.Memory) }
-    ensures no_record { (member : ℕ) (fault : RecordFault) → result ≢ Outcome.Set (set.Record member fault) }
-    ensures check { (member : ℕ) (fault : CheckFault) → result ≡ Outcome.Set (set.Check member fault) → (member ≡ 0) × (fault ≢ check_faults.Memory) }
-    ensures single { (fault : SingleSeen) → result ≡ Outcome.Single fault → fault ≢ single_faults.Memory }
+    ensures serves { Serves (names_of host.now) (Ok (Order.Exec file.now steps args.now)) result (F.seen files.old) (F.seen files.new) }
+    ensures done { result ≢ Outcome.Done }
+    ensures works { ExecWorks host.now (F.seen files.old) file.now steps args.now result (I.seen input.old) (O.seen output.old) (E.seen errors.old) (A.seen ambient.old) (I.seen input.new) (O.seen output.new) (E.seen errors.new) (A.seen ambient.new) }
 {
-    match fetch_module(alloc, file, files) {
+    let reading = Reading {
+        most: MOST_FILE,
+        recorded: false,
+    };
+    match read_module(alloc, file, reading, files) {
         Ok(checked) => exec_module(
             alloc, &checked, steps, args, input, output, errors, ambient, host,
         ),
-        Err(InputFault::Set(fault)) => Outcome::Set(fault),
-        Err(InputFault::Unbuilt) => unreachable!(),
-        Err(InputFault::Memory) => Outcome::Memory,
+        Err(fault) => refused(fault),
     }
 }

@@ -1,6 +1,6 @@
 // The entry of a main module.
 ghost use Rattle.std.specs.Prelude.{◌≡◌};
-ghost use Rattle.spec_binary.specs.SmallForm.{IsSmall};
+ghost use Rattle.merge_whole.specs.SmallForm.{IsSmall};
 ghost use Rattle.spec_linking.specs.Definitions.{entry_of};
 
 use wasm_form::Module;

@@ -1,29 +1,19 @@
 // Merging the set of a main module.
-ghost use Rattle.std.specs.Prelude.{◌≡◌, ◌≢◌, ◌⊎◌, List, ℕ, Some, false};
-ghost use Rattle.std.specs.Option.{ForSome};
-ghost use Rattle.std.specs.FinMap.{get};
-ghost use Rattle.dyl_outside.specs.Faults.{Rises, Rose};
-ghost use Rattle.spec_linking.specs.Sets.{main_name};
+ghost use Rattle.std.specs.Prelude.{◌≡◌, Some, None, Ok};
+ghost use Rattle.spec_validation.specs.Faults as validation;
+ghost use Rattle.spec_runtime.specs.Names as runtime;
 ghost use Rattle.spec_linking.specs.Definitions.{entry_of};
 ghost use Rattle.merge_whole.specs.MergedModule.{IsSmallInput};
-ghost use Rattle.wasm_decode.specs.declared.fault.DecodeFault.{DecodeFault};
-ghost use Rattle.wasm_decode.specs.declared.fault.DecodeFault.TheVariants as decode;
-ghost use Rattle.dyl_section.specs.declared.fault.RecordFault.{RecordFault};
-ghost use Rattle.dyl_section.specs.declared.fault.RecordFault.TheVariants as record_faults;
-ghost use Rattle.wasm_check.specs.declared.fault.CheckFault.{CheckFault};
-ghost use Rattle.wasm_check.specs.declared.fault.CheckFault.TheVariants as check_faults;
-ghost use Rattle.wasm_single.specs.declared.fault.SingleFault.{SingleFault};
-ghost use Rattle.dyl_app.specs.declared.outcome.SetFault.TheVariants as set;
-ghost use Rattle.dyl_app.specs.declared.outcome.UsageKind.{UsageKind};
-ghost use Rattle.dyl_app.specs.Due.{LinksAt, MergeDue, MergeTells, Yields, is_run};
-ghost use Rattle.dyl_app.specs.Finish.{LeavesWritten, ByEntry};
-ghost use Rattle.dyl_app.specs.Files.{MergeLeaves};
+ghost use Rattle.dyl_app.specs.OneFile.{main_file};
+ghost use Rattle.dyl_app.specs.Fetched.{IsOfSome};
+ghost use Rattle.dyl_app.specs.Served.{Serves, Merges, set_outcome};
 
-use crate::gather::{InputFault, gather};
+use crate::gather::gather;
 use crate::link::entry;
-use crate::outcome::{LinkFault, Outcome};
+use dyl_front::{Order, Outcome};
 use dyl_outside::{Files, IoFault};
-use merge_whole::merge;
+use merge_whole::{is_small, merge, small_sets_link};
+use spec_linking::{LinkFault, SetFault};
 use std::alloc::Global;
 use wasm_form::Module;
 
@@ -37,11 +27,7 @@ fn write_merged<F: Files>(
 ) -> Outcome
     requires input { IsSmallInput wasm }
     requires entry { entry_of wasm ≡ Some entry }
-    ensures entry { ByEntry (Some entry) result }
-    ensures files { ForSome (F.told files.old) (λ told. LeavesWritten wasm out.now told result (F.told files.new)) }
-    ensures writes { result ≡ Outcome.WriteFault → Rises (F.write_faults files.old) (F.write_faults files.new) }
-    ensures reads { F.read_faults files.new ≡ F.read_faults files.old }
-    ensures absents { F.absents files.new ≡ F.absents files.old }
+    ensures { Merges wasm out.now result (F.seen files.old) (F.seen files.new) }
 {
     let Ok(bytes) = merge(alloc, wasm, entry) else {
         return Outcome::Memory;
@@ -53,14 +39,10 @@ fn write_merged<F: Files>(
     }
 }
 
-/// Links a module, and writes its merged module.
+/// Links a small module, and writes its merged module.
 fn finish<F: Files>(alloc: Global, wasm: Module, out: &str, files: &mut F) -> Outcome
     requires { IsSmallInput wasm }
-    ensures entry { ByEntry (entry_of wasm) result }
-    ensures files { ForSome (F.told files.old) (λ told. LeavesWritten wasm out.now told result (F.told files.new)) }
-    ensures writes { result ≡ Outcome.WriteFault → Rises (F.write_faults files.old) (F.write_faults files.new) }
-    ensures reads { F.read_faults files.new ≡ F.read_faults files.old }
-    ensures absents { F.absents files.new ≡ F.absents files.old }
+    ensures { Merges wasm out.now result (F.seen files.old) (F.seen files.new) }
 {
     match entry(&wasm) {
         Some(entry) => write_merged(alloc, wasm, entry, out, files),
@@ -68,34 +50,35 @@ fn finish<F: Files>(alloc: Global, wasm: Module, out: &str, files: &mut F) -> Ou
     }
 }
 
+/// Links and merges a module that was gathered, if it is of the form that is built.
+fn merge_gathered<F: Files>(alloc: Global, wasm: Module, out: &str, files: &mut F) -> Outcome
+    requires { IsOfSome main_file wasm }
+    ensures { Merges wasm out.now result (F.seen files.old) (F.seen files.new) }
+{
+    if is_small(&wasm) {
+        finish(alloc, wasm, out, files)
+    } else {
+        Outcome::Unbuilt
+    }
+}
+
+/// What is answered where no set is gathered.
+pub fn refused(fault: SetFault) -> Outcome
+    ensures { result ≡ set_outcome fault }
+{
+    match fault {
+        SetFault::Memory => Outcome::Memory,
+        fault => Outcome::Set(fault),
+    }
+}
+
 /// Merges the set of the main module at a path.
 pub fn merge_main<F: Files>(alloc: Global, main: &str, out: &str, files: &mut F) -> Outcome
-    ensures due { ForSome (F.told files.old) (λ told. (due : Outcome) → MergeDue (get told) main.now due → Yields due result) }
-    ensures tells { ForSome (F.told files.old) (λ told. MergeTells (get told) main.now result) }
-    ensures files { ForSome (F.told files.old) (λ told. MergeLeaves main.now out.now told result (F.told files.new)
-        (F.write_faults files.old) (F.write_faults files.new)) }
-
-    // Whatever is told.
-    ensures no_usage { (kind : UsageKind) → result ≢ Outcome.Usage kind }
-    ensures missing { (name : List ℕ) → result ≡ Outcome.Set (set.Missing name) → (name ≡ main_name main.now) × Rises (F.absents files.old) (F.absents files.new) }
-    ensures read_fault { (at : List ℕ) → result ≡ Outcome.Set (set.ReadFault at) → (at ≡ main.now) × Rises (F.read_faults files.old) (F.read_faults files.new) }
-    ensures decode { (member : ℕ) (fault : DecodeFault) → result ≡ Outcome.Set (set.Decode member fault) → (member ≡ 0) × (fault ≢ decode.Memory) }
-    ensures record_fault { (member : ℕ) (fault : RecordFault) → result ≡ Outcome.Set (set.Record member fault) → (member ≡ 0) × (fault ≢ record_faults.Memory) }
-    ensures check { (member : ℕ) (fault : CheckFault) → result ≡ Outcome.Set (set.Check member fault) → (member ≡ 0) × (fault ≢ check_faults.Memory) }
-    ensures write_fault { result ≡ Outcome.WriteFault → Rises (F.write_faults files.old) (F.write_faults files.new) }
-    ensures no_run { is_run result ≡ false }
-    ensures no_single { (fault : SingleFault) → result ≢ Outcome.Single fault }
-
-    // Where the set links and nothing fails, it is merged.
-    ensures complete { ForSome (F.told files.old) (λ told. LinksAt (get told) main.now
-        → ¬ Rose (F.read_faults files.old) (F.read_faults files.new)
-        → ¬ Rose (F.write_faults files.old) (F.write_faults files.new)
-        → (result ≡ Outcome.Done) ⊎ (result ≡ Outcome.Memory)) }
+    ensures { (names : runtime.HostNames) → Serves names (Ok (Order.Merge main.now out.now)) result (F.seen files.old) (F.seen files.new) }
 {
+    small_sets_link();
     match gather(alloc, main, files) {
-        Ok(wasm) => finish(alloc, wasm, out, files),
-        Err(InputFault::Set(fault)) => Outcome::Set(fault),
-        Err(InputFault::Unbuilt) => Outcome::Unbuilt,
-        Err(InputFault::Memory) => Outcome::Memory,
+        Ok(wasm) => merge_gathered(alloc, wasm, out, files),
+        Err(fault) => refused(fault),
     }
 }

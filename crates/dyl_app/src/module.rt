@@ -1,34 +1,109 @@
-// The module that is run.
-ghost use Rattle.std.specs.Prelude.{◌≡◌, ◌≢◌, IfOk, List, ℕ, None, Ok, Err};
-ghost use Rattle.std.specs.Option.{ForSome};
-ghost use Rattle.std.specs.FinMap.{get};
-ghost use Rattle.dyl_outside.specs.Faults.{Rises};
+// The module of a file.
+ghost use Rattle.std.specs.Prelude.{◌≡◌, IfOk, IfErr, true, false, Err, Bool};
 ghost use Rattle.spec_binary.specs.WellFormed.{IsWellFormed};
-ghost use Rattle.spec_validation.specs.Faults as validation;
 ghost use Rattle.spec_linking.specs.Sets.{main_name};
-ghost use Rattle.wasm_decode.specs.declared.fault.DecodeFault.{DecodeFault};
-ghost use Rattle.wasm_decode.specs.declared.fault.DecodeFault.TheVariants as decode;
-ghost use Rattle.dyl_section.specs.declared.fault.RecordFault.{RecordFault};
-ghost use Rattle.wasm_check.specs.declared.fault.CheckFault.{CheckFault};
-ghost use Rattle.wasm_check.specs.declared.fault.CheckFault.TheVariants as check_faults;
-ghost use Rattle.dyl_app.specs.declared.outcome.SetFault.TheVariants as set;
-ghost use Rattle.dyl_app.specs.Gathered.{Fetched, IsTheAnswer, ComesToChecked};
+ghost use Rattle.dyl_app.specs.OneFile.{HasNeeded, OfModule, OfBytes};
+ghost use Rattle.dyl_app.specs.Causes.{wants_inside};
+ghost use Rattle.dyl_app.specs.Fetched.{decode_fault, record_fault, check_fault, OrMemory, IsMissing, IsUnread, Reads};
 
-use crate::gather::{InputFault, missing, not_decoded, not_valid, unread};
-use crate::outcome::SetFault;
+use dyl_front::owned;
 use dyl_outside::{FileFault, Files};
+use dyl_section::read_dylink;
+use spec_binary::DecodeFault;
+use spec_linking::{RecordFault, SetFault};
+use spec_validation::CheckFault;
 use std::alloc::Global;
 use wasm_check::{Checked, check};
 use wasm_decode::decode;
 use wasm_form::Module;
 
-/// The most bytes of a file that is run.
-pub const MOST_FILE: usize = 67_108_864;
+/// How a file is read: its most bytes, and whether its module needs a record.
+#[derive(Clone, Copy)]
+pub struct Reading {
+    pub most: usize,
+    pub recorded: bool,
+}
 
-/// A module without a fault.
-fn checked(alloc: Global, wasm: Module) -> Result<Checked, InputFault>
+/// The name of a main module: what stands after the last slash of its path.
+fn name_of(path: &str) -> &str
+    ensures { result.now ≡ main_name path.now }
+{
+    let mut start = 0;
+    for (i, b) in path.as_bytes().iter().enumerate() {
+        if *b == b'/' {
+            start = i + 1;
+        }
+    }
+    &path[start..]
+}
+
+/// That there is no file at a path.
+fn missing(alloc: Global, path: &str) -> SetFault
+    ensures { IsMissing path.now result }
+{
+    match owned(alloc, name_of(path)) {
+        Ok(name) => SetFault::Missing { name },
+        Err(_) => SetFault::Memory,
+    }
+}
+
+/// That the file at a path can't be read.
+fn unread(alloc: Global, path: &str) -> SetFault
+    ensures { IsUnread path.now result }
+{
+    match owned(alloc, path) {
+        Ok(path) => SetFault::ReadFault { path },
+        Err(_) => SetFault::Memory,
+    }
+}
+
+/// That its bytes are no module.
+fn not_decoded(fault: DecodeFault) -> SetFault
+    ensures { result ≡ decode_fault fault }
+{
+    match fault {
+        DecodeFault::Memory => SetFault::Memory,
+        fault => SetFault::Decode { module: 0, fault },
+    }
+}
+
+/// That its module has no record.
+fn not_recorded(fault: RecordFault) -> SetFault
+    ensures { result ≡ record_fault fault }
+{
+    match fault {
+        RecordFault::Memory => SetFault::Memory,
+        fault => SetFault::Record { module: 0, fault },
+    }
+}
+
+/// That its module isn't valid.
+fn not_valid(fault: CheckFault) -> SetFault
+    ensures { result ≡ check_fault fault }
+{
+    match fault {
+        CheckFault::Memory => SetFault::Memory,
+        fault => SetFault::Check { module: 0, fault },
+    }
+}
+
+/// Sees that a module has a record.
+fn with_record(alloc: Global, wasm: &Module) -> Result<(), SetFault>
+    ensures there { IfOk result (λ _. HasNeeded true wasm.now) }
+    ensures none { IfErr result (λ fault. OrMemory (OfModule true wasm.now) (Err fault)) }
+    ensures inner { IfErr result (λ fault. wants_inside fault ≡ false) }
+{
+    match read_dylink(alloc, wasm) {
+        Ok(_) => Ok(()),
+        Err(fault) => Err(not_recorded(fault)),
+    }
+}
+
+/// A module that is valid.
+fn checked(alloc: Global, wasm: Module) -> Result<Checked, SetFault>
     requires { IsWellFormed wasm }
-    ensures { ComesToChecked (λ answer. answer ≡ Ok wasm) result }
+    ensures told { (recorded : Bool) → HasNeeded recorded wasm → OrMemory (OfModule recorded wasm) result }
+    ensures inner { IfErr result (λ fault. wants_inside fault ≡ false) }
 {
     match check(alloc, wasm) {
         Ok(checked) => Ok(checked),
@@ -36,40 +111,44 @@ fn checked(alloc: Global, wasm: Module) -> Result<Checked, InputFault>
     }
 }
 
-/// The module of a file's bytes, without a fault.
-fn checked_bytes(alloc: Global, bytes: &[u8]) -> Result<Checked, InputFault>
-    ensures { ComesToChecked (IsTheAnswer bytes.now) result }
+/// A module that has its record, where one is needed, and is valid.
+fn tested(alloc: Global, wasm: Module, recorded: bool) -> Result<Checked, SetFault>
+    requires { IsWellFormed wasm }
+    ensures told { OrMemory (OfModule recorded wasm) result }
+    ensures inner { IfErr result (λ fault. wants_inside fault ≡ false) }
+{
+    if !recorded {
+        return checked(alloc, wasm);
+    }
+    with_record(alloc, &wasm)?;
+    checked(alloc, wasm)
+}
+
+/// The module that bytes spell.
+fn module_of(alloc: Global, bytes: &[u8], recorded: bool) -> Result<Checked, SetFault>
+    ensures told { OrMemory (OfBytes recorded bytes.now) result }
+    ensures inner { IfErr result (λ fault. wants_inside fault ≡ false) }
 {
     match decode(alloc, bytes) {
-        Ok(wasm) => checked(alloc, wasm),
+        Ok(wasm) => tested(alloc, wasm, recorded),
         Err(fault) => Err(not_decoded(fault)),
     }
 }
 
-/// The module at a path, without a fault.
-pub fn fetch_module<F: Files>(
+/// The module of the file at a path.
+pub fn read_module<F: Files>(
     alloc: Global,
     path: &str,
+    reading: Reading,
     files: &mut F,
-) -> Result<Checked, InputFault>
-    ensures answer { ForSome (F.told files.old) (λ told. Fetched (get told) path.now result) }
-    ensures files { F.told files.new ≡ F.told files.old }
-
-    // Whatever is told.
-    ensures valid { IfOk result (λ wasm. validation.fault wasm ≡ None) }
-    ensures writes { F.write_faults files.new ≡ F.write_faults files.old }
-    ensures reads { (at : List ℕ) → result ≡ Err (InputFault.Set (set.ReadFault at)) → (at ≡ path.now) × Rises (F.read_faults files.old) (F.read_faults files.new) }
-    ensures decode { (member : ℕ) (fault : DecodeFault) → result ≡ Err (InputFault.Set (set.Decode member fault)) → (member ≡ 0) × (fault ≢ decode.Memory) }
-    ensures check { (member : ℕ) (fault : CheckFault) → result ≡ Err (InputFault.Set (set.Check member fault)) → (member ≡ 0) × (fault ≢ check_faults.Memory) }
-    ensures absents { (name : List ℕ) → result ≡ Err (InputFault.Set (set.Missing name)) → (name ≡ main_name path.now) × Rises (F.absents files.old) (F.absents files.new) }
-    ensures built { result ≢ Err InputFault.Unbuilt }
-    ensures no_record { (member : ℕ) (fault : RecordFault) → result ≢ Err (InputFault.Set (set.Record member fault)) }
+) -> Result<Checked, SetFault>
+    ensures { Reads reading path.now result (F.seen files.old) (F.seen files.new) }
 {
-    match files.fetch(alloc, path, MOST_FILE) {
-        Ok(bytes) => checked_bytes(alloc, &bytes),
+    match files.fetch(alloc, path, reading.most) {
+        Ok(bytes) => module_of(alloc, &bytes, reading.recorded),
         Err(FileFault::Absent) => Err(missing(alloc, path)),
         Err(FileFault::Failed) => Err(unread(alloc, path)),
-        Err(FileFault::TooLong) => Err(InputFault::Set(SetFault::SetSize)),
-        Err(FileFault::Memory) => Err(InputFault::Memory),
+        Err(FileFault::TooLong) => Err(SetFault::SetSize),
+        Err(FileFault::Memory) => Err(SetFault::Memory),
     }
 }

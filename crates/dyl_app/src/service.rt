@@ -1,39 +1,27 @@
 // The call that does all that the program does.
-ghost use Rattle.std.specs.Prelude.{◌≡◌, ◌≢◌, ◌⊎◌, ◌≤◌, List, ℕ, true, Err};
+ghost use Rattle.std.specs.Prelude.{◌≡◌, ◌≤◌, false, Ok};
 ghost use Rattle.std.specs.Option.{ForSome};
-ghost use Rattle.std.specs.Result.{ForOk};
 ghost use Rattle.std.specs.FinMap.{get};
-ghost use Rattle.dyl_outside.specs.Faults.{Rises, Rose};
-ghost use Rattle.spec_hosts.specs.Devices.{outside_of};
-ghost use Rattle.spec_hosts.specs.Laws.{run_names};
-ghost use Rattle.spec_linking.specs.Sets.{main_name};
-ghost use Rattle.host_table.specs.Table.{functions_of};
-ghost use Rattle.host_calls.specs.Replies.{AnswersCall};
-ghost use Rattle.wasm_decode.specs.declared.fault.DecodeFault.{DecodeFault};
-ghost use Rattle.wasm_decode.specs.declared.fault.DecodeFault.TheVariants as decode;
-ghost use Rattle.dyl_section.specs.declared.fault.RecordFault.{RecordFault};
-ghost use Rattle.dyl_section.specs.declared.fault.RecordFault.TheVariants as record_faults;
-ghost use Rattle.wasm_check.specs.declared.fault.CheckFault.{CheckFault};
-ghost use Rattle.wasm_check.specs.declared.fault.CheckFault.TheVariants as check_faults;
-ghost use Rattle.wasm_single.specs.declared.fault.SingleFault.{SingleFault as SingleSeen};
-ghost use Rattle.wasm_single.specs.declared.fault.SingleFault.TheVariants as single_faults;
-ghost use Rattle.dyl_app.specs.declared.outcome.SetFault.TheVariants as set;
-ghost use Rattle.dyl_app.specs.declared.outcome.UsageKind.{UsageKind};
-ghost use Rattle.dyl_app.specs.Orders.{order_of, path_of, IsInRange};
-ghost use Rattle.dyl_app.specs.Due.{LinksAt, MergeDue, MergeTells, OpensAt, ExecDue, ExecTells, is_run, DueAt, DueFor, Yields, Tells, TellsFor, IsComplete};
-ghost use Rattle.dyl_app.specs.Files.{MergeLeaves, Leaves, LeavesFor};
-ghost use Rattle.dyl_app.specs.Runs.{Executes, Does, DoesFor};
+ghost use Rattle.spec_runtime.specs.Names as runtime;
+ghost use Rattle.host_calls.specs.Embedders.{names_of};
+ghost use Rattle.dyl_front.specs.Orders.{order_of, IsInRange};
+ghost use Rattle.dyl_app.specs.Due.{DueFor, TellsFor, Yields, IsComplete};
+ghost use Rattle.dyl_app.specs.Files.{LeavesFor};
+ghost use Rattle.dyl_app.specs.Causes.{Caused, has_inner_memory};
 ghost use Rattle.dyl_app.specs.Told.{TellsErrors};
+ghost use Rattle.dyl_app.specs.Served.{Serves};
+ghost use Rattle.dyl_app.specs.Clauses.{DoesBy, ExecDoes};
 
 use crate::errors::tell;
 use crate::exec::exec_file;
 use crate::merge::merge_main;
-use crate::order::Order;
-use crate::outcome::Outcome;
-use crate::words::{WordFault, read_words};
+use dyl_front::{Order, Outcome, WordFault, read_words};
 use dyl_outside::{Ambient, Files, Sink, Source};
-use host_table::{Callback, HostTable, Reply};
-use spec_hosts::wasi_answers_fit;
+use dyl_section::one_record_answer;
+use host_table::HostTable;
+use merge_whole::small_sets_link;
+use spec_linking::one_gathered;
+use spec_reading::reading_answers;
 use std::alloc::Global;
 use wasm_form::Text;
 
@@ -45,26 +33,9 @@ fn perform_merge<F: Files, E: Sink>(
     files: &mut F,
     errors: &mut E,
 ) -> Outcome
-    ensures due { ForSome (F.told files.old) (λ told. (due : Outcome) → MergeDue (get told) main.now due → Yields due result) }
-    ensures tells { ForSome (F.told files.old) (λ told. MergeTells (get told) main.now result) }
-    ensures files { ForSome (F.told files.old) (λ told. MergeLeaves main.now out.now told result (F.told files.new)
-        (F.write_faults files.old) (F.write_faults files.new)) }
-    ensures told { TellsErrors result (record { held = E.held errors.old; faults = E.faults errors.old }) (record { held = E.held errors.new; faults = E.faults errors.new }) }
+    ensures serves { (names : runtime.HostNames) → Serves names (Ok (Order.Merge main.now out.now)) result (F.seen files.old) (F.seen files.new) }
+    ensures told { TellsErrors result (E.seen errors.old) (E.seen errors.new) }
     ensures quiet { result ≡ Outcome.Done → errors.new ≡ errors.old }
-    ensures complete { ForSome (F.told files.old) (λ told. LinksAt (get told) main.now
-        → ¬ Rose (F.read_faults files.old) (F.read_faults files.new)
-        → ¬ Rose (F.write_faults files.old) (F.write_faults files.new)
-        → (result ≡ Outcome.Done) ⊎ (result ≡ Outcome.Memory)) }
-
-    // Whatever is told.
-    ensures no_usage { (kind : UsageKind) → result ≢ Outcome.Usage kind }
-    ensures missing { (name : List ℕ) → result ≡ Outcome.Set (set.Missing name) → (name ≡ main_name main.now) × Rises (F.absents files.old) (F.absents files.new) }
-    ensures read_fault { (at : List ℕ) → result ≡ Outcome.Set (set.ReadFault at) → (at ≡ main.now) × Rises (F.read_faults files.old) (F.read_faults files.new) }
-    ensures decode { (member : ℕ) (fault : DecodeFault) → result ≡ Outcome.Set (set.Decode member fault) → (member ≡ 0) × (fault ≢ decode.Memory) }
-    ensures record_fault { (member : ℕ) (fault : RecordFault) → result ≡ Outcome.Set (set.Record member fault) → (member ≡ 0) × (fault ≢ record_faults.Memory) }
-    ensures check { (member : ℕ) (fault : CheckFault) → result ≡ Outcome.Set (set.Check member fault) → (member ≡ 0) × (fault ≢ check_faults.Memory) }
-    ensures single { (fault : SingleSeen) → result ≡ Outcome.Single fault → fault ≢ single_faults.Memory }
-    ensures write_fault { result ≡ Outcome.WriteFault → Rises (F.write_faults files.old) (F.write_faults files.new) }
 {
     let merged = merge_main(alloc, main, out, files);
     tell(alloc, merged, errors)
@@ -84,34 +55,18 @@ fn perform_exec<F: Files, I: Source, O: Sink, E: Sink, A: Ambient>(
     host: &HostTable,
 ) -> Outcome
     requires { steps ≤ 9223372036854775807 }
-    ensures due { ForSome (F.told files.old) (λ told. (due : Outcome) → ExecDue (run_names (functions_of host.now)) (get told) file.now due → Yields due result) }
-    ensures tells { ForSome (F.told files.old) (λ told. ExecTells (run_names (functions_of host.now)) (get told) file.now result) }
-    ensures files { F.told files.new ≡ F.told files.old }
-    ensures run { Executes (F.told files.old) file.now steps args.now (run_names (functions_of host.now)) (AnswersCall (⟦<Callback as Fn(&[u64], u64) -> Reply>⟧.post) host.now) result (outside_of (I.left input.old) (I.full input.old) (I.faults input.old) (O.held output.old) (O.faults output.old) (E.held errors.old) (E.faults errors.old) (A.times ambient.old) (A.words ambient.old) (A.faults ambient.old)) (outside_of (I.left input.new) (I.full input.new) (I.faults input.new) (O.held output.new) (O.faults output.new) (E.held errors.new) (E.faults errors.new) (A.times ambient.new) (A.words ambient.new) (A.faults ambient.new)) }
-    ensures not_done { result ≢ Outcome.Done }
-    ensures complete { ForSome (F.told files.old) (λ told. OpensAt (run_names (functions_of host.now)) (get told) file.now
-        → ¬ Rose (F.read_faults files.old) (F.read_faults files.new)
-        → (is_run result ≡ true) ⊎ (result ≡ Outcome.Memory)) }
-
-    // Whatever is told.
-    ensures no_usage { (kind : UsageKind) → result ≢ Outcome.Usage kind }
-    ensures missing { (name : List ℕ) → result ≡ Outcome.Set (set.Missing name) → (name ≡ main_name file.now) × Rises (F.absents files.old) (F.absents files.new) }
-    ensures read_fault { (at : List ℕ) → result ≡ Outcome.Set (set.ReadFault at) → (at ≡ file.now) × Rises (F.read_faults files.old) (F.read_faults files.new) }
-    ensures decode { (member : ℕ) (fault : DecodeFault) → result ≡ Outcome.Set (set.Decode member fault) → (member ≡ 0) × (fault ≢ decode.Memory) }
-    ensures record_fault { (member : ℕ) (fault : RecordFault) → result ≡ Outcome.Set (set.Record member fault) → (member ≡ 0) × (fault ≢ record_faults.Memory) }
-    ensures check { (member : ℕ) (fault : CheckFault) → result ≡ Outcome.Set (set.Check member fault) → (member ≡ 0) × (fault ≢ check_faults.Memory) }
-    ensures single { (fault : SingleSeen) → result ≡ Outcome.Single fault → fault ≢ single_faults.Memory }
-    ensures write_fault { result ≡ Outcome.WriteFault → Rises (F.write_faults files.old) (F.write_faults files.new) }
+    ensures serves { Serves (names_of host.now) (Ok (Order.Exec file.now steps args.now)) result (F.seen files.old) (F.seen files.new) }
+    ensures does { ExecDoes host.now (F.seen files.old) file.now steps args.now result (I.seen input.old) (O.seen output.old) (E.seen errors.old) (A.seen ambient.old) (I.seen input.new) (O.seen output.new) (E.seen errors.new) (A.seen ambient.new) }
+    ensures quiet { result ≡ Outcome.Done → errors.new ≡ errors.old }
 {
-    wasi_answers_fit();
     let executed = exec_file(
         alloc, file, steps, args, files, input, output, errors, ambient, host,
     );
     tell(alloc, executed, errors)
 }
 
-/// Does what an order asks for, and answers what came of it. `serve` says more.
-pub fn perform<F: Files, I: Source, O: Sink, E: Sink, A: Ambient>(
+/// Does what an order asks for, and tells what came of it.
+fn perform_order<F: Files, I: Source, O: Sink, E: Sink, A: Ambient>(
     alloc: Global,
     order: &Order,
     files: &mut F,
@@ -122,29 +77,9 @@ pub fn perform<F: Files, I: Source, O: Sink, E: Sink, A: Ambient>(
     host: &HostTable,
 ) -> Outcome
     requires { IsInRange order.now }
-
-    // The answer is the outcome that is due over the files that are told, and what it tells of them holds.
-    ensures due { ForSome (F.told files.old) (λ told. (due : Outcome) → DueAt (run_names (functions_of host.now)) (get told) order.now due → Yields due result) }
-    ensures tells { ForSome (F.told files.old) (λ told. Tells (run_names (functions_of host.now)) (get told) order.now result) }
-    ensures files { ForSome (F.told files.old) (λ told. Leaves order.now told result (F.told files.new)
-        (F.write_faults files.old) (F.write_faults files.new)) }
-
-    // What a run does to the outside; and the line of the answer, which is put last.
-    ensures does { Does (F.told files.old) order.now (run_names (functions_of host.now)) (AnswersCall (⟦<Callback as Fn(&[u64], u64) -> Reply>⟧.post) host.now) result (outside_of (I.left input.old) (I.full input.old) (I.faults input.old) (O.held output.old) (O.faults output.old) (E.held errors.old) (E.faults errors.old) (A.times ambient.old) (A.words ambient.old) (A.faults ambient.old)) (outside_of (I.left input.new) (I.full input.new) (I.faults input.new) (O.held output.new) (O.faults output.new) (E.held errors.new) (E.faults errors.new) (A.times ambient.new) (A.words ambient.new) (A.faults ambient.new)) }
+    ensures serves { Serves (names_of host.now) (Ok order.now) result (F.seen files.old) (F.seen files.new) }
+    ensures does { DoesBy host.now (F.seen files.old) (Ok order.now) result (I.seen input.old) (O.seen output.old) (E.seen errors.old) (A.seen ambient.old) (I.seen input.new) (O.seen output.new) (E.seen errors.new) (A.seen ambient.new) }
     ensures quiet { result ≡ Outcome.Done → errors.new ≡ errors.old }
-
-    // Where the files are what the order needs and nothing of them fails, it is done.
-    ensures complete { ForSome (F.told files.old) (λ told. IsComplete (run_names (functions_of host.now)) (get told) order.now result (Rose (F.read_faults files.old) (F.read_faults files.new)) (Rose (F.write_faults files.old) (F.write_faults files.new))) }
-
-    // Whatever is told.
-    ensures no_usage { (kind : UsageKind) → result ≢ Outcome.Usage kind }
-    ensures missing { (name : List ℕ) → result ≡ Outcome.Set (set.Missing name) → (name ≡ main_name (path_of order.now)) × Rises (F.absents files.old) (F.absents files.new) }
-    ensures read_fault { (at : List ℕ) → result ≡ Outcome.Set (set.ReadFault at) → (at ≡ (path_of order.now)) × Rises (F.read_faults files.old) (F.read_faults files.new) }
-    ensures decode { (member : ℕ) (fault : DecodeFault) → result ≡ Outcome.Set (set.Decode member fault) → (member ≡ 0) × (fault ≢ decode.Memory) }
-    ensures record_fault { (member : ℕ) (fault : RecordFault) → result ≡ Outcome.Set (set.Record member fault) → (member ≡ 0) × (fault ≢ record_faults.Memory) }
-    ensures check { (member : ℕ) (fault : CheckFault) → result ≡ Outcome.Set (set.Check member fault) → (member ≡ 0) × (fault ≢ check_faults.Memory) }
-    ensures single { (fault : SingleSeen) → result ≡ Outcome.Single fault → fault ≢ single_faults.Memory }
-    ensures write_fault { result ≡ Outcome.WriteFault → Rises (F.write_faults files.old) (F.write_faults files.new) }
 {
     match order {
         Order::Merge { main, out } => perform_merge(
@@ -169,6 +104,56 @@ pub fn perform<F: Files, I: Source, O: Sink, E: Sink, A: Ambient>(
     }
 }
 
+/// Does what words ask for, or tells what is wrong with them.
+fn serve_words<F: Files, I: Source, O: Sink, E: Sink, A: Ambient>(
+    alloc: Global,
+    words: &[String],
+    files: &mut F,
+    input: &mut I,
+    output: &mut O,
+    errors: &mut E,
+    ambient: &mut A,
+    host: &HostTable,
+) -> Outcome
+    ensures serves { Serves (names_of host.now) (order_of words.now) result (F.seen files.old) (F.seen files.new) }
+    ensures does { DoesBy host.now (F.seen files.old) (order_of words.now) result (I.seen input.old) (O.seen output.old) (E.seen errors.old) (A.seen ambient.old) (I.seen input.new) (O.seen output.new) (E.seen errors.new) (A.seen ambient.new) }
+    ensures quiet { result ≡ Outcome.Done → errors.new ≡ errors.old }
+{
+    match read_words(alloc, words) {
+        Ok(order) => perform_order(alloc, &order, files, input, output, errors, ambient, host),
+        Err(WordFault::Usage(kind)) => tell(alloc, Outcome::Usage(kind), errors),
+        Err(WordFault::Memory) => tell(alloc, Outcome::Memory, errors),
+    }
+}
+
+/// Does what an order asks for, and answers what came of it, as `serve` does for words.
+pub fn perform<F: Files, I: Source, O: Sink, E: Sink, A: Ambient>(
+    alloc: Global,
+    order: &Order,
+    files: &mut F,
+    input: &mut I,
+    output: &mut O,
+    errors: &mut E,
+    ambient: &mut A,
+    host: &HostTable,
+) -> Outcome
+    requires { IsInRange order.now }
+    ensures due { ForSome (F.seen files.old).told (λ told. (due : Outcome) → DueFor (names_of host.now) (get told) (Ok order.now) due → Yields due result) }
+    ensures tells { ForSome (F.seen files.old).told (λ told. TellsFor (names_of host.now) (get told) (Ok order.now) result) }
+    ensures files { ForSome (F.seen files.old).told (λ told. LeavesFor (names_of host.now) (Ok order.now) told result (F.seen files.old) (F.seen files.new)) }
+    ensures complete { ForSome (F.seen files.old).told (λ told. IsComplete (names_of host.now) (get told) (Ok order.now) result (F.seen files.old) (F.seen files.new)) }
+    ensures caused { Caused (Ok order.now) result (F.seen files.old) (F.seen files.new) }
+    ensures inner { has_inner_memory result ≡ false }
+    ensures does { DoesBy host.now (F.seen files.old) (Ok order.now) result (I.seen input.old) (O.seen output.old) (E.seen errors.old) (A.seen ambient.old) (I.seen input.new) (O.seen output.new) (E.seen errors.new) (A.seen ambient.new) }
+    ensures quiet { result ≡ Outcome.Done → errors.new ≡ errors.old }
+{
+    reading_answers();
+    one_record_answer();
+    one_gathered();
+    small_sets_link();
+    perform_order(alloc, order, files, input, output, errors, ambient, host)
+}
+
 /// Does what the words ask for, and answers what came of it.
 ///
 /// The words are the program's name, a command, and the words of the command:
@@ -191,32 +176,24 @@ pub fn serve<F: Files, I: Source, O: Sink, E: Sink, A: Ambient>(
     host: &HostTable,
 ) -> Outcome
     // The answer is the outcome that is due over the files that are told, and what it tells of them holds.
-    ensures due { ForSome (F.told files.old) (λ told. (due : Outcome) → DueFor (order_of words.now) (run_names (functions_of host.now)) (get told) due → Yields due result) }
-    ensures tells { ForSome (F.told files.old) (λ told. TellsFor (order_of words.now) (run_names (functions_of host.now)) (get told) result) }
-    ensures files { ForSome (F.told files.old) (λ told. LeavesFor (order_of words.now) told result (F.told files.new)
-        (F.write_faults files.old) (F.write_faults files.new)) }
-
-    // What a run does to the outside; and the line of the answer, which is put last.
-    ensures does { DoesFor (F.told files.old) (order_of words.now) (run_names (functions_of host.now)) (AnswersCall (⟦<Callback as Fn(&[u64], u64) -> Reply>⟧.post) host.now) result (outside_of (I.left input.old) (I.full input.old) (I.faults input.old) (O.held output.old) (O.faults output.old) (E.held errors.old) (E.faults errors.old) (A.times ambient.old) (A.words ambient.old) (A.faults ambient.old)) (outside_of (I.left input.new) (I.full input.new) (I.faults input.new) (O.held output.new) (O.faults output.new) (E.held errors.new) (E.faults errors.new) (A.times ambient.new) (A.words ambient.new) (A.faults ambient.new)) }
-    ensures quiet { result ≡ Outcome.Done → errors.new ≡ errors.old }
+    ensures due { ForSome (F.seen files.old).told (λ told. (due : Outcome) → DueFor (names_of host.now) (get told) (order_of words.now) due → Yields due result) }
+    ensures tells { ForSome (F.seen files.old).told (λ told. TellsFor (names_of host.now) (get told) (order_of words.now) result) }
+    ensures files { ForSome (F.seen files.old).told (λ told. LeavesFor (names_of host.now) (order_of words.now) told result (F.seen files.old) (F.seen files.new)) }
 
     // Where the files are what the order needs and nothing of them fails, it is done.
-    ensures complete { ForSome (F.told files.old) (λ told. ForOk (order_of words.now) (λ order. IsComplete (run_names (functions_of host.now)) (get told) order result (Rose (F.read_faults files.old) (F.read_faults files.new)) (Rose (F.write_faults files.old) (F.write_faults files.new)))) }
+    ensures complete { ForSome (F.seen files.old).told (λ told. IsComplete (names_of host.now) (get told) (order_of words.now) result (F.seen files.old) (F.seen files.new)) }
 
-    // Whatever is told.
-    ensures usage { (kind : UsageKind) → order_of words.now ≡ Err kind → (result ≡ Outcome.Usage kind) ⊎ (result ≡ Outcome.Memory) }
-    ensures order { (kind : UsageKind) → result ≡ Outcome.Usage kind → order_of words.now ≡ Err kind }
-    ensures missing { (name : List ℕ) → result ≡ Outcome.Set (set.Missing name) → ForOk (order_of words.now) (λ order. name ≡ main_name (path_of order)) × Rises (F.absents files.old) (F.absents files.new) }
-    ensures read_fault { (at : List ℕ) → result ≡ Outcome.Set (set.ReadFault at) → ForOk (order_of words.now) (λ order. at ≡ (path_of order)) × Rises (F.read_faults files.old) (F.read_faults files.new) }
-    ensures decode { (member : ℕ) (fault : DecodeFault) → result ≡ Outcome.Set (set.Decode member fault) → (member ≡ 0) × (fault ≢ decode.Memory) }
-    ensures record_fault { (member : ℕ) (fault : RecordFault) → result ≡ Outcome.Set (set.Record member fault) → (member ≡ 0) × (fault ≢ record_faults.Memory) }
-    ensures check { (member : ℕ) (fault : CheckFault) → result ≡ Outcome.Set (set.Check member fault) → (member ≡ 0) × (fault ≢ check_faults.Memory) }
-    ensures single { (fault : SingleSeen) → result ≡ Outcome.Single fault → fault ≢ single_faults.Memory }
-    ensures write_fault { result ≡ Outcome.WriteFault → Rises (F.write_faults files.old) (F.write_faults files.new) }
+    // Whatever is told: when each answer may come. Want of memory is an answer of its own.
+    ensures caused { Caused (order_of words.now) result (F.seen files.old) (F.seen files.new) }
+    ensures inner { has_inner_memory result ≡ false }
+
+    // What a run does to the outside; and the line of the answer, which is put last.
+    ensures does { DoesBy host.now (F.seen files.old) (order_of words.now) result (I.seen input.old) (O.seen output.old) (E.seen errors.old) (A.seen ambient.old) (I.seen input.new) (O.seen output.new) (E.seen errors.new) (A.seen ambient.new) }
+    ensures quiet { result ≡ Outcome.Done → errors.new ≡ errors.old }
 {
-    match read_words(alloc, words) {
-        Ok(order) => perform(alloc, &order, files, input, output, errors, ambient, host),
-        Err(WordFault::Usage(kind)) => tell(alloc, Outcome::Usage(kind), errors),
-        Err(WordFault::Memory) => tell(alloc, Outcome::Memory, errors),
-    }
+    reading_answers();
+    one_record_answer();
+    one_gathered();
+    small_sets_link();
+    serve_words(alloc, words, files, input, output, errors, ambient, host)
 }

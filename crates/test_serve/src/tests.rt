@@ -1,109 +1,174 @@
+// Orders through `serve`, by rows.
 mod lines;
 
-use dyl_app::{LinkFault, Outcome, SetFault, UsageKind, serve, status};
+use dyl_app::serve;
+use dyl_front::{Outcome, status};
 use dyl_outside::{Files, MemAmbient, MemFiles, MemSink, MemSource};
 use host_table::HostTable;
 use std::alloc::Global;
 use std::test::Fail;
+use test_rows::{SMALLEST, bytes_of};
 use wasm_check::check;
-use wasm_decode::{DecodeFault, decode};
+use wasm_decode::decode;
 use wasm_form::put_u32;
 
-/// The smallest main module: one function without parameters and results, which is `_start` and does nothing.
-const SMALLEST: &[u8] =
-    b"\0asm\x01\0\0\0\0\x0f\x08dylink.0\x01\x04\0\0\0\0\x01\x04\x01\x60\0\0\x03\x02\x01\0\x07\x0a\x01\x06_start\0\0\x0a\x04\x01\x02\0\x0b";
+/// The smallest main module up to its type section, and with it.
+const DYLINK: &str = ". 00 0f 08 64 79 6c 69 6e 6b 2e 30 01 04 00 00 00 00";
 
-/// The same with `unreachable` as its body.
-const TRAPS: &[u8] =
-    b"\0asm\x01\0\0\0\0\x0f\x08dylink.0\x01\x04\0\0\0\0\x01\x04\x01\x60\0\0\x03\x02\x01\0\x07\x0a\x01\x06_start\0\0\x0a\x05\x01\x03\0\0\x0b";
-
-/// The same under another name, and so without an entry.
-const NO_ENTRY: &[u8] =
-    b"\0asm\x01\0\0\0\0\x0f\x08dylink.0\x01\x04\0\0\0\0\x01\x04\x01\x60\0\0\x03\x02\x01\0\x07\x0a\x01\x06_stars\0\0\x0a\x04\x01\x02\0\x0b";
-
-/// The same under the name `main`, which is an entry where nothing is exported as `_start`.
-const MAIN: &[u8] =
-    b"\0asm\x01\0\0\0\0\x0f\x08dylink.0\x01\x04\0\0\0\0\x01\x04\x01\x60\0\0\x03\x02\x01\0\x07\x08\x01\x04main\0\0\x0a\x04\x01\x02\0\x0b";
-
-/// The smallest main module without its last byte.
-const CUT: &[u8] =
-    b"\0asm\x01\0\0\0\0\x0f\x08dylink.0\x01\x04\0\0\0\0\x01\x04\x01\x60\0\0\x03\x02\x01\0\x07\x0a\x01\x06_start\0\0\x0a\x04\x01\x02\0";
-
-/// The smallest main module without its code section, and so with a function that has no body.
-const NO_BODY: &[u8] =
-    b"\0asm\x01\0\0\0\0\x0f\x08dylink.0\x01\x04\0\0\0\0\x01\x04\x01\x60\0\0\x03\x02\x01\0\x07\x0a\x01\x06_start\0\0";
-
-/// The smallest main module with an empty import section, which spells the same module.
-const EMPTY_IMPORTS: &[u8] =
-    b"\0asm\x01\0\0\0\0\x0f\x08dylink.0\x01\x04\0\0\0\0\x01\x04\x01\x60\0\0\x02\x01\0\x03\x02\x01\0\x07\x0a\x01\x06_start\0\0\x0a\x04\x01\x02\0\x0b";
-
-/// The smallest main module with a data count of 0.
-const COUNTED: &[u8] =
-    b"\0asm\x01\0\0\0\0\x0f\x08dylink.0\x01\x04\0\0\0\0\x01\x04\x01\x60\0\0\x03\x02\x01\0\x07\x0a\x01\x06_start\0\0\x0c\x01\0\x0a\x04\x01\x02\0\x0b";
-
-/// The smallest main module with `drop` as its body, which takes a value that isn't there.
-const DROPS: &[u8] =
-    b"\0asm\x01\0\0\0\0\x0f\x08dylink.0\x01\x04\0\0\0\0\x01\x04\x01\x60\0\0\x03\x02\x01\0\x07\x0a\x01\x06_start\0\0\x0a\x05\x01\x03\0\x1a\x0b";
-
-/// A function that calls itself for ever.
-const RECURSES: &[u8] =
-    b"\0asm\x01\0\0\0\0\x0f\x08dylink.0\x01\x04\0\0\0\0\x01\x04\x01\x60\0\0\x03\x02\x01\0\x07\x0a\x01\x06_start\0\0\x0a\x06\x01\x04\0\x10\0\x0b";
-
-fn words(alloc: Global, texts: &[&str]) -> Result<Vec<String>, Fail> {
-    let mut words = Vec::new(alloc);
-    for text in texts {
-        words.push(String::from_str(alloc, text)?)?;
-    }
-    Ok(words)
-}
-
-/// The outcome of a call with these words, over an empty input, outputs in memory, a clock without times and an empty table.
-fn serve_with(
+/// What a call came to: its status, its line, and whether there is an output.
+fn called(
     alloc: Global,
-    words: &[String],
+    words: &[&str],
     files: &mut MemFiles,
     errors: &mut MemSink,
-) -> Outcome {
-    serve(
+) -> Result<Outcome, Fail> {
+    let mut texts = Vec::new(alloc);
+    for word in words {
+        texts.push(String::from_str(alloc, word)?)?;
+    }
+    Ok(serve(
         alloc,
-        words,
+        &texts,
         files,
         &mut MemSource::new(alloc, Vec::new(alloc)),
         &mut MemSink::new(alloc),
         errors,
         &mut MemAmbient::new(alloc, Vec::new(alloc), Vec::new(alloc)),
         &HostTable::new(alloc),
-    )
+    ))
 }
 
-/// The outcome of merging a file, and whether the output was written.
-fn merged(alloc: Global, file: &[u8]) -> Result<(Outcome, bool), Fail> {
+/// Whether a call on files has this status, puts this line to the errors, and leaves an output or none.
+fn answers(
+    alloc: Global,
+    words: &[&str],
+    files: &mut MemFiles,
+    code: u8,
+    line: &str,
+    written: bool,
+) -> Result<bool, Fail> {
+    let mut errors = MemSink::new(alloc);
+    let outcome = called(alloc, words, files, &mut errors)?;
+    let there = files.fetch(alloc, "out.wasm", 1_000_000_000).is_ok();
+    Ok(status(&outcome) == code && errors.held() == line.as_bytes() && there == written)
+}
+
+/// Files that hold this one as `main.wasm`.
+fn holding(alloc: Global, file: &[u8]) -> Result<MemFiles, Fail> {
     let mut files = MemFiles::new(alloc);
     files.add(alloc, "main.wasm", file)?;
-    let words = words(alloc, &["wdyl", "merge", "main.wasm", "out.wasm"])?;
-    let outcome = serve_with(alloc, &words, &mut files, &mut MemSink::new(alloc));
-    let written = files.fetch(alloc, "out.wasm", 1_000_000_000).is_ok();
-    Ok((outcome, written))
+    Ok(files)
 }
 
+const MERGE: &[&str] = &["wdyl", "merge", "main.wasm", "out.wasm"];
+
+const EXEC: &[&str] = &["wdyl", "exec", "main.wasm"];
+
+/// The file of a row, of which the sections behind the types are given; a point in front stands for the whole file.
+fn file_of(alloc: Global, row: &str) -> Result<Vec<u8>, Fail> {
+    if row.as_bytes().first() == Some(&b'.') {
+        return Ok(bytes_of(alloc, row)?);
+    }
+    let mut file = bytes_of(alloc, DYLINK)?;
+    let rest = bytes_of(alloc, row)?;
+    file.extend_from_slice(&rest)?;
+    Ok(file)
+}
+
+/// Files that are merged, or not, with their statuses and lines.
+const MERGES: &[(&str, u8, &str)] = &[
+    // the smallest one; its body unreachable; its entry called `main`; recursion for ever; an empty import section
+    (SMALLEST, 0, ""),
+    (
+        "01 04 01 60 00 00 03 02 01 00 07 0a 01 06 5f 73 74 61 72 74 00 00 0a 05 01 03 00 00 0b",
+        0,
+        "",
+    ),
+    (
+        "01 04 01 60 00 00 03 02 01 00 07 08 01 04 6d 61 69 6e 00 00 0a 04 01 02 00 0b",
+        0,
+        "",
+    ),
+    (
+        "01 04 01 60 00 00 03 02 01 00 07 0a 01 06 5f 73 74 61 72 74 00 00 0a 06 01 04 00 10 00 0b",
+        0,
+        "",
+    ),
+    (
+        "01 04 01 60 00 00 02 01 00 03 02 01 00 07 0a 01 06 5f 73 74 61 72 74 00 00 0a 04 01 02 00 0b",
+        0,
+        "",
+    ),
+    // a type section whose size takes five bytes, or six, or doesn't fit
+    (
+        "01 84 80 80 80 00 01 60 00 00 03 02 01 00 07 0a 01 06 5f 73 74 61 72 74 00 00 0a 04 01 02 00 0b",
+        0,
+        "",
+    ),
+    (
+        "01 84 80 80 80 80 00 01 60 00 00 03 02 01 00 07 0a 01 06 5f 73 74 61 72 74 00 00 0a 04 01 02 00 0b",
+        65,
+        "wdyl: module 0 malformed after 1 sections\n",
+    ),
+    (
+        "01 05 01 60 00 00 00 03 02 01 00 07 0a 01 06 5f 73 74 61 72 74 00 00 0a 04 01 02 00 0b",
+        65,
+        "wdyl: module 0 malformed after 1 sections\n",
+    ),
+    // no entry; no body; a data count of 0
+    (
+        "01 04 01 60 00 00 03 02 01 00 07 0a 01 06 5f 73 74 61 72 73 00 00 0a 04 01 02 00 0b",
+        65,
+        "wdyl: no entry\n",
+    ),
+    (
+        "01 04 01 60 00 00 03 02 01 00 07 0a 01 06 5f 73 74 61 72 74 00 00",
+        65,
+        "wdyl: module 0 counts differ\n",
+    ),
+    (
+        "01 04 01 60 00 00 03 02 01 00 07 0a 01 06 5f 73 74 61 72 74 00 00 0c 01 00 0a 04 01 02 00 0b",
+        65,
+        "wdyl: unbuilt\n",
+    ),
+];
+
+/// Files that are neither merged nor run, with their lines.
+const REFUSED: &[(&str, &str)] = &[
+    // a drop of a value that isn't there; an instruction that isn't supported, behind unreachable code
+    (
+        "01 04 01 60 00 00 03 02 01 00 07 0a 01 06 5f 73 74 61 72 74 00 00 0a 05 01 03 00 1a 0b",
+        "wdyl: module 0 invalid body of function 0\n",
+    ),
+    (
+        "01 04 01 60 00 00 03 02 01 00 07 0a 01 06 5f 73 74 61 72 74 00 00 0a 06 01 04 00 00 92 0b",
+        "wdyl: module 0 unsupported instruction 92 in function 0\n",
+    ),
+    // a second function, with an externref parameter
+    (
+        "01 08 02 60 00 00 60 01 6f 00 03 03 02 00 01 07 0a 01 06 5f 73 74 61 72 74 00 00 0a 07 02 02 00 0b 02 00 0b",
+        "wdyl: module 0 unsupported type in function 1\n",
+    ),
+];
+
 #[test]
-fn small_files(rt: HostRuntime) -> Result<(), Fail> {
+fn files_by_rows(rt: HostRuntime) -> Result<(), Fail> {
     let alloc = rt.alloc();
-    for (file, code, is_written) in [
-        (SMALLEST, 0, true),
-        (TRAPS, 0, true),
-        (MAIN, 0, true),
-        (RECURSES, 0, true),
-        (EMPTY_IMPORTS, 0, true),
-        (NO_ENTRY, 65, false),
-        (CUT, 65, false),
-        (NO_BODY, 65, false),
-        (COUNTED, 65, false),
-        (DROPS, 65, false),
-    ] {
-        let (outcome, written) = merged(alloc, file)?;
-        assert_eq!(rt; status(&outcome), code);
-        assert_eq!(rt; written, is_written);
+    for (row, code, line) in MERGES {
+        let mut files = holding(alloc, &file_of(alloc, row)?)?;
+        assert!(rt;
+            answers(alloc, MERGE, &mut files, *code, line, *code == 0)?,
+            "{row}"
+        );
+    }
+    for (row, line) in REFUSED {
+        for words in [MERGE, EXEC] {
+            let mut files = holding(alloc, &file_of(alloc, row)?)?;
+            assert!(rt;
+                answers(alloc, words, &mut files, 65, line, false)?,
+                "{row}"
+            );
+        }
     }
     Ok(())
 }
@@ -111,136 +176,130 @@ fn small_files(rt: HostRuntime) -> Result<(), Fail> {
 #[test]
 fn what_is_merged_is_valid(rt: HostRuntime) -> Result<(), Fail> {
     let alloc = rt.alloc();
-    for file in [SMALLEST, TRAPS, MAIN, RECURSES, EMPTY_IMPORTS] {
-        let mut files = MemFiles::new(alloc);
-        files.add(alloc, "main.wasm", file)?;
-        let words = words(alloc, &["wdyl", "merge", "main.wasm", "out.wasm"])?;
-        let outcome = serve_with(alloc, &words, &mut files, &mut MemSink::new(alloc));
-        assert_eq!(rt; status(&outcome), 0);
-        let output = files
-            .fetch(alloc, "out.wasm", 1_000_000_000)
-            .expect(&rt, "the output");
-        let module = decode(alloc, &output)?;
-        assert!(rt; check(alloc, module).is_ok(), "the merged module");
-    }
-    Ok(())
-}
-
-#[test]
-fn refusals_by_name(rt: HostRuntime) -> Result<(), Fail> {
-    let alloc = rt.alloc();
-    let (outcome, _) = merged(alloc, NO_ENTRY)?;
-    assert!(rt; matches!(outcome, Outcome::Link(LinkFault::NoEntry)));
-    let (outcome, _) = merged(alloc, COUNTED)?;
-    assert!(rt; matches!(outcome, Outcome::Unbuilt));
-    let (outcome, _) = merged(alloc, DROPS)?;
-    assert!(rt; matches!(outcome, Outcome::Set(SetFault::Check { .. })));
-    Ok(())
-}
-
-#[test]
-fn files_that_are_not_decoded(rt: HostRuntime) -> Result<(), Fail> {
-    let alloc = rt.alloc();
-    for (file, expected) in [
-        (CUT, DecodeFault::Malformed { section: 4 }),
-        (NO_BODY, DecodeFault::Counts),
-    ] {
-        match merged(alloc, file)?.0 {
-            Outcome::Set(SetFault::Decode { module, fault }) => {
-                assert_eq!(rt; module, 0);
-                assert_eq!(rt; fault, expected);
-            }
-            _ => assert!(rt; false, "the file is not decoded"),
+    for (row, code, _) in MERGES {
+        let mut files = holding(alloc, &file_of(alloc, row)?)?;
+        called(alloc, MERGE, &mut files, &mut MemSink::new(alloc))?;
+        if *code == 0 {
+            let output = files
+                .fetch(alloc, "out.wasm", 1_000_000_000)
+                .expect(&rt, "the output");
+            assert!(rt; check(alloc, decode(alloc, &output)?).is_ok(), "{row}");
         }
     }
     Ok(())
 }
 
-/// The outcome where the call on the files with a number fails, and whether there is an output.
-fn failing(alloc: Global, call: u64) -> Result<(Outcome, bool), Fail> {
-    let mut files = MemFiles::new(alloc);
-    files.add(alloc, "main.wasm", SMALLEST)?;
-    files.fail_at(alloc, call)?;
-    let words = words(alloc, &["wdyl", "merge", "main.wasm", "out.wasm"])?;
-    let outcome = serve_with(alloc, &words, &mut files, &mut MemSink::new(alloc));
-    let written = files.fetch(alloc, "out.wasm", 1_000_000_000).is_ok();
-    Ok((outcome, written))
+/// The line of so many bytes of the smallest main module. Those of 25 and of 31 bytes end with a section; they are
+/// modules of the small form, without a type or without a function, and so without an entry.
+fn line_of_prefix(count: usize) -> &'static str {
+    match count {
+        0..=7 | 9..=24 => "wdyl: module 0 malformed after 0 sections\n",
+        8 => "wdyl: module 0 has no dylink.0 section\n",
+        25 | 31 => "wdyl: no entry\n",
+        26..=30 => "wdyl: module 0 malformed after 1 sections\n",
+        32..=34 => "wdyl: module 0 malformed after 2 sections\n",
+        35 | 47 => "wdyl: module 0 counts differ\n",
+        36..=46 => "wdyl: module 0 malformed after 3 sections\n",
+        _ => "wdyl: module 0 malformed after 4 sections\n",
+    }
 }
 
 #[test]
-fn failing_files(rt: HostRuntime) -> Result<(), Fail> {
+fn prefixes(rt: HostRuntime) -> Result<(), Fail> {
     let alloc = rt.alloc();
-    let (outcome, written) = failing(alloc, 0)?;
-    assert_eq!(rt; status(&outcome), 66);
-    assert!(rt; !written);
-    let (outcome, written) = failing(alloc, 1)?;
-    assert_eq!(rt; status(&outcome), 74);
-    assert!(rt; !written);
-    Ok(())
-}
-
-#[test]
-fn missing_files(rt: HostRuntime) -> Result<(), Fail> {
-    let alloc = rt.alloc();
-    let mut files = MemFiles::new(alloc);
-    let words = words(alloc, &["wdyl", "merge", "set/app/main.wasm", "out.wasm"])?;
-    let outcome = serve_with(alloc, &words, &mut files, &mut MemSink::new(alloc));
-    assert_eq!(rt; status(&outcome), 65);
-    match &outcome {
-        Outcome::Set(SetFault::Missing { name }) => assert_eq!(rt; name.as_str(), "main.wasm"),
-        _ => assert!(rt; false, "the main module is missing"),
+    let file = bytes_of(alloc, SMALLEST)?;
+    assert_eq!(rt; file.len(), 53);
+    for count in 0..file.len() {
+        let mut files = holding(alloc, &file[..count])?;
+        assert!(rt;
+            answers(alloc, MERGE, &mut files, 65, line_of_prefix(count), false)?,
+            "the prefix of {count}"
+        );
     }
     Ok(())
 }
 
 #[test]
-fn a_file_too_long(rt: HostRuntime) -> Result<(), Fail> {
+fn files_that_fail(rt: HostRuntime) -> Result<(), Fail> {
     let alloc = rt.alloc();
+    let file = bytes_of(alloc, SMALLEST)?;
+    for (call, code, line) in [
+        (0, 66, "wdyl: read fault main.wasm\n"),
+        (1, 74, "wdyl: write fault\n"),
+    ] {
+        let mut files = holding(alloc, &file)?;
+        files.fail_at(alloc, call)?;
+        assert!(rt;
+            answers(alloc, MERGE, &mut files, code, line, false)?,
+            "{line}"
+        );
+    }
+    let words = ["wdyl", "merge", "set/app/main.wasm", "out.wasm"];
+    assert!(rt;
+        answers(
+            alloc,
+            &words,
+            &mut MemFiles::new(alloc),
+            65,
+            "wdyl: missing main.wasm\n",
+            false
+        )?
+    );
     let long = vec![in alloc; 0; 16_777_217]?;
-    let (outcome, written) = merged(alloc, &long)?;
-    assert!(rt; matches!(outcome, Outcome::Set(SetFault::SetSize)));
+    let mut files = holding(alloc, &long)?;
+    assert!(rt;
+        answers(
+            alloc,
+            MERGE,
+            &mut files,
+            65,
+            "wdyl: files too long\n",
+            false
+        )?
+    );
+    let mut errors = MemSink::new(alloc);
+    errors.fail_at(alloc, 0)?;
+    let outcome = called(alloc, MERGE, &mut MemFiles::new(alloc), &mut errors)?;
     assert_eq!(rt; status(&outcome), 65);
-    assert!(rt; !written);
+    assert!(rt; errors.held().is_empty());
     Ok(())
 }
 
 #[test]
 fn words_that_are_no_order(rt: HostRuntime) -> Result<(), Fail> {
     let alloc = rt.alloc();
-    for (texts, kind) in [
-        (["wdyl"].as_slice(), UsageKind::NoCommand),
+    for (words, line) in [
+        (["wdyl"].as_slice(), "wdyl: usage: no command\n"),
         (
             ["wdyl", "link", "a", "b"].as_slice(),
-            UsageKind::UnknownCommand,
+            "wdyl: usage: unknown command\n",
         ),
-        (["wdyl", "merge", "a"].as_slice(), UsageKind::Words),
+        (["wdyl", "merge", "a"].as_slice(), "wdyl: usage: words\n"),
         (
             ["wdyl", "merge", "a", "b", "c"].as_slice(),
-            UsageKind::Words,
+            "wdyl: usage: words\n",
         ),
-        (["wdyl", "merge", "-x", "b"].as_slice(), UsageKind::Words),
-        (["wdyl", "merge", "a", "b\0"].as_slice(), UsageKind::Words),
+        (
+            ["wdyl", "merge", "-x", "b"].as_slice(),
+            "wdyl: usage: words\n",
+        ),
+        (
+            ["wdyl", "merge", "a", "b\0"].as_slice(),
+            "wdyl: usage: words\n",
+        ),
     ] {
-        let words = words(alloc, texts)?;
-        let outcome = serve_with(
-            alloc,
-            &words,
-            &mut MemFiles::new(alloc),
-            &mut MemSink::new(alloc),
+        assert!(rt;
+            answers(alloc, words, &mut MemFiles::new(alloc), 64, line, false)?,
+            "{line}"
         );
-        assert_eq!(rt; status(&outcome), 64);
-        match outcome {
-            Outcome::Usage(found) => assert_eq!(rt; found, kind),
-            _ => assert!(rt; false, "the words are no order"),
-        }
     }
     Ok(())
 }
 
 /// A section of this number.
-fn put_section(to: &mut Vec<u8>, id: u8, contents: &[u8]) -> Result<(), Fail> {
+fn put_section(alloc: Global, to: &mut Vec<u8>, id: u8, contents: &[u8]) -> Result<(), Fail> {
     to.push(id)?;
-    put_u32(to, u32::try_from(contents.len())?)?;
+    put_u32(alloc, to, u32::try_from(contents.len())?)?;
     to.extend_from_slice(contents)?;
     Ok(())
 }
@@ -263,33 +322,29 @@ fn many(alloc: Global, count: u32) -> Result<Vec<u8>, Fail> {
     let mut functions = Vec::new(alloc);
     let mut exports = Vec::new(alloc);
     let mut codes = Vec::new(alloc);
-    put_u32(&mut functions, count)?;
-    put_u32(&mut exports, count)?;
-    put_u32(&mut codes, count)?;
+    put_u32(alloc, &mut functions, count)?;
+    put_u32(alloc, &mut exports, count)?;
+    put_u32(alloc, &mut codes, count)?;
     for i in 0..count {
         functions.push(0)?;
         put_export_name(&mut exports, i)?;
         exports.push(0)?;
-        put_u32(&mut exports, i)?;
+        put_u32(alloc, &mut exports, i)?;
         codes.extend_from_slice(b"\x04\0\x10\0\x0b")?;
     }
-    let mut file = b"\0asm\x01\0\0\0\0\x0f\x08dylink.0\x01\x04\0\0\0\0\x01\x04\x01\x60\0\0".to_vec(
-        alloc,
-    )?;
-    put_section(&mut file, 3, &functions)?;
-    put_section(&mut file, 7, &exports)?;
-    put_section(&mut file, 10, &codes)?;
+    let mut file = file_of(alloc, "01 04 01 60 00 00")?;
+    put_section(alloc, &mut file, 3, &functions)?;
+    put_section(alloc, &mut file, 7, &exports)?;
+    put_section(alloc, &mut file, 10, &codes)?;
     Ok(file)
 }
 
 #[test]
 fn as_many_exports_as_there_may_be(rt: HostRuntime) -> Result<(), Fail> {
     let alloc = rt.alloc();
-    let (outcome, written) = merged(alloc, &many(alloc, 65_536)?)?;
-    assert_eq!(rt; status(&outcome), 0);
-    assert!(rt; written);
-    let (outcome, written) = merged(alloc, &many(alloc, 65_537)?)?;
-    assert!(rt; matches!(outcome, Outcome::Unbuilt));
-    assert!(rt; !written);
+    let mut files = holding(alloc, &many(alloc, 65_536)?)?;
+    assert!(rt; answers(alloc, MERGE, &mut files, 0, "", true)?);
+    let mut files = holding(alloc, &many(alloc, 65_537)?)?;
+    assert!(rt; answers(alloc, MERGE, &mut files, 65, "wdyl: unbuilt\n", false)?);
     Ok(())
 }

@@ -1,7 +1,8 @@
 //! `wdyl merge MAIN OUT` makes one WebAssembly module of a main module and the libraries that it needs; `wdyl exec FILE` runs a module.
 #![tactic(auto)]
 
-use dyl_app::{Outcome, UsageKind, serve, status, tell};
+use dyl_app::{serve, tell};
+use dyl_front::{collected, status};
 use dyl_outside::{DiskFiles, HostAmbient, StreamSink, StreamSource};
 use host_table::HostTable;
 use std::env;
@@ -15,25 +16,18 @@ fn main(rt: HostRuntime) -> ExitCode {
     let mut errors = StreamSink::new(rt.stderr());
     let mut ambient = HostAmbient::new(&rt);
     let host = HostTable::new(alloc);
-    let outcome = match env::args(&rt) {
-        Ok(words) => match words.collect(alloc) {
-            Ok(words) => {
-                let words: Vec<String> = words;
-                serve(
-                    alloc,
-                    &words,
-                    &mut files,
-                    &mut input,
-                    &mut output,
-                    &mut errors,
-                    &mut ambient,
-                    &host,
-                )
-            }
-            Err(_) => tell(alloc, Outcome::Memory, &mut errors),
-        },
-        // Words that are no text.
-        Err(_) => tell(alloc, Outcome::Usage(UsageKind::Words), &mut errors),
+    let outcome = match collected(alloc, env::args(&rt)) {
+        Ok(words) => serve(
+            alloc,
+            &words,
+            &mut files,
+            &mut input,
+            &mut output,
+            &mut errors,
+            &mut ambient,
+            &host,
+        ),
+        Err(outcome) => tell(alloc, outcome, &mut errors),
     };
     ExitCode::from(status(&outcome))
 }

@@ -1,15 +1,26 @@
-use Rattle.dyl_app.proofs.Executing.{is_module, executed_due, executed_tells, executed_complete, executed_run}
+use Rattle.host_calls.specs.Embedders.{embedder_of}
+use Rattle.dyl_app.specs.Runs.{guest_arguments}
+use Rattle.dyl_app.proofs.Executing.{executed_serves, executed_works, never_done, set_not_done}
+use Rattle.dyl_app.proofs.Merging.{exec_refused}
+use Rattle.dyl_app.proofs.Performing.{refused_works}
 use Rattle.dyl_app.proofs.exec.exec_file.Goals as goal
 
-pub returns-in-Ok-clause-due : goal.returns-in-Ok-clause-due
-returns-in-Ok-clause-due g c = λ told is. executed_due _ _ _ _ _ _ _ _ _ (c.in-Ok.ensures.answer told is).0 (c.in-Ok.ensures.answer told is).1 c.exec_module.result c.exec_module.ensures
+pub returns-in-Ok-clause-serves : goal.returns-in-Ok-clause-serves
+returns-in-Ok-clause-serves g c =
+    executed_serves (λ texts. embedder_of texts c.args.host.now) c.args.file.now c.args.steps c.args.args.now _ _ _ c.in-Ok.ensures _ _ c.exec_module.result c.exec_module.ensures
 
-pub returns-in-Ok-clause-tells : goal.returns-in-Ok-clause-tells
-returns-in-Ok-clause-tells g c = λ told is. executed_tells _ _ _ _ _ _ _ _ _ (c.in-Ok.ensures.answer told is).0 (c.in-Ok.ensures.answer told is).1 c.exec_module.result c.exec_module.ensures
+pub returns-in-Ok-clause-works : goal.returns-in-Ok-clause-works
+returns-in-Ok-clause-works g c =
+    executed_works (λ texts. embedder_of texts c.args.host.now) c.args.file.now c.args.steps c.args.args.now _ _ _ c.in-Ok.ensures _ _ c.exec_module.result c.exec_module.ensures
 
-pub returns-in-Ok-clause-run : goal.returns-in-Ok-clause-run
-returns-in-Ok-clause-run g c =
-    executed_run _ _ _ _ _ _ _ _ _ (λ told is. is_module _ c.args.file.now _ (c.in-Ok.ensures.answer told is).0 (c.in-Ok.ensures.answer told is).1) c.in-Ok.ensures.valid c.exec_module.result c.exec_module.ensures
+pub returns-in-Err-clause-serves : goal.returns-in-Err-clause-serves
+returns-in-Err-clause-serves g c = rw c.refused.ensures (exec_refused _ c.args.file.now c.args.steps c.args.args.now c.in-Err.fault _ _ c.in-Err.ensures)
 
-pub returns-in-Ok-clause-complete : goal.returns-in-Ok-clause-complete
-returns-in-Ok-clause-complete g c = λ told is opens reads. executed_complete _ _ _ _ _ _ _ _ _ (c.in-Ok.ensures.answer told is).0 (c.in-Ok.ensures.answer told is).1 c.exec_module.result c.exec_module.ensures opens
+pub returns-in-Err-clause-works : goal.returns-in-Err-clause-works
+returns-in-Err-clause-works g c = rw c.refused.ensures (refused_works _ (λ texts. embedder_of texts c.args.host.now) c.args.file.now c.args.steps c.args.args.now c.in-Err.fault _)
+
+pub returns-in-Ok-clause-done : goal.returns-in-Ok-clause-done
+returns-in-Ok-clause-done g c = never_done c.in-Ok.checked (embedder_of (guest_arguments c.args.args.now) c.args.host.now) c.args.steps c.exec_module.result _ _ c.exec_module.ensures
+
+pub returns-in-Err-clause-done : goal.returns-in-Err-clause-done
+returns-in-Err-clause-done g c = rw c.refused.ensures (set_not_done c.in-Err.fault)

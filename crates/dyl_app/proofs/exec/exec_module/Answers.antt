@@ -1,5 +1,14 @@
-use Rattle.dyl_app.proofs.Executing.{with_arguments}
+use Rattle.std.proofs.Common.{Ok, Err, inl, refl}
+use Rattle.spec_execution.specs.declared.fault.SingleFault.TheVariants as single
+use Rattle.spec_hosts.specs.Devices.{devices}
+use Rattle.host_calls.specs.Embedders.{embedder_of}
+use Rattle.dyl_app.proofs.Executing.{with_arguments, memory_is, refused_is}
 use Rattle.dyl_app.proofs.exec.exec_module.Goals as goal
 
 pub returns-in-Ok-execute : goal.returns-in-Ok-execute
-returns-in-Ok-execute g c = with_arguments _ _ _ _ _ _ _ c.in-Ok.args c.in-Ok.ensures c.in-Ok-execute.ran c.in-Ok-execute.ensures
+returns-in-Ok-execute g c =
+    with_arguments c.args.checked.now (λ texts. embedder_of texts c.args.host.now) _ _ c.in-Ok.ensures c.args.steps (Ok c.in-Ok-execute.ran) _ _ c.in-Ok-execute.ensures.executes
+
+pub returns-in-Err-Memory : goal.returns-in-Err-Memory
+returns-in-Err-Memory g c =
+    with_arguments c.args.checked.now (λ texts. embedder_of texts c.args.host.now) _ _ c.in-Ok.ensures c.args.steps (Err single.Memory) _ _ (rw c.in-Err-Memory.field-0-is at c.in-Err-Memory.ensures.executes)

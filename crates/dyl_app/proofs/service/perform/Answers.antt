@@ -1,15 +1,29 @@
-use Rattle.dyl_app.proofs.Performing.{merge_complete, exec_due, exec_complete, exec_does}
+use Rattle.std.proofs.Common.{Ok}
+use Rattle.std.specs.FinMap.{get}
+use Rattle.host_calls.specs.Embedders.{names_of}
+use Rattle.dyl_app.proofs.Dues.{laws_of, told_yields, told_complete}
 use Rattle.dyl_app.proofs.service.perform.Goals as goal
 
-pub returns-in-Merge-clause-complete : goal.returns-in-Merge-clause-complete
-returns-in-Merge-clause-complete g c = λ told is.
-    merge_complete _ _ c.args.order.now c.perform_merge.result _ _ _ _ _ c.in-Merge.is c.as_str.ensures (c.perform_merge.ensures.complete told is)
+pub returns-clause-due : goal.returns-clause-due
+returns-clause-due g c = λ told is.
+    told_yields (laws_of c.reading_answers.ensures c.one_record_answer.ensures c.one_gathered.ensures c.small_sets_link.ensures) (names_of c.args.host.now) (get told) (Ok c.args.order.now) c.perform_order.result (c.perform_order.ensures.serves.tells told is)
 
-pub returns-in-Exec-clause-due : goal.returns-in-Exec-clause-due
-returns-in-Exec-clause-due g c = λ told is. exec_due _ _ c.args.order.now c.perform_exec.result _ _ _ _ c.in-Exec.is c.as_str-in-Exec.ensures (c.perform_exec.ensures.due told is)
+pub returns-clause-tells : goal.returns-clause-tells
+returns-clause-tells g c = c.perform_order.ensures.serves.tells
 
-pub returns-in-Exec-clause-does : goal.returns-in-Exec-clause-does
-returns-in-Exec-clause-does g c = exec_does _ c.args.order.now _ _ _ _ _ _ _ c.perform_exec.result _ _ c.in-Exec.is c.as_str-in-Exec.ensures c.items.ensures c.perform_exec.ensures.run
+pub returns-clause-files : goal.returns-clause-files
+returns-clause-files g c = c.perform_order.ensures.serves.leaves
 
-pub returns-in-Exec-clause-complete : goal.returns-in-Exec-clause-complete
-returns-in-Exec-clause-complete g c = λ told is. exec_complete _ _ c.args.order.now c.perform_exec.result _ _ _ _ c.in-Exec.is c.as_str-in-Exec.ensures _ _ (c.perform_exec.ensures.complete told is)
+pub returns-clause-complete : goal.returns-clause-complete
+returns-clause-complete g c = λ told is.
+    told_complete (laws_of c.reading_answers.ensures c.one_record_answer.ensures c.one_gathered.ensures c.small_sets_link.ensures) (names_of c.args.host.now) (get told) (g.F.Files.seen c.args.files.now) (g.F.Files.seen c.perform_order.new.files) (Ok c.args.order.now) c.perform_order.result (c.perform_order.ensures.serves.tells told is)
+    c.perform_order.ensures.serves.caused
+
+pub returns-clause-caused : goal.returns-clause-caused
+returns-clause-caused g c = c.perform_order.ensures.serves.caused
+
+pub returns-clause-inner : goal.returns-clause-inner
+returns-clause-inner g c = c.perform_order.ensures.serves.inner
+
+pub returns-clause-does : goal.returns-clause-does
+returns-clause-does g c = c.perform_order.ensures.does

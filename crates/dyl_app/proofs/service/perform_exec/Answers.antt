@@ -1,11 +1,26 @@
-use Rattle.dyl_app.specs.Due.{Yields}
-use Rattle.dyl_app.proofs.Telling.{told_keeps}
-use Rattle.dyl_app.proofs.Executing.{told_executes}
+use Rattle.std.proofs.Common.{Ok}
+use Rattle.spec_hosts.specs.Devices.{devices}
+use Rattle.host_calls.specs.Embedders.{names_of, embedder_of}
+use Rattle.dyl_front.specs.declared.order.Order.TheVariants.{Exec}
+use Rattle.dyl_app.proofs.Executing.{not_told_done}
+use Rattle.dyl_app.proofs.Telling.{told_serves, told_works}
 use Rattle.dyl_app.proofs.service.perform_exec.Goals as goal
 
-pub returns-clause-due : goal.returns-clause-due
-returns-clause-due g c = λ told is due at. told_keeps (Yields due) c.exec_file-executed.result c.tell.result tt c.tell.ensures.answer (c.exec_file-executed.ensures.due told is due at)
+pub returns-clause-serves : goal.returns-clause-serves
+returns-clause-serves g c =
+    told_serves (names_of c.args.host.now) (Ok (Exec c.args.file.now c.args.steps c.args.args.now)) c.exec_file-executed.result c.tell.result
+    (g.F.Files.seen c.args.files.now) (g.F.Files.seen c.exec_file-executed.new.files) c.tell.ensures.answer c.exec_file-executed.ensures.serves
 
-pub returns-clause-run : goal.returns-clause-run
-returns-clause-run g c =
-    told_executes c.wasi_answers_fit.ensures.fronts _ _ _ _ _ _ _ _ _ c.exec_file-executed.result c.tell.result c.tell.ensures.answer c.exec_file-executed.ensures.run c.tell.ensures.told
+pub returns-clause-does : goal.returns-clause-does
+returns-clause-does g c =
+    record {
+      errors = g.E.Sink.seen c.exec_file-executed.new.errors;
+      works = told_works (g.F.Files.seen c.args.files.now).told (λ texts. embedder_of texts c.args.host.now) (Ok (Exec c.args.file.now c.args.steps c.args.args.now)) c.exec_file-executed.result c.tell.result
+          (devices (g.I.Source.seen c.args.input.now) (g.O.Sink.seen c.args.output.now) (g.E.Sink.seen c.args.errors.now) (g.A.Ambient.seen c.args.ambient.now))
+          (devices (g.I.Source.seen c.exec_file-executed.new.input) (g.O.Sink.seen c.exec_file-executed.new.output) (g.E.Sink.seen c.exec_file-executed.new.errors) (g.A.Ambient.seen c.exec_file-executed.new.ambient))
+          c.tell.ensures.answer c.exec_file-executed.ensures.works;
+      line = c.tell.ensures.told;
+    }
+
+pub returns-clause-quiet : goal.returns-clause-quiet
+returns-clause-quiet g c = λ is. absurd (not_told_done c.exec_file-executed.result c.tell.result c.tell.ensures.answer c.exec_file-executed.ensures.done is)

@@ -1,15 +1,27 @@
-use Rattle.std.proofs.Common.{◌≡◌, refl}
-use Rattle.dyl_app.specs.declared.outcome.Outcome.TheVariants.{Memory}
-use Rattle.dyl_app.proofs.Telling.{told_keeps}
-use Rattle.dyl_app.proofs.Performing.{order_due, memory_tells, memory_does}
+use Rattle.host_calls.specs.Embedders.{names_of}
+use Rattle.dyl_app.proofs.Dues.{laws_of, told_yields, told_complete}
 use Rattle.dyl_app.proofs.service.serve.Goals as goal
 
-pub returns-in-Ok-clause-due : goal.returns-in-Ok-clause-due
-returns-in-Ok-clause-due g c = λ told is. order_due _ _ _ c.perform.result c.in-Ok.order c.in-Ok.ensures.reads (c.perform.ensures.due told is)
+pub returns-clause-due : goal.returns-clause-due
+returns-clause-due g c = λ told is.
+    told_yields (laws_of c.reading_answers.ensures c.one_record_answer.ensures c.one_gathered.ensures c.small_sets_link.ensures) (names_of c.args.host.now) _ _ c.serve_words.result (c.serve_words.ensures.serves.tells told is)
 
-pub returns-in-Err-Memory-clause-tells : goal.returns-in-Err-Memory-clause-tells
-returns-in-Err-Memory-clause-tells g c = λ told is. memory_tells _ _ _ c.tell-in-Err-Memory.result (told_keeps (λ o. o ≡ Memory) Memory c.tell-in-Err-Memory.result refl c.tell-in-Err-Memory.ensures.answer refl)
+pub returns-clause-tells : goal.returns-clause-tells
+returns-clause-tells g c = c.serve_words.ensures.serves.tells
 
-pub returns-in-Err-Memory-clause-does : goal.returns-in-Err-Memory-clause-does
-returns-in-Err-Memory-clause-does g c =
-    memory_does _ _ _ _ c.tell-in-Err-Memory.result _ _ (told_keeps (λ o. o ≡ Memory) Memory c.tell-in-Err-Memory.result refl c.tell-in-Err-Memory.ensures.answer refl) c.tell-in-Err-Memory.ensures.told
+pub returns-clause-files : goal.returns-clause-files
+returns-clause-files g c = c.serve_words.ensures.serves.leaves
+
+pub returns-clause-complete : goal.returns-clause-complete
+returns-clause-complete g c = λ told is.
+    told_complete (laws_of c.reading_answers.ensures c.one_record_answer.ensures c.one_gathered.ensures c.small_sets_link.ensures) (names_of c.args.host.now) _ _ _ _ c.serve_words.result (c.serve_words.ensures.serves.tells told is)
+    c.serve_words.ensures.serves.caused
+
+pub returns-clause-caused : goal.returns-clause-caused
+returns-clause-caused g c = c.serve_words.ensures.serves.caused
+
+pub returns-clause-inner : goal.returns-clause-inner
+returns-clause-inner g c = c.serve_words.ensures.serves.inner
+
+pub returns-clause-does : goal.returns-clause-does
+returns-clause-does g c = c.serve_words.ensures.does

@@ -1,0 +1,172 @@
+-- The line that is put to the errors for each outcome.
+use Rattle.std.specs.Option.{option_map}
+use Rattle.std.specs.Prelude.{ℕ, ◌+◌, ◌/◌, ◌%◌, List, [], ◌∷◌, ◌++◌, flat_map, codes, decimal, Bool, ◌&&◌, nat_eq, nat_lt, not, if◌then◌else◌, Option, Some, None}
+use Rattle.spec_binary.specs.declared.fault.DecodeFault.{DecodeFault}
+use Rattle.spec_binary.specs.declared.fault.DecodeFault.TheVariants as decode
+use Rattle.spec_linking.specs.declared.fault.RecordFault.{RecordFault}
+use Rattle.spec_linking.specs.declared.fault.RecordFault.TheVariants as record_faults
+use Rattle.spec_linking.specs.declared.fault.Kind.{Kind}
+use Rattle.spec_linking.specs.declared.fault.Kind.TheVariants as kind
+use Rattle.spec_linking.specs.declared.fault.LinkFault.{LinkFault}
+use Rattle.spec_linking.specs.declared.fault.LinkFault.TheVariants as link
+use Rattle.spec_validation.specs.declared.fault.Place.{Place}
+use Rattle.spec_validation.specs.declared.fault.Place.TheVariants as place
+use Rattle.spec_validation.specs.declared.fault.Field.{Field}
+use Rattle.spec_validation.specs.declared.fault.Field.TheVariants as field
+use Rattle.spec_validation.specs.declared.fault.CheckFault.{CheckFault}
+use Rattle.spec_validation.specs.declared.fault.CheckFault.TheVariants as check
+use Rattle.wasm_form.specs.declared.runtime.Trap.{Trap}
+use Rattle.wasm_form.specs.declared.runtime.Trap.TheVariants as trap
+use Rattle.spec_execution.specs.declared.fault.SingleFault.{SingleFault}
+use Rattle.spec_execution.specs.declared.fault.SingleFault.TheVariants as single
+use Rattle.spec_hosts.specs.declared.ran.RunEnd.{RunEnd}
+use Rattle.spec_hosts.specs.declared.ran.RunEnd.TheVariants as end
+use Rattle.dyl_front.specs.declared.outcome.UsageKind.{UsageKind}
+use Rattle.dyl_front.specs.declared.outcome.UsageKind.TheVariants.{NoCommand, UnknownCommand, Words}
+use Rattle.spec_linking.specs.declared.fault.SetFault.{SetFault}
+use Rattle.spec_linking.specs.declared.fault.SetFault.TheVariants as set
+use Rattle.spec_linking.specs.declared.fault.SetFault.TheVariants.{Missing, ReadFault, Decode, Record, Check, ModuleCount, SetSize}
+use Rattle.dyl_front.specs.declared.outcome.Outcome.{Outcome}
+use Rattle.dyl_front.specs.declared.outcome.Outcome.TheVariants.{Done, Ran, Usage, Set, Unbuilt, Link, Single, WriteFault, Memory}
+
+-- a lower-case hexadecimal digit
+abbrev pub hex_digit : ℕ → ℕ
+hex_digit n = if nat_lt n 10 then n + 48 else n + 87
+
+-- the two last hexadecimal digits
+abbrev pub hex_byte : ℕ → List ℕ
+hex_byte n = hex_digit (n / 16 % 16) ∷ hex_digit (n % 16) ∷ []
+
+-- a character of ASCII that is seen, and no backslash
+abbrev pub is_printed : ℕ → Bool
+is_printed b = nat_lt 0x20 b && nat_lt b 0x7F && not (nat_eq b 0x5C)
+
+-- such a byte itself, and for another one a backslash and two hexadecimal digits
+abbrev pub escaped_byte : ℕ → List ℕ
+escaped_byte b = if is_printed b then b ∷ [] else 0x5C ∷ hex_byte b
+
+abbrev pub escaped : List ℕ → List ℕ
+escaped bytes = flat_map escaped_byte bytes
+
+abbrev pub usage_text : UsageKind → List ℕ
+usage_text NoCommand = codes "usage: no command"
+usage_text UnknownCommand = codes "usage: unknown command"
+usage_text Words = codes "usage: words"
+
+abbrev pub decode_text : ℕ → DecodeFault → List ℕ
+decode_text m (decode.Malformed s) = codes "module " ++ decimal m ++ codes " malformed after " ++ decimal s ++ codes " sections"
+decode_text m decode.Counts = codes "module " ++ decimal m ++ codes " counts differ"
+decode_text m (decode.TooDeep f) = codes "module " ++ decimal m ++ codes " too deep in function " ++ decimal f
+decode_text m (decode.TooManyLocals f) = codes "module " ++ decimal m ++ codes " too many locals in function " ++ decimal f
+decode_text m decode.Memory = codes "out of memory"
+
+abbrev pub record_text : ℕ → RecordFault → List ℕ
+record_text m record_faults.NoDylink = codes "module " ++ decimal m ++ codes " has no dylink.0 section"
+record_text m (record_faults.BadDylink k) = codes "module " ++ decimal m ++ codes " dylink.0 malformed after " ++ decimal k ++ codes " subsections"
+record_text m record_faults.Memory = codes "out of memory"
+
+-- two digits, or four where the opcode is counted from FC00
+abbrev pub opcode_text : ℕ → List ℕ
+opcode_text x = if nat_lt x 0xFC00 then hex_byte x else hex_byte (x / 256) ++ hex_byte x
+
+abbrev pub place_text : Place → List ℕ
+place_text (place.Import n) = codes "import " ++ decimal n
+place_text (place.Function n) = codes "function " ++ decimal n
+place_text (place.Table n) = codes "table " ++ decimal n
+place_text (place.Global n) = codes "global " ++ decimal n
+place_text (place.Element n) = codes "element " ++ decimal n
+place_text (place.Body n) = codes "body " ++ decimal n
+
+abbrev pub field_text : Field → List ℕ
+field_text field.Import = codes "import"
+field_text field.Function = codes "function"
+field_text field.Table = codes "table"
+field_text field.Space = codes "memory"
+field_text field.Global = codes "global"
+field_text field.Export = codes "export"
+field_text field.Start = codes "start"
+field_text field.Element = codes "element"
+field_text field.Data = codes "data"
+
+abbrev pub check_text : ℕ → CheckFault → List ℕ
+check_text m (check.UnsupportedOp f x) = codes "module " ++ decimal m ++ codes " unsupported instruction " ++ opcode_text x ++ codes " in function " ++ decimal f
+check_text m (check.UnsupportedType at) = codes "module " ++ decimal m ++ codes " unsupported type in " ++ place_text at
+check_text m (check.BadModule part) = codes "module " ++ decimal m ++ codes " invalid " ++ field_text part
+check_text m (check.BadBody f) = codes "module " ++ decimal m ++ codes " invalid body of function " ++ decimal f
+check_text m check.Memory = codes "out of memory"
+
+abbrev pub set_text : SetFault → List ℕ
+set_text (Missing name) = codes "missing " ++ escaped name
+set_text (ReadFault path) = codes "read fault " ++ escaped path
+set_text (Decode m fault) = decode_text m fault
+set_text (Record m fault) = record_text m fault
+set_text (Check m fault) = check_text m fault
+set_text ModuleCount = codes "more than 256 modules"
+set_text SetSize = codes "files too long"
+set_text set.Memory = codes "out of memory"
+
+abbrev pub kind_text : Kind → List ℕ
+kind_text kind.Function = codes "function"
+kind_text kind.Mem = codes "mem"
+kind_text kind.Func = codes "func"
+kind_text kind.Other = codes "other"
+
+abbrev pub link_text : LinkFault → List ℕ
+link_text (link.MemoryLimit pages max) = codes "memory of " ++ decimal pages ++ codes " pages is above " ++ decimal max
+link_text (link.TableLimit entries max) = codes "table of " ++ decimal entries ++ codes " entries is above " ++ decimal max
+link_text (link.OwnMemory m) = codes "module " ++ decimal m ++ codes " has its own memory"
+link_text (link.TlsExport m name) = (codes "module " ++ decimal m ++ codes " has TLS export ") ++ escaped name
+link_text (link.Unresolved m k name) = codes "unresolved " ++ kind_text k ++ codes " " ++ escaped name ++ (codes " in " ++ decimal m)
+link_text (link.IllTyped m k name) = codes "ill-typed " ++ kind_text k ++ codes " " ++ escaped name ++ (codes " in " ++ decimal m)
+link_text (link.Duplicate name first second) = codes "duplicate " ++ escaped name ++ (codes " in " ++ decimal first ++ codes " and " ++ decimal second)
+link_text link.NoEntry = codes "no entry"
+link_text link.Memory = codes "out of memory"
+
+abbrev pub trap_text : Trap → List ℕ
+trap_text trap.Unreachable = codes "unreachable"
+trap_text trap.MemoryBounds = codes "memory bounds"
+trap_text trap.TableBounds = codes "table bounds"
+trap_text trap.NullEntry = codes "null entry"
+trap_text trap.WrongType = codes "wrong type"
+trap_text trap.DivideByZero = codes "divide by zero"
+trap_text trap.Overflow = codes "overflow"
+
+-- a run that returned or exited has no text
+abbrev pub end_text : RunEnd → Option (List ℕ)
+end_text end.Return = None
+end_text (end.Exit code) = None
+end_text (end.Trap why) = Some (codes "trap " ++ trap_text why)
+end_text end.StepLimit = Some (codes "step limit")
+end_text end.DepthLimit = Some (codes "depth limit")
+end_text end.HostCallLimit = Some (codes "host call limit")
+end_text end.Stuck = Some (codes "stuck")
+
+abbrev pub single_text : SingleFault → List ℕ
+single_text single.NoEntry = codes "no entry"
+single_text (single.HostImport from name) = codes "no host import " ++ escaped from ++ codes " " ++ escaped name
+single_text (single.HostType from name) = codes "ill-typed host import " ++ escaped from ++ codes " " ++ escaped name
+single_text single.SegmentTrap = codes "segment out of bounds"
+single_text single.Memory = codes "out of memory"
+
+abbrev pub memory_text : List ℕ
+memory_text = codes "out of memory"
+
+-- what is told of an outcome; none where the command is done, and of a run that returned or exited
+abbrev pub outcome_text : Outcome → Option (List ℕ)
+outcome_text Done = None
+outcome_text (Ran ran) = end_text ran.end
+outcome_text (Usage kind) = Some (usage_text kind)
+outcome_text (Set fault) = Some (set_text fault)
+outcome_text Unbuilt = Some (codes "unbuilt")
+outcome_text (Link fault) = Some (link_text fault)
+outcome_text (Single fault) = Some (single_text fault)
+outcome_text WriteFault = Some (codes "write fault")
+outcome_text Memory = Some memory_text
+
+-- the line of this text
+abbrev pub line_with : List ℕ → List ℕ
+line_with text = codes "wdyl: " ++ (text ++ 0x0A ∷ [])
+
+-- the line of an outcome, if anything is told of it
+abbrev pub line_of : Outcome → Option (List ℕ)
+line_of outcome = option_map line_with (outcome_text outcome)

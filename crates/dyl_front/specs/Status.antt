@@ -1,0 +1,28 @@
+-- The exit status of each outcome.
+use Rattle.std.specs.Prelude.{ℕ, ◌%◌}
+use Rattle.spec_hosts.specs.declared.ran.RunEnd.{RunEnd}
+use Rattle.spec_hosts.specs.declared.ran.RunEnd.TheVariants as end
+use Rattle.spec_linking.specs.declared.fault.SetFault.TheVariants.{ReadFault}
+use Rattle.dyl_front.specs.declared.outcome.Outcome.{Outcome}
+use Rattle.dyl_front.specs.declared.outcome.Outcome.TheVariants.{Done, Ran, Usage, Set, Unbuilt, Link, Single, WriteFault, Memory}
+
+abbrev pub end_status : RunEnd → ℕ
+end_status end.Return = 0
+end_status (end.Exit code) = code % 256
+end_status (end.Trap why) = 134
+end_status end.StepLimit = 124
+end_status end.DepthLimit = 125
+end_status end.HostCallLimit = 126
+end_status end.Stuck = 70
+
+abbrev pub status_of : Outcome → ℕ
+status_of Done = 0
+status_of (Ran ran) = end_status ran.end
+status_of (Usage kind) = 64
+status_of (Set (ReadFault path)) = 66
+status_of (Set fault) = 65
+status_of Unbuilt = 65
+status_of (Link fault) = 65
+status_of (Single fault) = 65
+status_of WriteFault = 74
+status_of Memory = 71

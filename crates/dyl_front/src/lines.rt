@@ -1,0 +1,248 @@
+// The line that is put to the errors for an outcome.
+ghost use Rattle.std.specs.Prelude.{◌≡◌, ◌++◌, [], codes, decimal, unwrap_or, Some, IsSome, IfOk, OnOk, string_bytes};
+ghost use Rattle.spec_linking.specs.declared.fault.LinkFault.TheVariants as link;
+ghost use Rattle.dyl_front.specs.Lines.{escaped, usage_text, kind_text, link_text, trap_text, end_text, single_text, outcome_text, line_of};
+
+use crate::faults::put_set;
+use crate::outcome::{Outcome, UsageKind};
+use crate::put::{put_escaped, put_text};
+use spec_execution::SingleFault;
+use spec_hosts::RunEnd;
+use spec_linking::{Kind, LinkFault};
+use std::alloc::Global;
+use wasm_form::{Memory, Text, Trap};
+
+/// What is wrong with the words.
+fn words_text(kind: UsageKind) -> &'static str
+    ensures { result.now ≡ usage_text kind }
+{
+    match kind {
+        UsageKind::NoCommand => "usage: no command",
+        UsageKind::UnknownCommand => "usage: unknown command",
+        UsageKind::Words => "usage: words",
+    }
+}
+
+/// What an import is of.
+fn import_text(kind: Kind) -> &'static str
+    ensures { result.now ≡ kind_text kind }
+{
+    match kind {
+        Kind::Function => "function",
+        Kind::Mem => "mem",
+        Kind::Func => "func",
+        Kind::Other => "other",
+    }
+}
+
+/// The end of a line that names a member.
+fn member_text(alloc: Global, member: u32) -> Result<String, Memory>
+    ensures { IfOk result (λ text. string_bytes text ≡ codes " in " ++ decimal member) }
+{
+    let text = format!(in alloc; " in {member}")?;
+    Ok(text)
+}
+
+/// Puts which import of a member is at fault.
+fn put_member_import(
+    alloc: Global,
+    text: &str,
+    member: u32,
+    kind: Kind,
+    name: &Text,
+    to: &mut Vec<u8>,
+) -> Result<(), Memory>
+    ensures { OnOk result (to.new.items ≡ to.old.items ++ (text.now ++ kind_text kind ++ codes " " ++ escaped name.now ++ (codes " in " ++ decimal member))) }
+{
+    put_text(text, to)?;
+    put_text(import_text(kind), to)?;
+    put_text(" ", to)?;
+    put_escaped(name.as_str(), to)?;
+    put_text(&member_text(alloc, member)?, to)
+}
+
+/// That the members ask for too much memory.
+fn pages_text(alloc: Global, pages: u64, max: u32) -> Result<String, Memory>
+    ensures { IfOk result (λ text. string_bytes text ≡ link_text (link.MemoryLimit pages max)) }
+{
+    let text = format!(in alloc; "memory of {pages} pages is above {max}")?;
+    Ok(text)
+}
+
+/// That the members ask for too large a table.
+fn entries_text(alloc: Global, entries: u64, max: u32) -> Result<String, Memory>
+    ensures { IfOk result (λ text. string_bytes text ≡ link_text (link.TableLimit entries max)) }
+{
+    let text = format!(in alloc; "table of {entries} entries is above {max}")?;
+    Ok(text)
+}
+
+/// That a member has its own memory.
+fn own_memory_text(alloc: Global, member: u32) -> Result<String, Memory>
+    ensures { IfOk result (λ text. string_bytes text ≡ link_text (link.OwnMemory member)) }
+{
+    let text = format!(in alloc; "module {member} has its own memory")?;
+    Ok(text)
+}
+
+/// That a member has a thread-local export, up to its name.
+fn tls_text(alloc: Global, member: u32) -> Result<String, Memory>
+    ensures { IfOk result (λ text. string_bytes text ≡ codes "module " ++ decimal member ++ codes " has TLS export ") }
+{
+    let text = format!(in alloc; "module {member} has TLS export ")?;
+    Ok(text)
+}
+
+/// Which two members define a name.
+fn pair_text(alloc: Global, first: u32, second: u32) -> Result<String, Memory>
+    ensures { IfOk result (λ text. string_bytes text ≡ codes " in " ++ decimal first ++ codes " and " ++ decimal second) }
+{
+    let text = format!(in alloc; " in {first} and {second}")?;
+    Ok(text)
+}
+
+/// Puts a text, a name and a further text.
+fn put_around(text: &str, name: &str, end: &str, to: &mut Vec<u8>) -> Result<(), Memory>
+    ensures { OnOk result (to.new.items ≡ to.old.items ++ (text.now ++ escaped name.now ++ end.now)) }
+{
+    put_text(text, to)?;
+    put_escaped(name, to)?;
+    put_text(end, to)
+}
+
+/// Puts why a set doesn't link.
+fn put_link(alloc: Global, fault: &LinkFault, to: &mut Vec<u8>) -> Result<(), Memory>
+    ensures { OnOk result (to.new.items ≡ to.old.items ++ link_text fault.now) }
+{
+    match fault {
+        LinkFault::MemoryLimit { pages, max } => put_text(&pages_text(alloc, *pages, *max)?, to),
+        LinkFault::TableLimit { entries, max } => put_text(
+            &entries_text(alloc, *entries, *max)?,
+            to,
+        ),
+        LinkFault::OwnMemory { module } => put_text(&own_memory_text(alloc, *module)?, to),
+        LinkFault::TlsExport { module, name } => put_around(
+            &tls_text(alloc, *module)?,
+            name.as_str(),
+            "",
+            to,
+        ),
+        LinkFault::Unresolved { module, kind, name } => put_member_import(
+            alloc,
+            "unresolved ",
+            *module,
+            *kind,
+            name,
+            to,
+        ),
+        LinkFault::IllTyped { module, kind, name } => put_member_import(
+            alloc,
+            "ill-typed ",
+            *module,
+            *kind,
+            name,
+            to,
+        ),
+        LinkFault::Duplicate {
+            name,
+            first,
+            second,
+        } => put_around(
+            "duplicate ",
+            name.as_str(),
+            &pair_text(alloc, *first, *second)?,
+            to,
+        ),
+        LinkFault::NoEntry => put_text("no entry", to),
+        LinkFault::Memory => put_text("out of memory", to),
+    }
+}
+
+/// Why code trapped.
+fn cause_text(trap: Trap) -> &'static str
+    ensures { result.now ≡ trap_text trap }
+{
+    match trap {
+        Trap::Unreachable => "unreachable",
+        Trap::MemoryBounds => "memory bounds",
+        Trap::TableBounds => "table bounds",
+        Trap::NullEntry => "null entry",
+        Trap::WrongType => "wrong type",
+        Trap::DivideByZero => "divide by zero",
+        Trap::Overflow => "overflow",
+    }
+}
+
+/// Puts how a run ended that neither returned nor exited.
+fn put_end(end: RunEnd, to: &mut Vec<u8>) -> Result<(), Memory>
+    ensures { OnOk result (to.new.items ≡ to.old.items ++ unwrap_or (end_text end) []) }
+{
+    match end {
+        RunEnd::Return | RunEnd::Exit(_) => Ok(()),
+        RunEnd::Trap(trap) => {
+            put_text("trap ", to)?;
+            put_text(cause_text(trap), to)
+        }
+        RunEnd::StepLimit => put_text("step limit", to),
+        RunEnd::DepthLimit => put_text("depth limit", to),
+        RunEnd::HostCallLimit => put_text("host call limit", to),
+        RunEnd::Stuck => put_text("stuck", to),
+    }
+}
+
+/// Puts which import is at fault.
+fn put_import(text: &str, module: &Text, name: &Text, to: &mut Vec<u8>) -> Result<(), Memory>
+    ensures { OnOk result (to.new.items ≡ to.old.items ++ (text.now ++ escaped «module».now ++ codes " " ++ escaped name.now)) }
+{
+    put_text(text, to)?;
+    put_escaped(module.as_str(), to)?;
+    put_text(" ", to)?;
+    put_escaped(name.as_str(), to)
+}
+
+/// Puts why a module isn't run.
+fn put_single(fault: &SingleFault, to: &mut Vec<u8>) -> Result<(), Memory>
+    ensures { OnOk result (to.new.items ≡ to.old.items ++ single_text fault.now) }
+{
+    match fault {
+        SingleFault::NoEntry => put_text("no entry", to),
+        SingleFault::HostImport { module, name } => put_import("no host import ", module, name, to),
+        SingleFault::HostType { module, name } => put_import(
+            "ill-typed host import ",
+            module,
+            name,
+            to,
+        ),
+        SingleFault::SegmentTrap => put_text("segment out of bounds", to),
+        SingleFault::Memory => put_text("out of memory", to),
+    }
+}
+
+/// Puts the text of an outcome, if there is one.
+fn put_outcome(alloc: Global, outcome: &Outcome, to: &mut Vec<u8>) -> Result<(), Memory>
+    ensures { OnOk result (to.new.items ≡ to.old.items ++ unwrap_or (outcome_text outcome.now) []) }
+{
+    match outcome {
+        Outcome::Done => Ok(()),
+        Outcome::Ran(ran) => put_end(ran.end, to),
+        Outcome::Usage(kind) => put_text(words_text(*kind), to),
+        Outcome::Set(fault) => put_set(alloc, fault, to),
+        Outcome::Unbuilt => put_text("unbuilt", to),
+        Outcome::Link(fault) => put_link(alloc, fault, to),
+        Outcome::Single(fault) => put_single(fault, to),
+        Outcome::WriteFault => put_text("write fault", to),
+        Outcome::Memory => put_text("out of memory", to),
+    }
+}
+
+/// The line of an outcome of which something is told, its line feed included.
+pub fn line(alloc: Global, outcome: &Outcome) -> Result<Vec<u8>, Memory>
+    requires { IsSome (outcome_text outcome.now) }
+    ensures { IfOk result (λ line. line_of outcome.now ≡ Some line.items) }
+{
+    let mut line = Vec::new(alloc);
+    put_text("wdyl: ", &mut line)?;
+    put_outcome(alloc, outcome, &mut line)?;
+    line.push(b'\n')?;
+    Ok(line)
+}

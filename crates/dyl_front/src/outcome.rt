@@ -1,0 +1,72 @@
+// What a call of the program comes to.
+ghost use Rattle.std.specs.Prelude.{◌≡◌};
+ghost use Rattle.dyl_front.specs.Status.{end_status, status_of};
+
+use spec_execution::SingleFault;
+use spec_hosts::{Ran, RunEnd};
+use spec_linking::{LinkFault, SetFault};
+
+/// What is wrong with the words.
+#[derive(Clone, Copy, Debug, PartialEq, Eq)]
+pub enum UsageKind {
+    /// There is no command.
+    NoCommand,
+    /// There is no such command.
+    UnknownCommand,
+    /// The words after the command are none that it takes.
+    Words,
+}
+
+/// The answer of `serve`.
+#[derive(Drop)]
+pub enum Outcome {
+    /// The command is done.
+    Done,
+    /// The module was run.
+    Ran(Ran),
+    /// The words are no order.
+    Usage(UsageKind),
+    /// The order's files are no closed set. The fault is never `Memory`, nor is the fault of a member that it carries.
+    Set(SetFault),
+    /// The input has a form that is not built yet.
+    Unbuilt,
+    /// The set does not link. The fault is never `Memory`.
+    Link(LinkFault),
+    /// The module is not run. The fault is never `Memory`.
+    Single(SingleFault),
+    /// The output could not be written.
+    WriteFault,
+    /// No memory could be had.
+    Memory,
+}
+
+/// The exit status of a run by its end: that of a shell's `timeout` where steps are used up, and of a process that aborted where it
+/// trapped.
+fn end_status(end: RunEnd) -> u8
+    ensures { result ≡ end_status end }
+{
+    match end {
+        RunEnd::Return => 0,
+        RunEnd::Exit(code) => (code % 256) as u8,
+        RunEnd::Stuck => 70,
+        RunEnd::StepLimit => 124,
+        RunEnd::DepthLimit => 125,
+        RunEnd::HostCallLimit => 126,
+        RunEnd::Trap(_) => 134,
+    }
+}
+
+/// The exit status of an outcome, by sysexits.h where that has one.
+pub fn status(outcome: &Outcome) -> u8
+    ensures { result ≡ status_of outcome.now }
+{
+    match outcome {
+        Outcome::Done => 0,
+        Outcome::Ran(ran) => end_status(ran.end),
+        Outcome::Usage(_) => 64,
+        Outcome::Set(SetFault::ReadFault { .. }) => 66,
+        Outcome::Set(_) | Outcome::Unbuilt | Outcome::Link(_) | Outcome::Single(_) => 65,
+        Outcome::Memory => 71,
+        Outcome::WriteFault => 74,
+    }
+}
