@@ -2,7 +2,6 @@
 mod bodies;
 mod depths;
 mod spaces;
-mod units;
 
 use host_table::HostNames;
 use std::alloc::Global;
