@@ -164,6 +164,8 @@ pub fn place(alloc: Global, regions: &[Region], sizes: &Sizes) -> Result<Plan, P
     requires pages { sizes.now.pages_max ≤ 16384 }
     requires entries { sizes.now.table_max ≤ 983040 }
     ensures plan { IfOk result (λ p. p ≡ plans.placed (map region_of regions.now) (asked sizes.now)) }
+    ensures count { IfOk result (λ p. length p.bases ≡ length regions.now) }
+    ensures table_count { IfOk result (λ p. length p.table_bases ≡ length regions.now) }
     ensures fault { TellsFault result (plans.plan_fault (map region_of regions.now) (asked sizes.now)) }
 {
     let ends = ends_of(regions, sizes);

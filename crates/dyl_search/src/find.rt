@@ -125,7 +125,7 @@ pub fn find_needed<F: Files>(
     }
     let from = Some(member.path.as_str());
     match find_in(alloc, files, from, member.dylink.paths.items(), name, most) {
-        Ok(Some(found)) => Ok(Some(found)),
+        Ok(Some(file)) => Ok(Some(file)),
         Ok(None) => find_listed(alloc, files, o, name, most),
         Err(fault) => Err(fault),
     }

@@ -44,8 +44,8 @@ returns-in-Ok-Some-clause-answer g c =
     let plain : has_slash name ≡ false = sym c.has_slash_in.ensures ∙ c.if-has_slash_in.false in
     finds_same told told (search_paths (options_of c.args.o.now) path texts name)
     (map (λ text. in_directory (expanded path text) name) texts ++ (map (λ directory. in_directory directory name) c.args.o.now.paths ++ (folder c.args.o.now.main ++ name) ∷ []))
-    c.args.most (Ok (Some c.in-Ok-Some.found)) refl (searched (options_of c.args.o.now) path texts name plain)
+    c.args.most (Ok (Some c.in-Ok-Some.file)) refl (searched (options_of c.args.o.now) path texts name plain)
     (finds_before told (map (λ text. in_directory (expanded path text) name) texts) (map (λ directory. in_directory directory name) c.args.o.now.paths ++ (folder c.args.o.now.main ++ name) ∷ [])
-    c.args.most (Ok (Some c.in-Ok-Some.found)) (λ e. cc)
-    (finds_same told told (map (λ text. in_directory (expanded path text) name) texts) (map (λ text. in_directory (expanded c.as_str.result.now text) name) c.items.result.now) c.args.most (Ok (Some c.in-Ok-Some.found)) refl
+    c.args.most (Ok (Some c.in-Ok-Some.file)) (λ e. cc)
+    (finds_same told told (map (λ text. in_directory (expanded path text) name) texts) (map (λ text. in_directory (expanded c.as_str.result.now text) name) c.items.result.now) c.args.most (Ok (Some c.in-Ok-Some.file)) refl
     (ap (λ p. map (λ text. in_directory (expanded p text) name) c.items.result.now) c.as_str.ensures ∙ ap (map (λ text. in_directory (expanded path text) name)) c.items.ensures) (at_option c.in-Ok-Some.field-0-is c.in-Ok-Some.ensures.answer)))

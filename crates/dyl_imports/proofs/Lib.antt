@@ -1,0 +1,8 @@
+mod ByNumber
+mod Counted
+mod EachOnce
+mod Names
+mod Noted
+mod NumberEntries
+mod Numbering
+mod Steps

@@ -1,0 +1,14 @@
+-- Host functions, each once.
+use Rattle.std.specs.Prelude.{List, [], ◌∷◌, ◌++◌, if◌then◌else◌}
+use Rattle.std.specs.List.{list_any}
+use Rattle.spec_runtime.specs.Names.{HostName}
+use Rattle.spec_linking.specs.LinkedSets.{is_same_name}
+
+-- one host function more, unless its module and name are there
+abbrev pub with_host : List HostName → HostName → List HostName
+with_host known h = if list_any (is_same_name h) known then known else known ++ h ∷ []
+
+-- with further ones
+abbrev pub with_hosts : List HostName → List HostName → List HostName
+with_hosts known [] = known
+with_hosts known (h ∷ hs) = with_hosts (with_host known h) hs

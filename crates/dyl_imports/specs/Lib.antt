@@ -1,0 +1,6 @@
+pub mod Hosts
+pub mod Kept
+pub mod Numbers
+pub mod Refs
+pub mod Uses
+pub mod Weak

@@ -1,0 +1,28 @@
+-- Numbers of host functions by their modules and names.
+use Rattle.std.specs.Prelude.{◌≡◌, ℕ, List, [], ◌∷◌, ◌++◌, Option, Some, None, if◌then◌else◌}
+use Rattle.std.specs.List.{position_from}
+use Rattle.std.specs.Map.{lookup}
+use Rattle.std.specs.Str.{bytes_eq}
+use Rattle.spec_runtime.specs.Names.{HostName}
+use Rattle.spec_linking.specs.LinkedSets.{is_named}
+
+-- for each module its names with their numbers
+abbrev pub Numbers : Type 0
+Numbers = List (List ℕ × List (List ℕ × ℕ))
+
+abbrev pub number_in : List ℕ → Option (List (List ℕ × ℕ)) → Option ℕ
+number_in name None = None
+number_in name (Some names) = lookup (bytes_eq name) names
+
+-- the number of a module and a name
+abbrev pub number_of : Numbers → List ℕ → List ℕ → Option ℕ
+number_of numbers from name = number_in name (lookup (bytes_eq from) numbers)
+
+-- one name more, with its number
+abbrev pub with_number : List ℕ → List ℕ → ℕ → Numbers → Numbers
+with_number from name n [] = (from, (name, n) ∷ []) ∷ []
+with_number from name n (m ∷ ms) = if bytes_eq from m.0 then (m.0, m.1 ++ (name, n) ∷ []) ∷ ms else m ∷ with_number from name n ms
+
+-- the number of each module and name is that of the first host function which has them
+abbrev pub AreNumbered : Numbers → List HostName → Type 0
+AreNumbered numbers hosts = (from name : List ℕ) → number_of numbers from name ≡ position_from (is_named from name) 0 hosts

@@ -1,0 +1,17 @@
+-- What is told of members is what the names of their set are made of.
+use Rattle.std.proofs.Common.{◌≡◌, List, [], ◌∷◌, map, refl, ap, sym, ◌∙◌}
+use Rattle.std.specs.Prelude.{Result, Ok, Err, IfOk}
+use Rattle.spec_linking.specs.Sets as sets
+use Rattle.spec_linking.specs.Gathering.{IsSet}
+use Rattle.dyl_search.specs.declared.set.Member.{Member}
+use Rattle.dyl_search.specs.Gathers.{member_of}
+use Rattle.dyl_scope.specs.Scopes.{Scopes, AreOf, Told, told_of}
+
+mapped : (xs : List Member) → map (λ m. told_of (member_of m)) xs ≡ map told_of (map member_of xs)
+mapped [] = refl
+mapped (x ∷ xs) = ap (λ r. told_of (member_of x) ∷ r) (mapped xs)
+
+pub names_told : {E : Type 0} (r : Result Scopes E) (told : List Told) (members : List Member) → told ≡ map (λ m. told_of (member_of m)) members
+    → IfOk r (λ symbols. (S : sets.ClosedSet) → IsSet S → told ≡ map told_of S.members → AreOf S symbols) → IfOk r (λ symbols. (S : sets.ClosedSet) → IsSet S → S.members ≡ map member_of members → AreOf S symbols)
+names_told (Ok symbols) told members is h = λ S set e. h S set (is ∙ mapped members ∙ ap (map told_of) (sym e))
+names_told (Err x) told members is h = h

@@ -1,0 +1,11 @@
+use Rattle.std.proofs.Common.{◌∙◌, ap, map, sym, subst, All}
+use Rattle.spec_linking.specs.Plans.{regions_of}
+use Rattle.dyl_search.specs.Gathers.{member_of}
+use Rattle.dyl_plan.specs.Regions.{HasAligns}
+use Rattle.dyl_link.proofs.Aligns.{aligned}
+use Rattle.dyl_link.proofs.placing.plan_of.Goals as goal
+
+pub place-requires-clause-aligns : goal.place-requires-clause-aligns
+place-requires-clause-aligns c =
+    subst (λ rs. All HasAligns rs) (sym c.deref.ensures.value)
+    (aligned c.in_ok-regions.regions.items (map member_of c.args.set.now.members) (c.in_ok-regions.ensures ∙ ap (λ ms. regions_of (map member_of ms)) c.items.ensures) c.requires.shape.members)

@@ -1,0 +1,8 @@
+use Rattle.std.proofs.Common.{◌≡◌, ◌++◌, drop, map}
+use Rattle.spec_linking.specs.Plans.{regions_of}
+use Rattle.dyl_search.specs.Gathers.{member_of}
+use Rattle.dyl_plan.specs.Regions.{region_of}
+use Rattle.dyl_link.proofs.sizes.regions_of.Given as goal
+
+abbrev pub invariant-loop-member : goal.invariant-loop-member
+invariant-loop-member l = map region_of l.regions.items ++ regions_of (map member_of (drop l.member-index l.members)) ≡ regions_of (map member_of l.members)

@@ -1,0 +1,13 @@
+-- The faults of a member that come before those of its imports.
+use Rattle.std.specs.Prelude.{ℕ, length, nat_eq}
+use Rattle.spec_binary.specs.Exports.{relocations_name, constructors_name}
+use Rattle.spec_linking.specs.declared.fault.LinkFault.TheVariants.{OwnMemory}
+use Rattle.spec_linking.specs.Sets.{Member}
+use Rattle.spec_linking.specs.Links.{Finding, ◌or_else◌, unless, first_fault, tls_fault, loader_call_fault}
+
+-- a memory of its own, thread-local exports, and functions that the loader calls
+abbrev pub before_imports : ℕ → Member → Finding
+before_imports m member =
+    unless (nat_eq (length member.wasm.memories) 0) (OwnMemory m)
+    or_else (first_fault (tls_fault m) member.dylink.exports
+    or_else (loader_call_fault m member.wasm relocations_name or_else loader_call_fault m member.wasm constructors_name))

@@ -1,0 +1,17 @@
+-- What is above the limits, where the regions lie.
+use Rattle.spec_linking.specs.declared.fault.PlanFault.{PlanFault}
+use Rattle.spec_linking.specs.declared.fault.PlanFault.TheVariants as plan_faults
+use Rattle.spec_linking.specs.declared.fault.LinkFault.{LinkFault}
+use Rattle.spec_linking.specs.declared.fault.LinkFault.TheVariants.{MemoryLimit, TableLimit, Memory}
+use Rattle.spec_linking.specs.Sets.{ClosedSet}
+use Rattle.spec_linking.specs.Plans.{LinkOptions, plan_of, sizes_of, pages_limit, regions_limit}
+use Rattle.spec_linking.specs.Links.{Finding, ◌or_else◌}
+
+abbrev pub limit_of : PlanFault → LinkFault
+limit_of (plan_faults.MemoryLimit pages most) = MemoryLimit pages most
+limit_of (plan_faults.TableLimit entries most) = TableLimit entries most
+limit_of plan_faults.Memory = Memory
+
+-- the pages, and then the entries that the regions and the imports ask for
+abbrev pub regions_fault : ClosedSet → LinkOptions → Finding
+regions_fault S o = pages_limit MemoryLimit (plan_of S o) or_else regions_limit TableLimit (plan_of S o) (sizes_of S o)

@@ -1,0 +1,49 @@
+// Findings, as answers.
+ghost use Rattle.std.specs.Prelude.{◌≡◌, Some, IfOk};
+ghost use Rattle.spec_linking.specs.Links as links;
+ghost use Rattle.spec_linking.specs.declared.fault.LinkFault.TheVariants as faults;
+ghost use Rattle.dyl_link.specs.Answers.{Tells};
+
+use spec_linking::{Kind, LinkFault};
+use std::alloc::Global;
+use wasm_form::{Memory, Text};
+
+// A text of its own.
+pub(crate) fn named(alloc: Global, name: &str) -> Result<Text, Memory>
+    ensures { IfOk result (λ t. t ≡ name.now) }
+{
+    let mut copy = String::new(alloc);
+    copy.push_str(name)?;
+    Ok(Text::of(copy))
+}
+
+pub(crate) fn ill_typed(
+    alloc: Global,
+    holds: bool,
+    m: u32,
+    kind: Kind,
+    name: &str,
+) -> Result<(), LinkFault>
+    ensures { Tells result (links.unless holds (faults.IllTyped m kind name.now)) }
+{
+    if holds {
+        return Ok(());
+    }
+    let name = named(alloc, name)?;
+    Err(LinkFault::IllTyped {
+        module: m,
+        kind,
+        name,
+    })
+}
+
+pub(crate) fn unresolved(alloc: Global, m: u32, kind: Kind, name: &str) -> Result<(), LinkFault>
+    ensures { Tells result (Some (faults.Unresolved m kind name.now)) }
+{
+    let name = named(alloc, name)?;
+    Err(LinkFault::Unresolved {
+        module: m,
+        kind,
+        name,
+    })
+}

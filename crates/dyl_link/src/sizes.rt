@@ -1,0 +1,123 @@
+// The sizes that a set asks for.
+ghost use Rattle.std.specs.Prelude.{◌≡◌, ◌≤◌, map, IfOk, All};
+ghost use Rattle.std.specs.List.{flat_map};
+ghost use Rattle.spec_linking.specs.Gathering.{IsSet};
+ghost use Rattle.spec_linking.specs.Plans as plans;
+ghost use Rattle.dyl_section.specs.Recorded.{record_of};
+ghost use Rattle.dyl_search.specs.Gathers.{set_of, member_of};
+ghost use Rattle.dyl_plan.specs.Regions.{region_of, asked};
+ghost use Rattle.dyl_link.specs.Bounds.{limits_as, listed, with_limits, all_limits};
+ghost use Rattle.dyl_link.specs.Kept.{options_of};
+
+use crate::options::LinkOptions;
+use dyl_imports::{Use, use_of};
+use dyl_plan::{Region, Sizes};
+use dyl_search::{ClosedSet, Member};
+use dyl_section::Dylink;
+use std::alloc::Global;
+use wasm_form::{Import, ImportDesc, Limits, Memory};
+
+// The most entries that the planned table has.
+const MOST_TABLE: u32 = 983_040;
+
+// What all members share.
+#[derive(Clone, Copy)]
+pub(crate) enum Shared {
+    Memory,
+    Table,
+}
+
+// The least size and the greatest.
+#[derive(Clone, Copy)]
+pub(crate) struct Bounds {
+    min: u32,
+    max: u32,
+}
+
+// The limits that an import of what is shared declares.
+fn limits_in(shared: Shared, i: &Import) -> Option<Limits>
+    ensures { listed result ≡ limits_as shared i.now }
+{
+    match (shared, use_of(i), i.desc) {
+        (Shared::Memory, Use::SharedMemory, ImportDesc::Space(limits)) => Some(limits),
+        (Shared::Table, Use::SharedTable, ImportDesc::Table(ty)) => Some(ty.limits),
+        _ => None,
+    }
+}
+
+fn bounded(b: Bounds, limits: Limits) -> Bounds
+    ensures { result ≡ with_limits b limits }
+{
+    Bounds {
+        min: b.min.max(limits.min),
+        max: match limits.max {
+            Some(max) => b.max.min(max),
+            None => b.max,
+        },
+    }
+}
+
+// With the limits that imports declare.
+fn bounds_by(shared: Shared, b: Bounds, imports: &[Import]) -> Bounds
+    ensures { result ≡ all_limits b (flat_map (limits_as shared) imports.now) }
+{
+    let mut bounds = b;
+    for i in imports {
+        match limits_in(shared, i) {
+            Some(limits) => bounds = bounded(bounds, limits),
+            None => {}
+        }
+    }
+    bounds
+}
+
+// The least size and the greatest of what is shared, where there may be at most so much.
+fn bounds_of(shared: Shared, most: u32, members: &[Member]) -> Bounds
+    ensures { result ≡ all_limits (record { min = 0; max = most }) (plans.limits_in (limits_as shared) (map member_of members.now)) }
+{
+    let mut bounds = Bounds { min: 0, max: most };
+    for member in members {
+        bounds = bounds_by(shared, bounds, member.checked.module().imports.items());
+    }
+    bounds
+}
+
+// The sizes that a set asks for.
+pub(crate) fn sizes_of(set: &ClosedSet, o: &LinkOptions) -> Sizes
+    requires { o.now.stack ≤ 16777216 }
+    ensures sizes { asked result ≡ plans.sizes_of (set_of set.now) (options_of o.now) }
+    ensures pages { result.pages_max ≤ o.now.pages }
+    ensures entries { result.table_max ≤ 983040 }
+{
+    let memory = bounds_of(Shared::Memory, o.pages, set.members.items());
+    let table = bounds_of(Shared::Table, MOST_TABLE, set.members.items());
+    Sizes {
+        stack: (o.stack + 15) / 16 * 16,
+        pages_min: memory.min,
+        pages_max: memory.max,
+        table_min: table.min,
+        table_max: table.max,
+    }
+}
+
+fn region_of(d: &Dylink) -> Region
+    ensures { region_of result ≡ plans.region_of (record_of d.now) }
+{
+    Region {
+        mem_size: d.mem_size,
+        mem_align: d.mem_align,
+        table_size: d.table_size,
+        table_align: d.table_align,
+    }
+}
+
+// The regions of members.
+pub(crate) fn regions_of(alloc: Global, members: &[Member]) -> Result<Vec<Region>, Memory>
+    ensures { IfOk result (λ regions. map region_of regions.items ≡ plans.regions_of (map member_of members.now)) }
+{
+    let mut regions = Vec::new(alloc);
+    for member in members {
+        regions.push(region_of(&member.dylink))?;
+    }
+    Ok(regions)
+}

@@ -1,0 +1,11 @@
+pub mod Applied
+pub mod Positions
+pub mod OutsidePlaces
+pub mod DefinedNumbers
+pub mod Globals
+pub mod Constants
+pub mod OwnSlots
+pub mod Segments
+pub mod AllMembers
+pub mod Maxima
+pub mod AllTables

@@ -1,0 +1,6 @@
+use Rattle.std.proofs.Common.{◌≡◌, [], drop}
+use Rattle.spec_linking.specs.Slots.{functions_with}
+use Rattle.dyl_slots.proofs.defined.defined_functions.Given as goal
+
+abbrev pub invariant-loop-e : goal.invariant-loop-e
+invariant-loop-e l = functions_with l.m l.known (drop l.e-index l.m.exports) ≡ functions_with l.m [] l.m.exports

@@ -1,0 +1,10 @@
+use Rattle.std.proofs.Common.{◌≡◌, ◌++◌, drop}
+use Rattle.std.specs.List.{filter_map}
+use Rattle.spec_linking.specs.LinkedSets.{LinkedSet}
+use Rattle.spec_linking.specs.Slots.{outside_of_import}
+use Rattle.dyl_imports.specs.Kept.{AreImportsOf}
+use Rattle.dyl_slots.proofs.references.add_outside.Given as goal
+
+abbrev pub invariant-loop-i : goal.invariant-loop-i
+invariant-loop-i l = (L : LinkedSet) → AreImportsOf L l.imports
+    → l.refs.items ++ filter_map (outside_of_import L l.m) (drop l.i-index l.list) ≡ l.initial.refs.items ++ filter_map (outside_of_import L l.m) l.list

@@ -1,0 +1,10 @@
+pub mod Found
+pub mod Fresh
+pub mod Given
+pub mod Limits
+pub mod Marks
+pub mod Outside
+pub mod Placings
+pub mod Regions
+pub mod Tables
+pub mod Wanted

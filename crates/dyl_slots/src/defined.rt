@@ -1,0 +1,98 @@
+// The functions that a member defines under names.
+ghost use Rattle.std.specs.Prelude.{◌≡◌, ◌+◌, ◌<◌, ◌^◌, [], length, None, Some, IfOk, OnOk};
+ghost use Rattle.spec_binary.specs.IndexSpaces.{imports_of, imported_count, functions_in, function_space};
+ghost use Rattle.spec_linking.specs.Definitions as defined;
+ghost use Rattle.spec_linking.specs.Slots.{with_function, defined_functions};
+
+use crate::numbers::Numbers;
+use std::alloc::Global;
+use wasm_form::{Export, ExportDesc, Import, ImportDesc, Memory, Module};
+
+// How many functions are imported.
+fn imported_functions(imports: &[Import]) -> u32
+    requires { length imports.now < 2 ^ 32 }
+    ensures { result ≡ length (imports_of functions_in imports.now) }
+{
+    let mut count = 0;
+    for import in imports {
+        match import.desc {
+            ImportDesc::Func(_) => count += 1,
+            ImportDesc::Table(_) | ImportDesc::Space(_) | ImportDesc::Global(_) => {}
+        }
+    }
+    count
+}
+
+// How many functions there are.
+pub(crate) fn functions_count(m: &Module) -> usize
+    requires imports { length m.now.imports < 2 ^ 32 }
+    requires functions { length m.now.funcs < 2 ^ 32 }
+    ensures { result ≡ length (function_space m.now) }
+{
+    imported_functions(m.imports.items()) as usize + m.funcs.items().len()
+}
+
+fn is_reserved(name: &str) -> bool
+    ensures { result ≡ defined.is_one_of name.now defined.reserved_names }
+{
+    match name {
+        "__wasm_apply_data_relocs"
+        | "__wasm_call_ctors"
+        | "__dso_handle"
+        | "_start"
+        | "_initialize" => true,
+        _ => false,
+    }
+}
+
+// A function of the module's own, where so many are imported.
+fn own_function(m: &Module, imported: u32, f: u32) -> Option<u32>
+    requires counted { imported ≡ imported_count m.now }
+    ensures { result ≡ defined.own_only m.now f }
+{
+    if f < imported {
+        return None;
+    }
+    let place = (f - imported) as usize;
+    if place < m.funcs.items().len() {
+        Some(f)
+    } else {
+        None
+    }
+}
+
+// The function of the module's own that an export defines its name as.
+fn defined_function(m: &Module, imported: u32, e: &Export) -> Option<u32>
+    requires counted { imported ≡ imported_count m.now }
+    ensures { result ≡ defined.defined_function m.now e.now }
+{
+    if is_reserved(e.name.as_str()) {
+        return None;
+    }
+    match e.desc {
+        ExportDesc::Func(f) => own_function(m, imported, f),
+        ExportDesc::Table(_) | ExportDesc::Space(_) | ExportDesc::Global(_) => None,
+    }
+}
+
+fn define(known: &mut Numbers, f: Option<u32>) -> Result<(), Memory>
+    ensures { OnOk result (known.new ≡ with_function known.old f) }
+{
+    match f {
+        Some(f) => known.add(f),
+        None => Ok(()),
+    }
+}
+
+// The functions that a module of so many functions defines under names, each once.
+pub(crate) fn defined_functions(alloc: Global, m: &Module, count: usize) -> Result<Numbers, Memory>
+    requires { length m.now.imports < 2 ^ 32 }
+    ensures { IfOk result (λ known. known ≡ defined_functions m.now) }
+{
+    let imported = imported_functions(m.imports.items());
+    let mut known = Numbers::new(alloc, count)?;
+    for e in m.exports.items() {
+        define(&mut known, defined_function(m, imported, e))?;
+    }
+    Ok(known)
+}

@@ -1,0 +1,87 @@
+// Lists of numbers in which each stands once.
+ghost use Rattle.std.specs.Prelude.{◌≡◌, ℕ, [], false, IfOk, OnOk, length, slice_get, slice_index_or};
+ghost use Rattle.spec_linking.specs.Orders.{is_among, with_number};
+
+use std::alloc::Global;
+use std::marker::Model;
+use wasm_form::Memory;
+
+// Numbers, each once, in the order in which they came. Of the small ones it is marked whether they are there.
+#[derive(Drop)]
+pub(crate) struct Numbers {
+    list: Vec<u32>,
+    marks: Vec<bool>,
+}
+
+impl Model for Numbers {
+    ghost use Rattle.std.specs.Prelude.{List, ℕ};
+    ghost use Rattle.dyl_slots.specs.Marks.{AreMarked};
+
+    ghost Value = { List ℕ };
+
+    ghost view = { λ n. n.list.items };
+
+    ghost invariant = { λ n. AreMarked n.marks.items n.list.items };
+}
+
+fn no_marks(alloc: Global, count: usize) -> Result<Vec<bool>, Memory>
+    ensures { IfOk result (λ v. (k : ℕ) → slice_index_or v.items k false ≡ false) }
+{
+    let mut marks = Vec::new(alloc);
+    for n in 0..count {
+        let _n = n;
+        marks.push(false)?;
+    }
+    Ok(marks)
+}
+
+impl Numbers {
+    // None so far; those below `count` will be found fast.
+    pub fn new(alloc: Global, count: usize) -> Result<Numbers, Memory>
+        ensures { IfOk result (λ n. n ≡ []) }
+    {
+        let marks = no_marks(alloc, count)?;
+        Ok(Numbers {
+            list: Vec::new(alloc),
+            marks,
+        })
+    }
+
+    // Whether a number is there.
+    pub fn contains(&self, n: u32) -> bool
+        ensures { result ≡ is_among n self.now }
+    {
+        match self.marks.get(n as usize) {
+            Some(mark) => *mark,
+            None => self.list.contains(&n),
+        }
+    }
+
+    // Adds a number that isn't there.
+    fn push(&mut self, n: u32) -> Result<(), Memory>
+        requires new { is_among n self.old ≡ false }
+        ensures { OnOk result (self.new ≡ with_number self.old n) }
+    {
+        self.list.push(n)?;
+        if (n as usize) < self.marks.len() {
+            self.marks[n as usize] = true;
+        }
+        Ok(())
+    }
+
+    // Adds a number, unless it is there.
+    pub fn add(&mut self, n: u32) -> Result<(), Memory>
+        ensures { OnOk result (self.new ≡ with_number self.old n) }
+    {
+        if self.contains(n) {
+            return Ok(());
+        }
+        self.push(n)
+    }
+
+    pub fn list(&self) -> &[u32]
+        ensures { result.now ≡ self.now }
+    {
+        &self.list
+    }
+}

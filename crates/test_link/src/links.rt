@@ -1,0 +1,216 @@
+// Sets of a main module and at most one library, from the rules of DynamicLinking.md of the WebAssembly tool conventions: each link fault
+// once, and each form of an import with its wrong kinds.
+ghost use Rattle.std.specs.Prelude.{◌≡◌, ◌≤◌, [], ◌∷◌, IfOk};
+ghost use Rattle.wasm_form.specs.declared.types.ValType.TheVariants.{I32};
+ghost use Rattle.spec_linking.specs.Gathering.{IsSet};
+ghost use Rattle.dyl_search.specs.Gathers.{set_of};
+
+use dyl_link::{LinkFault, LinkOptions, link};
+use dyl_outside::MemFiles;
+use dyl_search::{ClosedSet, SetOptions, gather};
+use host_table::HostNames;
+use std::alloc::{AllocError, Global};
+use std::test::Fail;
+use test_rows::{HEADER, push_hex};
+use wasm_form::{FuncType, List, Text, ValType};
+
+// The library, which defines a function f without parameters and results, and the place g of data.
+const LIBRARY: &str = "plain 01 09 02 60 00 00 60 01 7f 01 7f 03 02 01 00 06 06 01 7f 00 41 08 0b \
+07 09 02 'f 00 00 'g 03 00 0a 04 01 02 00 0b";
+
+// What a main module has, and the answer. Options stand first, names behind quotes, and some parts have names of their own.
+const ROWS: &str = "\
+an entry: plain nullary start0 = entry 0
+no entry: plain nullary 03 02 01 00 07 05 01 01 66 00 00 0a 04 01 02 00 0b = no entry
+an entry of another type: plain 01 06 01 60 01 7f 01 7f 03 02 01 00 07 0a 01 '_start 00 00 0a 06 01 04 00 20 00 0b = no entry
+main is the entry too: plain nullary 03 02 01 00 07 08 01 'main 00 00 0a 04 01 02 00 0b = entry 0
+a memory of its own: plain nullary 03 02 01 00 05 03 01 00 01 07 0a 01 '_start 00 00 0a 04 01 02 00 0b = own memory 0
+thread-local data: . 00 19 dylink 04 00 00 00 00 03 08 02 01 66 01 01 74 80 02 nullary start0 = thread-local 0 t
+relocations of another type: plain 01 09 02 60 00 00 60 01 7f 01 7f 03 03 02 00 01 07 25 02 '__wasm_apply_data_relocs 00 01 '_start 00 \
+00 0a 09 02 02 00 0b 04 00 20 00 0b = ill typed 0 Function __wasm_apply_data_relocs
+constructors of another type: plain 01 09 02 60 00 00 60 01 7f 01 7f 03 03 02 00 01 07 1e 02 '__wasm_call_ctors 00 01 '_start 00 00 0a \
+09 02 02 00 0b 04 00 20 00 0b = ill typed 0 Function __wasm_call_ctors
+a memory: plain types 02 0f 01 'env 'memory 02 00 01 start0 = entry 0
+no memory: plain types 02 0e 01 'env 'memory 00 00 start1 = ill typed 0 Other memory
+a table of functions: plain types 02 23 01 'env '__indirect_function_table 01 70 00 00 start0 = entry 0
+a stack pointer that stays: plain types 02 18 01 'env '__stack_pointer 03 7f 00 start0 = ill typed 0 Other __stack_pointer
+a memory base that is set: plain types 02 16 01 'env '__memory_base 03 7f 01 start0 = ill typed 0 Other __memory_base
+a table base that is set: plain types 02 15 01 'env '__table_base 03 7f 01 start0 = ill typed 0 Other __table_base
+anything else: plain types 02 0e 01 'env 'stuff 03 7f 00 start0 = unresolved 0 Other stuff
+a function: needing types 02 09 01 'env 'f 00 00 start1 = entry 1
+a function of another type: needing types 02 09 01 'env 'f 00 01 start1 = ill typed 0 Function f
+a function that is data: needing types 02 09 01 'env 'g 00 00 start1 = ill typed 0 Function g
+a function that none defines: needing types 02 09 01 'env 'w 00 00 start1 = unresolved 0 Function w
+a weak function: . 00 21 dylink 04 00 00 00 00 02 06 01 'a.so 04 08 01 'env 'w 01 types 02 09 01 'env 'w 00 00 start1 = entry 1
+data: needing types 02 0e 01 'GOT.mem 'g 03 7f 01 start0 = entry 0
+data in a cell that stays: needing types 02 0e 01 'GOT.mem 'g 03 7f 00 start0 = ill typed 0 Mem g
+data that is a function: needing types 02 0e 01 'GOT.mem 'f 03 7f 01 start0 = ill typed 0 Mem f
+data that none defines: needing types 02 0e 01 'GOT.mem 'w 03 7f 01 start0 = unresolved 0 Mem w
+a slot: needing types 02 0f 01 'GOT.func 'f 03 7f 01 start0 = entry 0
+a slot in a cell that stays: needing types 02 0f 01 'GOT.func 'f 03 7f 00 start0 = ill typed 0 Func f
+a slot of data: needing types 02 0f 01 'GOT.func 'g 03 7f 01 start0 = ill typed 0 Func g
+a slot that none defines: needing types 02 0f 01 'GOT.func 'w 03 7f 01 start0 = unresolved 0 Func w
+a function of the loader: plain types 02 0d 01 'env 'dlsym 00 02 start1 = entry 1
+a function of the loader of another type: plain types 02 0d 01 'env 'dlsym 00 01 start1 = ill typed 0 Function dlsym
+a host function: plain types 02 0c 01 'env 'host 00 01 start1 = entry 1
+a host function of another type: plain types 02 0c 01 'env 'host 00 00 start1 = ill typed 0 Function host
+a host function of another module: plain types 02 0c 01 'sys 'host 00 01 start1 = entry 1
+one of another type: plain types 02 0c 01 'sys 'host 00 00 start1 = ill typed 0 Function host
+one that isn't declared: plain types 02 09 01 'sys 'w 00 00 start1 = unresolved 0 Function w
+a host function's address: plain types 02 11 01 'GOT.mem 'host 03 7f 01 start0 = ill typed 0 Mem host
+a host function of two types: plain types 02 13 02 'rest 'x 00 01 'rest 'x 00 02 03 02 01 00 07 0a 01 '_start 00 02 0a 04 01 02 00 0b = \
+ill typed 0 Function x
+a name of two members: needing nullary with_f = entry 0
+a name of two members where each may be defined once: no_duplicates | needing nullary with_f = duplicate f 0 1
+an import's fault comes before a name of two members: no_duplicates | needing types 02 09 01 'env 'w 00 00 03 02 01 00 07 0e 02 01 66 \
+00 01 '_start 00 01 0a 04 01 02 00 0b = unresolved 0 Function w
+too many pages: pages=1 | . 00 11 dylink 06 f0 a2 04 00 00 00 nullary start0 = memory limit 3 1
+a stack for which there are too few pages: pages=1 | plain nullary start0 = memory limit 2 1
+too many entries: . 00 11 dylink 06 00 00 80 80 3c 00 nullary start0 = table limit 983041 983040
+a fresh slot too many: . 00 11 dylink 06 00 00 ff ff 3b 00 nullary with_f = table limit 983041 983040";
+
+// What a part of a module stands for: a first section with a record of four zeros, or with one that needs the library; types; and a function
+// without parameters and results that is exported as the entry, after no imported function or after one.
+fn named(part: &str) -> &str {
+    match part {
+        "." => HEADER,
+        "dylink" => "08 64 79 6c 69 6e 6b 2e 30 01",
+        "plain" => ". 00 0f dylink 04 00 00 00 00",
+        "needing" => ". 00 17 dylink 04 00 00 00 00 02 06 01 'a.so",
+        "nullary" => "01 04 01 60 00 00",
+        "types" => "01 0f 03 60 00 00 60 01 7f 01 7f 60 02 7f 7f 01 7f",
+        "start0" => "03 02 01 00 07 0a 01 '_start 00 00 0a 04 01 02 00 0b",
+        "start1" => "03 02 01 00 07 0a 01 '_start 00 01 0a 04 01 02 00 0b",
+        "with_f" => "03 02 01 00 07 0e 02 'f 00 00 '_start 00 00 0a 04 01 02 00 0b",
+        other => other,
+    }
+}
+
+// A name with its length, or a number.
+fn push_part(alloc: Global, to: &mut Vec<u8>, part: &str) -> Result<(), AllocError> {
+    match part.strip_prefix("'") {
+        Some(name) => {
+            to.push((name.len() % 128) as u8)?;
+            to.extend_from_slice(name.as_bytes())
+        }
+        None => push_hex(alloc, to, part),
+    }
+}
+
+// The bytes of a module by its parts.
+fn file_of(alloc: Global, text: &str) -> Result<Vec<u8>, AllocError> {
+    let mut bytes = Vec::new(alloc);
+    for part in text.split_ascii_whitespace() {
+        for inner in named(part).split_ascii_whitespace() {
+            for least in named(inner).split_ascii_whitespace() {
+                push_part(alloc, &mut bytes, least)?;
+            }
+        }
+    }
+    Ok(bytes)
+}
+
+// A main module, with the library at hand.
+fn files_of(alloc: Global, main: &str) -> Result<MemFiles, Fail> {
+    let mut files = MemFiles::new(alloc);
+    files.add(alloc, "m", &file_of(alloc, main)?)?;
+    files.add(alloc, "a.so", &file_of(alloc, LIBRARY)?)?;
+    Ok(files)
+}
+
+// The main module alone is asked for.
+fn main_alone(alloc: Global) -> Result<SetOptions, Fail> {
+    Ok(SetOptions {
+        main: Text::of(String::from_str(alloc, "m")?),
+        dl: List::of(Vec::new(alloc)),
+        paths: List::of(Vec::new(alloc)),
+    })
+}
+
+// A type of one i32 parameter and the result i32.
+fn one_number(alloc: Global) -> Result<FuncType, AllocError>
+    ensures { IfOk result (λ t. t ≡ record { params = I32 ∷ []; results = I32 ∷ [] }) }
+{
+    Ok(FuncType {
+        params: List::of(vec![in alloc; ValType::I32]?),
+        results: List::of(vec![in alloc; ValType::I32]?),
+    })
+}
+
+// The function `host` of `env` and of `sys`, and all of `rest`.
+fn declared(alloc: Global) -> Result<HostNames, Fail> {
+    let mut names = HostNames::new(alloc);
+    names.declare(alloc, "env", "host", one_number(alloc)?)?;
+    names.declare(alloc, "sys", "host", one_number(alloc)?)?;
+    names.declare_rest(alloc, "rest")?;
+    Ok(names)
+}
+
+fn options_of(words: &str) -> LinkOptions
+    ensures pages { result.pages ≤ 16384 }
+    ensures stack { result.stack ≤ 16777216 }
+{
+    LinkOptions {
+        stack: 65536,
+        pages: if words == "pages=1" { 1 } else { 1024 },
+        no_duplicates: words == "no_duplicates",
+    }
+}
+
+fn shown_fault(alloc: Global, fault: &LinkFault) -> Result<String, Fail> {
+    Ok(match fault {
+        LinkFault::MemoryLimit { pages, max } => format!(in alloc; "memory limit {pages} {max}")?,
+        LinkFault::TableLimit { entries, max } => {
+            format!(in alloc; "table limit {entries} {max}")?
+        }
+        LinkFault::OwnMemory { module } => format!(in alloc; "own memory {module}")?,
+        LinkFault::TlsExport { module, name } => {
+            format!(in alloc; "thread-local {module} {}", name.as_str())?
+        }
+        LinkFault::Unresolved { module, kind, name } => {
+            format!(in alloc; "unresolved {module} {kind:?} {}", name.as_str())?
+        }
+        LinkFault::IllTyped { module, kind, name } => {
+            format!(in alloc; "ill typed {module} {kind:?} {}", name.as_str())?
+        }
+        LinkFault::Duplicate {
+            name,
+            first,
+            second,
+        } => format!(in alloc; "duplicate {} {first} {second}", name.as_str())?,
+        LinkFault::NoEntry => format!(in alloc; "no entry")?,
+        LinkFault::Memory => format!(in alloc; "memory")?,
+    })
+}
+
+fn linked(alloc: Global, options: &str, set: ClosedSet) -> Result<String, Fail>
+    requires { IsSet (set_of set) }
+{
+    let hosts = declared(alloc)?;
+    match link(alloc, set, &options_of(options), &hosts) {
+        Ok(linked) => Ok(format!(in alloc; "entry {}", linked.entry())?),
+        Err(refused) => shown_fault(alloc, &refused.fault),
+    }
+}
+
+// How a main module links.
+fn answer_to(alloc: Global, options: &str, main: &str) -> Result<String, Fail> {
+    let mut files = files_of(alloc, main)?;
+    match gather(alloc, &mut files, &main_alone(alloc)?) {
+        Ok(set) => linked(alloc, options, set),
+        Err(_) => Ok(format!(in alloc; "no set")?),
+    }
+}
+
+#[test]
+fn links_or_first_faults(rt: HostRuntime) -> Result<(), Fail> {
+    for line in ROWS.lines() {
+        let (row, answer) = line.split_once(" = ").expect(&rt, "an answer");
+        let (_, text) = row.split_once(": ").expect(&rt, "a name");
+        let (options, main) = text.split_once(" | ").unwrap_or(("", text));
+        let told = answer_to(rt.alloc(), options, main)?;
+        assert_eq!(rt; told.as_str(), answer, "{line}");
+    }
+    assert_eq!(rt; ROWS.lines().count(), 44);
+    Ok(())
+}
