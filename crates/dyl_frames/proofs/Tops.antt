@@ -1,0 +1,146 @@
+-- The frame on top, and the ones under it.
+use Rattle.std.proofs.Common.{◌≡◌, ◌≢◌, ◌⊎◌, inl, inr, ℕ, zero, suc, ◌-◌, ◌<◌, List, [], ◌∷◌, Option, Some, refl, ap, sym, ◌∙◌, subst, length, get_or, drop, map, arith}
+use Rattle.std.specs.Prelude.{slice_get, slice_set, reverse}
+use Rattle.std.specs.Vec.{with_item}
+use Rattle.std.proofs.lemmas.Option.{slice_get_read}
+use Rattle.spec_execution.specs.Runs.{Frame, Active, Marked}
+use Rattle.wasm_machine.specs.Machines.{IsMarked}
+use Rattle.wasm_machine.specs.Marks.{marked_stack, LiesUnder, AreMarks, IsStack}
+use Rattle.wasm_machine.specs.declared.machine.Standing.{Standing}
+use Rattle.spec_loading.specs.Phases.{LoaderFrame}
+use Rattle.dyl_frames.specs.Tasks.{task_value, after_value}
+use Rattle.dyl_frames.specs.declared.task.Task as code
+use Rattle.dyl_frames.specs.declared.task.After as code_after
+use Rattle.dyl_frames.specs.declared.frames.Pending.{Pending}
+use Rattle.dyl_frames.specs.declared.frames.Core.{Core}
+use Rattle.dyl_frames.specs.Cores.{frame_of, frame_in, frame_at, top_frame, TakesTask, Finishes}
+
+last_below : {A : Type 0} (xs : List A) (n : ℕ) → xs ≢ [] → n ≡ length xs → n - 1 < n
+last_below [] n some is = absurd (some refl)
+last_below (x ∷ xs) n some is = omega arith
+
+abbrev IsTaken : List Pending → Pending → List Pending → Type 0
+IsTaken old q new = (p r : Pending) × (slice_get old (length old - 1) ≡ Some p) × (new ≡ slice_set old (length old - 1) r) × TakesTask p r
+
+finished_frames : (xs : List Pending) (q p : Pending) (last n : ℕ) → xs ≢ [] → n ≡ length xs → last ≡ n - 1 → p ≡ get_or xs last p → TakesTask p q → IsTaken xs q (slice_set xs last q)
+finished_frames xs q p last n some is at read t =
+    let below : last < n = subst (λ (i : ℕ). i < n) (sym at) (last_below xs n some is) in
+    let place : last ≡ length xs - 1 = at ∙ ap (λ (i : ℕ). i - 1) is in
+    (p, q, subst (λ (i : ℕ). slice_get xs i ≡ Some p) place (slice_get_read xs n last p is below read), ap (λ (i : ℕ). slice_set xs i q) place, t)
+
+pub takes : (c : Core) (q p : Pending) (last : ℕ) (n : ℕ) → c.frames.items ≢ [] → n ≡ length c.frames.items → last ≡ n - 1 → p ≡ get_or c.frames.items last p → TakesTask p q
+    → Finishes c.stages c (record { machine = c.machine; frames = with_item c.frames last q; stages = c.stages })
+takes c q p last n some is at read t = record {
+  machine = refl;
+  stages_are = refl;
+  frames = finished_frames c.frames.items q p last n some is at read t;
+}
+
+-- ---- lists
+
+other_kept : {A : Type 0} (xs : List A) (i : ℕ) (v : A) (j : ℕ) → j ≢ i → slice_get (slice_set xs i v) j ≡ slice_get xs j
+other_kept [] i v j other = refl
+other_kept (x ∷ xs) zero v zero other = absurd (other refl)
+other_kept (x ∷ xs) zero v (suc j) other = refl
+other_kept (x ∷ xs) (suc i) v zero other = refl
+other_kept (x ∷ xs) (suc i) v (suc j) other = other_kept xs i v j (λ e. other (ap suc e))
+
+pub there_set : {A : Type 0} (xs : List A) (i : ℕ) (v p : A) → slice_get xs i ≡ Some p → slice_get (slice_set xs i v) i ≡ Some v
+there_set [] i v p e = absurd cc
+there_set (x ∷ xs) zero v p e = refl
+there_set (x ∷ xs) (suc i) v p e = there_set xs i v p e
+
+pub length_set : {A : Type 0} (xs : List A) (i : ℕ) (v : A) → length (slice_set xs i v) ≡ length xs
+length_set [] i v = refl
+length_set (x ∷ xs) zero v = refl
+length_set (x ∷ xs) (suc i) v = ap suc (length_set xs i v)
+
+pub changed_or_kept : {A : Type 0} (xs : List A) (i : ℕ) (v : A) (j : ℕ) (p : A) → slice_get (slice_set xs i v) j ≡ Some p → ((j ≡ i) × (p ≡ v)) ⊎ (slice_get xs j ≡ Some p)
+changed_or_kept [] i v j p e = inr e
+changed_or_kept (x ∷ xs) zero v zero p e = inl (refl, cc)
+changed_or_kept (x ∷ xs) zero v (suc j) p e = inr e
+changed_or_kept (x ∷ xs) (suc i) v zero p e = inr e
+changed_or_kept (x ∷ xs) (suc i) v (suc j) p e = go (changed_or_kept xs i v j p e)
+  where
+    go : ((j ≡ i) × (p ≡ v)) ⊎ (slice_get xs j ≡ Some p) → ((suc j ≡ suc i) × (p ≡ v)) ⊎ (slice_get xs j ≡ Some p)
+    go (inl k) = inl (ap suc k.0, k.1)
+    go (inr k) = inr k
+
+-- ---- a mark on top
+
+pub record OnMark (c : Core) : Type 0 where
+  pub number : ℕ
+  pub rest : List (Frame ℕ)
+  pub count : length c.frames.items ≡ suc number
+  pub frames : c.machine.stack.frames ≡ Marked number ∷ rest
+  pub under : LiesUnder number rest
+  pub marks : AreMarks number rest
+
+marked_on_top : (st : Standing) (rooms : List ℕ) (frames : List (Frame ℕ)) → IsMarked (record { stack = record { frames = frames; rooms = rooms }; standing = st }) → (tag : ℕ) × (rest : List (Frame ℕ)) × (frames ≡ Marked tag ∷ rest)
+marked_on_top st rooms [] h = absurd h.1
+marked_on_top st rooms (Active a ∷ frames) h = absurd h.1
+marked_on_top st rooms (Marked tag ∷ frames) h = (tag, frames, refl)
+
+numbered : (n tag : ℕ) (rest : List (Frame ℕ)) → AreMarks n (Marked tag ∷ rest) → (k : ℕ) × (n ≡ suc k) × (tag ≡ k) × LiesUnder k rest × AreMarks k rest
+numbered zero tag rest h = absurd h
+numbered (suc k) tag rest h = (k, refl, h.0, h.1, h.2)
+
+pub on_mark : (c : Core) → IsMarked c.machine → IsStack (length c.frames.items) c.machine.stack.frames → OnMark c
+on_mark c marked live =
+    let top = marked_on_top c.machine.standing c.machine.stack.rooms c.machine.stack.frames marked in
+    let at = numbered (length c.frames.items) top.0 top.1 (subst (λ (fs : List (Frame ℕ)). AreMarks (length c.frames.items) fs) top.2 live.marks) in
+    record {
+      number = at.0;
+      rest = top.1;
+      count = at.1;
+      frames = top.2 ∙ ap (λ (tag : ℕ). Marked tag ∷ top.1) at.2;
+      under = at.3;
+      marks = at.4;
+    }
+
+-- ---- the frames under it
+
+pub marks_alike : {Mark : Type 0} (f g : ℕ → Mark) (k : ℕ) (frames : List (Frame ℕ)) → AreMarks k frames → ((i : ℕ) → i < k → f i ≡ g i) → marked_stack f frames ≡ marked_stack g frames
+marks_alike f g k [] marks same = refl
+marks_alike f g k (Active a ∷ frames) marks same = ap (λ (fs : List (Frame _)). Active a ∷ fs) (marks_alike f g k frames marks same)
+marks_alike f g zero (Marked tag ∷ frames) marks same = absurd marks
+marks_alike f g (suc k) (Marked tag ∷ frames) marks same =
+    let here : f tag ≡ g tag = subst (λ (n : ℕ). f n ≡ g n) (sym marks.0) (same k (omega arith)) in
+    let below = marks_alike f g k frames marks.2 (λ i lt. same i (omega arith)) in
+    rw (here, below) refl
+
+-- the frame with its first task taken away
+abbrev pub rest_of : LoaderFrame → LoaderFrame
+rest_of f = record f { tasks = drop 1 f.tasks }
+
+mapped_drop : {A B : Type 0} (f : A → B) (xs : List A) → map f (drop 1 xs) ≡ drop 1 (map f xs)
+mapped_drop f [] = refl
+mapped_drop f (x ∷ xs) = refl
+
+pub taken_frame : (p q : Pending) → TakesTask p q → frame_of q ≡ rest_of (frame_of p)
+taken_frame p q t =
+    let tasks : map task_value (reverse q.tasks.items) ≡ drop 1 (map task_value (reverse p.tasks.items)) = ap (λ (xs : List code.Task). map task_value xs) t.tasks ∙ mapped_drop task_value (reverse p.tasks.items) in
+    let after = ap (λ (a : code_after.After). after_value a) t.after in
+    rw (tasks, after) refl
+
+module _ (stages : List ℕ) (c new : Core) (f : Finishes stages c new) (k : ℕ) (count : length c.frames.items ≡ suc k) where
+  pub same_count : length new.frames.items ≡ length c.frames.items
+  same_count = ap length f.frames.3 ∙ length_set c.frames.items (length c.frames.items - 1) f.frames.1
+
+  last_is : length c.frames.items - 1 ≡ k
+  last_is = omega arith
+
+  pub finished_top : frame_at new.frames.items k ≡ rest_of (top_frame c)
+  finished_top =
+      let at = there_set c.frames.items (length c.frames.items - 1) f.frames.1 f.frames.0 f.frames.2 in
+      let here : slice_get new.frames.items k ≡ Some f.frames.1 = subst (λ (n : ℕ). slice_get new.frames.items n ≡ Some f.frames.1) last_is (ap (λ (xs : List Pending). slice_get xs (length c.frames.items - 1)) f.frames.3 ∙ at) in
+      ap frame_in here ∙ taken_frame f.frames.0 f.frames.1 f.frames.4 ∙ ap (λ (o : Option Pending). rest_of (frame_in o)) (sym f.frames.2)
+
+  pub finished_under : (i : ℕ) → i < k → frame_at c.frames.items i ≡ frame_at new.frames.items i
+  finished_under i lt =
+      let other : i ≢ length c.frames.items - 1 = λ e. omega arith in
+      ap frame_in (sym (ap (λ (xs : List Pending). slice_get xs i) f.frames.3 ∙ other_kept c.frames.items (length c.frames.items - 1) f.frames.1 i other))
+
+  -- the call stack above the frames under it
+  pub finished_stack : (rest : List (Frame ℕ)) → AreMarks k rest → marked_stack (frame_at new.frames.items) (Marked k ∷ rest) ≡ Marked (rest_of (top_frame c)) ∷ marked_stack (frame_at c.frames.items) rest
+  finished_stack rest marks = rw (finished_top, marks_alike (frame_at c.frames.items) (frame_at new.frames.items) k rest marks finished_under) refl

@@ -1,0 +1,12 @@
+use Rattle.std.proofs.Common.{refl}
+use Rattle.dyl_frames.proofs.Answering.{fits_answer, taken_from, taken_core}
+use Rattle.dyl_frames.proofs.frames.Core.take.Goals as goal
+
+pub answer-requires : goal.answer-requires
+answer-requires g c κs = ((refl, tt), (c.requires.core.over, fits_answer (g.V.View.seen c.args.view.now).fixed (g.V.View.seen c.args.view.now).memory c.args.a.now c.args.self.now.machine.standing c.requires.fits))
+
+pub returns-clause-taken : goal.returns-clause-taken
+returns-clause-taken g c D loaded = taken_from D (g.V.View.seen c.args.view.now) (g.V.View.seen c.answer.new.view) c.args.self.now c.answer.new.self c.args.a.now c.requires.fits c.answer.ensures.answered
+
+pub returns-clause-core : goal.returns-clause-core
+returns-clause-core g c = taken_core (g.V.View.seen c.args.view.now) (g.V.View.seen c.answer.new.view) c.args.self.now c.answer.new.self c.args.a.now c.requires.core c.requires.fits c.answer.ensures.answered c.answer.ensures.over

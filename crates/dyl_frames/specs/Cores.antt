@@ -1,0 +1,241 @@
+-- The core of a run, and the state at which it stands.
+use Rattle.std.specs.Prelude.{◌≡◌, ◌≢◌, ◌<◌, ◌≤◌, ℕ, zero, suc, List, [], ◌∷◌, length, map, reverse, drop, slice_get, slice_set, ◌-◌, nat_lt, replicate, Option, Some, None, Bool, true, false, IfSome, IsTrue, Result, Ok, Err}
+use Rattle.std.specs.List.{All}
+use Rattle.spec_runs.specs.Systems.{Moving, Waits, Returned, Exited, Trapped}
+use Rattle.wasm_form.specs.declared.runtime.Trap.{Trap}
+use Rattle.wasm_form.specs.declared.runtime.Ref.{Ref}
+use Rattle.wasm_form.specs.declared.runtime.Ref.TheVariants.{Own}
+use Rattle.wasm_runtime.specs.declared.Answer.{Answer}
+use Rattle.spec_runtime.specs.Memories.{MemoryInstance}
+use Rattle.spec_runtime.specs.Hosts.{HostCall, fits_results}
+use Rattle.spec_execution.specs.Views.{View}
+use Rattle.spec_execution.specs.Instances.{host_type}
+use Rattle.spec_execution.specs.Runs.{Frame, Marked, taken}
+use Rattle.spec_execution.specs.Segments.{Performed}
+use Rattle.wasm_step.specs.declared.done.Done.{Done}
+use Rattle.wasm_step.specs.declared.done.Done.TheVariants as done
+use Rattle.wasm_view.specs.Seen.{Seen}
+use Rattle.wasm_machine.specs.Machines.{IsOver, IsMarked}
+use Rattle.wasm_machine.specs.Marks.{marked_stack, IsStack}
+use Rattle.wasm_machine.specs.declared.machine.Standing.{Standing}
+use Rattle.wasm_machine.specs.declared.machine.Standing.TheVariants as standing
+use Rattle.wasm_machine.specs.declared.event.Event.{Event}
+use Rattle.wasm_machine.specs.declared.event.Event.TheVariants as event
+use Rattle.spec_loading.specs.declared.task.Task.{Task}
+use Rattle.spec_loading.specs.declared.task.After.{After}
+use Rattle.spec_loading.specs.declared.task.After.TheVariants.{CallEntry, GiveHandle}
+use Rattle.spec_loading.specs.Phases.{LoaderFrame, stage_of}
+use Rattle.spec_loading.specs.Loading.{Loading, LoadedState, with_run, loaded_step, loaded_too_deep}
+use Rattle.dyl_frames.specs.Tasks.{task_value, after_value}
+use Rattle.dyl_frames.specs.declared.frames.Pending.{Pending}
+use Rattle.dyl_frames.specs.declared.frames.Core.{Core}
+use Rattle.dyl_frames.specs.Steps.{TellsStatus, IsCodeNext}
+
+-- ---- the frames
+
+abbrev pub frame_of : Pending → LoaderFrame
+frame_of p = record { tasks = map task_value (reverse p.tasks.items); after = after_value p.after }
+
+abbrev pub frame_in : Option Pending → LoaderFrame
+frame_in None = record { tasks = []; after = CallEntry }
+frame_in (Some p) = frame_of p
+
+-- the frame that a mark of this number stands for
+abbrev pub frame_at : List Pending → ℕ → LoaderFrame
+frame_at frames tag = frame_in (slice_get frames tag)
+
+-- the first is followed by the entry, and each other one by a handle
+abbrev pub IsFollowed : ℕ → After → Type 0
+IsFollowed zero CallEntry = Unit {0}
+IsFollowed zero (GiveHandle m) = ⊥
+IsFollowed (suc n) CallEntry = ⊥
+IsFollowed (suc n) (GiveHandle m) = Unit {0}
+
+-- the members of its tasks are there
+pub record IsPending (members i : ℕ) (p : Pending) : Type 0 where
+  pub tasks : All (λ (t : Task). t.member < members) (frame_of p).tasks
+  pub followed : IsFollowed i (after_value p.after)
+
+-- ---- what is so of it
+
+-- it goes on or waits: the call stack is there
+abbrev pub IsLive : Standing → ℕ → List (Frame ℕ) → Type 0
+IsLive standing.Moving n frames = IsStack n frames
+IsLive (standing.Asking entry count) n frames = IsStack n frames
+IsLive standing.Loading n frames = ⊥
+IsLive standing.Lost n frames = ⊥
+IsLive _ n frames = Unit {0}
+
+-- how the units of a view are loaded, whose host functions have names
+pub record IsLoaded {Units : Type 0} (D : Loading Units) (V : View Units) : Type 0 where
+  pub view : D.view ≡ V
+  pub hosts : (entry : ℕ) → D.view.host entry ≡ host_type (D.names entry)
+
+-- The machine names only what there is, and so do the tasks. Code doesn't call the loader, so there is at most one frame.
+pub record IsCore {Units : Type 0} (V : View Units) (us : Units) (c : Core) : Type 0 where
+  pub over : IsOver V us c.machine
+  pub live : IsLive c.machine.standing (length c.frames.items) c.machine.stack.frames
+  pub pending : (i : ℕ) (p : Pending) → slice_get c.frames.items i ≡ Some p → IsPending (length c.stages) i p
+  pub alone : V.has_loader ≡ false
+  pub few : length c.frames.items ≤ 1
+
+-- ---- where the run stands
+
+abbrev pub stack_of : Core → List (Frame LoaderFrame)
+stack_of c = marked_stack (frame_at c.frames.items) c.machine.stack.frames
+
+-- what a machine is at says how the run stands; code that is stuck has no step
+abbrev pub StandsAs : {Units : Type 0} → Loading Units → Core → LoadedState Units → Standing → Type 0
+StandsAs D c s standing.Moving = (s.run.status ≡ Moving) × (s.run.stack ≡ stack_of c)
+StandsAs D c s (standing.Asking entry count) = (call : HostCall) × (s.run.status ≡ Waits call) × (D.names entry ≡ Some call.host) × (s.run.stack ≡ stack_of c)
+StandsAs D c s standing.Loading = ⊥
+StandsAs D c s standing.Returned = s.run.status ≡ Returned
+StandsAs D c s (standing.Trapped why) = s.run.status ≡ Trapped why
+StandsAs D c s (standing.Exited code) = s.run.status ≡ Exited code
+StandsAs D c s standing.Stuck = (s.run.status ≡ Moving) × (loaded_step D s ≡ None)
+StandsAs D c s standing.Lost = ⊥
+
+-- the run stands at this state
+pub record IsState {Units : Type 0} (D : Loading Units) (c : Core) (us : Units) (memory : MemoryInstance) (s : LoadedState Units) : Type 0 where
+  pub stages : s.loader.stages ≡ c.stages
+  pub units : s.run.units ≡ us
+  pub space : s.run.memory ≡ memory
+  pub standing : StandsAs D c s c.machine.standing
+
+-- ---- one step
+
+-- A step was made from a state and is told, or there is none. Where it would be too deep the run stays.
+abbrev pub Steps : {Units : Type 0} → Loading Units → Event → LoadedState Units → Core → Units → MemoryInstance → Type 0
+Steps D event.Deep s new us memory = (loaded_too_deep D s ≡ true) × (new.machine.standing ≡ standing.Moving) × IsState D new us memory s
+Steps D event.Stuck s new us memory = (loaded_step D s ≡ None) × (new.machine.standing ≡ standing.Stuck) × IsState D new us memory s
+Steps {Units} D e s new us memory =
+    (loaded_too_deep D s ≡ false)
+    × ((t : LoadedState Units) × (loaded_step D s ≡ Some t) × TellsStatus D.names e t.run.status × IsState D new us memory t)
+
+-- the same of a step that the machine tells in few bytes; or it is left to be made with more care, and isn't one of code
+abbrev pub QuickSteps : {Units : Type 0} → Loading Units → Done → LoadedState Units → Core → Units → MemoryInstance → Type 0
+QuickSteps D done.Goes s new us memory = (new.machine.standing ≡ standing.Moving) × Steps D event.Moved s new us memory
+QuickSteps D done.Returned s new us memory = Steps D event.Returned s new us memory
+QuickSteps D (done.Trapped why) s new us memory = Steps D (event.Trapped why) s new us memory
+QuickSteps D done.Stuck s new us memory = Steps D event.Stuck s new us memory
+QuickSteps D done.Exited s new us memory = ⊥
+QuickSteps D done.NoMemory s new us memory = Unit {0}
+QuickSteps D _ s new us memory = (new.machine.standing ≡ standing.Moving) × IsState D new us memory s × (IsCodeNext D s → ⊥)
+
+-- the same from wherever the run stands, over what is seen before and after
+abbrev pub StepsFrom : {Units : Type 0} → Loading Units → Event → Core → Seen Units → Core → Seen Units → Type 0
+StepsFrom {Units} D e old before new after =
+    (s : LoadedState Units) → IsState D old before.units before.memory s → Steps D e s new after.units after.memory
+
+abbrev pub QuickStepsFrom : {Units : Type 0} → Loading Units → Done → Core → Seen Units → Core → Seen Units → Type 0
+QuickStepsFrom {Units} D d old before new after =
+    (s : LoadedState Units) → IsState D old before.units before.memory s → QuickSteps D d s new after.units after.memory
+
+-- an answer was taken
+abbrev pub TakenFrom : {Units : Type 0} → Loading Units → Answer → Core → Seen Units → Core → Seen Units → Type 0
+TakenFrom {Units} D a old before new after =
+    (s : LoadedState Units) → IsState D old before.units before.memory s → IsState D new after.units after.memory (with_run s (taken a s.run))
+
+-- nothing has changed, and a mark is on top
+abbrev pub IsMarkTold : {Units : Type 0} → Core → Seen Units → Core → Seen Units → Type 0
+IsMarkTold old before new after = (new ≡ old) × (after ≡ before) × IsMarked old.machine
+
+-- whether a call was begun: it isn't too deep
+abbrev pub is_begun : Event → Bool
+is_begun event.Deep = false
+is_begun event.Stuck = false
+is_begun _ = true
+
+abbrev pub is_deep_event : Event → Bool
+is_deep_event event.Deep = true
+is_deep_event _ = false
+
+-- whether a step was made
+abbrev pub is_made : Event → Bool
+is_made event.Deep = false
+is_made event.Stuck = false
+is_made (event.Marked tag) = false
+is_made _ = true
+
+abbrev pub is_mark : Event → Bool
+is_mark (event.Marked tag) = true
+is_mark _ = false
+
+-- a function that a member defines
+abbrev pub IsOwn : Ref → Type 0
+IsOwn (Own unit f) = Unit {0}
+IsOwn _ = ⊥
+
+-- ---- the frame on top
+
+-- there is a frame
+abbrev pub AreFrames : Core → Type 0
+AreFrames c = c.frames.items ≢ []
+
+abbrev pub top_frame : Core → LoaderFrame
+top_frame c = frame_at c.frames.items (length c.frames.items - 1)
+
+abbrev pub first_of : List Task → Option Task
+first_of [] = None
+first_of (t ∷ ts) = Some t
+
+abbrev pub first_task : LoaderFrame → Option Task
+first_task f = first_of f.tasks
+
+-- the next task is taken away, if there is one
+pub record TakesTask (old new : Pending) : Type 0 where
+  pub tasks : reverse new.tasks.items ≡ drop 1 (reverse old.tasks.items)
+  pub after : new.after ≡ old.after
+
+-- the next task on top is taken away, and the members have come to these stages
+pub record Finishes (stages : List ℕ) (old new : Core) : Type 0 where
+  pub machine : new.machine ≡ old.machine
+  pub stages_are : new.stages ≡ stages
+  pub frames : (p q : Pending) × (slice_get old.frames.items (length old.frames.items - 1) ≡ Some p)
+      × (new.frames.items ≡ slice_set old.frames.items (length old.frames.items - 1) q) × TakesTask p q
+
+-- whether a member, by its stage, hasn't come so far
+abbrev pub is_below : Option ℕ → ℕ → Bool
+is_below None goal = false
+is_below (Some stage) goal = nat_lt stage goal
+
+-- whether the member of a task hasn't come so far as its phase
+abbrev pub is_behind : Core → Task → Bool
+is_behind c t = is_below (slice_get c.stages t.member) (stage_of t.phase)
+
+-- the stages once the member of a task has come to the stage of its phase
+abbrev pub raised_stages : Core → Task → List ℕ
+raised_stages c t = slice_set c.stages t.member (stage_of t.phase)
+
+-- ---- what placing answers
+
+abbrev pub trap_of : Result (Unit {0}) Trap → Option Trap
+trap_of (Ok u) = None
+trap_of (Err why) = Some why
+
+-- a member was placed so, and this was answered
+abbrev pub Places : {Units : Type 0} → Option (Performed Units) → Result (Unit {0}) Trap → Units → MemoryInstance → Type 0
+Places placed result us memory = placed ≡ Some (record { units = us; memory = memory; trap = trap_of result })
+
+abbrev pub PlacesFrom : {Units : Type 0} → Loading Units → ℕ → Seen Units → Result (Unit {0}) Trap → Seen Units → Type 0
+PlacesFrom D m before result after = Places (D.placed m before.units before.memory) result after.units after.memory
+
+-- ---- the opening
+
+-- the first frame has these tasks, and nothing was done
+pub record IsOpening {Units : Type 0} (members : ℕ) (tasks : List Task) (us : Units) (memory : MemoryInstance) (s : LoadedState Units) : Type 0 where
+  pub stages : s.loader.stages ≡ replicate members 0
+  pub units : s.run.units ≡ us
+  pub space : s.run.memory ≡ memory
+  pub status : s.run.status ≡ Moving
+  pub stack : s.run.stack ≡ Marked (record { tasks = tasks; after = CallEntry }) ∷ []
+
+abbrev pub OpensAt : {Units : Type 0} → Loading Units → ℕ → List Task → Seen Units → Core → Type 0
+OpensAt {Units} D members tasks w c = (s : LoadedState Units) → IsOpening members tasks w.units w.memory s → IsState D c w.units w.memory s
+
+-- ---- answers
+
+-- an answer fits the host function that is waited for
+abbrev pub FitsHost : {Units : Type 0} → View Units → MemoryInstance → Answer → Standing → Type 0
+FitsHost V memory a (standing.Asking entry count) = IfSome (V.host entry) (λ ty. IsTrue (fits_results ty.results memory a))
+FitsHost V memory a _ = ⊥

@@ -1,0 +1,334 @@
+// The run without what is counted and recorded of it.
+ghost use Rattle.std.specs.Prelude.{◌≡◌, ◌≢◌, ◌<◌, ◌≤◌, [], length, reverse, map, true, false, Some, None, IfOk, OnOk, IfSome};
+ghost use Rattle.std.specs.List.{All};
+ghost use Rattle.std.specs.Option.{option_map};
+ghost use Rattle.spec_binary.specs.Indices.{nullary};
+ghost use Rattle.spec_execution.specs.Views.{type_of as type_seen};
+ghost use Rattle.spec_execution.specs.Ranges.{IsWhole, HoldsAll};
+ghost use Rattle.wasm_view.specs.Seen.{Seen};
+ghost use Rattle.wasm_machine.specs.Machines.{IsMarked};
+ghost use Rattle.spec_loading.specs.Phases.{stage_of};
+ghost use Rattle.spec_loading.specs.declared.task.Phase.TheVariants as phases;
+ghost use Rattle.spec_loading.specs.Loading.{Loading};
+ghost use Rattle.dyl_frames.specs.Tasks.{phase_value, task_value};
+ghost use Rattle.dyl_frames.specs.Cores.{IsCore, StepsFrom, QuickStepsFrom, TakenFrom, PlacesFrom, OpensAt, IsMarkTold, IsLoaded, is_begun, is_deep_event};
+ghost use Rattle.dyl_frames.specs.Cores.{AreFrames, first_task, top_frame, TakesTask, Finishes, is_behind, raised_stages, is_mark, IsOwn, FitsHost};
+
+use crate::task::{After, Phase, Task};
+use dyl_world::Stages;
+use std::alloc::Global;
+use wasm_form::{Memory, Ref, Trap};
+use wasm_machine::{Answer, Done, Event, Machine, Standing, View};
+
+// A frame of the loader: the tasks that are left, the next one last, and what follows them.
+#[derive(Drop)]
+pub(crate) struct Pending {
+    pub tasks: Vec<Task>,
+    pub after: After,
+}
+
+/// A machine, the frames of the loader on its call stack, the latest last, and how far each member has come.
+#[derive(Drop)]
+pub struct Core<'m> {
+    pub(crate) machine: Machine<'m>,
+    pub(crate) frames: Vec<Pending>,
+    pub(crate) stages: Stages,
+}
+
+// The stage of a member that has come through a phase.
+fn stage_of(phase: Phase) -> u8
+    ensures stage { result ≡ stage_of (phase_value phase) }
+    ensures least { 1 ≤ result }
+    ensures most { result ≤ 4 }
+{
+    match phase {
+        Phase::Place => 1,
+        Phase::Start => 2,
+        Phase::Relocate => 3,
+        Phase::Construct => 4,
+    }
+}
+
+// Whether a call was begun: it isn't too deep.
+fn is_begun(event: &Event) -> bool
+    ensures { result ≡ is_begun event.now }
+{
+    !matches!(event, Event::Deep | Event::Stuck)
+}
+
+// Whether a call would be too deep.
+fn is_deep(event: &Event) -> bool
+    ensures { result ≡ is_deep_event event.now }
+{
+    matches!(event, Event::Deep)
+}
+
+// Takes the next task away.
+fn take_task(frame: &mut Pending)
+    ensures { TakesTask frame.old frame.new }
+{
+    let _ = frame.tasks.pop();
+}
+
+impl<'m> Core<'m> {
+    /// A run whose first frame has these tasks, the next one last, and is followed by the entry.
+    pub fn new<V: View<'m>>(
+        alloc: Global,
+        view: &V,
+        members: u32,
+        tasks: Vec<Task>,
+    ) -> Result<Core<'m>, Memory>
+        requires whole { IsWhole (V.seen view.now).fixed }
+        requires holds { HoldsAll (V.seen view.now).fixed (V.seen view.now).units }
+        requires alone { (V.seen view.now).fixed.has_loader ≡ false }
+        requires tasks { All (λ t. t.member < members) tasks.items }
+        ensures core { IfOk result (λ c. IsCore (V.seen view.now).fixed (V.seen view.now).units c) }
+        ensures opened { IfOk result (λ c. (D : Loading V.Units) → OpensAt D members (map task_value (reverse tasks.items)) (V.seen view.now) c) }
+        ensures moving { IfOk result (λ c. c.machine.standing ≡ Standing.Moving) }
+    {
+        let stages = Stages::new(alloc, members)?;
+        let mut machine: Machine<'m> = Machine::new(alloc);
+        machine.mark(alloc, view, 0)?;
+        let mut frames = Vec::new(alloc);
+        frames.push(Pending {
+            tasks,
+            after: After::CallEntry,
+        })?;
+        Ok(Core {
+            machine,
+            frames,
+            stages,
+        })
+    }
+
+    /// What the machine is at.
+    pub fn standing(&self) -> Standing
+        ensures { result ≡ self.now.machine.standing }
+    {
+        self.machine.standing()
+    }
+
+    /// One step of the code on top, or the mark on top, with nothing changed.
+    pub fn step<V: View<'m>>(&mut self, alloc: Global, view: &mut V) -> Result<Event, Memory>
+        requires core { IsCore (V.seen view.old).fixed (V.seen view.old).units self.old }
+        requires moving { self.old.machine.standing ≡ Standing.Moving }
+        ensures stepped { IfOk result (λ e. is_mark e ≡ false → (D : Loading V.Units) → IsLoaded D (V.seen view.old).fixed → StepsFrom D e self.old (V.seen view.old) self.new (V.seen view.new)) }
+        ensures core { OnOk result (IsCore (V.seen view.old).fixed (V.seen view.new).units self.new) }
+        ensures marked { IfOk result (λ e. is_mark e ≡ true → IsMarkTold self.old (V.seen view.old) self.new (V.seen view.new)) }
+        ensures fixed { (V.seen view.new).fixed ≡ (V.seen view.old).fixed }
+        ensures members { length self.new.stages ≡ length self.old.stages }
+    {
+        self.machine.step(alloc, view)
+    }
+
+    /// One step of code, where the machine can tell it in few bytes.
+    #[inline(always)]
+    pub fn quick<V: View<'m>>(&mut self, alloc: Global, view: &mut V) -> Done
+        requires core { IsCore (V.seen view.old).fixed (V.seen view.old).units self.old }
+        requires moving { self.old.machine.standing ≡ Standing.Moving }
+        ensures stepped { (D : Loading V.Units) → IsLoaded D (V.seen view.old).fixed → QuickStepsFrom D result self.old (V.seen view.old) self.new (V.seen view.new) }
+        ensures core { result ≢ Done.NoMemory → IsCore (V.seen view.old).fixed (V.seen view.new).units self.new }
+        ensures fixed { (V.seen view.new).fixed ≡ (V.seen view.old).fixed }
+        ensures members { length self.new.stages ≡ length self.old.stages }
+    {
+        self.machine.quick(alloc, view)
+    }
+
+    /// Takes the answer of the host function that is waited for.
+    pub fn take<V: View<'m>>(&mut self, view: &mut V, a: &Answer)
+        requires core { IsCore (V.seen view.old).fixed (V.seen view.old).units self.old }
+        requires fits { FitsHost (V.seen view.old).fixed (V.seen view.old).memory a.now self.old.machine.standing }
+        ensures taken { (D : Loading V.Units) → IsLoaded D (V.seen view.old).fixed → TakenFrom D a.now self.old (V.seen view.old) self.new (V.seen view.new) }
+        ensures core { IsCore (V.seen view.old).fixed (V.seen view.new).units self.new }
+        ensures fixed { (V.seen view.new).fixed ≡ (V.seen view.old).fixed }
+        ensures members { length self.new.stages ≡ length self.old.stages }
+    {
+        self.machine.answer(view, a);
+    }
+
+    /// The next task of the frame on top, if one is left.
+    pub fn next_task<V: View<'m>>(&self, view: &V) -> Option<Task>
+        requires core { IsCore (V.seen view.now).fixed (V.seen view.now).units self.now }
+        requires marked { IsMarked self.now.machine }
+        ensures task { option_map task_value result ≡ first_task (top_frame self.now) }
+        ensures member { IfSome result (λ t. t.member < length self.now.stages) }
+    {
+        let _view = view;
+        self.top_task()
+    }
+
+    // The same, without what is said of the view.
+    fn top_task(&self) -> Option<Task>
+        requires { AreFrames self.now }
+        ensures { option_map task_value result ≡ first_task (top_frame self.now) }
+    {
+        let Some(frame) = self.frames.last() else {
+            unreachable!();
+        };
+        match frame.tasks.last() {
+            Some(task) => Some(*task),
+            None => None,
+        }
+    }
+
+    // Takes the next task of the frame on top away.
+    fn take_top(&mut self)
+        requires frames { AreFrames self.old }
+        ensures { Finishes self.old.stages self.old self.new }
+    {
+        let last = self.frames.len() - 1;
+        take_task(&mut self.frames[last]);
+    }
+
+    // Takes the next task of the frame on top away, and puts its member at the stage of its phase.
+    fn finish(&mut self, task: Task)
+        requires frames { AreFrames self.old }
+        requires member { task.member < length self.old.stages }
+        requires behind { is_behind self.old (task_value task) ≡ true }
+        ensures { Finishes (raised_stages self.old (task_value task)) self.old self.new }
+    {
+        self.take_top();
+        self.stages.raise(task.member, stage_of(task.phase));
+    }
+
+    /// Whether the member of a task hasn't come so far as its phase.
+    pub fn is_behind(&self, task: Task) -> bool
+        requires { task.member < length self.now.stages }
+        ensures { result ≡ is_behind self.now (task_value task) }
+    {
+        self.stages.get(task.member) < stage_of(task.phase)
+    }
+
+    /// The next task, of a member that has come further, is passed over.
+    pub fn pass<V: View<'m>>(&mut self, view: &V, task: Task)
+        requires core { IsCore (V.seen view.now).fixed (V.seen view.now).units self.old }
+        requires marked { IsMarked self.old.machine }
+        requires task { first_task (top_frame self.old) ≡ Some (task_value task) }
+        requires member { task.member < length self.old.stages }
+        requires behind { is_behind self.old (task_value task) ≡ false }
+        ensures stepped { (D : Loading V.Units) → StepsFrom D Event.Moved self.old (V.seen view.now) self.new (V.seen view.now) }
+        ensures core { IsCore (V.seen view.now).fixed (V.seen view.now).units self.new }
+        ensures members { length self.new.stages ≡ length self.old.stages }
+    {
+        let _view = view;
+        self.take_top();
+    }
+
+    // The next task calls nothing.
+    fn call_nothing<V: View<'m>>(&mut self, view: &V, task: Task)
+        requires core { IsCore (V.seen view.now).fixed (V.seen view.now).units self.old }
+        requires marked { IsMarked self.old.machine }
+        requires task { first_task (top_frame self.old) ≡ Some (task_value task) }
+        requires member { task.member < length self.old.stages }
+        requires behind { is_behind self.old (task_value task) ≡ true }
+        requires calls { phase_value task.phase ≢ phases.Place }
+        ensures stepped { (D : Loading V.Units) → D.callee (phase_value task.phase) task.member ≡ Some None → StepsFrom D Event.Moved self.old (V.seen view.now) self.new (V.seen view.now) }
+        ensures core { IsCore (V.seen view.now).fixed (V.seen view.now).units self.new }
+        ensures members { length self.new.stages ≡ length self.old.stages }
+    {
+        let _view = view;
+        self.finish(task);
+    }
+
+    // The next task calls a function.
+    fn call<V: View<'m>>(
+        &mut self,
+        alloc: Global,
+        view: &V,
+        task: Task,
+        r: Ref,
+    ) -> Result<Event, Memory>
+        requires core { IsCore (V.seen view.now).fixed (V.seen view.now).units self.old }
+        requires marked { IsMarked self.old.machine }
+        requires task { first_task (top_frame self.old) ≡ Some (task_value task) }
+        requires member { task.member < length self.old.stages }
+        requires behind { is_behind self.old (task_value task) ≡ true }
+        requires calls { phase_value task.phase ≢ phases.Place }
+        requires nullary { type_seen (V.seen view.now).fixed r ≡ Some nullary }
+        ensures stepped { IfOk result (λ e. (D : Loading V.Units) → IsLoaded D (V.seen view.now).fixed → D.callee (phase_value task.phase) task.member ≡ Some (Some r) → StepsFrom D e self.old (V.seen view.now) self.new (V.seen view.now)) }
+        ensures core { OnOk result (IsCore (V.seen view.now).fixed (V.seen view.now).units self.new) }
+        ensures members { OnOk result (length self.new.stages ≡ length self.old.stages) }
+    {
+        let event = self.machine.begin(alloc, view, r)?;
+        if !is_begun(&event) {
+            return Ok(event);
+        }
+        self.finish(task);
+        Ok(event)
+    }
+
+    /// The next task placed its member, or ended by a trap, which keeps what was written.
+    pub fn placed<V: View<'m>>(&mut self, view: &V, task: Task, outcome: Result<(), Trap>) -> Event
+        requires core { IsCore (V.seen view.now).fixed (V.seen view.now).units self.old }
+        requires marked { IsMarked self.old.machine }
+        requires task { first_task (top_frame self.old) ≡ Some (task_value task) }
+        requires member { task.member < length self.old.stages }
+        requires behind { is_behind self.old (task_value task) ≡ true }
+        requires places { phase_value task.phase ≡ phases.Place }
+        ensures stepped { (D : Loading V.Units) (before : Seen V.Units) → PlacesFrom D task.member before outcome (V.seen view.now) → StepsFrom D result self.old before self.new (V.seen view.now) }
+        ensures core { IsCore (V.seen view.now).fixed (V.seen view.now).units self.new }
+        ensures members { length self.new.stages ≡ length self.old.stages }
+    {
+        let _view = view;
+        self.finish(task);
+        match outcome {
+            Ok(()) => Event::Moved,
+            Err(why) => {
+                self.machine.trap(why);
+                Event::Trapped(why)
+            }
+        }
+    }
+
+    /// What follows the last task of the first frame: the entry is called, over nothing. `Deep` changes nothing.
+    pub fn enter<V: View<'m>>(&mut self, alloc: Global, view: &V, r: Ref) -> Result<Event, Memory>
+        requires core { IsCore (V.seen view.now).fixed (V.seen view.now).units self.old }
+        requires marked { IsMarked self.old.machine }
+        requires last { (top_frame self.old).tasks ≡ [] }
+        requires nullary { type_seen (V.seen view.now).fixed r ≡ Some nullary }
+        requires own { IsOwn r }
+        ensures stepped { IfOk result (λ e. (D : Loading V.Units) → IsLoaded D (V.seen view.now).fixed → D.entry ≡ Some r → StepsFrom D e self.old (V.seen view.now) self.new (V.seen view.now)) }
+        ensures core { OnOk result (IsCore (V.seen view.now).fixed (V.seen view.now).units self.new) }
+        ensures members { OnOk result (length self.new.stages ≡ length self.old.stages) }
+    {
+        self.machine.unmark(view);
+        let event = self.machine.begin(alloc, view, r)?;
+        if is_deep(&event) {
+            self.machine.mark(alloc, view, 0)?;
+            return Ok(event);
+        }
+        self.frames.clear();
+        Ok(event)
+    }
+
+    /// The next task, which calls this function, if any, where its member hasn't come so far.
+    pub fn call_task<V: View<'m>>(
+        &mut self,
+        alloc: Global,
+        view: &V,
+        task: Task,
+        callee: Option<Ref>,
+    ) -> Result<Event, Memory>
+        requires core { IsCore (V.seen view.now).fixed (V.seen view.now).units self.old }
+        requires marked { IsMarked self.old.machine }
+        requires task { first_task (top_frame self.old) ≡ Some (task_value task) }
+        requires member { task.member < length self.old.stages }
+        requires calls { phase_value task.phase ≢ phases.Place }
+        requires nullary { IfSome callee (λ r. type_seen (V.seen view.now).fixed r ≡ Some nullary) }
+        ensures stepped { IfOk result (λ e. (D : Loading V.Units) → IsLoaded D (V.seen view.now).fixed → D.callee (phase_value task.phase) task.member ≡ Some callee → StepsFrom D e self.old (V.seen view.now) self.new (V.seen view.now)) }
+        ensures core { OnOk result (IsCore (V.seen view.now).fixed (V.seen view.now).units self.new) }
+        ensures members { OnOk result (length self.new.stages ≡ length self.old.stages) }
+    {
+        if !self.is_behind(task) {
+            self.pass(view, task);
+            return Ok(Event::Moved);
+        }
+        match callee {
+            None => {
+                self.call_nothing(view, task);
+                Ok(Event::Moved)
+            }
+            Some(r) => self.call(alloc, view, task, r),
+        }
+    }
+}

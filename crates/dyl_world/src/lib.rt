@@ -1,0 +1,6 @@
+//! How far the members of a loaded set have come.
+#![tactic(auto)]
+
+mod stages;
+
+pub use stages::Stages;
