@@ -10,3 +10,9 @@ pub mod Beginning
 pub mod Opening
 pub mod Nested
 pub mod Typed
+pub mod Effects
+pub mod Offsets
+pub mod Linked
+pub mod Made
+pub mod Tasks
+pub mod Valid

@@ -58,7 +58,7 @@ module _ (S : ClosedSet) (set : IsSet S) where
       let new = needed_by S.members (slice_get known k) in
       breadth_inside turns (k + 1) (with_numbers known new) (with_inside new known all (by_inside (slice_get known k)))
 
-  closure_inside : (m : ℕ) → IsInside m → AllInside (closure S m)
+  pub closure_inside : (m : ℕ) → IsInside m → AllInside (closure S m)
   closure_inside m lt = breadth_inside (length S.members) 0 (m ∷ []) (All-cons IsInside m [] lt (All-nil IsInside))
 
   -- ---- depth first
@@ -79,7 +79,7 @@ module _ (S : ClosedSet) (set : IsSet S) where
       either Kept (is_among m w.entered) w (leaving m inner) a
       (All-push IsInside inner.left m (each_inside (walk_from S depth) (walk_inside depth) (needs S m) (entering m w) (needs_inside m) a) lt)
 
-  post_inside : (m : ℕ) → IsInside m → AllInside (post_order S m)
+  pub post_inside : (m : ℕ) → IsInside m → AllInside (post_order S m)
   post_inside m lt = walk_inside (length S.members) m (record { entered = []; left = [] }) lt (All-nil IsInside)
 
 -- ---- tasks

@@ -5,8 +5,22 @@
 //! stand for the loader's frames.
 #![tactic(auto)]
 
+mod bases;
+mod entry;
+mod functions;
+mod numbers;
+mod part;
+mod phases;
+mod segments;
+mod words;
+
 ghost use Rattle.merge_start.specs.Laws.{FramesStepAsMerged, MembersOpenAsMerged, PlacingIsDone, SetsRunAsMerged, SetsStepAsMerged};
 ghost use Rattle.merge_start.specs.Typed.{GeneratedIsTyped};
+
+pub use entry::entry_function;
+pub use functions::phase_functions;
+pub use numbers::StartNumbers;
+pub use part::Part;
 
 /// The code that places a member leaves the store and the memory that the loader's placing leaves, where a trap ends both too.
 pub fn generated_code_places()

@@ -1,0 +1,106 @@
+-- The numbers of globals are their addresses.
+use Rattle.std.proofs.Common.{◌≡◌, ◌<◌, ◌≤◌, ℕ, zero, suc, ◌+◌, ◌-◌, List, [], ◌∷◌, ◌++◌, length, map, slice_get, Option, Some, None, refl, sym, ap, ◌∙◌, arith}
+use Rattle.std.specs.List.{range_with_len}
+use Rattle.std.proofs.lemmas.Option.{slice_get_past, slice_get_within}
+use Rattle.wasm_form.specs.declared.module.Import.{Import}
+use Rattle.wasm_form.specs.declared.module.Module.{Module}
+use Rattle.spec_binary.specs.Options.{◌>>=◌}
+use Rattle.spec_binary.specs.IndexSpaces.{imports_of, globals_in}
+use Rattle.spec_binary.proofs.Lists.{slice_get-append-left, slice_get-append-right}
+use Rattle.spec_linking.specs.declared.fault.Kind.TheVariants as kind
+use Rattle.spec_linking.specs.Sets.{Member}
+use Rattle.spec_linking.specs.Imports.{ImportUse, SharedMemory, SharedTable, StackPointer, MemoryBase, TableBase, DataCell, SlotCell, EnvFunction, ModuleFunction, OtherUse, use_of, importing}
+use Rattle.spec_linking.specs.LinkedSets.{LinkedSet, wasm_of}
+use Rattle.spec_linking.specs.Slots.{cells_of}
+use Rattle.spec_linking.proofs.Importing.{importing_length}
+use Rattle.spec_loading.specs.Addresses.{sum_before, globals_size, memory_base_address, import_address, address_with, global_address, item_address}
+use Rattle.merge_match.specs.Parts.{nowhere, number_of}
+use Rattle.merge_index.specs.Kept.{number_at}
+use Rattle.merge_index.specs.Globals.{global_as, globals_from, cells_from, global_list, globals_end, global_lists}
+use Rattle.merge_index.proofs.Numbered.{wasms, range_item}
+use Rattle.merge_index.proofs.Cells.{cells_are, globals_item, globals_length}
+
+none_past : {X : Type 0} (xs : List X) (i : ℕ) → slice_get xs i ≡ None → length xs ≤ i
+none_past [] i e = omega arith
+none_past (x ∷ xs) zero e = absurd cc
+none_past (x ∷ xs) (suc i) e = let later = none_past xs i e in omega arith
+
+-- a global of a member whose globals begin at this base
+module _ (L : LinkedSet) (m : ℕ) (wasm : Module) (base : ℕ) (here : memory_base_address L m ≡ base) where
+  abbrev imports : List Import
+  imports = wasm.imports
+
+  imported_number : (i : Import) (u : ImportUse)
+      → global_as base (cells_of wasm) i u ≡ number_of (import_address L m wasm i u)
+  imported_number i SharedMemory = refl
+  imported_number i SharedTable = refl
+  imported_number i StackPointer = refl
+  imported_number i MemoryBase = sym here
+  imported_number i TableBase = ap (λ b. b + 1) (sym here)
+  imported_number i DataCell = rw here refl
+  imported_number i SlotCell = rw here refl
+  imported_number i (EnvFunction t) = refl
+  imported_number i (ModuleFunction t) = refl
+  imported_number i OtherUse = refl
+
+  pub global_item : (g : ℕ)
+      → number_of (slice_get (global_list base wasm) g) ≡ number_of (address_with L m wasm g (slice_get (importing globals_in imports) g))
+  global_item g = go (slice_get (importing globals_in imports) g) refl
+    where
+      go : (o : Option Import) → slice_get (importing globals_in wasm.imports) g ≡ o
+          → number_of (slice_get (global_list base wasm) g) ≡ number_of (address_with L m wasm g o)
+      go (Some i) e =
+          let front = globals_from base [] wasm.imports in
+          let back = range_with_len (base + 2 + length (cells_from [] wasm.imports)) (length wasm.globals) in
+          let found : slice_get front g ≡ Some (global_as base (cells_from [] wasm.imports) i (use_of i)) =
+          globals_item base [] wasm.imports g ∙ ap (λ (o : Option Import). o >>= λ x. Some (global_as base (cells_from [] wasm.imports) x (use_of x))) e in
+          let inside = slice_get_within front g _ found in
+          ap number_of (slice_get-append-left front back g inside ∙ found)
+          ∙ ap (λ k. global_as base k i (use_of i)) (cells_are [] wasm.imports)
+          ∙ imported_number i (use_of i)
+      go None e =
+          let front = globals_from base [] wasm.imports in
+          let cells = length (cells_from [] wasm.imports) in
+          let back = range_with_len (base + 2 + cells) (length wasm.globals) in
+          let past = none_past (importing globals_in wasm.imports) g e in
+          let many = importing_length globals_in wasm.imports in
+          let size = globals_length base [] wasm.imports in
+          let k = g - length (imports_of globals_in wasm.imports) in
+          let same : base + 2 + cells ≡ memory_base_address L m + 2 + length (cells_of wasm) =
+          (let c = ap length (cells_are [] wasm.imports) in omega arith) in
+          ap number_of
+          (slice_get-append-right front back g (omega arith)
+          ∙ ap (λ n. slice_get back (g - n)) size
+          ∙ range_item (base + 2 + cells) (length wasm.globals) k
+          ∙ ap (λ n. item_address n (length wasm.globals) k) same)
+
+pub end_is : (base : ℕ) (wasm : Module) → globals_end base wasm ≡ base + globals_size wasm
+end_is base wasm = (let c = ap length (cells_are [] wasm.imports) in omega arith)
+
+module _ (L : LinkedSet) where
+  -- the members from k on
+  global_from : (base k : ℕ) (xs : List Member) → (m g : ℕ)
+      → ((j : ℕ) → memory_base_address L (k + j) ≡ base + sum_before globals_size xs j)
+      → number_at (global_lists base (wasms xs)) m g
+      ≡ number_of (slice_get xs m >>= λ x. address_with L (k + m) x.wasm g (slice_get (importing globals_in x.wasm.imports) g))
+  global_from base k [] m g bases = refl
+  global_from base k (x ∷ xs) zero g bases =
+      let e : k + 0 ≡ k = omega arith in
+      let first : memory_base_address L (k + 0) ≡ base = bases 0 ∙ omega arith in
+      global_item L (k + 0) x.wasm base first g
+  global_from base k (x ∷ xs) (suc m) g bases =
+      let e : suc k + m ≡ k + suc m = omega arith in
+      let later : (j : ℕ) → memory_base_address L (suc k + j) ≡ globals_end base x.wasm + sum_before globals_size xs j =
+      λ j. ap (memory_base_address L) (omega arith) ∙ bases (suc j) ∙ (let n = end_is base x.wasm in omega arith) in
+      global_from (globals_end base x.wasm) (suc k) xs m g later
+      ∙ ap (λ n. number_of (slice_get xs m >>= λ y. address_with L n y.wasm g (slice_get (importing globals_in y.wasm.imports) g))) e
+
+  with_wasm : (o : Option Member) (f : Module → Option ℕ) → ((o >>= λ x. Some x.wasm) >>= f) ≡ (o >>= λ x. f x.wasm)
+  with_wasm None f = refl
+  with_wasm (Some x) f = refl
+
+  pub global_number : (m g : ℕ) → number_at (global_lists 1 (wasms L.set.members)) m g ≡ number_of (global_address L m g)
+  global_number m g =
+      global_from 1 0 L.set.members m g (λ j. ap (memory_base_address L) (omega arith))
+      ∙ ap (λ n. number_of (slice_get L.set.members m >>= λ x. address_with L n x.wasm g (slice_get (importing globals_in x.wasm.imports) g))) (omega arith)
+      ∙ ap number_of (sym (with_wasm (slice_get L.set.members m) (λ wasm. address_with L m wasm g (slice_get (importing globals_in wasm.imports) g))))

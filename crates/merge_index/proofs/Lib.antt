@@ -1,0 +1,11 @@
+pub mod Numbered
+pub mod Bytes
+pub mod Cells
+pub mod GlobalNumbers
+pub mod TableNumbers
+pub mod Refs
+pub mod Stubs
+pub mod FunctionNumbers
+pub mod Whole
+pub mod Distinct
+pub mod Keys

@@ -1,0 +1,50 @@
+-- What is kept of the numbers of a linked set, and the numbers that this stands for.
+use Rattle.std.specs.Prelude.{ℕ, ◌-◌, List, slice_get, nat_lt, Option, Some, None, if◌then◌else◌}
+use Rattle.wasm_form.specs.declared.runtime.Ref.{Ref}
+use Rattle.wasm_form.specs.declared.runtime.Ref.TheVariants.{Own, Loader, Host, Stub}
+use Rattle.spec_binary.specs.Options.{◌>>=◌}
+use Rattle.merge_match.specs.Renumbering.{Numbers}
+use Rattle.merge_match.specs.Parts.{nowhere, number_of}
+
+-- Of each member, by its own numbers, the numbers of the functions that these name, and of its types, globals, tables and segments. The
+-- functions that it defines have numbers of their own, behind the ones that it imports; stubs have theirs from one on.
+pub record KeptNumbers : Type 0 where
+  pub functions : List (List ℕ)
+  pub owns : List (List ℕ)
+  pub imported : List ℕ
+  pub first_stub : ℕ
+  pub types : List (List ℕ)
+  pub globals : List (List ℕ)
+  pub tables : List (List ℕ)
+  pub elems : List (List ℕ)
+  pub segments : List (List ℕ)
+
+-- item i of the list of member m
+abbrev pub number_at : List (List ℕ) → ℕ → ℕ → ℕ
+number_at lists m i = number_of (slice_get lists m >>= λ list. slice_get list i)
+
+-- the number of a function of member m, by the numbers of those that each member defines, where so many are imported
+abbrev pub own_from : List (List ℕ) → ℕ → Option ℕ → ℕ → ℕ
+own_from owns m None f = nowhere
+own_from owns m (Some imported) f = if nat_lt f imported then nowhere else number_at owns m (f - imported)
+
+-- the number of a stub, by that of the function that its number names
+abbrev pub stub_number : ℕ → ℕ → ℕ
+stub_number first named = if nat_lt named first then nowhere else named
+
+abbrev pub function_in : KeptNumbers → Ref → ℕ
+function_in k (Own m f) = own_from k.owns m (slice_get k.imported m) f
+function_in k (Loader which) = nowhere
+function_in k (Host e) = e
+function_in k (Stub m f) = stub_number k.first_stub (number_at k.functions m f)
+
+abbrev pub numbers_in : KeptNumbers → Numbers
+numbers_in k = record {
+  function = function_in k;
+  named = number_at k.functions;
+  ty = number_at k.types;
+  global = number_at k.globals;
+  table = number_at k.tables;
+  elem = number_at k.elems;
+  segment = number_at k.segments;
+}

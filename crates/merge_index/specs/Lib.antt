@@ -1,0 +1,5 @@
+pub mod Numbering
+pub mod Kept
+pub mod Globals
+pub mod Lists
+pub mod Laws

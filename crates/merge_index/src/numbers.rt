@@ -1,0 +1,193 @@
+// Numbers of a linked set.
+ghost use Rattle.std.specs.Prelude.{◌≡◌, slice_get, IfOk};
+ghost use Rattle.spec_linking.specs.LinkedSets.{LinkedSet};
+ghost use Rattle.dyl_link.specs.Kept.{IsLinked};
+ghost use Rattle.merge_index.specs.Numbering.{numbers_of};
+ghost use Rattle.merge_index.specs.Lists.{kept_of};
+ghost use Rattle.merge_index.specs.Kept.{number_at, own_from, stub_number, numbers_in};
+
+use crate::functions::named_lists;
+use crate::globals::global_lists;
+use crate::lists::{Space, end_of, imported_counts, numbered, table_lists, total};
+use dyl_link::Linked;
+use std::alloc::Global;
+use std::marker::Model;
+use wasm_form::{List, Memory, Ref};
+
+// The number of what is out of range: no module has so many of anything.
+pub(crate) const NOWHERE: u32 = u32::MAX;
+
+pub(crate) fn number_at(lists: &[List<u32>], m: u32, i: u32) -> u32
+    ensures { result ≡ number_at lists.now m i }
+{
+    match lists.get(m as usize) {
+        Some(list) => match list.items().get(i as usize) {
+            Some(n) => *n,
+            None => NOWHERE,
+        },
+        None => NOWHERE,
+    }
+}
+
+// The number of a function of member m, by the numbers of those that each member defines, where so many are imported.
+pub(crate) fn own_from(owns: &[List<u32>], m: u32, imported: Option<u32>, f: u32) -> u32
+    ensures { result ≡ own_from owns.now m imported f }
+{
+    match imported {
+        Some(imported) if f >= imported => number_at(owns, m, f - imported),
+        _ => NOWHERE,
+    }
+}
+
+fn stub_number(first: u32, named: u32) -> u32
+    ensures { result ≡ stub_number first named }
+{
+    if named < first { NOWHERE } else { named }
+}
+
+pub(crate) fn count_at(counts: &[u32], m: u32) -> Option<u32>
+    ensures { result ≡ slice_get counts.now m }
+{
+    Some(*counts.get(m as usize)?)
+}
+
+/// The numbers in the merged module of what the members of a linked set have. What is out of range has the number 4,294,967,295, at which no
+/// module has anything.
+#[derive(Drop)]
+pub struct Numbers {
+    pub(crate) functions: Vec<List<u32>>,
+    pub(crate) owns: Vec<List<u32>>,
+    pub(crate) imported: Vec<u32>,
+    pub(crate) first_stub: u32,
+    pub(crate) types: Vec<List<u32>>,
+    pub(crate) globals: Vec<List<u32>>,
+    pub(crate) tables: Vec<List<u32>>,
+    pub(crate) elems: Vec<List<u32>>,
+    pub(crate) segments: Vec<List<u32>>,
+}
+
+impl Model for Numbers {
+    ghost use Rattle.merge_index.specs.Kept.{KeptNumbers};
+
+    ghost Value = { KeptNumbers };
+
+    ghost view = { λ n. record {
+      functions = n.functions.items;
+      owns = n.owns.items;
+      imported = n.imported.items;
+      first_stub = n.first_stub;
+      types = n.types.items;
+      globals = n.globals.items;
+      tables = n.tables.items;
+      elems = n.elems.items;
+      segments = n.segments.items;
+    } };
+}
+
+// What is kept of a linked set.
+fn kept(alloc: Global, linked: &Linked) -> Result<Numbers, Memory>
+    ensures { IfOk result (λ n. n ≡ kept_of linked.now) }
+{
+    let members = linked.set().members.items();
+    let hosts = end_of(0, linked.hosts().len())?;
+    let owns = numbered(alloc, members, Space::Codes, hosts)?;
+    let imported = imported_counts(alloc, members)?;
+    let first_stub = total(members, Space::Codes, hosts)?;
+    let functions = named_lists(
+        alloc,
+        linked.functions(),
+        owns.as_slice(),
+        imported.as_slice(),
+        first_stub,
+    )?;
+    let types = numbered(alloc, members, Space::Types, 0)?;
+    let globals = global_lists(alloc, members, 1)?;
+    let tables = table_lists(alloc, members, 1)?;
+    let elems = numbered(alloc, members, Space::Elems, 0)?;
+    let segments = numbered(alloc, members, Space::Datas, 0)?;
+    Ok(Numbers {
+        functions,
+        owns,
+        imported,
+        first_stub,
+        types,
+        globals,
+        tables,
+        elems,
+        segments,
+    })
+}
+
+impl Numbers {
+    /// The numbers of what the members of a linked set have. `Memory` where no memory could be had.
+    pub fn of(alloc: Global, linked: &Linked) -> Result<Numbers, Memory>
+        ensures { IfOk result (λ n. (L : LinkedSet) → IsLinked L linked.now → numbers_in n ≡ numbers_of L) }
+    {
+        let numbers = kept(alloc, linked)?;
+        Ok(numbers)
+    }
+
+    /// The number of a function of the run. The functions of the loader have none.
+    pub fn function(&self, r: Ref) -> u32
+        ensures { result ≡ (numbers_in self.now).function r }
+    {
+        match r {
+            Ref::Own { unit, func } => own_from(
+                self.owns.as_slice(),
+                unit,
+                count_at(self.imported.as_slice(), unit),
+                func,
+            ),
+            Ref::Loader(_) => NOWHERE,
+            Ref::Host(entry) => entry,
+            Ref::Stub { unit, func } => {
+                stub_number(
+                    self.first_stub,
+                    number_at(self.functions.as_slice(), unit, func),
+                )
+            }
+        }
+    }
+
+    /// The number of the function that number f of member m names.
+    pub fn named(&self, m: u32, f: u32) -> u32
+        ensures { result ≡ (numbers_in self.now).named m f }
+    {
+        number_at(self.functions.as_slice(), m, f)
+    }
+
+    /// The number of type t of member m.
+    pub fn ty(&self, m: u32, t: u32) -> u32
+        ensures { result ≡ (numbers_in self.now).ty m t }
+    {
+        number_at(self.types.as_slice(), m, t)
+    }
+
+    /// The number of global g of member m.
+    pub fn global(&self, m: u32, g: u32) -> u32
+        ensures { result ≡ (numbers_in self.now).global m g }
+    {
+        number_at(self.globals.as_slice(), m, g)
+    }
+
+    /// The number of table t of member m.
+    pub fn table(&self, m: u32, t: u32) -> u32
+        ensures { result ≡ (numbers_in self.now).table m t }
+    {
+        number_at(self.tables.as_slice(), m, t)
+    }
+
+    /// The number of element segment e of member m.
+    pub fn elem(&self, m: u32, e: u32) -> u32
+        ensures { result ≡ (numbers_in self.now).elem m e }
+    {
+        number_at(self.elems.as_slice(), m, e)
+    }
+
+    /// The number of data segment d of member m.
+    pub fn segment(&self, m: u32, d: u32) -> u32
+        ensures { result ≡ (numbers_in self.now).segment m d }
+    {
+        number_at(self.segments.as_slice(), m, d)
+    }
+}

@@ -1,0 +1,206 @@
+-- The effects of the active segments of a member name what the store has, and their numbers are words.
+use Rattle.std.proofs.Common.{◌≡◌, ℕ, ◌+◌, ◌<◌, ◌≤◌, true, false, List, [], ◌∷◌, ◌++◌, length, Option, Some, None, refl, sym, ap, ◌∙◌, subst, arith, slice_get}
+use Rattle.std.specs.Int.{cast_unsigned, w32}
+use Rattle.std.specs.Prelude.{is_some, nat_lt, IsTrue}
+use Rattle.std.specs.List.{All, list_all}
+use Rattle.std.proofs.lemmas.Bool.{and_parts}
+use Rattle.std.proofs.lemmas.List.Elements.{All-head, All-tail}
+use Rattle.std.proofs.lemmas.Option.{slice_get_within}
+use Rattle.wasm_form.specs.declared.types.ValType.TheVariants.{I32}
+use Rattle.wasm_form.specs.declared.types.TableType.{TableType}
+use Rattle.wasm_form.specs.declared.instr.Instr.{Instr, out-Instr}
+use Rattle.wasm_form.specs.declared.instr.Instr.TheOpen as Open
+use Rattle.wasm_form.specs.declared.instr.Expr.{Expr}
+use Rattle.wasm_form.specs.declared.module.Import.{Import}
+use Rattle.wasm_form.specs.declared.module.ElemMode.{ElemMode}
+use Rattle.wasm_form.specs.declared.module.ElemMode.TheVariants as elem_mode
+use Rattle.wasm_form.specs.declared.module.ElemItems.{ElemItems}
+use Rattle.wasm_form.specs.declared.module.ElemItems.TheVariants as elem_items
+use Rattle.wasm_form.specs.declared.module.Elem.{Elem}
+use Rattle.wasm_form.specs.declared.module.DataMode.{DataMode}
+use Rattle.wasm_form.specs.declared.module.DataMode.TheVariants as data_mode
+use Rattle.wasm_form.specs.declared.module.Data.{Data}
+use Rattle.wasm_form.specs.declared.module.Module.{Module}
+use Rattle.wasm_form.specs.declared.runtime.Ref.{Ref}
+use Rattle.wasm_opcode.specs.declared.index.IndexForm.{IndexForm}
+use Rattle.wasm_opcode.specs.declared.index.IndexForm.TheVariants.{RefFunc, GlobalGet}
+use Rattle.wasm_opcode.specs.Index.{index_form}
+use Rattle.wasm_runtime.specs.declared.Value.TheVariants.{Func}
+use Rattle.spec_binary.specs.Options.{◌>>=◌}
+use Rattle.spec_binary.specs.IndexSpaces.{table_space, memory_space, globals_in}
+use Rattle.spec_binary.specs.WellFormed.{IsFormedItems, IsFormedElem, IsFormedData}
+use Rattle.spec_validation.specs.Faults.{constant_type, constant_step, is_of_type, is_constant, has_functions, elem_mode_fits, items_fit, elem_fits, data_mode_fits, data_fits}
+use Rattle.spec_runtime.specs.Constants.{index_constant, instruction_constant, constant_in, number_in}
+use Rattle.spec_execution.specs.Activations.{Effect, TableInit, ElemDrop, MemoryInit, DataDrop}
+use Rattle.spec_execution.specs.Segments.{items_count, effects_at, elem_effects, data_effects, all_effects, segment_effects}
+use Rattle.spec_linking.specs.Imports.{ImportUse, MemoryBase, TableBase, use_of, importing}
+use Rattle.spec_linking.specs.Sets.{Member}
+use Rattle.spec_linking.specs.LinkedSets.{LinkedSet, wasm_of, function_ref}
+use Rattle.spec_linking.specs.Slots.{linked_plan, memory_base, table_base, as_number, base_as, base_value, imported_base, member_number}
+use Rattle.spec_safety.proofs.Lookups.{went_on}
+use Rattle.spec_loading.specs.Addresses.{table_address, elem_address, data_address}
+use Rattle.spec_loading.specs.Members.{Store, counts_of, set_view, opening_store}
+use Rattle.merge_start.specs.Started.{IsWord, HasAddress, AreEffectsReady}
+use Rattle.merge_module.proofs.Known.{IsKnown}
+use Rattle.merge_module.proofs.SpelledConstants.{FitsHere, Fit, ModeFits, DataModeFits, ConstantsFit}
+use Rattle.merge_module.proofs.PlannedWords.{memory_base_within, table_base_within}
+
+append_ready : (L : LinkedSet) (m : ℕ) (xs ys : List Effect) → AreEffectsReady L m xs → AreEffectsReady L m ys → AreEffectsReady L m (xs ++ ys)
+append_ready L m [] ys a b = b
+append_ready L m (x ∷ xs) ys a b = (a.0, append_ready L m xs ys a.1 b)
+
+some_address : {A : Type 0} (xs : List A) (o : Option ℕ) → IsTrue (is_some (o >>= slice_get xs)) → HasAddress o
+some_address xs None h = absurd (let q : false ≡ true = h in cc)
+some_address xs (Some a) h = (a, refl)
+
+module _ (L : LinkedSet) (K : IsKnown L) (few : (linked_plan L).pages_max ≤ 16384) (m : ℕ) where
+  -- ---- an offset is a word
+
+  number_word : (o : Option ℕ) (bound k : ℕ) → ((b : ℕ) → o ≡ Some b → b ≤ bound) → bound ≤ 1073741824 → (as_number o >>= number_in) ≡ Some k → IsWord k
+  number_word None bound k within room e = absurd cc
+  number_word (Some b) bound k within room e = (let same : b ≡ k = cc in let low = within b refl in omega arith)
+
+  base_word : (i : Import) (u : ImportUse) (k : ℕ) → (base_as L m i u >>= number_in) ≡ Some k → IsWord k
+  base_word i MemoryBase k e = number_word (memory_base L m) 1073741824 k (memory_base_within L K.links few m) (omega arith) e
+  base_word i TableBase k e = number_word (table_base L m) 983040 k (table_base_within L K.links m) (omega arith) e
+  base_word i _ k e = absurd cc
+
+  imported_word : (g k : ℕ) → (imported_base L m g >>= number_in) ≡ Some k → IsWord k
+  imported_word g k e = go (wasm_of L m) e
+    where
+      found : (o : Option Import) → ((o >>= base_value L m) >>= number_in) ≡ Some k → IsWord k
+      found None h = absurd cc
+      found (Some i) h = base_word i (use_of i) k h
+
+      go : (o : Option Module) → ((o >>= λ wasm. slice_get (importing globals_in wasm.imports) g >>= base_value L m) >>= number_in) ≡ Some k → IsWord k
+      go None h = absurd cc
+      go (Some wasm) h = found (slice_get (importing globals_in wasm.imports) g) h
+
+  no_function : (o : Option Ref) (k : ℕ) → ((o >>= λ r. Some (Func (Some r))) >>= number_in) ≡ Some k → ⊥
+  no_function None k e = cc
+  no_function (Some r) k e = cc
+
+  index_word : (form : IndexForm) (n k : ℕ) → (index_constant (function_ref L m) (imported_base L m) form n >>= number_in) ≡ Some k → IsWord k
+  index_word RefFunc f k e = absurd (no_function (function_ref L m f) k e)
+  index_word GlobalGet g k e = imported_word g k e
+  index_word _ n k e = absurd cc
+
+  formed_word : (o : Option IndexForm) (n k : ℕ) → ((o >>= λ f. index_constant (function_ref L m) (imported_base L m) f n) >>= number_in) ≡ Some k → IsWord k
+  formed_word None n k e = absurd cc
+  formed_word (Some form) n k e = index_word form n k e
+
+  step_word : (wasm : Module) (y : Open.Instr-F Instr Expr) (k : ℕ) → FitsHere y → is_of_type I32 (constant_step wasm y) ≡ true
+      → (instruction_constant (function_ref L m) (imported_base L m) y >>= number_in) ≡ Some k → IsWord k
+  step_word wasm (Open.I32Const z) k fit typed e = (let same : cast_unsigned w32 z ≡ k = cc in subst IsWord same fit)
+  step_word wasm (Open.I64Const z) k fit typed e = absurd cc
+  step_word wasm (Open.RefNull t) k fit typed e = absurd cc
+  step_word wasm (Open.Index op n) k fit typed e = formed_word (index_form op) n k e
+  step_word wasm _ k fit typed e = absurd cc
+
+  offset_word : (wasm : Module) (is : List Instr) (k : ℕ) → Fit is → is_of_type I32 (constant_type wasm is) ≡ true
+      → (constant_in (function_ref L m) (imported_base L m) is >>= number_in) ≡ Some k → IsWord k
+  offset_word wasm (i ∷ []) k fit typed e = step_word wasm (out-Instr i) k fit.0 typed e
+  offset_word wasm _ k fit typed e = absurd cc
+
+  -- ---- segments
+
+  module _ (member : Member) (at : slice_get L.set.members m ≡ Some member) where
+    abbrev wasm : Module
+    wasm = member.wasm
+
+    abbrev number : Expr → Option ℕ
+    number = member_number L m
+
+    abbrev us : Store
+    us = opening_store L
+
+    counted : (set_view L).counts m ≡ counts_of (Some wasm)
+    counted = ap (λ (o : Option Member). counts_of (o >>= λ y. Some y.wasm)) at
+
+    table_address_there : (t : ℕ) → t < length (table_space wasm) → HasAddress (table_address L m t)
+    table_address_there t lt =
+        let held = K.holds.tables m t (subst (λ c. t < c.tables) (sym counted) lt) in
+        let a = went_on (table_address L m t) (slice_get us.tables) held.0 held.1 in
+        (a.0, a.1)
+
+    elem_address_there : (e : ℕ) → e < length wasm.elems → HasAddress (elem_address L m e)
+    elem_address_there e lt =
+        let held = K.holds.elems m e (subst (λ c. e < c.elems) (sym counted) lt) in
+        let a = went_on (elem_address L m e) (slice_get us.elems) held.0 held.1 in
+        (a.0, a.1)
+
+    data_address_there : (d : ℕ) → d < length wasm.datas → HasAddress (data_address L m d)
+    data_address_there d lt =
+        let held = K.holds.datas m d (subst (λ c. d < c.datas) (sym counted) lt) in
+        some_address us.datas (data_address L m d) held
+
+    table_numbered : (t : ℕ) → has_functions (slice_get (table_space wasm) t) ≡ true → t < length (table_space wasm)
+    table_numbered t h = go (slice_get (table_space wasm) t) refl h
+      where
+        go : (o : Option TableType) → slice_get (table_space wasm) t ≡ o → has_functions o ≡ true → t < length (table_space wasm)
+        go None e h = absurd cc
+        go (Some ty) e h = slice_get_within (table_space wasm) t ty e
+
+    count_word : (items : ElemItems) → IsFormedItems items → IsWord (items_count items)
+    count_word (elem_items.Funcs ns) short = short
+    count_word (elem_items.Exprs t es) short = short.1.0
+
+    elem_ready : (n : ℕ) (e : Elem) → n < length wasm.elems → elem_fits wasm e ≡ true → IsFormedElem e → ModeFits e.mode → AreEffectsReady L m (elem_effects number n e)
+    elem_ready n e lt fits formed fit = go e.mode refl
+      where
+        at_ready : (t : ℕ) (o : Option ℕ) → t < length (table_space wasm) → ((k : ℕ) → o ≡ Some k → IsWord k)
+            → AreEffectsReady L m (effects_at (λ at. TableInit n t at 0 (items_count e.items) ∷ ElemDrop n ∷ []) o)
+        at_ready t None there words = tt
+        at_ready t (Some k) there words =
+            let table = table_address_there t there in
+            let segment = elem_address_there n lt in
+            let zero_word : IsWord 0 = omega arith in
+            ((words k refl, zero_word, count_word e.items formed.items, table, segment), (segment, tt))
+
+        go : (mode : ElemMode) → e.mode ≡ mode → AreEffectsReady L m (elem_effects number n e)
+        go (elem_mode.Active t offset) q =
+            let mode_fits : elem_mode_fits wasm (elem_mode.Active t offset) ≡ true = ap (elem_mode_fits wasm) (sym q) ∙ (and_parts (elem_mode_fits wasm e.mode) (items_fit wasm e.items) fits).0 in
+            let both = and_parts (has_functions (slice_get (table_space wasm) t)) (is_constant wasm I32 offset) mode_fits in
+            rw q (at_ready t (number offset) (table_numbered t both.0) (λ k h. offset_word wasm offset.list k (subst ModeFits q fit) both.1 h))
+        go elem_mode.Passive q = rw q tt
+        go elem_mode.Declarative q = rw q tt
+
+    elems_ready : (n : ℕ) (es : List Elem) → n + length es ≤ length wasm.elems → list_all (elem_fits wasm) es ≡ true → All IsFormedElem es → All (λ (s : Elem). ModeFits s.mode) es
+        → AreEffectsReady L m (all_effects (elem_effects number) n es)
+    elems_ready n [] le fits formed fit = tt
+    elems_ready n (e ∷ es) le fits formed fit =
+        let both = and_parts (elem_fits wasm e) (list_all (elem_fits wasm) es) fits in
+        append_ready L m (elem_effects number n e) (all_effects (elem_effects number) (n + 1) es)
+        (elem_ready n e (omega arith) both.0 (All-head IsFormedElem e es formed) (All-head (λ (s : Elem). ModeFits s.mode) e es fit))
+        (elems_ready (n + 1) es (omega arith) both.1 (All-tail IsFormedElem e es formed) (All-tail (λ (s : Elem). ModeFits s.mode) e es fit))
+
+    data_ready : (n : ℕ) (d : Data) → n < length wasm.datas → data_fits wasm d ≡ true → IsFormedData d → DataModeFits d.mode → AreEffectsReady L m (data_effects number n d)
+    data_ready n d lt fits formed fit = go d.mode refl
+      where
+        at_ready : (o : Option ℕ) → ((k : ℕ) → o ≡ Some k → IsWord k) → AreEffectsReady L m (effects_at (λ at. MemoryInit n at 0 (length d.bytes) ∷ DataDrop n ∷ []) o)
+        at_ready None words = tt
+        at_ready (Some k) words =
+            let segment = data_address_there n lt in
+            let zero_word : IsWord 0 = omega arith in
+            ((words k refl, zero_word, formed.bytes, segment), (segment, tt))
+
+        go : (mode : DataMode) → d.mode ≡ mode → AreEffectsReady L m (data_effects number n d)
+        go (data_mode.Active memory offset) q =
+            let mode_fits : data_mode_fits wasm (data_mode.Active memory offset) ≡ true = ap (data_mode_fits wasm) (sym q) ∙ fits in
+            rw q (at_ready (number offset) (λ k h. offset_word wasm offset.list k (subst DataModeFits q fit) (and_parts (nat_lt memory (length (memory_space wasm))) (is_constant wasm I32 offset) mode_fits).1 h))
+        go data_mode.Passive q = rw q tt
+
+    datas_ready : (n : ℕ) (ds : List Data) → n + length ds ≤ length wasm.datas → list_all (data_fits wasm) ds ≡ true → All IsFormedData ds → All (λ (s : Data). DataModeFits s.mode) ds
+        → AreEffectsReady L m (all_effects (data_effects number) n ds)
+    datas_ready n [] le fits formed fit = tt
+    datas_ready n (d ∷ ds) le fits formed fit =
+        let both = and_parts (data_fits wasm d) (list_all (data_fits wasm) ds) fits in
+        append_ready L m (data_effects number n d) (all_effects (data_effects number) (n + 1) ds)
+        (data_ready n d (omega arith) both.0 (All-head IsFormedData d ds formed) (All-head (λ (s : Data). DataModeFits s.mode) d ds fit))
+        (datas_ready (n + 1) ds (omega arith) both.1 (All-tail IsFormedData d ds formed) (All-tail (λ (s : Data). DataModeFits s.mode) d ds fit))
+
+    pub segments_ready : list_all (elem_fits wasm) wasm.elems ≡ true → list_all (data_fits wasm) wasm.datas ≡ true → All IsFormedElem wasm.elems → All IsFormedData wasm.datas → ConstantsFit wasm
+        → AreEffectsReady L m (segment_effects number wasm)
+    segments_ready elems datas formed_elems formed_datas fit =
+        append_ready L m (all_effects (elem_effects number) 0 wasm.elems) (all_effects (data_effects number) 0 wasm.datas)
+        (elems_ready 0 wasm.elems (omega arith) elems formed_elems fit.elems) (datas_ready 0 wasm.datas (omega arith) datas formed_datas fit.datas)

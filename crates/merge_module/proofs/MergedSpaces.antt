@@ -1,0 +1,155 @@
+-- The function space of a merged module: the host functions, those of the members, stubs, and what is generated.
+use Rattle.std.proofs.Common.{◌≡◌, ℕ, zero, suc, ◌+◌, ◌-◌, ◌*◌, ◌<◌, ◌≤◌, List, [], ◌∷◌, ◌++◌, length, map, slice_get, Option, Some, None, refl, sym, ap, ◌∙◌, arith, length-append}
+use Rattle.std.specs.Prelude.{unwrap_or}
+use Rattle.std.proofs.lemmas.List.{length-map, length-replicate}
+use Rattle.std.proofs.lemmas.Option.{slice_get-map, slice_get_past}
+use Rattle.wasm_form.specs.declared.types.FuncType.{FuncType}
+use Rattle.wasm_form.specs.declared.module.Code.{Code}
+use Rattle.wasm_form.specs.declared.module.Module.{Module}
+use Rattle.spec_binary.specs.Options.{◌>>=◌}
+use Rattle.spec_binary.specs.Indices.{nullary, function_type, function_with, function_at}
+use Rattle.spec_binary.specs.IndexSpaces.{imports_of, functions_in, function_space, imported_count}
+use Rattle.spec_binary.proofs.Lists.{slice_get-append-right}
+use Rattle.spec_runtime.specs.Names.{HostName}
+use Rattle.spec_linking.specs.Sets.{Member}
+use Rattle.spec_linking.specs.Gathering.{IsSet}
+use Rattle.spec_linking.specs.LinkedSets.{LinkedSet, hosts_of}
+use Rattle.spec_loading.specs.Members.{from_members}
+use Rattle.merge_match.specs.Renumbering.{Numbers}
+use Rattle.merge_match.specs.Parts.{nowhere}
+use Rattle.merge_match.specs.Joined.{renumbered_code}
+use Rattle.merge_match.proofs.JoinedParts.{own_type, own_at}
+use Rattle.merge_start.specs.Words.{Starts, entry_code}
+use Rattle.merge_index.specs.Numbering.{stubs_of}
+use Rattle.merge_module.specs.MergedModule.{members_types, nullary_number, stub_types, generated_types, stub_codes, phase_codes, plain_code, trap_code, module_with}
+use Rattle.merge_module.proofs.HostImports.{functions_of, numbered_types, HasTypes}
+use Rattle.merge_module.proofs.Counted.{few_bytes, few_members, few_hosts, few_of, stubs_within}
+
+-- the item at a place past the front
+pub past_front : {A : Type 0} (front rest : List A) (i : ℕ) → slice_get (front ++ rest) (length front + i) ≡ slice_get rest i
+past_front front rest i =
+    let place : length front + i - length front ≡ i = omega arith in
+    slice_get-append-right front rest (length front + i) (omega arith) ∙ ap (slice_get rest) place
+
+-- an item of the front
+pub in_front : {A : Type 0} (front rest : List A) (i : ℕ) (x : A) → slice_get front i ≡ Some x → slice_get (front ++ rest) i ≡ Some x
+in_front [] rest i x e = absurd cc
+in_front (y ∷ front) rest zero x e = e
+in_front (y ∷ front) rest (suc i) x e = in_front front rest i x e
+
+module _ (L : LinkedSet) (n : Numbers) (x : Starts) where
+  abbrev pub merged : Module
+  merged = module_with L n x
+
+  pub host_many : imported_count merged ≡ length (hosts_of L)
+  host_many = functions_of (nullary_number L + 1) (hosts_of L)
+
+  -- ---- types
+
+  pub nullary_there : slice_get merged.types (nullary_number L) ≡ Some nullary
+  nullary_there =
+      let place : nullary_number L + 0 ≡ nullary_number L = omega arith in
+      ap (slice_get merged.types) (sym place) ∙ past_front (members_types L) (nullary ∷ map (λ (h : HostName). h.ty) (hosts_of L)) 0
+
+  pub host_types : HasTypes merged (nullary_number L + 1) (hosts_of L)
+  host_types e h at =
+      let place : nullary_number L + suc e ≡ nullary_number L + 1 + e = omega arith in
+      let there : slice_get (map (λ (h : HostName). h.ty) (hosts_of L)) e ≡ Some h.ty = slice_get-map (λ (h : HostName). h.ty) (hosts_of L) e ∙ rw at refl in
+      ap (slice_get merged.types) (sym place) ∙ past_front (members_types L) (nullary ∷ map (λ (h : HostName). h.ty) (hosts_of L)) (suc e) ∙ there
+
+  -- a host function by its number
+  pub host_typed : (e : ℕ) (h : HostName) → slice_get (hosts_of L) e ≡ Some h → e < length (hosts_of L) → function_type merged e ≡ Some h.ty
+  host_typed e h at lt =
+      let t = nullary_number L + 1 in
+      let there = in_front (imports_of functions_in merged.imports) merged.funcs e (t + e) (numbered_types t (hosts_of L) e lt) in
+      ap (λ (o : Option ℕ). o >>= slice_get merged.types) there ∙ host_types e h at
+
+  -- ---- functions that the module defines, by their places
+
+  abbrev pub own_funcs : List ℕ
+  own_funcs = from_members (λ m wasm. map (n.ty m) wasm.funcs) 0 L.set.members
+
+  abbrev pub own_codes : List Code
+  own_codes = from_members (λ m wasm. map (renumbered_code n m) wasm.codes) 0 L.set.members
+
+  pub type_at : (f k : ℕ) → f ≡ length (hosts_of L) + k → function_type merged f ≡ (slice_get merged.funcs k >>= slice_get merged.types)
+  type_at f k e =
+      let many = host_many in
+      let place : f ≡ imported_count merged + k = omega arith in
+      ap (function_type merged) place ∙ own_type merged k
+
+  pub code_at : (f k : ℕ) (c : Code) (ty : FuncType) → f ≡ length (hosts_of L) + k → slice_get merged.codes k ≡ Some c
+      → function_type merged f ≡ Some ty → function_at merged f ≡ Some (function_with ty c)
+  code_at f k c ty e at typed =
+      let many = host_many in
+      let place : imported_count merged + k ≡ f = omega arith in
+      ap (function_at merged) (sym place) ∙ own_at merged k
+      ∙ ap (λ (o : Option Code). o >>= λ y. function_type merged (imported_count merged + k) >>= λ ty. Some (function_with ty y)) at
+      ∙ ap (λ (o : Option FuncType). o >>= λ ty. Some (function_with ty c)) (ap (function_type merged) place ∙ typed)
+
+  pub phases_many : (xs : List Member) (k : ℕ) → length (from_members (phase_codes L n x) k xs) ≡ 4 * length xs
+  phases_many [] k = refl
+  phases_many (y ∷ ys) k = (let later = phases_many ys (k + 1) in omega (arith, length-append (phase_codes L n x k y.wasm) (from_members (phase_codes L n x) (k + 1) ys)))
+
+  -- ---- there is nothing at the number of what is out of range
+
+  module _ (set : IsSet L.set) where
+    pub few_types : length merged.types ≤ 33554433
+    few_types =
+        let own = few_of L set (λ m wasm. wasm.types) (λ k y few. (let all = few.all in omega arith)) in
+        let hosts = few_hosts L set in
+        let bytes = few_bytes L set in
+        omega (arith, length-append (members_types L) (nullary ∷ map (λ (h : HostName). h.ty) (hosts_of L)), length-map (hosts_of L) (λ (h : HostName). h.ty))
+
+    stub_types_many : length (from_members (stub_types L n) 0 L.set.members) ≤ 16777216
+    stub_types_many =
+        let few = few_of L set (stub_types L n) (λ k y few. (let all = few.all in let stubs = stubs_within L k y.wasm in omega (arith, length-map (stubs_of L k y.wasm) (λ f. n.ty k (unwrap_or (slice_get (function_space y.wasm) f) 0))))) in
+        let bytes = few_bytes L set in
+        omega arith
+
+    stub_codes_many : length (from_members (stub_codes L) 0 L.set.members) ≤ 16777216
+    stub_codes_many =
+        let few = few_of L set (stub_codes L) (λ k y few. (let all = few.all in let stubs = stubs_within L k y.wasm in omega (arith, length-map (stubs_of L k y.wasm) (λ f. trap_code)))) in
+        let bytes = few_bytes L set in
+        omega arith
+
+    pub few_funcs : length merged.funcs ≤ 33555457
+    few_funcs =
+        let own = few_of L set (λ m wasm. map (n.ty m) wasm.funcs) (λ k y few. (let all = few.all in omega (arith, length-map y.wasm.funcs (n.ty k)))) in
+        let stubs = stub_types_many in
+        let bytes = few_bytes L set in
+        let members = few_members L set in
+        let rest = length-append (from_members (stub_types L n) 0 L.set.members) (generated_types L) in
+        let generated = length-replicate (4 * length L.set.members + 1) (nullary_number L) in
+        omega (arith, length-append own_funcs (from_members (stub_types L n) 0 L.set.members ++ generated_types L))
+
+    pub few_codes : length merged.codes ≤ 33555457
+    few_codes =
+        let own = few_of L set (λ m wasm. map (renumbered_code n m) wasm.codes) (λ k y few. (let all = few.all in omega (arith, length-map y.wasm.codes (renumbered_code n k)))) in
+        let stubs = stub_codes_many in
+        let bytes = few_bytes L set in
+        let members = few_members L set in
+        let phases = phases_many L.set.members 0 in
+        let last = length-append (from_members (phase_codes L n x) 0 L.set.members) (plain_code (entry_code L n x) ∷ []) in
+        let rest = length-append (from_members (stub_codes L) 0 L.set.members) (from_members (phase_codes L n x) 0 L.set.members ++ plain_code (entry_code L n x) ∷ []) in
+        omega (arith, length-append own_codes (from_members (stub_codes L) 0 L.set.members ++ (from_members (phase_codes L n x) 0 L.set.members ++ plain_code (entry_code L n x) ∷ [])))
+
+    pub no_type : function_type merged nowhere ≡ None
+    no_type =
+        let all = length-append (imports_of functions_in merged.imports) merged.funcs in
+        let many = host_many in
+        let hosts = few_hosts L set in
+        let bytes = few_bytes L set in
+        let few = few_funcs in
+        ap (λ (o : Option ℕ). o >>= slice_get merged.types) (slice_get_past (function_space merged) nowhere (omega arith))
+
+    pub no_function : function_at merged nowhere ≡ None
+    no_function =
+        let many = host_many in
+        let hosts = few_hosts L set in
+        let bytes = few_bytes L set in
+        let few = few_codes in
+        let place : imported_count merged + (nowhere - imported_count merged) ≡ nowhere = omega arith in
+        ap (function_at merged) (sym place) ∙ own_at merged (nowhere - imported_count merged)
+        ∙ ap (λ (o : Option Code). o >>= λ y. function_type merged (imported_count merged + (nowhere - imported_count merged)) >>= λ ty. Some (function_with ty y))
+        (slice_get_past merged.codes (nowhere - imported_count merged) (omega arith))

@@ -1,0 +1,133 @@
+-- The element segments of the merged module hold at first what those of the members hold, by the numbers.
+use Rattle.std.proofs.Common.{◌≡◌, ℕ, suc, ◌+◌, List, [], ◌∷◌, ◌++◌, map, slice_get, Option, Some, None, option_map, refl, sym, ap₂, ◌∙◌, arith, subst}
+use Rattle.std.proofs.lemmas.List.{map-append}
+use Rattle.wasm_form.specs.declared.instr.Instr.{Instr, out-Instr}
+use Rattle.wasm_form.specs.declared.instr.Instr.TheOpen as Open
+use Rattle.wasm_form.specs.declared.instr.Expr.{Expr}
+use Rattle.wasm_form.specs.declared.module.ElemMode.{ElemMode}
+use Rattle.wasm_form.specs.declared.module.ElemMode.TheVariants as elem_mode
+use Rattle.wasm_form.specs.declared.module.ElemItems.{ElemItems}
+use Rattle.wasm_form.specs.declared.module.ElemItems.TheVariants as elem_items
+use Rattle.wasm_form.specs.declared.module.Elem.{Elem}
+use Rattle.wasm_form.specs.declared.module.Import.{Import}
+use Rattle.wasm_form.specs.declared.module.Module.{Module}
+use Rattle.wasm_form.specs.declared.runtime.Ref.{Ref}
+use Rattle.wasm_opcode.specs.declared.index.IndexForm.{IndexForm}
+use Rattle.wasm_opcode.specs.declared.index.IndexForm.TheVariants as index
+use Rattle.wasm_opcode.specs.Index.{index_form}
+use Rattle.wasm_runtime.specs.declared.Value.{Value}
+use Rattle.wasm_runtime.specs.declared.Value.TheVariants.{Func}
+use Rattle.spec_binary.specs.Options.{◌>>=◌}
+use Rattle.spec_binary.specs.IndexSpaces.{globals_in}
+use Rattle.spec_runtime.specs.Constants.{instruction_constant, constant_entry, reference_in, no_globals}
+use Rattle.spec_execution.specs.Segments.{opened_items}
+use Rattle.spec_execution.specs.Instances.{module_target, segment_items}
+use Rattle.spec_linking.specs.Sets.{Member}
+use Rattle.spec_linking.specs.Imports.{ImportUse, SharedMemory, SharedTable, StackPointer, MemoryBase, TableBase, DataCell, SlotCell, EnvFunction, ModuleFunction, OtherUse, use_of, importing}
+use Rattle.spec_linking.specs.LinkedSets.{LinkedSet, wasm_of, function_ref}
+use Rattle.spec_linking.specs.Slots.{as_number, memory_base, table_base, base_as, base_value, imported_base, member_items}
+use Rattle.spec_loading.specs.Members.{from_members}
+use Rattle.merge_match.specs.Renumbering.{Numbers, reference, entry, expr, renumbered}
+use Rattle.merge_match.proofs.OneLevel.{inside, out_instr}
+use Rattle.merge_module.specs.MergedModule.{renumbered_items, passive_elem}
+
+-- what is made of what each member has
+pub members_mapped : {A B C : Type 0} (f : A → C) (g : B → C) (of : ℕ → Module → List A) (other : ℕ → Module → List B) (k : ℕ) (xs : List Member)
+    → ((i : ℕ) (y : Member) → slice_get xs i ≡ Some y → map f (of (k + i) y.wasm) ≡ map g (other (k + i) y.wasm))
+    → map f (from_members of k xs) ≡ map g (from_members other k xs)
+members_mapped f g of other k [] same = refl
+members_mapped f g of other k (y ∷ ys) same =
+    let place : k + 0 ≡ k = omega arith in
+    let here : map f (of k y.wasm) ≡ map g (other k y.wasm) = subst (λ m. map f (of m y.wasm) ≡ map g (other m y.wasm)) place (same 0 y refl) in
+    let rest = members_mapped f g of other (k + 1) ys (λ i z at. (let later : k + suc i ≡ k + 1 + i = omega arith in subst (λ m. map f (of m z.wasm) ≡ map g (other m z.wasm)) later (same (suc i) z at))) in
+    map-append f (of k y.wasm) (from_members of (k + 1) ys) ∙ ap₂ (λ a b. a ++ b) here rest ∙ sym (map-append g (other k y.wasm) (from_members other (k + 1) ys))
+
+module _ (L : LinkedSet) (n : Numbers) (merged : Module) (targets : (m f : ℕ) → module_target merged (n.named m f) ≡ option_map (reference n) (function_ref L m f)) (m : ℕ) where
+  -- ---- items that are constant expressions
+
+  number_no_reference : (o : Option ℕ) → (as_number o >>= reference_in) ≡ None
+  number_no_reference None = refl
+  number_no_reference (Some k) = refl
+
+  base_no_reference : (i : Import) (u : ImportUse) → (base_as L m i u >>= reference_in) ≡ None
+  base_no_reference i MemoryBase = number_no_reference (memory_base L m)
+  base_no_reference i TableBase = number_no_reference (table_base L m)
+  base_no_reference i SharedMemory = refl
+  base_no_reference i SharedTable = refl
+  base_no_reference i StackPointer = refl
+  base_no_reference i DataCell = refl
+  base_no_reference i SlotCell = refl
+  base_no_reference i (EnvFunction t) = refl
+  base_no_reference i (ModuleFunction t) = refl
+  base_no_reference i OtherUse = refl
+
+  -- a base is no reference
+  global_no_reference : (g : ℕ) → (imported_base L m g >>= reference_in) ≡ None
+  global_no_reference g = go (wasm_of L m)
+    where
+      found : (o : Option Import) → ((o >>= base_value L m) >>= reference_in) ≡ None
+      found None = refl
+      found (Some i) = base_no_reference i (use_of i)
+
+      go : (o : Option Module) → ((o >>= λ wasm. slice_get (importing globals_in wasm.imports) g >>= base_value L m) >>= reference_in) ≡ None
+      go None = refl
+      go (Some wasm) = found (slice_get (importing globals_in wasm.imports) g)
+
+  abbrev member_value : Open.Instr-F Instr Expr → Option Value
+  member_value y = instruction_constant (function_ref L m) (imported_base L m) y
+
+  abbrev merged_value : Open.Instr-F Instr Expr → Option Value
+  merged_value y = instruction_constant (module_target merged) no_globals y
+
+  function_item : (o : Option Ref) → ((option_map (reference n) o >>= λ r. Some (Func (Some r))) >>= reference_in)
+      ≡ option_map (reference n) ((o >>= λ r. Some (Func (Some r))) >>= reference_in)
+  function_item None = refl
+  function_item (Some r) = refl
+
+  index_item : (op f : ℕ) (form : Option IndexForm) → index_form op ≡ form
+      → (merged_value (renumbered n m (Open.Index op f)) >>= reference_in) ≡ option_map (reference n) (member_value (Open.Index op f) >>= reference_in)
+  index_item op f None q = rw q refl
+  index_item op f (Some index.RefFunc) q = rw (q, targets m f) (function_item (function_ref L m f))
+  index_item op f (Some index.GlobalGet) q = rw (q, global_no_reference f) refl
+  index_item op f (Some index.Br) q = rw q refl
+  index_item op f (Some index.BrIf) q = rw q refl
+  index_item op f (Some index.Call) q = rw q refl
+  index_item op f (Some index.LocalGet) q = rw q refl
+  index_item op f (Some index.LocalSet) q = rw q refl
+  index_item op f (Some index.LocalTee) q = rw q refl
+  index_item op f (Some index.GlobalSet) q = rw q refl
+  index_item op f (Some index.TableGet) q = rw q refl
+  index_item op f (Some index.TableSet) q = rw q refl
+
+  step_item : (y : Open.Instr-F Instr Expr)
+      → (merged_value (renumbered n m (inside n m y)) >>= reference_in) ≡ option_map (reference n) (member_value y >>= reference_in)
+  step_item (Open.Index op f) = index_item op f (index_form op) refl
+  step_item y = refl
+
+  item_same : (e : Expr) → constant_entry (module_target merged) no_globals (expr n m e) ≡ entry n (constant_entry (function_ref L m) (imported_base L m) e)
+  item_same e = go e.list refl
+    where
+      go : (is : List Instr) → e.list ≡ is → constant_entry (module_target merged) no_globals (expr n m e) ≡ entry n (constant_entry (function_ref L m) (imported_base L m) e)
+      go [] q = rw q refl
+      go (i ∷ []) q = rw (q, out_instr n m i) (step_item (out-Instr i))
+      go (i ∷ j ∷ ks) q = rw q refl
+
+  -- ---- segments
+
+  items_same : (items : ElemItems) → segment_items merged (renumbered_items n m items) ≡ map (entry n) (member_items L m items)
+  items_same (elem_items.Funcs []) = refl
+  items_same (elem_items.Funcs (f ∷ fs)) = (let rest = items_same (elem_items.Funcs fs) in let here = targets m f in cc)
+  items_same (elem_items.Exprs ty []) = refl
+  items_same (elem_items.Exprs ty (e ∷ es)) = (let rest = items_same (elem_items.Exprs ty es) in let here = item_same e in cc)
+
+  elem_same : (e : Elem) → opened_items (segment_items merged) (passive_elem n m e) ≡ map (entry n) (opened_items (member_items L m) e)
+  elem_same e = go e.mode refl
+    where
+      go : (mode : ElemMode) → e.mode ≡ mode → opened_items (segment_items merged) (passive_elem n m e) ≡ map (entry n) (opened_items (member_items L m) e)
+      go (elem_mode.Active t offset) q = rw q (items_same e.items)
+      go elem_mode.Passive q = rw q (items_same e.items)
+      go elem_mode.Declarative q = rw q refl
+
+  pub elems_same : (es : List Elem) → map (opened_items (segment_items merged)) (map (passive_elem n m) es) ≡ map (map (entry n)) (map (opened_items (member_items L m)) es)
+  elems_same [] = refl
+  elems_same (e ∷ es) = (let here = elem_same e in let rest = elems_same es in cc)

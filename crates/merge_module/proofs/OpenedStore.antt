@@ -1,0 +1,260 @@
+-- The merged module opens with what the set begins with, and behind it the guards and the segments of fresh slots.
+use Rattle.std.proofs.Common.{◌≡◌, ℕ, zero, suc, ◌+◌, ◌*◌, ◌<◌, ◌≤◌, true, List, [], ◌∷◌, ◌++◌, length, map, slice_get, slice_set, Option, Some, refl, sym, ap, ap₂, ◌∙◌, subst, arith, length-append, append-nil, Bool, false, if◌then◌else◌}
+use Rattle.std.specs.List.{All, flat_map, list_any}
+use Rattle.std.proofs.lemmas.List.{length-map, map-append}
+use Rattle.std.proofs.lemmas.List.Elements.{All-head, All-tail}
+use Rattle.wasm_form.specs.declared.types.TableType.{TableType}
+use Rattle.wasm_form.specs.declared.types.FuncType.{FuncType}
+use Rattle.wasm_form.specs.declared.module.Import.{Import}
+use Rattle.wasm_form.specs.declared.module.Data.{Data}
+use Rattle.wasm_form.specs.declared.module.Module.{Module}
+use Rattle.wasm_form.specs.declared.runtime.Ref.{Ref}
+use Rattle.wasm_form.specs.declared.runtime.Ref.TheVariants.{Own}
+use Rattle.wasm_runtime.specs.declared.Value.TheVariants.{Num}
+use Rattle.spec_binary.specs.Options.{◌>>=◌}
+use Rattle.spec_runtime.specs.Tables.{TableInstance}
+use Rattle.spec_execution.specs.Segments.{opened_items}
+use Rattle.spec_execution.specs.Instances.{ModuleParts, module_target, function_named, global_value}
+use Rattle.spec_execution.specs.OneModule.{opened_table}
+use Rattle.spec_linking.specs.Sets.{Member}
+use Rattle.spec_linking.specs.Gathering.{total_size, IsMember}
+use Rattle.spec_linking.specs.Imports.{ImportUse, DataCell, SlotCell, use_of}
+use Rattle.spec_linking.specs.LinkedSets.{LinkedSet, wasm_of}
+use Rattle.spec_linking.specs.Slots.{linked_plan, CellName, cell_as, cell_of_import, same_cell, first_cells, cells_of, cell_value, fresh_of, member_items}
+use Rattle.spec_loading.specs.Addresses.{globals_size}
+use Rattle.spec_loading.specs.Members.{uses_loader, from_members, opened_global, opened_globals, opening_table, opening_store}
+use Rattle.merge_match.specs.Renumbering.{Numbers, entry, table_instance}
+use Rattle.merge_match.specs.Parts.{nowhere, extended}
+use Rattle.merge_match.proofs.Lists.{length-slice_set}
+use Rattle.merge_match.proofs.JoinedParts.{named_own}
+use Rattle.merge_start.specs.Words.{Starts}
+use Rattle.merge_start.specs.Started.{slot_items, IsOpened}
+use Rattle.merge_index.specs.Numbering.{function_number}
+use Rattle.merge_module.specs.MergedModule.{passive_elem, slots_elem, outside_elem, declared_elem, merged_elems, passive_data, texts_segment, merged_datas, merged_globals, member_globals, guard_globals, own_global, number_global, merged_tables}
+use Rattle.merge_module.proofs.Known.{IsKnown}
+use Rattle.merge_module.proofs.SetMembers.{AreFew as AreFewParts, is_sound, member_few, total_cons}
+use Rattle.merge_module.proofs.Counted.{joined_length, few_bytes, few_members, few_of}
+use Rattle.merge_module.proofs.MergedSpaces.{in_front, host_many}
+use Rattle.merge_module.proofs.OwnNumbers.{own_number, own_typed}
+use Rattle.merge_module.proofs.OpenedItems.{members_mapped, elems_same}
+use Rattle.merge_module.proofs.OpenedGlobals.{globals_opened}
+use Rattle.merge_module.proofs.SlotFunctions.{IsOwnIn, fresh_own, own_is_defined}
+use Rattle.merge_module.proofs.Applied.{own_datas, outside_number, texts_number}
+use Rattle.merge_module.proofs.Opens.{N, X, M, has_parts, named_target, nulls_same, us, items_of, own, slots, bytes_of, elems_apart, number_is, datas_apart, texts_is, set_past, opened}
+
+-- ---- lists
+
+-- what is made of what each member has
+made_of : {A B : Type 0} (f : A → B) (of : ℕ → Module → List A) (k : ℕ) (xs : List Member) → map f (from_members of k xs) ≡ from_members (λ m w. map f (of m w)) k xs
+made_of f of k [] = refl
+made_of f of k (x ∷ xs) = map-append f (of k x.wasm) (from_members of (k + 1) xs) ∙ ap (λ l. map f (of k x.wasm) ++ l) (made_of f of (k + 1) xs)
+
+each_same : {A : Type 0} (of other : ℕ → Module → List A) → ((m : ℕ) (w : Module) → of m w ≡ other m w) → (k : ℕ) (xs : List Member) → from_members of k xs ≡ from_members other k xs
+each_same of other same k [] = refl
+each_same of other same k (x ∷ xs) = ap₂ (λ a b. a ++ b) (same k x.wasm) (each_same of other same (k + 1) xs)
+
+passive_bytes : (ds : List Data) → map (λ (d : Data). d.bytes) (map passive_data ds) ≡ map (λ (d : Data). d.bytes) ds
+passive_bytes [] = refl
+passive_bytes (d ∷ ds) = ap (λ l. d.bytes ∷ l) (passive_bytes ds)
+
+-- ---- cells: no more than imports
+
+cells_of_import_few : (i : Import) (u : ImportUse) → length (cell_as i u) ≤ 1
+cells_of_import_few i DataCell = omega arith
+cells_of_import_few i SlotCell = omega arith
+cells_of_import_few i _ = omega arith
+
+cells_named : (is : List Import) → length (flat_map cell_of_import is) ≤ length is
+cells_named [] = omega arith
+cells_named (i ∷ is) =
+    let one = cells_of_import_few i (use_of i) in
+    let later = cells_named is in
+    omega (arith, length-append (cell_of_import i) (flat_map cell_of_import is))
+
+cells_first : (known cs : List CellName) → length (first_cells known cs) ≤ length cs
+cells_first known [] = omega arith
+cells_first known (c ∷ cs) = go (list_any (same_cell c) known) (cells_first known cs) (cells_first (known ++ c ∷ []) cs)
+  where
+    go : (b : Bool) → length (first_cells known cs) ≤ length cs → length (first_cells (known ++ c ∷ []) cs) ≤ length cs
+        → length (if b then first_cells known cs else c ∷ first_cells (known ++ c ∷ []) cs) ≤ suc (length cs)
+    go true le more = omega arith
+    go false le more = omega arith
+
+pub cells_few : (w : Module) → length (cells_of w) ≤ length w.imports
+cells_few w = (let first = cells_first [] (flat_map cell_of_import w.imports) in let all = cells_named w.imports in omega arith)
+
+-- two and its size of each are no more than two of each and the whole
+pub two_each : {A : Type 0} (of : ℕ → Module → List A) → ((k : ℕ) (x : Member) → AreFewParts x.wasm x.size → length (of k x.wasm) ≤ 2 + x.size)
+    → (k : ℕ) (xs : List Member) → All IsMember xs → length (from_members of k xs) ≤ 2 * length xs + total_size xs
+two_each of each k [] all = omega arith
+two_each of each k (x ∷ xs) all =
+    let here = each k x (member_few x (All-head IsMember x xs all)) in
+    let later = two_each of each (k + 1) xs (All-tail IsMember x xs all) in
+    let sum = total_cons x xs in
+    omega (arith, length-append (of k x.wasm) (from_members of (k + 1) xs))
+
+module _ (L : LinkedSet) where
+  pub globals_fit : (k : ℕ) (w : Module) → length (opened_globals L k w) ≡ globals_size w
+  globals_fit k w =
+      let cells = length-map (cells_of w) (λ c. Num (cell_value L k c)) in
+      let globals = length-map w.globals (opened_global L k) in
+      let both = length-append (map (λ c. Num (cell_value L k c)) (cells_of w)) (map (opened_global L k) w.globals) in
+      omega arith
+
+  pub member_globals_fit : (n : Numbers) (k : ℕ) (w : Module) → length (member_globals L n k w) ≡ globals_size w
+  member_globals_fit n k w =
+      let cells = length-map (cells_of w) (λ c. number_global true (cell_value L k c)) in
+      let globals = length-map w.globals (own_global L n k) in
+      let both = length-append (map (λ c. number_global true (cell_value L k c)) (cells_of w)) (map (own_global L n k) w.globals) in
+      omega arith
+
+module _ (L : LinkedSet) (K : IsKnown L) (few : (linked_plan L).pages_max ≤ 16384) (none : uses_loader L ≡ false) where
+  abbrev n : Numbers
+  n = N L K few none
+
+  abbrev x : Starts
+  x = X L K few none
+
+  abbrev m : Module
+  m = M L K few none
+
+  abbrev store : ModuleParts
+  store = opening_store L
+
+  abbrev members : List Member
+  members = L.set.members
+
+  -- ---- fresh slots
+
+  pub own_target : (k : ℕ) (w : Module) → wasm_of L k ≡ Some w → (f : ℕ) → IsOwnIn w f → module_target m (function_number L (Own k f)) ≡ Some (Own 0 (function_number L (Own k f)))
+  own_target k w here f is =
+      let defined = own_is_defined w (is_sound L k w K.set here) f is in
+      let number = own_number L K.set k f w here defined in
+      let many = host_many L n x in
+      ap (λ (o : Option FuncType). o >>= λ ty. Some (function_named m (function_number L (Own k f)))) (own_typed L K.set k f w here defined)
+      ∙ ap Some (named_own m (function_number L (Own k f)) (omega arith))
+
+  own_items : (k : ℕ) (w : Module) → wasm_of L k ≡ Some w → (fs : List ℕ) → All (IsOwnIn w) fs
+      → map (module_target m) (map n.function (map (Own k) fs)) ≡ map (entry n) (map Some (map (Own k) fs))
+  own_items k w here [] all = refl
+  own_items k w here (f ∷ fs) all =
+      let one = own_target k w here f (All-head (IsOwnIn w) f fs all) in
+      let rest = own_items k w here fs (All-tail (IsOwnIn w) f fs all) in
+      cc
+
+  slots_at : (k : ℕ) (ys : List Member) (i j : ℕ) → ((l : ℕ) (y : Member) → slice_get ys l ≡ Some y → wasm_of L (k + l) ≡ Some y.wasm) → i < length ys → j ≡ k + i
+      → slice_get (map (items_of L K few none) (from_members (λ m wasm. slots_elem L n m ∷ []) k ys)) i ≡ Some (slot_items L n j)
+  slots_at k [] i j there lt q = absurd (omega arith)
+  slots_at k (y ∷ ys) zero j there lt q =
+      let place : k + 0 ≡ k = omega arith in
+      let same : k ≡ j = omega arith in
+      let here : wasm_of L k ≡ Some y.wasm = subst (λ l. wasm_of L l ≡ Some y.wasm) place (there 0 y refl) in
+      ap Some (own_items k y.wasm here (fresh_of L k) (fresh_own L k y.wasm here) ∙ ap (slot_items L n) same)
+  slots_at k (y ∷ ys) (suc i) j there lt q =
+      slots_at (k + 1) ys i j (λ l z at. (let place : k + suc l ≡ k + 1 + l = omega arith in subst (λ a. wasm_of L a ≡ Some z.wasm) place (there (suc l) z at))) (omega arith) (omega arith)
+
+  -- ---- what is behind the store
+
+  abbrev last_elems : List (List (Option Ref))
+  last_elems = map (items_of L K few none) (slots L K few none) ++ [] ∷ [] ∷ []
+
+  abbrev behind : ModuleParts
+  behind = record { globals = map (λ y. Num 0) members; tables = []; elems = last_elems; datas = [] ∷ [] }
+
+  tables_of_member : (ts : List TableType) → map (table_instance n) (map opened_table ts) ≡ map opened_table ts
+  tables_of_member [] = refl
+  tables_of_member (t ∷ ts) = ap₂ (λ a l. a ∷ l) (nulls_same L K few none _ _) (tables_of_member ts)
+
+  abbrev own_tables : List TableInstance
+  own_tables = from_members (λ k wasm. map opened_table wasm.tables) 0 members
+
+  tables_whole : (opened L K few none).tables ≡ map (table_instance n) store.tables ++ []
+  tables_whole =
+      let one = made_of opened_table (λ k wasm. wasm.tables) 0 members in
+      let two : map (table_instance n) own_tables ≡ own_tables = made_of (table_instance n) (λ k wasm. map opened_table wasm.tables) 0 members
+      ∙ each_same (λ k wasm. map (table_instance n) (map opened_table wasm.tables)) (λ k wasm. map opened_table wasm.tables) (λ k w. tables_of_member w.tables) 0 members in
+      ap (λ l. table_instance n (opening_table L) ∷ l) (one ∙ sym two) ∙ sym (append-nil (map (table_instance n) store.tables))
+
+  elems_mapped : map (items_of L K few none) (own L K few none) ≡ map (map (entry n)) store.elems
+  elems_mapped =
+      members_mapped (items_of L K few none) (map (entry n)) (λ k wasm. map (passive_elem n k) wasm.elems) (λ k wasm. map (opened_items (member_items L k)) wasm.elems) 0 members
+      (λ i y at. elems_same L n m (has_parts L K few none).targets (0 + i) y.wasm.elems)
+
+  elems_whole : (opened L K few none).elems ≡ map (map (entry n)) store.elems ++ last_elems
+  elems_whole =
+      let front = map (items_of L K few none) (own L K few none) in
+      let mid = map (items_of L K few none) (slots L K few none) in
+      let rest = items_of L K few none (outside_elem L n) ∷ [] ∷ [] in
+      ap₂ (λ l i. slice_set l i []) (elems_apart L K few none) (number_is L K few none)
+      ∙ set_past front (mid ++ rest) (length mid + 0) []
+      ∙ ap (λ l. front ++ l) (set_past mid rest 0 [])
+      ∙ ap (λ l. l ++ last_elems) elems_mapped
+
+  datas_whole : (opened L K few none).datas ≡ store.datas ++ [] ∷ []
+  datas_whole =
+      let front = map (bytes_of L K few none) (own_datas L n) in
+      ap₂ (λ l i. slice_set l i []) (datas_apart L K few none) (texts_is L K few none)
+      ∙ set_past front _ 0 []
+      ∙ ap (λ l. l ++ [] ∷ []) (made_of (bytes_of L K few none) (λ k wasm. map passive_data wasm.datas) 0 members
+      ∙ each_same (λ k wasm. map (bytes_of L K few none) (map passive_data wasm.datas)) (λ k wasm. map (λ (d : Data). d.bytes) wasm.datas) (λ k w. passive_bytes w.datas) 0 members)
+
+  parts_whole : opened L K few none ≡ extended n store behind
+  parts_whole =
+      let globals = globals_opened L K few n m (named_target L K few none) in
+      λ i. record { globals = globals i; tables = tables_whole i; elems = elems_whole i; datas = datas_whole i }
+
+  -- ---- there is little
+
+  pub globals_many : length (opened L K few none).globals ≤ nowhere
+  globals_many =
+      let all = two_each (member_globals L n) (λ k y is. (let fit = member_globals_fit L n k y.wasm in let cells = cells_few y.wasm in let all = is.all in omega arith)) 0 members K.set.members in
+      let bytes = few_bytes L K.set in
+      let count = few_members L K.set in
+      let both = length-append (from_members (member_globals L n) 0 members) (guard_globals L) in
+      let guards = length-map members (λ (y : Member). number_global true 0) in
+      omega (arith, length-map (merged_globals L n) (global_value m))
+
+  pub tables_many : length (opened L K few none).tables ≤ nowhere
+  tables_many =
+      let all = few_of L K.set (λ k w. w.tables) (λ k y is. (let all = is.all in omega arith)) in
+      let bytes = few_bytes L K.set in
+      omega (arith, length-slice_set (us L K few none).tables 0 (table_instance n (opening_table L)), length-map (merged_tables L) opened_table)
+
+  slots_many : length (slots L K few none) ≡ length members
+  slots_many = one_each (λ k. slots_elem L n k) 0 members
+    where
+      one_each : {A : Type 0} (f : ℕ → A) (k : ℕ) (xs : List Member) → length (from_members (λ i w. f i ∷ []) k xs) ≡ length xs
+      one_each f k [] = refl
+      one_each f k (y ∷ ys) = ap suc (one_each f (k + 1) ys)
+
+  pub elems_many : length (opened L K few none).elems ≤ nowhere
+  elems_many =
+      let all = few_of L K.set (λ k w. map (passive_elem n k) w.elems) (λ k y is. (let all = is.all in omega (arith, length-map y.wasm.elems (passive_elem n k)))) in
+      let bytes = few_bytes L K.set in
+      let count = few_members L K.set in
+      let mid = slots_many in
+      let rest = length-append (slots L K few none) (outside_elem L n ∷ declared_elem L n ∷ []) in
+      let both = length-append (own L K few none) (slots L K few none ++ outside_elem L n ∷ declared_elem L n ∷ []) in
+      omega (arith, length-slice_set (us L K few none).elems (outside_number L n) [], length-map (merged_elems L n) (items_of L K few none))
+
+  pub datas_many : length (opened L K few none).datas ≤ nowhere
+  datas_many =
+      let all = few_of L K.set (λ k w. map passive_data w.datas) (λ k y is. (let all = is.all in omega (arith, length-map y.wasm.datas passive_data))) in
+      let bytes = few_bytes L K.set in
+      let both = length-append (own_datas L n) (texts_segment L ∷ []) in
+      omega (arith, length-slice_set (us L K few none).datas (texts_number L n) [], length-map (merged_datas L) (bytes_of L K few none))
+
+  -- ---- all of it
+
+  pub is_opened : IsOpened L n x (opened L K few none)
+  is_opened = record {
+    more = behind;
+    whole = parts_whole;
+    few = record { globals = globals_many; tables = tables_many; elems = elems_many; datas = datas_many };
+    others = [];
+    guards = sym (append-nil (map (λ y. Num 0) members));
+    slots = λ k lt. in_front (map (items_of L K few none) (slots L K few none)) ([] ∷ [] ∷ []) k (slot_items L n k)
+        (slots_at 0 members k k (λ l y at. (let place : l ≡ 0 + l = omega arith in subst (λ a. wasm_of L a ≡ Some y.wasm) place (ap (λ (o : Option Member). o >>= λ z. Some z.wasm) at))) lt (omega arith));
+    first_guard = (let all = joined_length (opened_globals L) globals_size (globals_fit L) 0 members in omega arith);
+    first_slots = joined_length (λ k wasm. map (opened_items (member_items L k)) wasm.elems) (λ w. length w.elems) (λ k w. length-map w.elems (opened_items (member_items L k))) 0 members;
+  }

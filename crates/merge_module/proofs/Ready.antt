@@ -1,0 +1,96 @@
+-- The members of a linked set, its entry and its merged module are ready for the generated code.
+use Rattle.std.proofs.Common.{◌≡◌, ℕ, ◌<◌, ◌≤◌, length, slice_get, Option, Some, None, refl, sym, ap, ◌∙◌, subst, arith}
+use Rattle.std.specs.Prelude.{IfSome, is_some, IsTrue}
+use Rattle.wasm_form.specs.declared.module.Module.{Module}
+use Rattle.wasm_form.specs.declared.runtime.Ref.{Ref}
+use Rattle.wasm_form.specs.declared.runtime.Ref.TheVariants.{Own}
+use Rattle.spec_binary.specs.Options.{◌>>=◌}
+use Rattle.spec_binary.specs.Indices.{function_type}
+use Rattle.spec_binary.proofs.Lists.{got, holds_at}
+use Rattle.spec_validation.proofs.Parts.{parts_fit}
+use Rattle.spec_linking.specs.Sets.{Member}
+use Rattle.spec_linking.specs.Gathering.{IsMember, IsSet}
+use Rattle.spec_linking.specs.Imports.{importing}
+use Rattle.spec_linking.specs.LinkedSets.{LinkedSet, wasm_of, ref_with, function_ref}
+use Rattle.spec_linking.proofs.Importing.{importing_length}
+use Rattle.spec_linking.specs.Slots.{linked_plan}
+use Rattle.spec_linking.specs.Links.{set_entry}
+use Rattle.std.proofs.lemmas.Option.{slice_get_past}
+use Rattle.spec_binary.specs.IndexSpaces.{functions_in}
+use Rattle.wasm_form.specs.declared.types.FuncType.{FuncType}
+use Rattle.spec_safety.proofs.Lookups.{went_on}
+use Rattle.spec_loading.specs.declared.task.Phase.{Phase}
+use Rattle.spec_loading.specs.Phases.{phase_function}
+use Rattle.spec_loading.specs.Members.{set_view}
+use Rattle.spec_loading.specs.LoadedSet.{callee_of, phase_callee}
+use Rattle.spec_loading.specs.Laws.{IsCallable}
+use Rattle.merge_start.specs.Started.{MemberReady, EntryReady, StartReady, IsReady}
+use Rattle.merge_module.proofs.PlannedWords.{table_within}
+use Rattle.merge_module.proofs.Known.{IsKnown}
+use Rattle.merge_module.proofs.References.{IsDefined}
+use Rattle.merge_module.proofs.SpelledConstants.{constants_fit}
+use Rattle.merge_module.proofs.SetMembers.{member_formed, member_spelled}
+use Rattle.merge_module.proofs.Joins.{own_defined}
+use Rattle.merge_module.proofs.MemberEffects.{segments_ready}
+use Rattle.merge_module.proofs.OwnNumbers.{n, x, merged}
+use Rattle.merge_module.proofs.Generated as generated
+
+module _ (L : LinkedSet) (K : IsKnown L) (few : (linked_plan L).pages_max ≤ 16384) where
+  abbrev set : IsSet L.set
+  set = K.set
+
+  pub callable : (m : ℕ) (member : Member) → slice_get L.set.members m ≡ Some member → m < length L.set.members → (p : Phase) (f : ℕ)
+      → phase_function p m member.wasm ≡ Some f → (r : Ref) × ((set_view L).target m f ≡ Some r) × IsCallable L r
+  callable m member at lt p f e =
+      let there = K.callees p m lt in
+      let is : phase_callee L p m ≡ callee_of L m (Some f) = ap (λ (o : Option Member). o >>= (λ y. Some y.wasm) >>= λ wasm. callee_of L m (phase_function p m wasm)) at ∙ ap (callee_of L m) e in
+      let r = went_on ((set_view L).target m f) (λ r. Some (Some r)) there.0 (sym is ∙ there.1) in
+      let same : there.0 ≡ Some r.0 = (let q = r.2 in cc) in
+      (r.0, r.1, subst (λ o. IfSome o (IsCallable L)) same there.2)
+
+  member_ready : (m : ℕ) → m < length L.set.members → MemberReady L (n L set) (x L set) (merged L set) m
+  member_ready m lt =
+      let found = got L.set.members m lt in
+      let member = found.0 in
+      let at = found.1 in
+      let here : wasm_of L m ≡ Some member.wasm = ap (λ (o : Option Member). o >>= λ y. Some y.wasm) at in
+      let is = holds_at IsMember L.set.members m member set.members at in
+      let fits = parts_fit member.wasm is.read.valid in
+      let formed = member_formed member is in
+      let slots = K.slots m lt in
+      let sized = K.table in
+      let most = table_within L K.links in
+      record {
+        wasm = member.wasm;
+        found = here;
+        effects = segments_ready L K few m member at fits.elems fits.datas formed.elems.1 formed.datas.1 (constants_fit member.wasm member.size (member_spelled member is));
+        slot = omega arith;
+        fresh = omega arith;
+        target = λ p. generated.phase_target L set m member at lt p;
+        code = λ p. generated.phase_there L set m member at lt p;
+        callable = callable m member at lt;
+      }
+
+  -- a function that main defines is named by its number
+  own_target : (w : Module) (f : ℕ) → wasm_of L 0 ≡ Some w → IsDefined w f → function_ref L 0 f ≡ Some (Own 0 f)
+  own_target w f here defined =
+      let many = importing_length functions_in w.imports in
+      let past = defined.past in
+      let none : slice_get (importing functions_in w.imports) f ≡ None = slice_get_past (importing functions_in w.imports) f (omega arith) in
+      ap (λ (o : Option Module). o >>= λ wasm. function_type wasm f >>= λ ty. ref_with L 0 f (slice_get (importing functions_in wasm.imports) f) (Own 0 f)) here
+      ∙ rw (defined.typed, none) refl
+
+  pub entry_ready : EntryReady L
+  entry_ready =
+      let there = K.entry in
+      let f = there.0 in
+      let set_there = went_on (set_entry L.set.members) (λ g. Some (Own 0 g)) (Own 0 f) there.1 in
+      let same : set_there.0 ≡ f = (let q = set_there.2 in cc) in
+      let own = own_defined L K 0 f (subst (λ (t : Option FuncType). IsTrue (is_some t)) (sym there.2) refl) in
+      record { function = f; entry = set_there.1 ∙ ap Some same; target = own_target own.0 f own.1 own.2; callable = there.2 }
+
+  pub is_ready : IsReady L (n L set) (x L set) (merged L set)
+  is_ready = record { members = member_ready; entry = entry_ready }
+
+pub start_ready : (L : LinkedSet) (set : IsSet L.set) → StartReady L (n L set) (x L set) (merged L set)
+start_ready L set = record { start = refl; target = generated.entry_target L set; code = generated.entry_there L set }

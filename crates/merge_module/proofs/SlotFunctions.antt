@@ -1,0 +1,219 @@
+-- The functions that have fresh slots: of a member they are its own, and outside the members they are host functions.
+use Rattle.std.proofs.Common.{◌≡◌, ℕ, suc, ◌+◌, ◌-◌, ◌<◌, Bool, true, false, ◌||◌, List, [], ◌∷◌, ◌++◌, length, map, Option, Some, None, refl, sym, subst, arith, cond, if◌then◌else◌, length-append}
+use Rattle.std.specs.Prelude.{is_none, nat_lt, not}
+use Rattle.std.specs.List.{All, list_any, filter, filter_map, cons_option, position_from}
+use Rattle.std.proofs.lemmas.Bool.{and_parts, ltb-true, ltb-false}
+use Rattle.std.proofs.lemmas.List.Elements.{All-nil, All-cons, All-head, All-tail, All-append, All-filter}
+use Rattle.wasm_form.specs.declared.module.ExportDesc.{ExportDesc}
+use Rattle.wasm_form.specs.declared.module.ExportDesc.TheVariants as desc
+use Rattle.wasm_form.specs.declared.module.Import.{Import}
+use Rattle.wasm_form.specs.declared.module.Export.{Export}
+use Rattle.wasm_form.specs.declared.module.Module.{Module}
+use Rattle.wasm_form.specs.declared.runtime.LoaderCall.TheVariants.{Dlopen, Dlsym, Dlclose, Dlerror}
+use Rattle.wasm_form.specs.declared.runtime.LoaderCall.{LoaderCall}
+use Rattle.wasm_form.specs.declared.runtime.Ref.{Ref}
+use Rattle.wasm_form.specs.declared.runtime.Ref.TheVariants.{Own, Loader, Host, Stub}
+use Rattle.spec_binary.specs.Options.{◌>>=◌}
+use Rattle.spec_binary.specs.Indices.{is_own}
+use Rattle.spec_binary.specs.IndexSpaces.{imports_of, functions_in, imported_count, function_space}
+use Rattle.spec_validation.proofs.Parts.{parts_fit}
+use Rattle.spec_linking.specs.declared.fault.Kind.TheVariants as kind
+use Rattle.spec_linking.specs.Orders.{is_among}
+use Rattle.spec_linking.specs.Sets.{Member}
+use Rattle.spec_linking.specs.Definitions.{reserved_names, is_one_of, own_only, own_global, Symbol, FunctionSymbol, DataSymbol, data_symbol, desc_symbol, export_symbol, function_in, defined_function, Definition, LoaderFunction, HeapBase, HeapEnd, MemberFunction, MemberData, HostFunction, WeakSymbol, Undefined, env_name}
+use Rattle.spec_linking.specs.Imports.{ImportUse, SharedMemory, SharedTable, StackPointer, MemoryBase, TableBase, DataCell, SlotCell, EnvFunction, ModuleFunction, OtherUse, use_of}
+use Rattle.spec_linking.specs.LinkedSets.{LinkedSet, wasm_of, definition, hosts_of, is_named, host_entry, host_ref}
+use Rattle.spec_linking.specs.Slots.{same_ref, segment_slot, with_function, functions_with, defined_functions, fresh_in, fresh_of, outside_ref, outside_as, outside_of_import, outside_from, outside_refs, all_loaders, is_host_ref, first_refs, outside_slots}
+use Rattle.spec_safety.proofs.Lookups.{went_on, got}
+use Rattle.spec_safety.proofs.Spaces.{function_has_type}
+use Rattle.spec_loading.specs.Members.{is_loader, loader_as, loader_from, uses_loader}
+use Rattle.merge_module.proofs.SetMembers.{IsSound}
+use Rattle.merge_module.proofs.References.{IsDefined}
+
+-- ---- functions that a module defines under names are its own
+
+abbrev pub IsOwnIn : Module → ℕ → Type 0
+IsOwnIn wasm f = is_own wasm f ≡ true
+
+only_own : (m : Module) (g own : ℕ) → own_only m g ≡ Some own → IsOwnIn m own
+only_own m g own e = go (is_own m g) refl e
+  where
+    go : (b : Bool) → is_own m g ≡ b → (if b then Some g else None) ≡ Some own → IsOwnIn m own
+    go true q h = (let same : g ≡ own = cc in subst (λ k. is_own m k ≡ true) same q)
+    go false q h = absurd cc
+
+no_place : (o : Option ℕ) (f : ℕ) → (o >>= λ place. Some (DataSymbol place)) ≡ Some (FunctionSymbol f) → ⊥
+no_place None f e = cc
+no_place (Some place) f e = cc
+
+no_data : (b : Bool) (o : Option ℕ) (f : ℕ) → (if b then (o >>= λ place. Some (DataSymbol place)) else None) ≡ Some (FunctionSymbol f) → ⊥
+no_data true o f e = no_place o f e
+no_data false o f e = cc
+
+desc_own : (m : Module) (d : ExportDesc) (f : ℕ) → desc_symbol m d ≡ Some (FunctionSymbol f) → IsOwnIn m f
+desc_own m (desc.Func g) f e =
+    let own = went_on (own_only m g) (λ own. Some (FunctionSymbol own)) (FunctionSymbol f) e in
+    let same : own.0 ≡ f = (let h = own.2 in cc) in
+    subst (IsOwnIn m) same (only_own m g own.0 own.1)
+desc_own m (desc.Table n) f e = absurd cc
+desc_own m (desc.Space n) f e = absurd cc
+desc_own m (desc.Global g) f e =
+    let d = went_on (own_global m g) data_symbol (FunctionSymbol f) e in
+    absurd (no_data _ _ f d.2)
+
+exported_own : (wasm : Module) (e : Export) (f : ℕ) → defined_function wasm e ≡ Some f → IsOwnIn wasm f
+exported_own wasm e f q =
+    let symbol = went_on (export_symbol wasm e) function_in f q in
+    found symbol.0 symbol.1 symbol.2
+  where
+    unreserved : (b : Bool) (s : Symbol) → (if b then None else desc_symbol wasm e.desc) ≡ Some s → desc_symbol wasm e.desc ≡ Some s
+    unreserved true s h = absurd cc
+    unreserved false s h = h
+
+    found : (s : Symbol) → export_symbol wasm e ≡ Some s → function_in s ≡ Some f → IsOwnIn wasm f
+    found (FunctionSymbol g) h k =
+        let same : g ≡ f = cc in
+        subst (IsOwnIn wasm) same (desc_own wasm e.desc g (unreserved (is_one_of e.name reserved_names) (FunctionSymbol g) h))
+    found (DataSymbol place) h k = absurd cc
+
+added_own : (wasm : Module) (known : List ℕ) (o : Option ℕ) → ((f : ℕ) → o ≡ Some f → IsOwnIn wasm f) → All (IsOwnIn wasm) known → All (IsOwnIn wasm) (with_function known o)
+added_own wasm known None own all = all
+added_own wasm known (Some f) own all = go (is_among f known)
+  where
+    go : (b : Bool) → All (IsOwnIn wasm) (if b then known else known ++ f ∷ [])
+    go true = all
+    go false = All-append (IsOwnIn wasm) known (f ∷ []) all (All-cons (IsOwnIn wasm) f [] (own f refl) (All-nil (IsOwnIn wasm)))
+
+exports_own : (wasm : Module) (known : List ℕ) (es : List Export) → All (IsOwnIn wasm) known → All (IsOwnIn wasm) (functions_with wasm known es)
+exports_own wasm known [] all = all
+exports_own wasm known (e ∷ es) all =
+    exports_own wasm (with_function known (defined_function wasm e)) es (added_own wasm known (defined_function wasm e) (λ f q. exported_own wasm e f q) all)
+
+-- those of a member that have fresh slots
+pub fresh_own : (L : LinkedSet) (m : ℕ) (wasm : Module) → wasm_of L m ≡ Some wasm → All (IsOwnIn wasm) (fresh_of L m)
+fresh_own L m wasm here =
+    subst (λ (o : Option Module). All (IsOwnIn wasm) (fresh_in L m o)) (sym here)
+    (All-filter (λ f. is_none (segment_slot L m f)) (IsOwnIn wasm) (defined_functions wasm) (exports_own wasm [] wasm.exports (All-nil (IsOwnIn wasm))))
+
+unset : (b : Bool) → not b ≡ true → b ≡ false
+unset true e = absurd cc
+unset false e = refl
+
+-- such a function has a body and a type
+pub own_is_defined : (wasm : Module) → IsSound wasm → (f : ℕ) → IsOwnIn wasm f → IsDefined wasm f
+own_is_defined wasm sound f own =
+    let both = and_parts (not (nat_lt f (imported_count wasm))) (nat_lt f (length (function_space wasm))) own in
+    let past = ltb-false f (imported_count wasm) (unset (nat_lt f (imported_count wasm)) both.0) in
+    let lt = ltb-true f (length (function_space wasm)) both.1 in
+    let many = length-append (imports_of functions_in wasm.imports) wasm.funcs in
+    let bodies = sound.bodies in
+    let c = got wasm.codes (f - imported_count wasm) (omega arith) in
+    let ty = function_has_type wasm (parts_fit wasm sound.valid) f lt in
+    record { past = past; code = c.0; at = c.1; ty = ty.0; typed = ty.1 }
+
+-- ---- outside the members
+
+-- one of so many host functions
+abbrev pub IsHostBelow : ℕ → Ref → Type 0
+IsHostBelow count (Host e) = e < count
+IsHostBelow count _ = ⊥
+
+position_below : {A : Type 0} (test : A → Bool) (k : ℕ) (xs : List A) (n : ℕ) → position_from test k xs ≡ Some n → n < k + length xs
+position_below test k [] n e = absurd cc
+position_below {A} test k (x ∷ xs) n e = go (test x) e (position_below test (k + 1) xs n)
+  where
+    go : (b : Bool) → cond b (Some k) (position_from test (k + 1) xs) ≡ Some n → (position_from test (k + 1) xs ≡ Some n → n < k + 1 + length xs) → n < k + suc (length xs)
+    go true h later = (let same : k ≡ n = cc in omega arith)
+    go false h later = (let lt = later h in omega arith)
+
+module _ (L : LinkedSet) where
+  abbrev IsBelow : Ref → Type 0
+  IsBelow = IsHostBelow (length (hosts_of L))
+
+  host_below : (from name : List ℕ) (r : Ref) → host_ref L from name ≡ Some r → IsBelow r
+  host_below from name r e =
+      let n = went_on (host_entry L from name) (λ k. Some (Host k)) r e in
+      let lt = position_below (is_named from name) 0 (hosts_of L) n.0 n.1 in
+      let same : Host n.0 ≡ r = (let h = n.2 in cc) in
+      let below : IsBelow (Host n.0) = omega arith in
+      subst IsBelow same below
+
+  outside_below : (name : List ℕ) (d : Definition) (r : Ref) → outside_ref L name d ≡ Some r → is_loader d ≡ false → IsBelow r
+  outside_below name (LoaderFunction call) r e unused = absurd cc
+  outside_below name HostFunction r e unused = host_below env_name name r e
+  outside_below name HeapBase r e unused = absurd cc
+  outside_below name HeapEnd r e unused = absurd cc
+  outside_below name (MemberFunction k g) r e unused = absurd cc
+  outside_below name (MemberData k place) r e unused = absurd cc
+  outside_below name WeakSymbol r e unused = absurd cc
+  outside_below name Undefined r e unused = absurd cc
+
+  import_below : (m : ℕ) (i : Import) (u : ImportUse) (r : Ref) → outside_as L m i u ≡ Some r → loader_as L m i u ≡ false → IsBelow r
+  import_below m i SlotCell r e unused = outside_below i.field (definition L m kind.Func i.field) r e unused
+  import_below m i SharedMemory r e unused = absurd cc
+  import_below m i SharedTable r e unused = absurd cc
+  import_below m i StackPointer r e unused = absurd cc
+  import_below m i MemoryBase r e unused = absurd cc
+  import_below m i TableBase r e unused = absurd cc
+  import_below m i DataCell r e unused = absurd cc
+  import_below m i (EnvFunction t) r e unused = absurd cc
+  import_below m i (ModuleFunction t) r e unused = absurd cc
+  import_below m i OtherUse r e unused = absurd cc
+
+  neither : (a b : Bool) → (a || b) ≡ false → (a ≡ false) × (b ≡ false)
+  neither true b e = absurd cc
+  neither false b e = (refl, e)
+
+  imports_below : (m : ℕ) (is : List Import) → list_any (λ j. loader_as L m j (use_of j)) is ≡ false → All IsBelow (filter_map (outside_of_import L m) is)
+  imports_below m [] unused = All-nil IsBelow
+  imports_below m (i ∷ is) unused =
+      let both = neither (loader_as L m i (use_of i)) (list_any (λ j. loader_as L m j (use_of j)) is) unused in
+      go (outside_of_import L m i) refl both.0 (imports_below m is both.1)
+    where
+      go : (o : Option Ref) → outside_of_import L m i ≡ o → loader_as L m i (use_of i) ≡ false → All IsBelow (filter_map (outside_of_import L m) is)
+          → All IsBelow (cons_option o (filter_map (outside_of_import L m) is))
+      go None q none later = later
+      go (Some r) q none later = All-cons IsBelow r _ (import_below m i (use_of i) r q none) later
+
+  members_below : (k : ℕ) (xs : List Member) → loader_from L k xs ≡ false → All IsBelow (outside_from L k xs)
+  members_below k [] unused = All-nil IsBelow
+  members_below k (x ∷ xs) unused =
+      let both = neither (list_any (λ j. loader_as L k j (use_of j)) x.wasm.imports) (loader_from L (k + 1) xs) unused in
+      All-append IsBelow (filter_map (outside_of_import L k) x.wasm.imports) (outside_from L (k + 1) xs) (imports_below k x.wasm.imports both.0) (members_below (k + 1) xs both.1)
+
+  -- a function of the loader isn't among them
+  no_loader : (call : LoaderCall) (rs : List Ref) → All IsBelow rs → list_any (same_ref (Loader call)) rs ≡ true → ⊥
+  no_loader call [] all e = cc
+  no_loader call (r ∷ rs) all e = go r (All-head IsBelow r rs all) e (no_loader call rs (All-tail IsBelow r rs all))
+    where
+      go : (r : Ref) → IsBelow r → (same_ref (Loader call) r || list_any (same_ref (Loader call)) rs) ≡ true → (list_any (same_ref (Loader call)) rs ≡ true → ⊥) → ⊥
+      go (Host n) below h later = later h
+      go (Own m f) below h later = below
+      go (Loader other) below h later = below
+      go (Stub m f) below h later = below
+
+  first_below : (known rs : List Ref) → All IsBelow rs → All IsBelow (first_refs known rs)
+  first_below known [] all = All-nil IsBelow
+  first_below known (r ∷ rs) all = go (list_any (same_ref r) known) (first_below known rs (All-tail IsBelow r rs all)) (first_below (known ++ r ∷ []) rs (All-tail IsBelow r rs all))
+    where
+      go : (b : Bool) → All IsBelow (first_refs known rs) → All IsBelow (first_refs (known ++ r ∷ []) rs)
+          → All IsBelow (if b then first_refs known rs else r ∷ first_refs (known ++ r ∷ []) rs)
+      go true one other = one
+      go false one other = All-cons IsBelow r _ (All-head IsBelow r rs all) other
+
+  kept_below : (rs : List Ref) → All IsBelow rs → (calls : List LoaderCall) → All IsBelow (filter (λ r. list_any (same_ref r) rs) (map Loader calls))
+  kept_below rs all [] = All-nil IsBelow
+  kept_below rs all (call ∷ calls) = go (list_any (same_ref (Loader call)) rs) refl (kept_below rs all calls)
+    where
+      go : (b : Bool) → list_any (same_ref (Loader call)) rs ≡ b → All IsBelow (filter (λ r. list_any (same_ref r) rs) (map Loader calls))
+          → All IsBelow (cond b (Loader call ∷ filter (λ r. list_any (same_ref r) rs) (map Loader calls)) (filter (λ r. list_any (same_ref r) rs) (map Loader calls)))
+      go true q later = absurd (no_loader call rs all q)
+      go false q later = later
+
+  -- the functions outside the members that have slots are host functions
+  pub slots_below : uses_loader L ≡ false → All IsBelow (outside_slots L)
+  slots_below unused =
+      let refs = members_below 0 L.set.members unused in
+      All-append IsBelow (filter (λ r. list_any (same_ref r) (outside_refs L)) all_loaders) (first_refs [] (filter is_host_ref (outside_refs L)))
+      (kept_below (outside_refs L) refs (Dlopen ∷ Dlsym ∷ Dlclose ∷ Dlerror ∷ []))
+      (first_below [] (filter is_host_ref (outside_refs L)) (All-filter is_host_ref IsBelow (outside_refs L) refs))

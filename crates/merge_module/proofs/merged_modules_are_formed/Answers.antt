@@ -1,0 +1,21 @@
+use Rattle.merge_module.proofs.Known.{HasLaws, known}
+use Rattle.merge_module.proofs.Formed.{merged_formed, merged_shaped}
+use Rattle.merge_module.proofs.Short.{merged_short}
+use Rattle.merge_module.proofs.merged_modules_are_formed.Goals as goal
+
+pub returns : goal.returns
+returns c =
+    let laws : HasLaws = record {
+      there = c.linked_code_is_there.ensures.code;
+      typed = c.linked_functions_are_typed.ensures.functions;
+      callees = c.linked_functions_are_typed.ensures.callees;
+      entry = c.linked_functions_are_typed.ensures.entry;
+      holds = c.linked_code_is_there.ensures.opening;
+      sizes = c.slots_fit.ensures.sizes;
+      slots = c.slots_fit.ensures.slots;
+    } in
+    record {
+      formed = λ L is. merged_formed L (known laws L is.shape is.links) is.pages is.loader;
+      shape = λ L is. merged_shaped L is.shape;
+      short = λ L is brief. merged_short L (known laws L is.shape is.links) is.pages is.loader brief;
+    }

@@ -1,0 +1,101 @@
+-- What is so of the merged module of a linked set.
+use Rattle.std.specs.Prelude.{◌≡◌, ℕ, ◌+◌, ◌≤◌, ◌<◌, ◌^◌, false, List, [], ◌∷◌, length, slice_get, Some, None, IsTrue}
+use Rattle.std.specs.List.{All}
+use Rattle.wasm_form.specs.declared.module.ImportDesc.{ImportDesc}
+use Rattle.wasm_form.specs.declared.module.ImportDesc.TheVariants as imported
+use Rattle.wasm_form.specs.declared.module.Import.{Import}
+use Rattle.wasm_form.specs.declared.module.Code.{Code}
+use Rattle.wasm_form.specs.declared.module.Module.{Module}
+use Rattle.spec_binary.specs.Indices.{function_type, nullary}
+use Rattle.wasm_form.specs.Number.{SpellsUnsigned}
+use Rattle.wasm_form.specs.Sequence.{SpellsVec}
+use Rattle.spec_binary.specs.Types.{SpellsFuncType, SpellsTableType, SpellsLimits}
+use Rattle.spec_binary.specs.Parts.{SpellsImport, SpellsGlobal, SpellsExport, SpellsElem, SpellsFunc, SpellsCode, SpellsData}
+use Rattle.spec_loading.specs.Phases.{startup_frame}
+use Rattle.spec_binary.specs.Modules.{SpellsModule}
+use Rattle.spec_binary.specs.WellFormed.{IsShort, IsFormedType, IsWellFormed}
+use Rattle.spec_runtime.specs.Names.{HostName}
+use Rattle.spec_validation.specs.Faults.{is_function_supported}
+use Rattle.spec_linking.specs.Gathering.{IsSet}
+use Rattle.spec_linking.specs.LinkedSets.{LinkedSet, hosts_of}
+use Rattle.spec_linking.specs.Slots.{linked_plan}
+use Rattle.spec_linking.specs.Links.{Links}
+use Rattle.spec_loading.specs.Members.{uses_loader}
+use Rattle.spec_loading.specs.Merged.{Merged}
+use Rattle.merge_module.specs.MergedModule.{shared_table_type, shared_memory_type, entry_exports, merged_module}
+
+-- a host function of types that modules may use
+abbrev pub IsSupported : HostName → Type 0
+IsSupported h = IsTrue (is_function_supported h.ty)
+
+-- a host function whose import and type can be written
+abbrev pub IsWritable : HostName → Type 0
+IsWritable h = IsFormedType h.ty × (IsShort h.module_name × IsShort h.name)
+
+-- A set that links, within the limit of pages, over host functions of types that modules may use. No member uses the loader.
+pub record IsMergeable (L : LinkedSet) : Type 0 where
+  pub shape : IsSet L.set
+  pub links : Links L
+  pub pages : (linked_plan L).pages_max ≤ 16384
+  pub hosts : All IsSupported (hosts_of L)
+  pub loader : uses_loader L ≡ false
+
+-- bytes that spell the merged module merge the set
+abbrev pub SpelledMerges : Type 0
+SpelledMerges = (L : LinkedSet) → IsMergeable L → (bytes : List ℕ) → SpellsModule (merged_module L) bytes → Merged L bytes
+
+-- the merged module has a form that can be written, where the imports of its host functions have
+abbrev pub MergedIsFormed : Type 0
+MergedIsFormed = (L : LinkedSet) → IsMergeable L → All IsWritable (hosts_of L) → IsWellFormed (merged_module L)
+
+abbrev pub IsFunction : ImportDesc → Type 0
+IsFunction (imported.Func t) = Unit {0}
+IsFunction (imported.Table ty) = ⊥
+IsFunction (imported.Space limits) = ⊥
+IsFunction (imported.Global ty) = ⊥
+
+-- The module imports functions alone. It has one memory and the shared table as its first, each with the planned sizes; it exports the entry
+-- function and the memory, and nothing else; and it has no start function and no custom section.
+pub record HasShape (L : LinkedSet) (wasm : Module) : Type 0 where
+  pub imports : All (λ (i : Import). IsFunction i.desc) wasm.imports
+  pub table : slice_get wasm.tables 0 ≡ Some (shared_table_type L)
+  pub memory : wasm.memories ≡ shared_memory_type L ∷ []
+  pub entry : ℕ
+  pub exports : wasm.exports ≡ entry_exports entry
+  pub takes_nothing : function_type wasm entry ≡ Some nullary
+  pub start : wasm.start ≡ None
+  pub customs : wasm.customs ≡ []
+
+-- the merged module has this shape
+abbrev pub MergedHasShape : Type 0
+MergedHasShape = (L : LinkedSet) → IsMergeable L → HasShape L (merged_module L)
+
+-- ---- how long it is
+
+-- what host functions take: the bytes of their names, the types of what they take and give, and two for each
+abbrev pub hosts_bulk : List HostName → ℕ
+hosts_bulk [] = 0
+hosts_bulk (h ∷ hs) = 2 + (length h.module_name + length h.name) + (length h.ty.params + length h.ty.results) + hosts_bulk hs
+
+-- A set whose host functions have short names and types, and whose entry has few tasks.
+pub record IsBrief (L : LinkedSet) : Type 0 where
+  pub hosts : hosts_bulk (hosts_of L) ≤ 33554432
+  pub tasks : length (startup_frame L.set).tasks ≤ 1048576
+
+-- The contents of each section take fewer than 2^32 bytes, however they are spelled, and so does each body.
+pub record AreShort (m : Module) : Type 0 where
+  pub types : (w : List ℕ) → SpellsVec SpellsFuncType m.types w → length w < 2 ^ 32
+  pub imports : (w : List ℕ) → SpellsVec SpellsImport m.imports w → length w < 2 ^ 32
+  pub funcs : (w : List ℕ) → SpellsVec (SpellsUnsigned 32) m.funcs w → length w < 2 ^ 32
+  pub tables : (w : List ℕ) → SpellsVec SpellsTableType m.tables w → length w < 2 ^ 32
+  pub memories : (w : List ℕ) → SpellsVec SpellsLimits m.memories w → length w < 2 ^ 32
+  pub globals : (w : List ℕ) → SpellsVec SpellsGlobal m.globals w → length w < 2 ^ 32
+  pub exports : (w : List ℕ) → SpellsVec SpellsExport m.exports w → length w < 2 ^ 32
+  pub elems : (w : List ℕ) → SpellsVec SpellsElem m.elems w → length w < 2 ^ 32
+  pub codes : (w : List ℕ) → SpellsVec SpellsCode m.codes w → length w < 2 ^ 32
+  pub datas : (w : List ℕ) → SpellsVec SpellsData m.datas w → length w < 2 ^ 32
+  pub bodies : (i : ℕ) (c : Code) → slice_get m.codes i ≡ Some c → (w : List ℕ) → SpellsFunc c w → length w < 2 ^ 32
+
+-- no section of the merged module of such a set is too long to be written
+abbrev pub MergedIsShort : Type 0
+MergedIsShort = (L : LinkedSet) → IsMergeable L → IsBrief L → AreShort (merged_module L)

@@ -1,0 +1,2 @@
+pub mod MergedModule
+pub mod Laws

@@ -1,0 +1,238 @@
+-- The module that is written for a linked set whose members don't use the loader, part by part.
+use Rattle.std.specs.Prelude.{ℕ, ◌+◌, ◌*◌, true, false, List, [], ◌∷◌, ◌++◌, length, map, replicate, slice_get, Bool, Some, None, unwrap_or, codes}
+use Rattle.std.specs.Int.{cast_signed, w64}
+use Rattle.std.specs.List.{flat_map}
+use Rattle.wasm_form.specs.declared.types.ValType.{ValType}
+use Rattle.wasm_form.specs.declared.types.ValType.TheVariants.{I32, I64, FuncRef}
+use Rattle.wasm_form.specs.declared.types.FuncType.{FuncType}
+use Rattle.wasm_form.specs.declared.types.Limits.{Limits}
+use Rattle.wasm_form.specs.declared.types.TableType.{TableType}
+use Rattle.wasm_form.specs.declared.instr.Instr.{Instr, Index, I64Const, RefNull, roll-Instr}
+use Rattle.wasm_form.specs.declared.instr.Instr.TheOpen as Open
+use Rattle.wasm_form.specs.declared.instr.Expr.{Expr}
+use Rattle.wasm_form.specs.declared.module.ImportDesc.TheVariants as imported
+use Rattle.wasm_form.specs.declared.module.Import.{Import}
+use Rattle.wasm_form.specs.declared.module.GlobalDef.{GlobalDef}
+use Rattle.wasm_form.specs.declared.module.ExportDesc.{ExportDesc}
+use Rattle.wasm_form.specs.declared.module.ExportDesc.TheVariants as exported
+use Rattle.wasm_form.specs.declared.module.Export.{Export}
+use Rattle.wasm_form.specs.declared.module.ElemMode.{ElemMode}
+use Rattle.wasm_form.specs.declared.module.ElemMode.TheVariants as elem_mode
+use Rattle.wasm_form.specs.declared.module.ElemItems.{ElemItems}
+use Rattle.wasm_form.specs.declared.module.ElemItems.TheVariants as elem_items
+use Rattle.wasm_form.specs.declared.module.Elem.{Elem}
+use Rattle.wasm_form.specs.declared.module.Code.{Code}
+use Rattle.wasm_form.specs.declared.module.DataMode.TheVariants as data_mode
+use Rattle.wasm_form.specs.declared.module.Data.{Data}
+use Rattle.wasm_form.specs.declared.module.Module.{Module}
+use Rattle.wasm_form.specs.declared.runtime.Ref.{Ref}
+use Rattle.wasm_runtime.specs.declared.Value.{Value}
+use Rattle.wasm_runtime.specs.declared.Value.TheVariants.{Num, Func}
+use Rattle.spec_binary.specs.Indices.{nullary}
+use Rattle.spec_binary.specs.IndexSpaces.{function_space}
+use Rattle.spec_runtime.specs.Names.{HostName}
+use Rattle.spec_linking.specs.LinkedSets.{LinkedSet, hosts_of}
+use Rattle.spec_linking.specs.Slots.{linked_plan, memory_base, table_base, cells_of, cell_value, fresh_functions, outside_slots, table_entries, table_most}
+use Rattle.spec_loading.specs.Texts.{error_texts}
+use Rattle.spec_loading.specs.declared.task.Phase.TheVariants.{Place, Start, Relocate, Construct}
+use Rattle.spec_loading.specs.Members.{from_members, opened_global}
+use Rattle.spec_loading.specs.LoadedSet.{own_functions}
+use Rattle.merge_match.specs.Renumbering.{Numbers, expr}
+use Rattle.merge_match.specs.Joined.{renumbered_code}
+use Rattle.merge_start.specs.Words.{Starts, number, phase_code, entry_code}
+use Rattle.merge_index.specs.Numbering.{stubs_of, numbers_of, starts_of}
+
+-- what each member has, one after the other
+abbrev of_members : {X : Type 0} → LinkedSet → (ℕ → Module → List X) → List X
+of_members L of = from_members of 0 L.set.members
+
+-- ---- types and imports
+
+abbrev pub members_types : LinkedSet → List FuncType
+members_types L = of_members L (λ m wasm. wasm.types)
+
+-- the type of generated functions comes behind those of the members, and then those of the host functions
+abbrev pub nullary_number : LinkedSet → ℕ
+nullary_number L = length (members_types L)
+
+abbrev pub merged_types : LinkedSet → List FuncType
+merged_types L = members_types L ++ nullary ∷ map (λ (h : HostName). h.ty) (hosts_of L)
+
+-- host functions, whose types have the numbers from t on
+abbrev pub host_imports : ℕ → List HostName → List Import
+host_imports t [] = []
+host_imports t (h ∷ hs) = record { «module» = h.module_name; field = h.name; desc = imported.Func t } ∷ host_imports (t + 1) hs
+
+abbrev pub merged_imports : LinkedSet → List Import
+merged_imports L = host_imports (nullary_number L + 1) (hosts_of L)
+
+-- ---- functions
+
+-- the types of the functions that stand for the imports of member m which nothing defines
+abbrev pub stub_types : LinkedSet → Numbers → ℕ → Module → List ℕ
+stub_types L n m wasm = map (λ f. n.ty m (unwrap_or (slice_get (function_space wasm) f) 0)) (stubs_of L m wasm)
+
+-- the four phases of each member, and the entry function
+abbrev pub generated_types : LinkedSet → List ℕ
+generated_types L = replicate (4 * length L.set.members + 1) (nullary_number L)
+
+abbrev pub merged_funcs : LinkedSet → Numbers → List ℕ
+merged_funcs L n = of_members L (λ m wasm. map (n.ty m) wasm.funcs) ++ (of_members L (stub_types L n) ++ generated_types L)
+
+-- a body that declares no locals
+abbrev pub plain_code : List Instr → Code
+plain_code is = record { locals = []; body = record { list = is } }
+
+-- a call of what nothing defines traps
+abbrev pub trap_code : Code
+trap_code = plain_code (roll-Instr (Open.Plain 0) ∷ [])
+
+abbrev pub stub_codes : LinkedSet → ℕ → Module → List Code
+stub_codes L m wasm = map (λ f. trap_code) (stubs_of L m wasm)
+
+abbrev pub phase_codes : LinkedSet → Numbers → Starts → ℕ → Module → List Code
+phase_codes L n x m wasm =
+    plain_code (phase_code L n x m wasm Place) ∷ plain_code (phase_code L n x m wasm Start)
+    ∷ plain_code (phase_code L n x m wasm Relocate) ∷ plain_code (phase_code L n x m wasm Construct) ∷ []
+
+abbrev pub merged_codes : LinkedSet → Numbers → Starts → List Code
+merged_codes L n x =
+    of_members L (λ m wasm. map (renumbered_code n m) wasm.codes)
+    ++ (of_members L (stub_codes L) ++ (of_members L (phase_codes L n x) ++ plain_code (entry_code L n x) ∷ []))
+
+-- ---- tables and memory
+
+abbrev pub shared_table_type : LinkedSet → TableType
+shared_table_type L = record { elem = FuncRef; limits = record { min = table_entries L; max = Some (table_most L) } }
+
+abbrev pub merged_tables : LinkedSet → List TableType
+merged_tables L = shared_table_type L ∷ of_members L (λ m wasm. wasm.tables)
+
+abbrev pub shared_memory_type : LinkedSet → Limits
+shared_memory_type L = record { min = (linked_plan L).pages; max = Some (linked_plan L).pages_max }
+
+-- ---- globals
+
+abbrev pub number_expr : ℕ → Expr
+number_expr k = record { list = number k ∷ [] }
+
+-- an i32 that begins with this number, and may be set or may not
+abbrev pub number_global : Bool → ℕ → GlobalDef
+number_global may_be_set k = record { ty = record { value = I32; mutable = may_be_set }; init = number_expr k }
+
+-- a constant of a type
+abbrev pub constant_instr : Numbers → ValType → Value → Instr
+constant_instr n I64 (Num k) = I64Const (cast_signed w64 k)
+constant_instr n _ (Num k) = number k
+constant_instr n _ (Func None) = RefNull FuncRef
+constant_instr n _ (Func (Some r)) = Index 0xD2 (n.function r)
+
+-- a global that member m defines begins with its value
+abbrev pub own_global : LinkedSet → Numbers → ℕ → GlobalDef → GlobalDef
+own_global L n m g = record g { init = record { list = constant_instr n g.ty.value (opened_global L m g) ∷ [] } }
+
+-- the bases of a member, its cells and its own globals
+abbrev pub member_globals : LinkedSet → Numbers → ℕ → Module → List GlobalDef
+member_globals L n m wasm =
+    number_global false (unwrap_or (memory_base L m) 0) ∷ number_global false (unwrap_or (table_base L m) 0)
+    ∷ (map (λ c. number_global true (cell_value L m c)) (cells_of wasm) ++ map (own_global L n m) wasm.globals)
+
+-- the guards begin with 0
+abbrev pub guard_globals : LinkedSet → List GlobalDef
+guard_globals L = map (λ m. number_global true 0) L.set.members
+
+abbrev pub merged_globals : LinkedSet → Numbers → List GlobalDef
+merged_globals L n = number_global true (linked_plan L).stack_top ∷ (of_members L (member_globals L n) ++ guard_globals L)
+
+-- ---- exports
+
+-- the entry function and the memory
+abbrev pub entry_exports : ℕ → List Export
+entry_exports entry = record { name = codes "_start"; desc = exported.Func entry } ∷ record { name = codes "memory"; desc = exported.Space 0 } ∷ []
+
+-- ---- element segments
+
+-- a segment that a member applies is passive
+abbrev pub passive_mode : ElemMode → ElemMode
+passive_mode (elem_mode.Active t offset) = elem_mode.Passive
+passive_mode elem_mode.Passive = elem_mode.Passive
+passive_mode elem_mode.Declarative = elem_mode.Declarative
+
+abbrev pub renumbered_items : Numbers → ℕ → ElemItems → ElemItems
+renumbered_items n m (elem_items.Funcs fs) = elem_items.Funcs (map (n.named m) fs)
+renumbered_items n m (elem_items.Exprs ty es) = elem_items.Exprs ty (map (expr n m) es)
+
+abbrev pub passive_elem : Numbers → ℕ → Elem → Elem
+passive_elem n m e = record { mode = passive_mode e.mode; items = renumbered_items n m e.items }
+
+abbrev pub functions_elem : Numbers → ElemMode → List Ref → Elem
+functions_elem n mode rs = record { mode = mode; items = elem_items.Funcs (map n.function rs) }
+
+-- the functions of member m that have fresh slots
+abbrev pub slots_elem : LinkedSet → Numbers → ℕ → Elem
+slots_elem L n m = functions_elem n elem_mode.Passive (own_functions L m)
+
+-- the host functions that have slots stand in the table from the beginning
+abbrev pub outside_elem : LinkedSet → Numbers → Elem
+outside_elem L n =
+    functions_elem n (elem_mode.Active 0 (number_expr ((linked_plan L).table_end + length (fresh_functions L)))) (outside_slots L)
+
+-- the functions that exports name
+abbrev pub named_functions : ExportDesc → List ℕ
+named_functions (exported.Func f) = f ∷ []
+named_functions (exported.Table t) = []
+named_functions (exported.Space k) = []
+named_functions (exported.Global g) = []
+
+abbrev pub exported_functions : Module → List ℕ
+exported_functions wasm = flat_map (λ (e : Export). named_functions e.desc) wasm.exports
+
+-- code may refer to those that members export
+abbrev pub declared_elem : LinkedSet → Numbers → Elem
+declared_elem L n = record {
+  mode = elem_mode.Declarative;
+  items = elem_items.Funcs (of_members L (λ m wasm. map (n.named m) (exported_functions wasm)));
+}
+
+abbrev pub merged_elems : LinkedSet → Numbers → List Elem
+merged_elems L n =
+    of_members L (λ m wasm. map (passive_elem n m) wasm.elems)
+    ++ (of_members L (λ m wasm. slots_elem L n m ∷ []) ++ outside_elem L n ∷ declared_elem L n ∷ [])
+
+-- ---- data segments
+
+abbrev pub passive_data : Data → Data
+passive_data d = record d { mode = data_mode.Passive }
+
+-- the error texts stand in the memory from the beginning
+abbrev pub texts_segment : LinkedSet → Data
+texts_segment L = record { mode = data_mode.Active 0 (number_expr (linked_plan L).stack_top); bytes = error_texts }
+
+abbrev pub merged_datas : LinkedSet → List Data
+merged_datas L = of_members L (λ m wasm. map passive_data wasm.datas) ++ texts_segment L ∷ []
+
+-- ---- the whole
+
+abbrev pub module_with : LinkedSet → Numbers → Starts → Module
+module_with L n x = record {
+  types = merged_types L;
+  imports = merged_imports L;
+  funcs = merged_funcs L n;
+  tables = merged_tables L;
+  memories = shared_memory_type L ∷ [];
+  globals = merged_globals L n;
+  exports = entry_exports x.starting;
+  start = None;
+  elems = merged_elems L n;
+  data_count = Some (length (merged_datas L));
+  codes = merged_codes L n x;
+  datas = merged_datas L;
+  customs = [];
+}
+
+-- The merged module of a linked set. It imports the set's host functions. Functions, types, globals, tables and segments of the members
+-- come one after the other, by their numbers; segments are passive, for they are applied when their member is placed. Behind them come what
+-- stands for imports that nothing defines, a function for each phase of each member and one that calls these for main and then the entry,
+-- a guard for each member, which says how far it has come, and the segments of fresh slots.
+abbrev pub merged_module : LinkedSet → Module
+merged_module L = module_with L (numbers_of L) (starts_of L)

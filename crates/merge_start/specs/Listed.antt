@@ -1,0 +1,227 @@
+-- The numbers that generated code names, as lists, and what is made by them.
+use Rattle.std.specs.Prelude.{◌≡◌, ℕ, All, ◌+◌, ◌-◌, ◌*◌, ◌<◌, ◌^◌, IsTrue, List, [], ◌∷◌, ◌++◌, length, map, slice_get, nat_lt, Option, Some, None, option_map, if◌then◌else◌}
+use Rattle.wasm_form.specs.declared.types.ValType.TheVariants.{I32}
+use Rattle.wasm_form.specs.declared.instr.Instr.{Instr, Index}
+use Rattle.wasm_form.specs.declared.instr.Instr.TheOpen as Open
+use Rattle.wasm_form.specs.declared.instr.Expr.{Expr}
+use Rattle.wasm_form.specs.declared.module.ElemMode.{ElemMode}
+use Rattle.wasm_form.specs.declared.module.ElemMode.TheVariants as elem_mode
+use Rattle.wasm_form.specs.declared.module.Elem.{Elem}
+use Rattle.wasm_form.specs.declared.module.DataMode.{DataMode}
+use Rattle.wasm_form.specs.declared.module.DataMode.TheVariants as data_mode
+use Rattle.wasm_form.specs.declared.module.Data.{Data}
+use Rattle.wasm_form.specs.declared.module.Import.{Import}
+use Rattle.wasm_form.specs.declared.module.Module.{Module}
+use Rattle.wasm_opcode.specs.declared.index.IndexForm.{IndexForm}
+use Rattle.wasm_opcode.specs.declared.index.IndexForm.TheVariants.{GlobalGet}
+use Rattle.spec_binary.specs.Options.{◌>>=◌}
+use Rattle.spec_binary.specs.Indices.{nullary}
+use Rattle.spec_binary.specs.IndexSpaces.{globals_in, table_space}
+use Rattle.spec_validation.specs.Faults.{is_constant}
+use Rattle.spec_runtime.specs.Constants.{instruction_constant, constant_number, number_in}
+use Rattle.spec_execution.specs.Activations.{TableInit}
+use Rattle.spec_execution.specs.Segments.{segment_effects}
+use Rattle.spec_linking.specs.Imports.{ImportUse, MemoryBase, TableBase, use_of}
+use Rattle.spec_linking.specs.LinkedSets.{LinkedSet, wasm_of}
+use Rattle.spec_linking.specs.Slots.{as_number, imported_base}
+use Rattle.spec_linking.specs.Links.{set_entry}
+use Rattle.spec_loading.specs.declared.task.Phase.{Phase}
+use Rattle.spec_loading.specs.declared.task.Phase.TheVariants.{Place, Start, Relocate, Construct}
+use Rattle.spec_loading.specs.Phases.{stage_of, phase_function}
+use Rattle.spec_loading.specs.Addresses.{sum_before}
+use Rattle.dyl_search.specs.declared.set.Member.{Member}
+use Rattle.dyl_link.specs.Kept.{Kept, fresh_in, IsLinked}
+use Rattle.merge_match.specs.Renumbering.{Numbers}
+use Rattle.merge_match.specs.Parts.{nowhere, number_of}
+use Rattle.merge_start.specs.Words.{Starts, effect_code, effects_code, call_code, guarded, phase_code}
+use Rattle.merge_start.specs.declared.numbers.StartNumbers.{StartNumbers}
+use Rattle.merge_start.specs.declared.numbers.Span.{Span}
+use Rattle.merge_start.specs.declared.numbers.Spans.{Spans}
+use Rattle.merge_start.specs.declared.numbers.Places.{Places}
+use Rattle.merge_start.specs.declared.phases.Slots.{Slots}
+use Rattle.merge_start.specs.declared.part.Part.{Part}
+
+-- what is kept is that of a set which links
+abbrev pub IsOfSet : Kept → Type 0
+IsOfSet k = (L : LinkedSet) × IsLinked L k
+
+-- ---- lists
+
+-- item i of so many that stand in a list from a place on
+abbrev pub in_part : List ℕ → ℕ → ℕ → ℕ → ℕ
+in_part list first count i = if nat_lt i count then number_of (slice_get list (first + i)) else nowhere
+
+abbrev pub item : List ℕ → Span → ℕ → ℕ
+item list s i = in_part list s.first s.count i
+
+abbrev pub fits : Span → Type 0
+fits s = s.first + s.count < 2 ^ 64
+
+abbrev pub Fit : Spans → Type 0
+Fit at = fits at.elems × fits at.datas × fits at.tables
+
+-- the numbers of a member's segments and tables, by where these stand in the lists
+abbrev pub numbers_at : StartNumbers → Spans → Numbers
+numbers_at n at = record {
+  function = λ r. nowhere;
+  named = λ m f. nowhere;
+  ty = λ m t. nowhere;
+  global = λ m g. nowhere;
+  table = λ m t. item n.tables at.tables t;
+  elem = λ m e. item n.elems at.elems e;
+  segment = λ m d. item n.datas at.datas d;
+}
+
+-- ---- offsets
+
+-- a constant expression of type i32
+abbrev pub IsOffset : Expr → Type 0
+IsOffset e = (m : Module) × IsTrue (is_constant m I32 e)
+
+abbrev pub IsOffsetOf : Instr → Type 0
+IsOffsetOf i = (m : Module) × IsTrue (is_constant m I32 (record { list = i ∷ [] }))
+
+abbrev pub HasElemMode : ElemMode → Type 0
+HasElemMode (elem_mode.Active t offset) = IsOffset offset
+HasElemMode elem_mode.Passive = Unit {0}
+HasElemMode elem_mode.Declarative = Unit {0}
+
+abbrev pub HasElemOffset : Elem → Type 0
+HasElemOffset e = HasElemMode e.mode
+
+abbrev pub HasDataMode : DataMode → Type 0
+HasDataMode (data_mode.Active memory offset) = IsOffset offset
+HasDataMode data_mode.Passive = Unit {0}
+
+abbrev pub HasDataOffset : Data → Type 0
+HasDataOffset d = HasDataMode d.mode
+
+-- the bases that imported globals are, by their numbers
+abbrev pub AreBases : LinkedSet → ℕ → List (Option ℕ) → Type 0
+AreBases L m bases = (g : ℕ) → (slice_get bases g >>= as_number) ≡ imported_base L m g
+
+-- that of an instruction with an index
+abbrev pub indexed : List (Option ℕ) → Option IndexForm → ℕ → Option ℕ
+indexed bases (Some GlobalGet) g = slice_get bases g >>= λ base. base
+indexed bases _ g = None
+
+-- the number of a constant instruction, and of a constant expression
+abbrev pub instruction_number : List (Option ℕ) → Open.Instr-F Instr Expr → Option ℕ
+instruction_number bases i = instruction_constant (λ f. None) (λ g. slice_get bases g >>= as_number) i >>= number_in
+
+abbrev pub number_with : List (Option ℕ) → Expr → Option ℕ
+number_with bases e = constant_number (λ f. None) (λ g. slice_get bases g >>= as_number) e
+
+-- the bases that an import is, by those of its member, where it stands for this
+abbrev pub base_of : ℕ → ℕ → ImportUse → Option ℕ
+base_of memory table MemoryBase = Some memory
+base_of memory table TableBase = Some table
+base_of memory table _ = None
+
+-- those of the imported globals, by their numbers
+abbrev pub bases_from : ℕ → ℕ → List Import → List (Option ℕ)
+bases_from memory table [] = []
+bases_from memory table (i ∷ is) = map (λ ty. base_of memory table (use_of i)) (globals_in i.desc) ++ bases_from memory table is
+
+-- ---- where the numbers of members stand
+
+-- those of a member that begin at these places
+abbrev pub spans_at : Places → Module → Spans
+spans_at at wasm = record {
+  elems = record { first = at.elems; count = length wasm.elems };
+  datas = record { first = at.datas; count = length wasm.datas };
+  tables = record { first = at.tables; count = length (table_space wasm) };
+}
+
+-- the places behind these
+abbrev pub behind : Spans → Places
+behind s = record {
+  elems = s.elems.first + s.elems.count;
+  datas = s.datas.first + s.datas.count;
+  tables = s.tables.first + s.tables.count;
+}
+
+-- member m begins there
+pub record IsAt (L : LinkedSet) (m : ℕ) (at : Places) : Type 0 where
+  pub elems : at.elems ≡ sum_before (λ w. length w.elems) L.set.members m
+  pub datas : at.datas ≡ sum_before (λ w. length w.datas) L.set.members m
+  pub tables : at.tables ≡ sum_before (λ w. length (table_space w)) L.set.members m
+
+abbrev pub module_of : Member → Module
+module_of x = x.checked
+
+-- how many element segments there are, beside so many
+abbrev pub elems_total : ℕ → List Module → ℕ
+elems_total start [] = start
+elems_total start (x ∷ xs) = elems_total (start + length x.elems) xs
+
+-- ---- parts
+
+abbrev pub nullary_part : List Instr → Part
+nullary_part is = record { ty = nullary; code = record { locals = []; body = record { list = is } } }
+
+-- the code that places a member, by where its numbers stand
+abbrev pub placed_with : StartNumbers → Spans → List (Option ℕ) → ℕ → ℕ → ℕ → Module → List Instr
+placed_with n at bases slots first count wasm =
+    effects_code (numbers_at n at) 0 (segment_effects (number_with bases) wasm) ++ effect_code (TableInit slots 0 first 0 count)
+
+abbrev pub call_at : List (Option ℕ) → ℕ → Option ℕ
+call_at calls k = slice_get calls k >>= λ f. f
+
+-- the function of the phase after so many of a member, which calls what is listed for it
+abbrev pub calling_part : StartNumbers → ℕ → ℕ → Part
+calling_part n m before = nullary_part (guarded (n.guard + m) (before + 1) (call_code (call_at n.calls (4 * m + before))))
+
+-- the four functions of a member, by the code that places it
+abbrev pub parts_of : StartNumbers → ℕ → List Instr → List Part
+parts_of n m place =
+    nullary_part (guarded (n.guard + m) 1 place) ∷ calling_part n m 1 ∷ calling_part n m 2 ∷ calling_part n m 3 ∷ []
+
+-- ---- a set
+
+-- The lists are those of numbers of a set: of each member in set order, those of its element segments, its data segments, its tables, imported
+-- ones too; behind the element segments the segment of the fresh slots of each member; and for each phase of each member what it calls.
+pub record AreListed (L : LinkedSet) (s : StartNumbers) (n : Numbers) (x : Starts) : Type 0 where
+  pub guards : x.guards ≡ s.guard
+  pub phases : (m : ℕ) (p : Phase) → x.phase m p ≡ s.first_function + 4 * m + (stage_of p - 1)
+  pub calls : (m : ℕ) (p : Phase) (wasm : Module) → wasm_of L m ≡ Some wasm
+      → slice_get s.calls (4 * m + (stage_of p - 1)) ≡ Some (option_map (n.named m) (phase_function p m wasm))
+  pub entry : (f : ℕ) → set_entry L.set.members ≡ Some f → n.named 0 f ≡ s.entry
+  pub elems : (m e : ℕ) (wasm : Module) → wasm_of L m ≡ Some wasm
+      → n.elem m e ≡ in_part s.elems (sum_before (λ w. length w.elems) L.set.members m) (length wasm.elems) e
+  pub slots : (m : ℕ) → m < length L.set.members
+      → x.slots + m ≡ number_of (slice_get s.elems (sum_before (λ w. length w.elems) L.set.members (length L.set.members) + m))
+  pub datas : (m d : ℕ) (wasm : Module) → wasm_of L m ≡ Some wasm
+      → n.segment m d ≡ in_part s.datas (sum_before (λ w. length w.datas) L.set.members m) (length wasm.datas) d
+  pub tables : (m t : ℕ) (wasm : Module) → wasm_of L m ≡ Some wasm
+      → n.table m t ≡ in_part s.tables (sum_before (λ w. length (table_space w)) L.set.members m) (length (table_space wasm)) t
+
+-- the functions of the phases of member m
+abbrev pub phase_parts : LinkedSet → Numbers → Starts → ℕ → Module → List Part
+phase_parts L n x m wasm =
+    nullary_part (phase_code L n x m wasm Place) ∷ nullary_part (phase_code L n x m wasm Start)
+    ∷ nullary_part (phase_code L n x m wasm Relocate) ∷ nullary_part (phase_code L n x m wasm Construct) ∷ []
+
+abbrev pub fresh_count : Kept → ℕ → Option ℕ
+fresh_count k m = fresh_in k m >>= λ fs. Some (length fs)
+
+-- the four functions of member m are made of what stands in the lists
+abbrev pub IsMadeOf : Kept → StartNumbers → ℕ → Spans → Slots → List Part → Type 0
+IsMadeOf k s m spans slots parts = (L : LinkedSet) → IsLinked L k → (wasm : Module) → wasm_of L m ≡ Some wasm
+    → (bases : List (Option ℕ)) × AreBases L m bases
+    × (parts ≡ parts_of s m (placed_with s spans bases slots.segment slots.first slots.count wasm))
+
+-- ---- calls
+
+-- the functions of the phase after so many are called for some members, in order
+abbrev pub phase_calls : StartNumbers → ℕ → List ℕ → List Instr
+phase_calls s before ms = map (λ m. Index 0x10 (s.first_function + 4 * m + before)) ms
+
+-- the entry function: the phases of some members, the last of them in an order of its own, and then the entry
+abbrev pub entry_with : StartNumbers → List ℕ → List ℕ → List Instr
+entry_with s startup post =
+    phase_calls s 0 startup ++ (phase_calls s 1 startup ++ (phase_calls s 2 startup ++ (phase_calls s 3 post ++ Index 0x10 s.entry ∷ [])))
+
+-- numbers of members
+abbrev pub AreFew : List ℕ → Type 0
+AreFew ms = All (λ m. m < 2 ^ 16) ms

@@ -1,0 +1,134 @@
+// The words of generated code.
+ghost use Rattle.std.specs.Prelude.{◌≡◌, IfOk};
+ghost use Rattle.spec_execution.specs.Activations as effects;
+ghost use Rattle.spec_execution.specs.Segments.{elem_applied, data_applied};
+ghost use Rattle.merge_start.specs.Words.{number, effect_code, effects_code, guarded, call_code};
+ghost use Rattle.merge_start.specs.Listed.{numbers_at, Fit};
+
+use crate::numbers::{Spans, StartNumbers, item};
+use std::alloc::Global;
+use wasm_form::{BlockType, Expr, Instr, List, Memory};
+
+fn number(k: u32) -> Instr
+    ensures { result ≡ number k }
+{
+    Instr::I32Const(k.cast_signed())
+}
+
+// Where the guard is below the stage it is raised to it, and then the work is done.
+#[tactic(auto, unfolding(crate::specs::Words::guarded))]
+pub(crate) fn guarded(
+    alloc: Global,
+    guard: u32,
+    stage: u32,
+    work: Vec<Instr>,
+) -> Result<Vec<Instr>, Memory>
+    ensures { IfOk result (λ x. x.items ≡ guarded guard stage work.items) }
+{
+    let mut work = work;
+    let mut body = vec![in alloc; number(stage), Instr::Index(0x24, guard)]?;
+    body.append(&mut work)?;
+    let body = Expr {
+        list: List::of(body),
+    };
+    Ok(vec![in alloc;
+        Instr::Index(0x23, guard),
+        number(stage),
+        Instr::Plain(0x49),
+        Instr::If(BlockType::Empty, body, None),
+    ]?)
+}
+
+// A function is called, if there is one.
+pub(crate) fn call(alloc: Global, f: Option<u32>) -> Result<Vec<Instr>, Memory>
+    ensures { IfOk result (λ x. x.items ≡ call_code f) }
+{
+    match f {
+        None => Ok(Vec::new(alloc)),
+        Some(f) => Ok(vec![in alloc; Instr::Index(0x10, f)]?),
+    }
+}
+
+// The first items of an element segment are written to a table at an index.
+pub(crate) fn table_init(
+    alloc: Global,
+    segment: u32,
+    table: u32,
+    at: u32,
+    count: u32,
+) -> Result<Vec<Instr>, Memory>
+    ensures { IfOk result (λ x. x.items ≡ effect_code (effects.TableInit segment table at 0 count)) }
+{
+    Ok(vec![in alloc;
+        number(at),
+        number(0),
+        number(count),
+        Instr::Prefixed {
+            op: 12,
+            a: segment,
+            b: table
+        },
+    ]?)
+}
+
+// So many items of element segment e of a member are written to its table t at an index, and the segment is dropped.
+pub(crate) fn elem_applied(
+    alloc: Global,
+    n: &StartNumbers,
+    at: Spans,
+    e: u32,
+    t: u32,
+    index: u32,
+    count: u32,
+) -> Result<Vec<Instr>, Memory>
+    requires { Fit at }
+    ensures { IfOk result (λ x. x.items ≡ effects_code (numbers_at n.now at) 0 (elem_applied e t count index)) }
+{
+    let segment = item(n.elems.items(), at.elems, e);
+    let table = item(n.tables.items(), at.tables, t);
+    Ok(vec![in alloc;
+        number(index),
+        number(0),
+        number(count),
+        Instr::Prefixed {
+            op: 12,
+            a: segment,
+            b: table
+        },
+        Instr::Prefixed {
+            op: 13,
+            a: segment,
+            b: 0
+        },
+    ]?)
+}
+
+// So many bytes of data segment d of a member are written to the memory at an address, and the segment is dropped.
+pub(crate) fn data_applied(
+    alloc: Global,
+    n: &StartNumbers,
+    at: Spans,
+    d: u32,
+    address: u32,
+    count: u32,
+) -> Result<Vec<Instr>, Memory>
+    requires { Fit at }
+    ensures { IfOk result (λ x. x.items ≡ effects_code (numbers_at n.now at) 0 (data_applied d count address)) }
+{
+    let segment = item(n.datas.items(), at.datas, d);
+    Ok(vec![in alloc;
+        number(address),
+        number(0),
+        number(count),
+        Instr::Prefixed {
+            op: 8,
+            a: segment,
+            b: 0
+        },
+        Instr::Prefixed {
+            op: 9,
+            a: segment,
+            b: 0
+        },
+    ]?)
+}
