@@ -1,5 +1,5 @@
-//! Tests of memories and tables, and of the machine over the run of one module, by rows that were worked out from the standard; and a
-//! view of two units, over which nothing runs yet.
+//! Tests of memories and tables, and of the machine over the run of one module and over a view of two units, by rows that were worked out from
+//! the standard.
 #![tactic(auto)]
 
 mod outside;

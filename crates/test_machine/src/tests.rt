@@ -2,6 +2,7 @@
 mod bodies;
 mod depths;
 mod spaces;
+mod units;
 
 use host_table::HostNames;
 use std::alloc::Global;
