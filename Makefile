@@ -1,10 +1,10 @@
 # make        builds bin/wdyl
-# make demo   builds it, merges the examples, runs what was merged, and runs one that prints
+# make demo   builds it, and lists, merges and runs the examples, one of them a set built with clang and wasm-ld
 # make bench  builds it and measures it
 # make speed  measures runs of whole programs beside other engines
-# make codec  measures decoding, encoding and checking beside wabt
+# make codec  measures decoding, encoding and checking beside wabt, and merging beside these
 # make inner  measures the memories and integer operators of a run beside C
-# make compare  runs random modules by wdyl and by node, and validates changed ones by wdyl and by wabt
+# make compare  runs random modules and random sets by wdyl and by node, and validates changed ones by wdyl and by wabt
 # make test   proves, builds and tests everything
 
 SOURCES := crates.txt $(shell find crates -name out -prune -o -type f \( -name '*.rt' -o -name '*.antt' \) -print)
@@ -21,24 +21,31 @@ bin/wdyl: $(SOURCES)
 
 demo: bin/wdyl
 	sh examples/demo.sh bin/wdyl
+	sh examples/greetings.sh bin/wdyl
 
 bench: bin/wdyl
 	python3 bench/merge.py bin/wdyl
+	python3 bench/gather.py bin/wdyl
+	python3 bench/link.py bin/wdyl
+	python3 bench/sets.py bin/wdyl
 	python3 bench/random.py bin/wdyl
 	@if command -v node >/dev/null; then node bench/recursion.mjs bin/wdyl; \
 	else echo "node is missing: the merged module that recurses for ever isn't run"; fi
 
 speed: bin/wdyl
 	python3 bench/exec.py bin/wdyl
+	python3 bench/programs.py bin/wdyl
 
-codec:
+codec: bin/wdyl
 	python3 bench/codec.py
+	python3 bench/merging.py bin/wdyl
 
 inner:
 	python3 bench/inner.py
 
 compare: bin/wdyl
 	python3 compare/compare.py bin/wdyl
+	python3 compare/compare_sets.py bin/wdyl
 
 test:
 	rt ci

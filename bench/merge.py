@@ -14,14 +14,10 @@ import os
 import subprocess
 import sys
 import tempfile
-import time
 
-HERE = os.path.dirname(os.path.abspath(__file__))
-sys.path.insert(0, os.path.join(HERE, "..", "examples"))
-from make_examples import NOP, call, module  # noqa: E402
+from timing import MB, RUNS, waited
+from make_examples import NOP, call, module
 
-MB = 1 << 20
-RUNS = 3
 # How many times as long a file of twice the size may take.
 MOST_GROWTH = 2.7
 # A shorter run is mostly the start of the program, and isn't compared.
@@ -52,17 +48,6 @@ SERIES = {
 }
 
 
-def merged(wdyl, source, target):
-    """The seconds that a merge takes, and its peak of memory in bytes."""
-    start = time.perf_counter()
-    process = subprocess.Popen([wdyl, "merge", source, target])
-    _, status, usage = os.wait4(process.pid, 0)
-    seconds = time.perf_counter() - start
-    if status != 0:
-        sys.exit(f"wdyl merge {source} {target}: status {os.waitstatus_to_exitcode(status)}")
-    return seconds, usage.ru_maxrss * 1024
-
-
 def grows_in_line(before, now):
     """Whether the time grew by at most MOST_GROWTH for each doubling. None where it is too short to say."""
     if before is None or now[1] < SHORTEST or before[1] < SHORTEST:
@@ -78,7 +63,7 @@ def series(wdyl, kind, folder):
     for size in SERIES[kind]:
         # A process of its own makes the file: the peak of a child counts that of its parent.
         subprocess.run([sys.executable, os.path.abspath(__file__), "--make", kind, str(size), source], check=True)
-        runs = [merged(wdyl, source, target) for _ in range(RUNS)]
+        runs = [waited([wdyl, "merge", source, target], folder) for _ in range(RUNS)]
         seconds, peak = min(run[0] for run in runs), max(run[1] for run in runs)
         length = os.path.getsize(source)
         now = (length, seconds)

@@ -22,14 +22,13 @@ import tempfile
 import modules
 
 HERE = os.path.dirname(os.path.abspath(__file__))
-WDYL = os.path.abspath(sys.argv[1]) if len(sys.argv) > 1 else None
 BATCH = 100
 VALIDATE = ["wasm-validate", "--disable-simd", "--ignore-custom-section-errors"]
 
 
-def by_wdyl(path):
-    """How a run ended, and what it wrote."""
-    done = subprocess.run([WDYL, "exec", path], stdin=subprocess.DEVNULL, capture_output=True)
+def by_wdyl(wdyl, *words, folder=None):
+    """How a command of wdyl ended, and what it wrote."""
+    done = subprocess.run([wdyl, *words], cwd=folder, stdin=subprocess.DEVNULL, capture_output=True)
     line = done.stderr.decode().rstrip("\n")
     # a module may have written to the standard error itself
     line = line.rsplit("\n", 1)[-1]
@@ -37,9 +36,9 @@ def by_wdyl(path):
     return done.returncode, line, done.stdout.hex()
 
 
-def by_node(paths):
-    """The same for many, as node tells it."""
-    done = subprocess.run(["node", os.path.join(HERE, "run.mjs")], input="\n".join(paths), capture_output=True, text=True, check=True)
+def by_node(asked, script="run.mjs"):
+    """The same for many, as a script of node tells it."""
+    done = subprocess.run(["node", os.path.join(HERE, script)], input="\n".join(asked), capture_output=True, text=True, check=True)
     return [json.loads(line) for line in done.stdout.splitlines()]
 
 
@@ -82,13 +81,17 @@ def is_same(end, output, other):
     return end == other["end"] and output == other["output"]
 
 
-def main():
-    if WDYL is None:
-        sys.exit("usage: compare.py WDYL [COUNT] [SEED]")
+def told_words(script, count):
+    """The words of a script: the program, how many, and the first seed."""
+    if len(sys.argv) < 2:
+        sys.exit(f"usage: {script} WDYL [COUNT] [SEED]")
     if not shutil.which("node"):
         sys.exit("node is missing")
-    count = int(sys.argv[2]) if len(sys.argv) > 2 else 1000
-    first = int(sys.argv[3]) if len(sys.argv) > 3 else 0
+    return os.path.abspath(sys.argv[1]), int(sys.argv[2]) if len(sys.argv) > 2 else count, int(sys.argv[3]) if len(sys.argv) > 3 else 0
+
+
+def main():
+    wdyl, count, first = told_words("compare.py", 1000)
     has_wabt = shutil.which("wasm-validate") is not None
     ends = collections.Counter()
     differences = 0
@@ -109,7 +112,7 @@ def main():
                         file.write(data)
                     runs.append((seed, kind, path))
             for (seed, kind, path), node in zip(runs, by_node([path for _, _, path in runs])):
-                status, line, output = by_wdyl(path)
+                status, line, output = by_wdyl(wdyl, "exec", path)
                 refused = is_refused(status, line)
                 if kind == "module" and refused:
                     differs(seed, kind, line)

@@ -11,7 +11,7 @@ import sys
 
 sys.path.insert(0, os.path.join(os.path.dirname(os.path.abspath(__file__)), "..", "examples"))
 
-from make_examples import name, section, unsigned
+from make_examples import items as vector, name, section, signed, unsigned
 
 I32, I64, FUNCREF = 0x7F, 0x7E, 0x70
 NUMBERS = (I32, I64)
@@ -44,20 +44,6 @@ FUEL = 8_000
 VECTOR, WRITTEN, BUFFER = 65_472, 65_484, 65_488
 
 
-def signed(n):
-    out = bytearray()
-    while not -64 <= n < 64:
-        out.append(n % 128 + 128)
-        n >>= 7
-    out.append(n % 128)
-    return bytes(out)
-
-
-def vector(items):
-    items = list(items)
-    return unsigned(len(items)) + b"".join(items)
-
-
 def i32(n):
     return b"\x41" + signed(n)
 
@@ -66,15 +52,34 @@ def i64(n):
     return b"\x42" + signed(n)
 
 
-# uses up fuel, and is unreachable where none is left
-SPEND = (
-    GLOBAL_GET + unsigned(FUEL_GLOBAL) + I32_EQZ + IF + EMPTY + UNREACHABLE + END
-    + GLOBAL_GET + unsigned(FUEL_GLOBAL) + i32(1) + I32_SUB + GLOBAL_SET + unsigned(FUEL_GLOBAL)
+def spending(fuel):
+    """Uses up fuel, which is in a global, and is unreachable where none is left."""
+    return (
+        GLOBAL_GET + unsigned(fuel) + I32_EQZ + IF + EMPTY + UNREACHABLE + END
+        + GLOBAL_GET + unsigned(fuel) + i32(1) + I32_SUB + GLOBAL_SET + unsigned(fuel)
+    )
+
+
+# sets up the vector of one buffer, and puts local 0, a number of 64 bits, to the output
+VECTOR_SET = i32(VECTOR) + i32(BUFFER) + I32_STORE + b"\x02\x00" + i32(VECTOR) + i32(8) + I32_STORE + b"\x02\x04"
+PUT = (
+    i32(BUFFER) + LOCAL_GET + unsigned(0) + I64_STORE + b"\x03\x00" + VECTOR_SET
+    + i32(1) + i32(VECTOR) + i32(1) + i32(WRITTEN) + CALL + unsigned(FD_WRITE) + DROP
 )
+
+
+def checksum(bound):
+    """Local 0 becomes a checksum of the memory below a bound, which some code gives; local 1 is an address."""
+    mixed = LOCAL_GET + unsigned(0) + i64(0x5DEECE66D) + I64_MUL + LOCAL_GET + unsigned(1) + I64_LOAD + b"\x03\x00" + I64_ADD + LOCAL_SET + unsigned(0)
+    further = LOCAL_GET + unsigned(1) + i32(8) + I32_ADD + LOCAL_TEE + unsigned(1) + bound + I32_LT_U + BR_IF + unsigned(0)
+    return i64(0) + LOCAL_SET + unsigned(0) + i32(0) + LOCAL_SET + unsigned(1) + LOOP + EMPTY + mixed + further + END
 
 
 class Body:
     """The code of one function: its locals, and the results of the blocks that are open, the innermost last."""
+
+    # how many addresses are any number
+    wild = 0.02
 
     def __init__(self, module, ty):
         self.module = module
@@ -83,9 +88,10 @@ class Body:
         self.locals = list(self.params) + [self.rng.choice((I32, I32, I64, FUNCREF)) for _ in range(self.rng.randint(0, 5))]
         self.blocks = [list(self.results)]
         self.left = self.rng.choice((6, 20, 60))
+        self.spend = spending(module.fuel)
 
     def code(self):
-        code = SPEND
+        code = self.spend
         for _ in range(self.rng.randint(1, 6)):
             code += self.statement(4)
         for ty in self.results:
@@ -170,7 +176,7 @@ class Body:
         return self.value(I32, depth) + BR_IF + unsigned(k)
 
     def loop(self, depth):
-        return self.open(LOOP, [], [], lambda: SPEND + self.statements(depth) + self.value(I32, depth) + i32(self.rng.choice((1, 3, 7))) + I32_AND + BR_IF + unsigned(0))
+        return self.open(LOOP, [], [], lambda: self.spend + self.statements(depth) + self.value(I32, depth) + i32(self.rng.choice((1, 3, 7))) + I32_AND + BR_IF + unsigned(0))
 
     def guarded(self, condition, code):
         """Code that leaves, where the condition's lowest three bits are 0."""
@@ -193,7 +199,7 @@ class Body:
         params, _ = self.module.types[self.module.functions[f]]
         code = b"".join(self.value(ty, depth - 1) for ty in params)
         if self.rng.random() < 0.6:
-            return code + CALL + unsigned(IMPORTED + f)
+            return code + CALL + unsigned(self.module.imported + f)
         index = i32(f) if self.rng.random() < 0.9 else self.value(I32, depth - 1) + i32(15) + I32_AND
         return code + index + CALL_INDIRECT + unsigned(self.module.functions[f]) + unsigned(0)
 
@@ -204,8 +210,8 @@ class Body:
             return self.address(depth) + self.address(depth) + short() + MEMORY_COPY + b"\x00\x00"
         if choice == 1:
             return self.address(depth) + self.value(I32, depth) + short() + MEMORY_FILL + b"\x00"
-        if choice == 2 and self.module.datas:
-            return self.address(depth) + i32(self.rng.randint(0, 3)) + i32(self.rng.randint(0, 6)) + MEMORY_INIT + unsigned(self.rng.randrange(self.module.datas)) + b"\x00"
+        if choice == 2 and self.module.usable:
+            return self.address(depth) + i32(self.rng.randint(0, 3)) + i32(self.rng.randint(0, 6)) + MEMORY_INIT + unsigned(self.rng.choice(self.module.usable)) + b"\x00"
         if choice == 3 and self.module.datas and self.rng.random() < 0.3:
             return DATA_DROP + unsigned(self.rng.randrange(self.module.datas))
         return self.value(I32, depth) + i32(1) + I32_AND + MEMORY_GROW + b"\x00" + DROP
@@ -272,11 +278,11 @@ class Body:
 
     def leaf(self, ty):
         known = [LOCAL_GET + unsigned(n) for n, t in enumerate(self.locals) if t == ty]
-        known += [GLOBAL_GET + unsigned(n) for n, t in enumerate(self.module.globals) if t == ty and n != FUEL_GLOBAL]
+        known += [GLOBAL_GET + unsigned(n) for n, t in enumerate(self.module.globals) if t == ty and n != self.module.fuel]
         if known and self.rng.random() < 0.6:
             return self.rng.choice(known)
         if ty == FUNCREF:
-            return REF_NULL + b"\x70" if self.rng.random() < 0.3 else REF_FUNC + unsigned(IMPORTED + self.rng.randrange(len(self.module.functions)))
+            return REF_NULL + b"\x70" if self.rng.random() < 0.3 else REF_FUNC + unsigned(self.module.imported + self.rng.randrange(len(self.module.functions)))
         bits = 32 if ty == I32 else 64
         n = self.rng.choice((0, 1, -1, 2**(bits - 1) - 1, -2**(bits - 1), self.rng.randint(-130, 130), self.rng.getrandbits(bits) - 2**(bits - 1)))
         return i32(n) if ty == I32 else i64(n)
@@ -326,12 +332,12 @@ class Body:
         return self.address(depth) + bytes([op]) + self.access(natural)
 
     def address(self, depth):
-        if self.rng.random() < 0.02:
+        if self.rng.random() < self.wild:
             return self.value(I32, depth)
         return self.value(I32, depth) + i32(self.rng.choice((0xFF, 0xFFF, 0x7FFF))) + I32_AND
 
     def access(self, natural):
-        return unsigned(self.rng.randint(0, natural)) + unsigned(self.rng.choice((0, 0, 1, 4, 1000)) if self.rng.random() < 0.99 else 0xFFFFFFFF)
+        return unsigned(self.rng.randint(0, natural)) + unsigned(self.rng.choice((0, 0, 1, 4, 1000)) if self.rng.random() < 1 - self.wild / 2 else 0xFFFFFFFF)
 
     def called(self, ty, depth):
         fitting = [f for f, t in enumerate(self.module.functions) if self.module.types[t][1] == [ty]]
@@ -365,6 +371,10 @@ class Body:
 class Module:
     """A random module: `bytes` is its file."""
 
+    # the number of the first function that its bodies call, and the global that holds its fuel
+    imported = IMPORTED
+    fuel = FUEL_GLOBAL
+
     def __init__(self, seed):
         self.rng = rng = random.Random(seed)
         self.types = [([I32] * 4, [I32]), ([I32], []), ([], [])]
@@ -374,6 +384,8 @@ class Module:
         self.globals = [I32] + [rng.choice((I32, I64, FUNCREF)) for _ in range(rng.randint(1, 4))]
         self.mutable = [n for n in range(1, len(self.globals)) if n == 1 or rng.random() < 0.7]
         self.datas = rng.randint(0, 3)
+        # the segments that bodies copy from
+        self.usable = range(self.datas)
         self.elems = 3
         bodies = [Body(self, ty).code() for ty in self.functions]
         start = self.start()
@@ -395,30 +407,29 @@ class Module:
 
     def constant(self, ty):
         if ty == FUNCREF:
-            return self.rng.choice((REF_NULL + b"\x70", REF_FUNC + unsigned(IMPORTED + self.rng.randrange(len(self.functions))))) + END
+            return self.rng.choice((REF_NULL + b"\x70", REF_FUNC + unsigned(self.imported + self.rng.randrange(len(self.functions))))) + END
         n = self.rng.choice((0, 1, -1, self.rng.randint(-1000, 1000)))
         return (i32(n) if ty == I32 else i64(n)) + END
 
+    def called_and_put(self, put):
+        """A call of a function with random numbers; each result goes through local 0 to `put`."""
+        f = self.rng.randrange(len(self.functions))
+        params, results = self.types[self.functions[f]]
+        code = b""
+        for ty in params:
+            n = self.rng.choice((0, 1, -1, 5, self.rng.getrandbits(31)))
+            code += i32(n) if ty == I32 else i64(n * 0x100000001)
+        code += CALL + unsigned(self.imported + f)
+        for ty in reversed(results):
+            code += (I64_EXTEND_U if ty == I32 else b"") + LOCAL_SET + unsigned(0) + put
+        return code
+
     def start(self):
         """The body of `_start`. Its locals: a number of 64 bits, which is put, and an address."""
-        vector_set = i32(VECTOR) + i32(BUFFER) + I32_STORE + b"\x02\x00" + i32(VECTOR) + i32(8) + I32_STORE + b"\x02\x04"
-        written = i32(1) + i32(VECTOR) + i32(1) + i32(WRITTEN) + CALL + unsigned(FD_WRITE) + DROP
-        put = i32(BUFFER) + LOCAL_GET + unsigned(0) + I64_STORE + b"\x03\x00" + vector_set + written
-        code = vector_set
+        code = VECTOR_SET
         for _ in range(self.rng.randint(2, 6)):
-            f = self.rng.randrange(len(self.functions))
-            params, results = self.types[self.functions[f]]
-            for ty in params:
-                n = self.rng.choice((0, 1, -1, 5, self.rng.getrandbits(31)))
-                code += i32(n) if ty == I32 else i64(n * 0x100000001)
-            code += CALL + unsigned(IMPORTED + f)
-            for ty in reversed(results):
-                code += (I64_EXTEND_U if ty == I32 else b"") + LOCAL_SET + unsigned(0) + put
-        # a checksum of the memory below the vector
-        code += i64(0) + LOCAL_SET + unsigned(0) + i32(0) + LOCAL_SET + unsigned(1)
-        code += LOOP + EMPTY + LOCAL_GET + unsigned(0) + i64(0x5DEECE66D) + I64_MUL + LOCAL_GET + unsigned(1) + I64_LOAD + b"\x03\x00" + I64_ADD + LOCAL_SET + unsigned(0)
-        code += LOCAL_GET + unsigned(1) + i32(8) + I32_ADD + LOCAL_TEE + unsigned(1) + i32(VECTOR) + I32_LT_U + BR_IF + unsigned(0) + END
-        code += put
+            code += self.called_and_put(PUT)
+        code += checksum(i32(VECTOR)) + PUT
         if self.rng.random() < 0.3:
             code += i32(self.rng.randint(0, 300)) + CALL + unsigned(PROC_EXIT)
         inside = vector([b"\x01\x7e", b"\x01\x7f"]) + code + END

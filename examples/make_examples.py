@@ -23,6 +23,16 @@ def unsigned(n):
     return bytes(out)
 
 
+def signed(n):
+    """A signed number in its shortest spelling (LEB128)."""
+    out = bytearray()
+    while not -64 <= n < 64:
+        out.append(n % 128 + 128)
+        n >>= 7
+    out.append(n % 128)
+    return bytes(out)
+
+
 def name(text):
     data = text.encode("utf-8")
     return unsigned(len(data)) + data
@@ -42,13 +52,33 @@ def section(number, contents):
     return bytes([number]) + unsigned(len(contents)) + contents
 
 
-def parts(bodies, exports):
+def items(listed):
+    """A count and then the things that are counted."""
+    listed = list(listed)
+    return unsigned(len(listed)) + b"".join(listed)
+
+
+def record(memory=(0, 0, 0, 0), needed=(), exports=(), imports=(), paths=()):
+    """The section dylink.0: memory information, needed names, exports with flags, imports (module, field) with flags, paths."""
+    listed = [section(1, b"".join(map(unsigned, memory)))]
+    if needed:
+        listed.append(section(2, items(map(name, needed))))
+    if exports:
+        listed.append(section(3, items(name(text) + unsigned(flags) for text, flags in exports)))
+    if imports:
+        listed.append(section(4, items(name(module) + name(field) + unsigned(flags) for module, field, flags in imports)))
+    if paths:
+        listed.append(section(5, items(map(name, paths))))
+    return section(0, name("dylink.0") + b"".join(listed))
+
+
+def parts(bodies, exports, dylink=record()):
     """The parts of a module: `bodies` are the code of its functions, `exports` pairs of a name and a function number."""
     count = len(bodies)
     entries = b"".join(name(text) + b"\x00" + unsigned(function) for text, function in exports)
     return [
         b"\x00asm\x01\x00\x00\x00",
-        section(0, name("dylink.0") + b"\x01\x04\x00\x00\x00\x00"),
+        dylink,
         section(1, b"\x01\x60\x00\x00"),
         section(3, unsigned(count) + bytes(count)),
         section(7, unsigned(len(exports)) + entries),
@@ -102,6 +132,11 @@ def says(text):
     ]
 
 
+def module(bodies, exports, dylink=record()):
+    """The bytes of a module of these parts."""
+    return b"".join(parts(bodies, exports, dylink))
+
+
 def listing(described):
     """Each part as a line of words, and below it its bytes, sixteen in a line."""
     lines = []
@@ -121,13 +156,13 @@ EXAMPLES = {
 }
 
 
-def write(folder, described):
+def write(folder, described, file="main.wasm"):
     """Writes a module, and beside it its listing."""
     here = os.path.join(os.path.dirname(os.path.abspath(__file__)), folder)
     os.makedirs(here, exist_ok=True)
-    with open(os.path.join(here, "main.wasm"), "wb") as out:
+    with open(os.path.join(here, file), "wb") as out:
         out.write(b"".join(data for _, data in described))
-    with open(os.path.join(here, "main.txt"), "w", encoding="utf-8") as out:
+    with open(os.path.join(here, os.path.splitext(file)[0] + ".txt"), "w", encoding="utf-8") as out:
         out.write(listing(described))
 
 

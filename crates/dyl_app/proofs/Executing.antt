@@ -1,9 +1,6 @@
 -- What comes of a module that was read and is run.
-use Rattle.std.proofs.Common.{◌≡◌, ◌≢◌, ◌⊎◌, ℕ, List, Option, Some, None, Result, Ok, Err, refl, sym, ap, ◌∙◌, subst, inl, inr}
-use Rattle.std.specs.Option.{ForSome}
-use Rattle.std.specs.FinMap.{get}
+use Rattle.std.proofs.Common.{◌≡◌, ◌≢◌, ℕ, List, None, Result, Ok, Err, refl, sym, ap, ◌∙◌, subst, inl, inr}
 use Rattle.wasm_form.specs.declared.module.Module.{Module}
-use Rattle.dyl_outside.specs.FileMap.{FileMap}
 use Rattle.dyl_outside.specs.Files.{FilesState}
 use Rattle.spec_validation.specs.Faults as validation
 use Rattle.spec_execution.specs.declared.fault.SingleFault.{SingleFault}
@@ -13,11 +10,10 @@ use Rattle.spec_hosts.specs.Devices.{Devices}
 use Rattle.spec_hosts.specs.Hosted.{Embedder}
 use Rattle.wasm_exec.specs.Executed as run
 use Rattle.dyl_front.specs.declared.outcome.Outcome.{Outcome}
-use Rattle.dyl_front.specs.declared.outcome.Outcome.TheVariants.{Done, Ran, Usage, Set, Unbuilt, Link, Single, WriteFault, Memory}
+use Rattle.dyl_front.specs.declared.outcome.Outcome.TheVariants.{Done, Ran, Single, Memory}
 use Rattle.dyl_front.specs.declared.order.Order.TheVariants as order
-use Rattle.dyl_app.specs.OneFile.{run_file, OfFile}
 use Rattle.dyl_app.specs.Fetched.{Reads}
-use Rattle.dyl_app.specs.Runs.{guest_arguments, Works}
+use Rattle.dyl_app.specs.Runs.{guest_arguments, ExecWorks}
 use Rattle.spec_linking.specs.declared.fault.SetFault.{SetFault}
 use Rattle.spec_linking.specs.declared.fault.SetFault.TheVariants as set
 use Rattle.dyl_app.specs.Told.{IsTold}
@@ -29,34 +25,35 @@ pub refused_is : (wasm : Module) (embedder : Embedder) (steps : ℕ) (fault : Si
 refused_is wasm embedder steps single.Memory old new other h = absurd (other refl)
 refused_is wasm embedder steps _ old new other h = h
 
-module _ (embedder : List (List ℕ) → Embedder) (path : List ℕ) (steps : ℕ) (args : List (List ℕ)) (wasm : Module) (old mid : FilesState) (read : Reads run_file path (Ok wasm) old mid) (begun now : Devices) where
+module _ (embedder : List (List ℕ) → Embedder) (path : List ℕ) (steps : ℕ) (args : List (List ℕ)) (wasm : Module) (old mid : FilesState) (read : Reads path (Ok wasm) old mid) (begun now : Devices) where
   -- the arguments that the guest sees make no difference to the names
   module _ (E : Embedder) (is : E ≡ embedder (guest_arguments args)) where
-    exec_serves : (answer : Outcome) → Executes wasm E steps answer begun now → Serves E.names (Ok (order.Exec path steps args)) answer old mid
-    exec_serves (Ran r) h = record {
+    exec_serves : (answer : Outcome) → Executes wasm E steps answer begun now → (before after : ℕ) → Serves E.names (Ok (order.Exec path steps args)) answer old mid before after
+    exec_serves (Ran r) h before after = record {
       tells = λ files told. record { wasm = wasm; file = read.tells files told; opening = h.0; opens = h.1 };
       leaves = λ files told. read.files ∙ told;
       caused = tt;
       inner = refl;
     }
-    exec_serves (Single single.Memory) h = absurd h
-    exec_serves (Single fault) h = record {
+    exec_serves (Single single.Memory) h before after = absurd h
+    exec_serves (Single fault) h before after = record {
       tells = λ files told. record { wasm = wasm; file = read.tells files told; refused = h.0 };
       leaves = λ files told. read.files ∙ told;
       caused = tt;
       inner = refl;
     }
-    exec_serves Memory h = record { tells = λ files told. tt; leaves = λ files told. read.files ∙ told; caused = tt; inner = refl }
-    exec_serves _ h = absurd h
+    exec_serves Memory h before after = record { tells = λ files told. tt; leaves = λ files told. read.files ∙ told; caused = tt; inner = refl }
+    exec_serves _ h before after = absurd h
 
-  pub executed_serves : (answer : Outcome) → Executes wasm (embedder (guest_arguments args)) steps answer begun now → Serves (embedder (guest_arguments args)).names (Ok (order.Exec path steps args)) answer old mid
-  executed_serves answer h = exec_serves (embedder (guest_arguments args)) refl answer h
+  pub executed_serves : (answer : Outcome) → Executes wasm (embedder (guest_arguments args)) steps answer begun now → (before after : ℕ)
+      → Serves (embedder (guest_arguments args)).names (Ok (order.Exec path steps args)) answer old mid before after
+  executed_serves answer h before after = exec_serves (embedder (guest_arguments args)) refl answer h before after
 
   -- it is valid
   pub is_valid : validation.fault wasm ≡ None
-  is_valid = ap validation.fault read.spelled.said.2.0 ∙ read.spelled.said.2.2
+  is_valid = ap validation.fault read.spelled.said.2.0 ∙ read.spelled.said.2.1
 
-  pub executed_works : (answer : Outcome) → Executes wasm (embedder (guest_arguments args)) steps answer begun now → Works old.told embedder (Ok (order.Exec path steps args)) answer begun now
+  pub executed_works : (answer : Outcome) → Executes wasm (embedder (guest_arguments args)) steps answer begun now → ExecWorks old.told path steps (embedder (guest_arguments args)) answer begun now
   executed_works (Ran r) h = record { wasm = wasm; opening = h.0; begun = record { file = read.tells; valid = is_valid; opens = h.1 }; run = h.2 }
   executed_works (Single single.Memory) h = absurd h
   executed_works (Single fault) h = h.1

@@ -1,11 +1,12 @@
 pub mod Slashes
 pub mod OneFile
 pub mod Reading
-pub mod SmallRecords
-pub mod SmallSets
-pub mod Entries
 pub mod Dues
+pub mod Linking
+pub mod Refusing
 pub mod Merging
+pub mod Listing
+pub mod Running
 pub mod Executing
 pub mod ToldLines
 pub mod Telling

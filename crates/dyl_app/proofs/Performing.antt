@@ -1,13 +1,16 @@
 -- What is so of an order and of words, from what is so of what they hold.
-use Rattle.std.proofs.Common.{◌≡◌, ℕ, List, Option, Result, Ok, Err, refl, sym, ap, ◌∙◌, subst, inl, inr}
+use Rattle.std.proofs.Common.{◌≡◌, ℕ, List, Option, Result, Ok, Err, refl, sym, subst, inl, inr}
 use Rattle.dyl_outside.specs.FileMap.{FileMap}
 use Rattle.dyl_outside.specs.Sink.{SinkState}
 use Rattle.spec_hosts.specs.Devices.{Devices}
 use Rattle.spec_hosts.specs.Hosted.{Embedder}
 use Rattle.spec_linking.specs.declared.fault.SetFault.{SetFault}
 use Rattle.spec_linking.specs.declared.fault.SetFault.TheVariants as set
+use Rattle.dyl_search.specs.declared.set.SetOptions.{SetOptions}
+use Rattle.dyl_link.specs.declared.options.LinkOptions.{LinkOptions}
+use Rattle.dyl_front.specs.Orders.{IsLinkInRange, AreArgumentsInRange, IsInRange}
 use Rattle.dyl_front.specs.declared.order.Order.{Order}
-use Rattle.dyl_front.specs.declared.order.Order.TheVariants.{Merge, Exec}
+use Rattle.dyl_front.specs.declared.order.Order.TheVariants.{Merge, Run, Exec, Plan}
 use Rattle.dyl_front.specs.declared.outcome.UsageKind.{UsageKind}
 use Rattle.dyl_front.specs.declared.outcome.Outcome.{Outcome}
 use Rattle.dyl_front.specs.declared.outcome.Outcome.TheVariants.{Memory}
@@ -19,9 +22,24 @@ abbrev Asked : Type 0
 Asked = Result Order UsageKind
 
 -- what is so of an order's parts is so of the order
-pub at_merge : (P : Asked → Type 0) (order : Order) (main out path other : List ℕ) → order ≡ Merge main out → path ≡ main → other ≡ out → P (Ok (Merge path other)) → P (Ok order)
-at_merge P order main out path other is same also h =
-    subst (λ o. P (Ok o)) (sym is) (subst (λ o. P (Ok (Merge main o))) also (subst (λ p. P (Ok (Merge p other))) same h))
+pub at_merge : (P : Asked → Type 0) (order : Order) (set : SetOptions) (link : LinkOptions) (out path : List ℕ) → order ≡ Merge set link out → path ≡ out → P (Ok (Merge set link path)) → P (Ok order)
+at_merge P order set link out path is same h = subst (λ o. P (Ok o)) (sym is) (subst (λ p. P (Ok (Merge set link p))) same h)
+
+pub at_run : (P : Asked → Type 0) (order : Order) (set : SetOptions) (link : LinkOptions) (steps : ℕ) (args items : List (List ℕ)) → order ≡ Run set link steps args → items ≡ args → P (Ok (Run set link steps items)) → P (Ok order)
+at_run P order set link steps args items is texts h = subst (λ o. P (Ok o)) (sym is) (subst (λ t. P (Ok (Run set link steps t))) texts h)
+
+pub at_plan : (P : Asked → Type 0) (order : Order) (set : SetOptions) (link : LinkOptions) → order ≡ Plan set link → P (Ok (Plan set link)) → P (Ok order)
+at_plan P order set link is h = subst (λ o. P (Ok o)) (sym is) h
+
+-- the numbers of an order are in their ranges
+pub range_of_merge : (order : Order) (set : SetOptions) (link : LinkOptions) (out : List ℕ) → order ≡ Merge set link out → IsInRange order → IsLinkInRange link
+range_of_merge order set link out is h = (subst IsInRange is h).1
+
+pub range_of_run : (order : Order) (set : SetOptions) (link : LinkOptions) (steps : ℕ) (args : List (List ℕ)) → order ≡ Run set link steps args → IsInRange order → IsLinkInRange link × AreArgumentsInRange steps args
+range_of_run order set link steps args is h = let r = subst IsInRange is h in (r.1, r.2)
+
+pub range_of_plan : (order : Order) (set : SetOptions) (link : LinkOptions) → order ≡ Plan set link → IsInRange order → IsLinkInRange link
+range_of_plan order set link is h = (subst IsInRange is h).1
 
 pub at_exec : (P : Asked → Type 0) (order : Order) (file path : List ℕ) (steps : ℕ) (args items : List (List ℕ)) → order ≡ Exec file steps args → path ≡ file → items ≡ args → P (Ok (Exec path steps items)) → P (Ok order)
 at_exec P order file path steps args items is same texts h =
@@ -35,8 +53,10 @@ module _ (told : Option FileMap) (embedder : List (List ℕ) → Embedder) where
   -- nothing was done
   nothing_works : (asked : Asked) (old : Devices) → Works told embedder asked Memory old old
   nothing_works (Err kind) old = refl
-  nothing_works (Ok (Merge main out)) old = refl
+  nothing_works (Ok (Merge set link out)) old = refl
+  nothing_works (Ok (Run set link steps args)) old = inl refl
   nothing_works (Ok (Exec file steps args)) old = inl refl
+  nothing_works (Ok (Plan set link)) old = (inl refl, refl)
 
   -- memory was wanting before anything was done, and that is told
   pub memory_does : (asked : Asked) (answer : Outcome) (old : Devices) (errors : SinkState) → IsTold Memory answer → TellsErrors answer old.errors errors → Does told embedder asked answer old (record old { errors = errors })

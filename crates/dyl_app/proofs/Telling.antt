@@ -1,6 +1,6 @@
 -- What telling of an outcome leaves of what is known of it.
-use Rattle.std.proofs.Common.{◌≡◌, ◌⊎◌, ℕ, List, [], ◌∷◌, Bool, true, false, Option, Some, None, Result, Ok, Err, refl, sym, ap, ◌∙◌, subst, inl, inr}
-use Rattle.std.specs.Prelude.{IsSome, IsSomeAnd}
+use Rattle.std.proofs.Common.{◌≡◌, ℕ, List, [], ◌∷◌, Bool, true, false, Option, Some, Result, Ok, Err, refl, sym, subst, inl, inr}
+use Rattle.std.specs.Prelude.{IsSome}
 use Rattle.dyl_outside.specs.FileMap.{FileMap}
 use Rattle.dyl_outside.specs.Files.{FilesState}
 use Rattle.spec_runtime.specs.Names.{HostNames}
@@ -10,17 +10,27 @@ use Rattle.spec_hosts.specs.declared.ran.Ran as ran
 use Rattle.spec_hosts.specs.Devices.{Devices}
 use Rattle.spec_hosts.specs.Hosted.{Embedder, OneOf, is_wasi, MayBegin, wants, BreaksOff}
 use Rattle.spec_execution.specs.OneModule.{module_system, module_run}
-use Rattle.spec_runs.specs.Systems.{event}
+use Rattle.spec_runs.specs.Systems.{event, run}
+use Rattle.spec_linking.specs.Sets as sets
+use Rattle.spec_linking.specs.Plans as plans
+use Rattle.spec_loading.specs.LoadedSet.{set_system, set_opening}
+use Rattle.dyl_outside.specs.declared.fault.IoFault.TheVariants as io
+use Rattle.dyl_outside.specs.Sink.{SinkState}
+use Rattle.dyl_search.specs.declared.set.SetOptions.{SetOptions}
+use Rattle.dyl_search.specs.Gathers.{options_of}
+use Rattle.dyl_link.specs.declared.options.LinkOptions.{LinkOptions}
+use Rattle.dyl_link.specs.Kept as links
 use Rattle.dyl_front.specs.declared.outcome.UsageKind.{UsageKind}
 use Rattle.dyl_front.specs.declared.outcome.Outcome.{Outcome}
-use Rattle.dyl_front.specs.declared.outcome.Outcome.TheVariants.{Done, Ran, Usage, Set, Unbuilt, Link, Single, WriteFault, Memory}
+use Rattle.dyl_front.specs.declared.outcome.Outcome.TheVariants.{Done, Ran, Usage, WriteFault, Memory}
 use Rattle.dyl_front.specs.declared.order.Order.{Order}
 use Rattle.dyl_front.specs.declared.order.Order.TheVariants as order
 use Rattle.dyl_front.specs.Lines.{line_of}
 use Rattle.dyl_app.specs.Files.{MergeLeaves, LeavesFor}
 use Rattle.dyl_app.specs.Causes.{Caused}
 use Rattle.dyl_app.specs.Told.{IsTold}
-use Rattle.dyl_app.specs.Runs.{IsRun, IsCut, Works}
+use Rattle.dyl_app.specs.Linking.{linked}
+use Rattle.dyl_app.specs.Runs.{guest_arguments, IsRun, IsCut, ExecWorks, IsLoadedRun, IsLoadedCut, RunWorks, PlanWorks, Works}
 use Rattle.dyl_app.specs.Served.{Serves}
 
 -- what is so of the outcome, and of want of memory, is so of the answer
@@ -29,44 +39,50 @@ told_keeps P outcome answer told memory h = elim told [ inl same ↦ subst P (sy
 
 -- ---- files
 
-merge_memory : (names : HostNames) (main out : List ℕ) (files : FileMap) (outcome : Outcome) (old new : FilesState) → IsSome (line_of outcome) → Caused (Ok (order.Merge main out)) outcome old new
-    → MergeLeaves names main out files outcome old new → MergeLeaves names main out files Memory old new
-merge_memory names main out files Done old new line caused leaves = absurd cc
-merge_memory names main out files WriteFault old new line caused leaves = inr (caused.1.rose, leaves)
-merge_memory names main out files Memory old new line caused leaves = leaves
-merge_memory names main out files _ old new line caused leaves = inl leaves
+merge_memory : (names : HostNames) (o : SetOptions) (l : LinkOptions) (out : List ℕ) (files : FileMap) (outcome : Outcome) (old new : FilesState) (before now : ℕ) → IsSome (line_of outcome)
+    → Caused (Ok (order.Merge o l out)) outcome old new before now
+    → MergeLeaves names (options_of o) (links.options_of l) out files outcome old new → MergeLeaves names (options_of o) (links.options_of l) out files Memory old new
+merge_memory names o l out files Done old new before now line caused leaves = absurd cc
+merge_memory names o l out files WriteFault old new before now line caused leaves = inr (caused.rose, leaves)
+merge_memory names o l out files Memory old new before now line caused leaves = leaves
+merge_memory names o l out files _ old new before now line caused leaves = inl leaves
 
-leaves_memory : (names : HostNames) (asked : Result Order UsageKind) (files : FileMap) (outcome : Outcome) (old new : FilesState) → IsSome (line_of outcome) → Caused asked outcome old new
-    → LeavesFor names asked files outcome old new → LeavesFor names asked files Memory old new
-leaves_memory names (Err kind) files outcome old new line caused leaves = leaves
-leaves_memory names (Ok (order.Merge main out)) files outcome old new line caused leaves = merge_memory names main out files outcome old new line caused leaves
-leaves_memory names (Ok (order.Exec file steps args)) files outcome old new line caused leaves = leaves
+leaves_memory : (names : HostNames) (asked : Result Order UsageKind) (files : FileMap) (outcome : Outcome) (old new : FilesState) (before now : ℕ) → IsSome (line_of outcome)
+    → Caused asked outcome old new before now → LeavesFor names asked files outcome old new → LeavesFor names asked files Memory old new
+leaves_memory names (Err kind) files outcome old new before now line caused leaves = leaves
+leaves_memory names (Ok (order.Merge o l out)) files outcome old new before now line caused leaves = merge_memory names o l out files outcome old new before now line caused leaves
+leaves_memory names (Ok (order.Run o l steps args)) files outcome old new before now line caused leaves = leaves
+leaves_memory names (Ok (order.Exec file steps args)) files outcome old new before now line caused leaves = leaves
+leaves_memory names (Ok (order.Plan o l)) files outcome old new before now line caused leaves = leaves
 
-memory_caused : (asked : Result Order UsageKind) (old new : FilesState) → Caused asked Memory old new
-memory_caused (Err kind) old new = inr refl
-memory_caused (Ok order) old new = tt
+memory_caused : (asked : Result Order UsageKind) (old new : FilesState) (before now : ℕ) → Caused asked Memory old new before now
+memory_caused (Err kind) old new before now = inr refl
+memory_caused (Ok order) old new before now = tt
 
-pub told_serves : (names : HostNames) (asked : Result Order UsageKind) (outcome answer : Outcome) (old new : FilesState) → IsTold outcome answer → Serves names asked outcome old new → Serves names asked answer old new
-told_serves names asked outcome answer old new told h =
-    told_keeps (λ o. Serves names asked o old new) outcome answer told
+pub told_serves : (names : HostNames) (asked : Result Order UsageKind) (outcome answer : Outcome) (old new : FilesState) (before now : ℕ) → IsTold outcome answer
+    → Serves names asked outcome old new before now → Serves names asked answer old new before now
+told_serves names asked outcome answer old new before now told h =
+    told_keeps (λ o. Serves names asked o old new before now) outcome answer told
     (λ line. record {
       tells = λ files is. tt;
-      leaves = λ files is. leaves_memory names asked files outcome old new line h.caused (h.leaves files is);
-      caused = memory_caused asked old new;
+      leaves = λ files is. leaves_memory names asked files outcome old new before now line h.caused (h.leaves files is);
+      caused = memory_caused asked old new before now;
       inner = refl;
     }) h
 
 -- where nothing was done with the files
-pub memory_serves : (names : HostNames) (asked : Result Order UsageKind) (old : FilesState) → Serves names asked Memory old old
-memory_serves names asked old = record { tells = λ files is. tt; leaves = λ files is. same asked files is; caused = memory_caused asked old old; inner = refl }
+pub memory_serves : (names : HostNames) (asked : Result Order UsageKind) (old : FilesState) (before now : ℕ) → Serves names asked Memory old old before now
+memory_serves names asked old before now = record { tells = λ files is. tt; leaves = λ files is. same asked files is; caused = memory_caused asked old old before now; inner = refl }
   where
     same : (a : Result Order UsageKind) (files : FileMap) → old.told ≡ Some files → LeavesFor names a files Memory old old
     same (Err kind) files is = is
-    same (Ok (order.Merge main out)) files is = inl is
+    same (Ok (order.Merge o l out)) files is = inl is
+    same (Ok (order.Run o l steps args)) files is = is
     same (Ok (order.Exec file steps args)) files is = is
+    same (Ok (order.Plan o l)) files is = is
 
-pub usage_serves : (names : HostNames) (kind : UsageKind) (old : FilesState) → Serves names (Err kind) (Usage kind) old old
-usage_serves names kind old = record { tells = λ files is. refl; leaves = λ files is. is; caused = inl refl; inner = refl }
+pub usage_serves : (names : HostNames) (kind : UsageKind) (old : FilesState) (before now : ℕ) → Serves names (Err kind) (Usage kind) old old before now
+usage_serves names kind old before now = record { tells = λ files is. refl; leaves = λ files is. is; caused = inl refl; inner = refl }
 
 -- ---- devices
 
@@ -95,14 +111,55 @@ cut_of told path steps embedder r old new h = record {
   };
 }
 
-works_memory : (told : Option FileMap) (embedder : List (List ℕ) → Embedder) (asked : Result Order UsageKind) (outcome : Outcome) (old new : Devices) → Works told embedder asked outcome old new → Works told embedder asked Memory old new
-works_memory told embedder (Err kind) outcome old new h = h
-works_memory told embedder (Ok (order.Merge main out)) outcome old new h = h
-works_memory told embedder (Ok (order.Exec file steps args)) (Ran r) old new h = inr (cut_of told file steps _ r old new h)
-works_memory told embedder (Ok (order.Exec file steps args)) Memory old new h = h
-works_memory told embedder (Ok (order.Exec file steps args)) _ old new h = inl h
+-- of a set too
+set_cut_of : (told : Option FileMap) (o : sets.SetOptions) (l : plans.LinkOptions) (steps : ℕ) (embedder : Embedder) (r : ran.Ran) (old new : Devices) → IsLoadedRun told o l steps embedder r old new
+    → IsLoadedCut told o l steps embedder old new
+set_cut_of told o l steps embedder r old new h = record {
+  set = h.set;
+  there = h.there;
+  cut = record {
+    steps = r.steps;
+    given = r.answers;
+    middle = new;
+    made = h.run.runs.made;
+    hosted = h.run.hosted;
+    broken = not_broken embedder (event (set_system (linked embedder.names l h.set)) (run (set_system (linked embedder.names l h.set)) r.steps (set_opening (linked embedder.names l h.set)) r.answers).state) new;
+  };
+}
+
+run_memory : (told : Option FileMap) (o : sets.SetOptions) (l : plans.LinkOptions) (steps : ℕ) (embedder : Embedder) (outcome : Outcome) (old new : Devices) → RunWorks told o l steps embedder outcome old new
+    → RunWorks told o l steps embedder Memory old new
+run_memory told o l steps embedder (Ran r) old new h = inr (set_cut_of told o l steps embedder r old new h)
+run_memory told o l steps embedder Memory old new h = h
+run_memory told o l steps embedder _ old new h = inl h
+
+exec_memory : (told : Option FileMap) (file : List ℕ) (steps : ℕ) (embedder : Embedder) (outcome : Outcome) (old new : Devices) → ExecWorks told file steps embedder outcome old new
+    → ExecWorks told file steps embedder Memory old new
+exec_memory told file steps embedder (Ran r) old new h = inr (cut_of told file steps embedder r old new h)
+exec_memory told file steps embedder Memory old new h = h
+exec_memory told file steps embedder _ old new h = inl h
+
+plan_memory : (told : Option FileMap) (names : HostNames) (o : sets.SetOptions) (l : plans.LinkOptions) (outcome : Outcome) (old new : SinkState) → IsSome (line_of outcome)
+    → PlanWorks told names o l outcome old new → PlanWorks told names o l Memory old new
+plan_memory told names o l Done old new line h = absurd cc
+plan_memory told names o l WriteFault old new line h = inr (io.Failed, h)
+plan_memory told names o l Memory old new line h = h
+plan_memory told names o l _ old new line h = inl h
+
+pub told_plans : (told : Option FileMap) (names : HostNames) (o : sets.SetOptions) (l : plans.LinkOptions) (outcome answer : Outcome) (old new : SinkState) → IsTold outcome answer
+    → PlanWorks told names o l outcome old new → PlanWorks told names o l answer old new
+told_plans told names o l outcome answer old new is h = told_keeps (λ a. PlanWorks told names o l a old new) outcome answer is (λ line. plan_memory told names o l outcome old new line h) h
+
+works_memory : (told : Option FileMap) (embedder : List (List ℕ) → Embedder) (asked : Result Order UsageKind) (outcome : Outcome) (old new : Devices) → IsSome (line_of outcome)
+    → Works told embedder asked outcome old new → Works told embedder asked Memory old new
+works_memory told embedder (Err kind) outcome old new line h = h
+works_memory told embedder (Ok (order.Merge o l out)) outcome old new line h = h
+works_memory told embedder (Ok (order.Run o l steps args)) outcome old new line h = run_memory told (options_of o) (links.options_of l) steps (embedder (guest_arguments args)) outcome old new h
+works_memory told embedder (Ok (order.Exec file steps args)) outcome old new line h = exec_memory told file steps (embedder (guest_arguments args)) outcome old new h
+works_memory told embedder (Ok (order.Plan o l)) outcome old new line h =
+    (plan_memory told (embedder []).names (options_of o) (links.options_of l) outcome old.output new.output line h.0, h.1)
 
 pub told_works : (told : Option FileMap) (embedder : List (List ℕ) → Embedder) (asked : Result Order UsageKind) (outcome answer : Outcome) (old new : Devices) → IsTold outcome answer → Works told embedder asked outcome old new
     → Works told embedder asked answer old new
 told_works told embedder asked outcome answer old new is h =
-    told_keeps (λ o. Works told embedder asked o old new) outcome answer is (λ line. works_memory told embedder asked outcome old new h) h
+    told_keeps (λ o. Works told embedder asked o old new) outcome answer is (λ line. works_memory told embedder asked outcome old new line h) h

@@ -1,5 +1,5 @@
 -- What comes of reading the file at a path.
-use Rattle.std.specs.Prelude.{◌≡◌, ◌≤◌, ℕ, List, length, Bool, false, IfOk, IfErr, Result, Ok, Err}
+use Rattle.std.specs.Prelude.{◌≡◌, ◌≤◌, ℕ, List, length, false, IfOk, IfErr, Result, Ok, Err}
 use Rattle.std.specs.Option.{ForSome}
 use Rattle.std.specs.FinMap.{get}
 use Rattle.wasm_form.specs.declared.module.Module.{Module}
@@ -8,23 +8,16 @@ use Rattle.spec_binary.specs.declared.fault.DecodeFault.{DecodeFault}
 use Rattle.spec_binary.specs.declared.fault.DecodeFault.TheVariants as decode
 use Rattle.spec_validation.specs.declared.fault.CheckFault.{CheckFault}
 use Rattle.spec_validation.specs.declared.fault.CheckFault.TheVariants as check
-use Rattle.spec_linking.specs.declared.fault.RecordFault.{RecordFault}
-use Rattle.spec_linking.specs.declared.fault.RecordFault.TheVariants as records
 use Rattle.spec_linking.specs.declared.fault.SetFault.{SetFault}
-use Rattle.spec_linking.specs.declared.fault.SetFault.TheVariants.{Missing, ReadFault, Decode, Record, Check, Memory}
+use Rattle.spec_linking.specs.declared.fault.SetFault.TheVariants.{Missing, ReadFault, Decode, Check, Memory}
 use Rattle.spec_linking.specs.Sets.{main_name}
-use Rattle.dyl_app.specs.declared.module.Reading.{Reading}
-use Rattle.dyl_app.specs.OneFile.{OfBytes, TellsFile}
+use Rattle.dyl_app.specs.OneFile.{most_run, OfBytes, TellsFile}
 use Rattle.dyl_app.specs.Causes.{FileCause, wants_inside}
 
 -- how a fault of module 0 is answered
 abbrev pub decode_fault : DecodeFault → SetFault
 decode_fault decode.Memory = Memory
 decode_fault fault = Decode 0 fault
-
-abbrev pub record_fault : RecordFault → SetFault
-record_fault records.Memory = Memory
-record_fault fault = Record 0 fault
 
 abbrev pub check_fault : CheckFault → SetFault
 check_fault check.Memory = Memory
@@ -47,16 +40,16 @@ OrMemory Said (Err Memory) = Unit {0}
 OrMemory Said said = Said said
 
 -- some bytes spell the module, no more than may be
-pub record IsOfSome (r : Reading) (wasm : Module) : Type 0 where
+pub record IsOfSome (wasm : Module) : Type 0 where
   pub bytes : List ℕ
-  pub few : length bytes ≤ r.most
-  pub said : OfBytes r.recorded bytes (Ok wasm)
+  pub few : length bytes ≤ most_run
+  pub said : OfBytes bytes (Ok wasm)
 
 -- What comes of reading the file: what there is to say of it where the files are told; and, whatever they tell, a module that some bytes
 -- spell, or a fault that has its cause.
-pub record Reads (r : Reading) (path : List ℕ) (result : Result Module SetFault) (old new : FilesState) : Type 0 where
-  pub tells : ForSome old.told (λ told. TellsFile r (get told) path result)
-  pub spelled : IfOk result (IsOfSome r)
+pub record Reads (path : List ℕ) (result : Result Module SetFault) (old new : FilesState) : Type 0 where
+  pub tells : ForSome old.told (λ told. TellsFile (get told) path result)
+  pub spelled : IfOk result IsOfSome
   pub caused : IfErr result (λ fault. FileCause path fault old new)
   pub inner : IfErr result (λ fault. wants_inside fault ≡ false)
   pub files : new.told ≡ old.told

@@ -1,4 +1,5 @@
 pub mod OneFile
+pub mod Linking
 pub mod Causes
 pub mod Due
 pub mod Files

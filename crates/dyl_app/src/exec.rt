@@ -5,8 +5,8 @@ ghost use Rattle.dyl_app.specs.Runs.{guest_arguments};
 ghost use Rattle.dyl_app.specs.Served.{Serves};
 ghost use Rattle.dyl_app.specs.Clauses.{ModuleDoes, ExecWorks};
 
-use crate::merge::refused;
-use crate::module::{Reading, read_module};
+use crate::module::read_module;
+use crate::sets::refused;
 use dyl_front::{Order, Outcome, owned};
 use dyl_outside::{Ambient, Files, Sink, Source};
 use host_table::HostTable;
@@ -16,11 +16,8 @@ use wasm_check::Checked;
 use wasm_exec::execute;
 use wasm_form::{List, Memory, Text};
 
-/// The most bytes of a file that is run.
-const MOST_FILE: usize = 67_108_864;
-
 /// The arguments that a guest sees: the name `program`, and then these.
-fn guest_arguments(alloc: Global, args: &[Text]) -> Result<List<Text>, Memory>
+pub(crate) fn guest_arguments(alloc: Global, args: &[Text]) -> Result<List<Text>, Memory>
     ensures { IfOk result (λ texts. texts ≡ guest_arguments args.now) }
 {
     let mut texts = Vec::new(alloc);
@@ -72,15 +69,11 @@ pub fn exec_file<F: Files, I: Source, O: Sink, E: Sink, A: Ambient>(
     host: &HostTable,
 ) -> Outcome
     requires { steps ≤ 9223372036854775807 }
-    ensures serves { Serves (names_of host.now) (Ok (Order.Exec file.now steps args.now)) result (F.seen files.old) (F.seen files.new) }
+    ensures serves { Serves (names_of host.now) (Ok (Order.Exec file.now steps args.now)) result (F.seen files.old) (F.seen files.new) (O.seen output.old).faults (O.seen output.new).faults }
     ensures done { result ≢ Outcome.Done }
     ensures works { ExecWorks host.now (F.seen files.old) file.now steps args.now result (I.seen input.old) (O.seen output.old) (E.seen errors.old) (A.seen ambient.old) (I.seen input.new) (O.seen output.new) (E.seen errors.new) (A.seen ambient.new) }
 {
-    let reading = Reading {
-        most: MOST_FILE,
-        recorded: false,
-    };
-    match read_module(alloc, file, reading, files) {
+    match read_module(alloc, file, files) {
         Ok(checked) => exec_module(
             alloc, &checked, steps, args, input, output, errors, ambient, host,
         ),

@@ -3,11 +3,12 @@
 
 mod errors;
 mod exec;
-mod gather;
-mod link;
 mod merge;
 mod module;
+mod plan;
+mod run;
 mod service;
+mod sets;
 
 pub use dyl_front::{Order, Outcome, UsageKind, status};
 pub use errors::tell;

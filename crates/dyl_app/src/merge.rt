@@ -1,84 +1,99 @@
-// Merging the set of a main module.
-ghost use Rattle.std.specs.Prelude.{◌≡◌, Some, None, Ok};
-ghost use Rattle.spec_validation.specs.Faults as validation;
-ghost use Rattle.spec_runtime.specs.Names as runtime;
-ghost use Rattle.spec_linking.specs.Definitions.{entry_of};
-ghost use Rattle.merge_whole.specs.MergedModule.{IsSmallInput};
-ghost use Rattle.dyl_app.specs.OneFile.{main_file};
-ghost use Rattle.dyl_app.specs.Fetched.{IsOfSome};
-ghost use Rattle.dyl_app.specs.Served.{Serves, Merges, set_outcome};
+// Merging a set.
+ghost use Rattle.std.specs.Prelude.{◌≡◌, ◌≤◌, ℕ, All, false, Ok};
+ghost use Rattle.host_calls.specs.Embedders.{names_of};
+ghost use Rattle.spec_linking.specs.LinkedSets.{LinkedSet};
+ghost use Rattle.dyl_link.specs.Kept.{IsLinked};
+ghost use Rattle.merge_module.specs.Laws.{IsSupported};
+ghost use Rattle.dyl_front.specs.Orders.{IsLinkInRange};
+ghost use Rattle.dyl_app.specs.Served.{Serves, StoresOutput, WritesMerged, MergesKept, is_kept_built, merge_outcome};
 
-use crate::gather::gather;
-use crate::link::entry;
+use crate::sets::linked_set;
 use dyl_front::{Order, Outcome};
+use dyl_link::{LinkOptions, Linked};
 use dyl_outside::{Files, IoFault};
-use merge_whole::{is_small, merge, small_sets_link};
-use spec_linking::{LinkFault, SetFault};
+use dyl_search::SetOptions;
+use host_table::HostTable;
+use merge_whole::merge_set;
+use spec_merging::MergeFault;
 use std::alloc::Global;
-use wasm_form::Module;
+use wasm_form::Text;
 
-/// Writes the merged module of a module with this entry.
-fn write_merged<F: Files>(
-    alloc: Global,
-    wasm: Module,
-    entry: u32,
-    out: &str,
-    files: &mut F,
-) -> Outcome
-    requires input { IsSmallInput wasm }
-    requires entry { entry_of wasm ≡ Some entry }
-    ensures { Merges wasm out.now result (F.seen files.old) (F.seen files.new) }
+/// Stores the output.
+fn store_output<F: Files>(alloc: Global, out: &str, bytes: &[u8], files: &mut F) -> Outcome
+    ensures { StoresOutput out.now bytes.now result (F.seen files.old) (F.seen files.new) }
 {
-    let Ok(bytes) = merge(alloc, wasm, entry) else {
-        return Outcome::Memory;
-    };
-    match files.store(alloc, out, &bytes) {
+    match files.store(alloc, out, bytes) {
         Ok(()) => Outcome::Done,
         Err(IoFault::Failed) => Outcome::WriteFault,
         Err(IoFault::Memory) => Outcome::Memory,
     }
 }
 
-/// Links a small module, and writes its merged module.
-fn finish<F: Files>(alloc: Global, wasm: Module, out: &str, files: &mut F) -> Outcome
-    requires { IsSmallInput wasm }
-    ensures { Merges wasm out.now result (F.seen files.old) (F.seen files.new) }
+/// What is answered where nothing is merged.
+fn unmerged(fault: MergeFault) -> Outcome
+    ensures { result ≡ merge_outcome fault }
 {
-    match entry(&wasm) {
-        Some(entry) => write_merged(alloc, wasm, entry, out, files),
-        None => Outcome::Link(LinkFault::NoEntry),
+    match fault {
+        MergeFault::Memory => Outcome::Memory,
+        fault => Outcome::Merge(fault),
     }
 }
 
-/// Links and merges a module that was gathered, if it is of the form that is built.
-fn merge_gathered<F: Files>(alloc: Global, wasm: Module, out: &str, files: &mut F) -> Outcome
-    requires { IsOfSome main_file wasm }
-    ensures { Merges wasm out.now result (F.seen files.old) (F.seen files.new) }
+/// Writes the merged module of a linked set.
+fn write_merged<F: Files>(alloc: Global, linked: &Linked, out: &str, files: &mut F) -> Outcome
+    requires set { (L : LinkedSet) × IsLinked L linked.now }
+    requires loader { linked.now.uses_loader ≡ false }
+    requires pages { linked.now.plan.pages_max ≤ 16384 }
+    requires hosts { All IsSupported linked.now.hosts }
+    ensures { WritesMerged linked.now out.now result (F.seen files.old) (F.seen files.new) }
 {
-    if is_small(&wasm) {
-        finish(alloc, wasm, out, files)
+    match merge_set(alloc, linked) {
+        Ok(bytes) => store_output(alloc, out, &bytes, files),
+        Err(fault) => unmerged(fault),
+    }
+}
+
+/// Whether a linked set is merged today: nothing is opened later.
+fn is_built(dl: &[Text], linked: &Linked) -> bool
+    ensures { result ≡ is_kept_built dl.now linked.now }
+{
+    dl.is_empty() && !linked.uses_loader()
+}
+
+/// Writes the merged module of a linked set, if it is of the form that is built.
+fn merge_linked<F: Files>(
+    alloc: Global,
+    dl: &[Text],
+    linked: &Linked,
+    out: &str,
+    files: &mut F,
+) -> Outcome
+    requires set { (L : LinkedSet) × IsLinked L linked.now }
+    requires pages { linked.now.plan.pages_max ≤ 16384 }
+    requires hosts { All IsSupported linked.now.hosts }
+    ensures { MergesKept dl.now linked.now out.now result (F.seen files.old) (F.seen files.new) }
+{
+    if is_built(dl, linked) {
+        write_merged(alloc, linked, out, files)
     } else {
         Outcome::Unbuilt
     }
 }
 
-/// What is answered where no set is gathered.
-pub fn refused(fault: SetFault) -> Outcome
-    ensures { result ≡ set_outcome fault }
+/// Merges the set that is asked for, and writes the merged module.
+pub fn merge_main<F: Files>(
+    alloc: Global,
+    set: &SetOptions,
+    link: &LinkOptions,
+    out: &str,
+    files: &mut F,
+    host: &HostTable,
+) -> Outcome
+    requires { IsLinkInRange link.now }
+    ensures { (before now : ℕ) → Serves (names_of host.now) (Ok (Order.Merge set.now link.now out.now)) result (F.seen files.old) (F.seen files.new) before now }
 {
-    match fault {
-        SetFault::Memory => Outcome::Memory,
-        fault => Outcome::Set(fault),
-    }
-}
-
-/// Merges the set of the main module at a path.
-pub fn merge_main<F: Files>(alloc: Global, main: &str, out: &str, files: &mut F) -> Outcome
-    ensures { (names : runtime.HostNames) → Serves names (Ok (Order.Merge main.now out.now)) result (F.seen files.old) (F.seen files.new) }
-{
-    small_sets_link();
-    match gather(alloc, main, files) {
-        Ok(wasm) => merge_gathered(alloc, wasm, out, files),
-        Err(fault) => refused(fault),
+    match linked_set(alloc, set, link, files, host) {
+        Ok(linked) => merge_linked(alloc, set.dl.items(), &linked, out, files),
+        Err(outcome) => outcome,
     }
 }

@@ -1,28 +1,23 @@
-// The module of a file.
-ghost use Rattle.std.specs.Prelude.{◌≡◌, IfOk, IfErr, true, false, Err, Bool};
+// The module of a file that is run.
+ghost use Rattle.std.specs.Prelude.{◌≡◌, IfErr, false};
 ghost use Rattle.spec_binary.specs.WellFormed.{IsWellFormed};
 ghost use Rattle.spec_linking.specs.Sets.{main_name};
-ghost use Rattle.dyl_app.specs.OneFile.{HasNeeded, OfModule, OfBytes};
+ghost use Rattle.dyl_app.specs.OneFile.{OfModule, OfBytes};
 ghost use Rattle.dyl_app.specs.Causes.{wants_inside};
-ghost use Rattle.dyl_app.specs.Fetched.{decode_fault, record_fault, check_fault, OrMemory, IsMissing, IsUnread, Reads};
+ghost use Rattle.dyl_app.specs.Fetched.{decode_fault, check_fault, OrMemory, IsMissing, IsUnread, Reads};
 
 use dyl_front::owned;
 use dyl_outside::{FileFault, Files};
-use dyl_section::read_dylink;
 use spec_binary::DecodeFault;
-use spec_linking::{RecordFault, SetFault};
+use spec_linking::SetFault;
 use spec_validation::CheckFault;
 use std::alloc::Global;
 use wasm_check::{Checked, check};
 use wasm_decode::decode;
 use wasm_form::Module;
 
-/// How a file is read: its most bytes, and whether its module needs a record.
-#[derive(Clone, Copy)]
-pub struct Reading {
-    pub most: usize,
-    pub recorded: bool,
-}
+/// The most bytes of a module that is run.
+const MOST_RUN: usize = 67_108_864;
 
 /// The name of a main module: what stands after the last slash of its path.
 fn name_of(path: &str) -> &str
@@ -67,16 +62,6 @@ fn not_decoded(fault: DecodeFault) -> SetFault
     }
 }
 
-/// That its module has no record.
-fn not_recorded(fault: RecordFault) -> SetFault
-    ensures { result ≡ record_fault fault }
-{
-    match fault {
-        RecordFault::Memory => SetFault::Memory,
-        fault => SetFault::Record { module: 0, fault },
-    }
-}
-
 /// That its module isn't valid.
 fn not_valid(fault: CheckFault) -> SetFault
     ensures { result ≡ check_fault fault }
@@ -87,22 +72,10 @@ fn not_valid(fault: CheckFault) -> SetFault
     }
 }
 
-/// Sees that a module has a record.
-fn with_record(alloc: Global, wasm: &Module) -> Result<(), SetFault>
-    ensures there { IfOk result (λ _. HasNeeded true wasm.now) }
-    ensures none { IfErr result (λ fault. OrMemory (OfModule true wasm.now) (Err fault)) }
-    ensures inner { IfErr result (λ fault. wants_inside fault ≡ false) }
-{
-    match read_dylink(alloc, wasm) {
-        Ok(_) => Ok(()),
-        Err(fault) => Err(not_recorded(fault)),
-    }
-}
-
 /// A module that is valid.
 fn checked(alloc: Global, wasm: Module) -> Result<Checked, SetFault>
     requires { IsWellFormed wasm }
-    ensures told { (recorded : Bool) → HasNeeded recorded wasm → OrMemory (OfModule recorded wasm) result }
+    ensures told { OrMemory (OfModule wasm) result }
     ensures inner { IfErr result (λ fault. wants_inside fault ≡ false) }
 {
     match check(alloc, wasm) {
@@ -111,41 +84,23 @@ fn checked(alloc: Global, wasm: Module) -> Result<Checked, SetFault>
     }
 }
 
-/// A module that has its record, where one is needed, and is valid.
-fn tested(alloc: Global, wasm: Module, recorded: bool) -> Result<Checked, SetFault>
-    requires { IsWellFormed wasm }
-    ensures told { OrMemory (OfModule recorded wasm) result }
-    ensures inner { IfErr result (λ fault. wants_inside fault ≡ false) }
-{
-    if !recorded {
-        return checked(alloc, wasm);
-    }
-    with_record(alloc, &wasm)?;
-    checked(alloc, wasm)
-}
-
 /// The module that bytes spell.
-fn module_of(alloc: Global, bytes: &[u8], recorded: bool) -> Result<Checked, SetFault>
-    ensures told { OrMemory (OfBytes recorded bytes.now) result }
+fn module_of(alloc: Global, bytes: &[u8]) -> Result<Checked, SetFault>
+    ensures told { OrMemory (OfBytes bytes.now) result }
     ensures inner { IfErr result (λ fault. wants_inside fault ≡ false) }
 {
     match decode(alloc, bytes) {
-        Ok(wasm) => tested(alloc, wasm, recorded),
+        Ok(wasm) => checked(alloc, wasm),
         Err(fault) => Err(not_decoded(fault)),
     }
 }
 
 /// The module of the file at a path.
-pub fn read_module<F: Files>(
-    alloc: Global,
-    path: &str,
-    reading: Reading,
-    files: &mut F,
-) -> Result<Checked, SetFault>
-    ensures { Reads reading path.now result (F.seen files.old) (F.seen files.new) }
+pub fn read_module<F: Files>(alloc: Global, path: &str, files: &mut F) -> Result<Checked, SetFault>
+    ensures { Reads path.now result (F.seen files.old) (F.seen files.new) }
 {
-    match files.fetch(alloc, path, reading.most) {
-        Ok(bytes) => module_of(alloc, &bytes, reading.recorded),
+    match files.fetch(alloc, path, MOST_RUN) {
+        Ok(bytes) => module_of(alloc, &bytes),
         Err(FileFault::Absent) => Err(missing(alloc, path)),
         Err(FileFault::Failed) => Err(unread(alloc, path)),
         Err(FileFault::TooLong) => Err(SetFault::SetSize),

@@ -1,44 +1,98 @@
 // The call that does all that the program does.
-ghost use Rattle.std.specs.Prelude.{◌≡◌, ◌≤◌, false, Ok};
+ghost use Rattle.std.specs.Prelude.{◌≡◌, ◌≤◌, ℕ, false, Ok};
 ghost use Rattle.std.specs.Option.{ForSome};
 ghost use Rattle.std.specs.FinMap.{get};
-ghost use Rattle.spec_runtime.specs.Names as runtime;
 ghost use Rattle.host_calls.specs.Embedders.{names_of};
-ghost use Rattle.dyl_front.specs.Orders.{order_of, IsInRange};
+ghost use Rattle.dyl_search.specs.Gathers.{options_of};
+ghost use Rattle.dyl_link.specs.Kept as links;
+ghost use Rattle.dyl_front.specs.Orders.{order_of, IsLinkInRange, IsInRange};
 ghost use Rattle.dyl_app.specs.Due.{DueFor, TellsFor, Yields, IsComplete};
 ghost use Rattle.dyl_app.specs.Files.{LeavesFor};
 ghost use Rattle.dyl_app.specs.Causes.{Caused, has_inner_memory};
 ghost use Rattle.dyl_app.specs.Told.{TellsErrors};
 ghost use Rattle.dyl_app.specs.Served.{Serves};
-ghost use Rattle.dyl_app.specs.Clauses.{DoesBy, ExecDoes};
+ghost use Rattle.dyl_app.specs.Runs.{PlanWorks};
+ghost use Rattle.dyl_app.specs.Clauses.{DoesBy, RunDoes, ExecDoes};
 
 use crate::errors::tell;
 use crate::exec::exec_file;
 use crate::merge::merge_main;
+use crate::plan::plan_main;
+use crate::run::run_main;
 use dyl_front::{Order, Outcome, WordFault, read_words};
+use dyl_link::LinkOptions;
 use dyl_outside::{Ambient, Files, Sink, Source};
+use dyl_search::SetOptions;
 use dyl_section::one_record_answer;
 use host_table::HostTable;
-use merge_whole::small_sets_link;
 use spec_linking::one_gathered;
 use spec_reading::reading_answers;
 use std::alloc::Global;
 use wasm_form::Text;
 
-/// Merges, and tells what came of it.
+/// Merges a set, and tells what came of it.
 fn perform_merge<F: Files, E: Sink>(
     alloc: Global,
-    main: &str,
+    set: &SetOptions,
+    link: &LinkOptions,
     out: &str,
     files: &mut F,
     errors: &mut E,
+    host: &HostTable,
 ) -> Outcome
-    ensures serves { (names : runtime.HostNames) → Serves names (Ok (Order.Merge main.now out.now)) result (F.seen files.old) (F.seen files.new) }
+    requires { IsLinkInRange link.now }
+    ensures serves { (before now : ℕ) → Serves (names_of host.now) (Ok (Order.Merge set.now link.now out.now)) result (F.seen files.old) (F.seen files.new) before now }
     ensures told { TellsErrors result (E.seen errors.old) (E.seen errors.new) }
     ensures quiet { result ≡ Outcome.Done → errors.new ≡ errors.old }
 {
-    let merged = merge_main(alloc, main, out, files);
+    let merged = merge_main(alloc, set, link, out, files, host);
     tell(alloc, merged, errors)
+}
+
+/// Lists a set, and tells what came of it.
+fn perform_plan<F: Files, O: Sink, E: Sink>(
+    alloc: Global,
+    set: &SetOptions,
+    link: &LinkOptions,
+    files: &mut F,
+    output: &mut O,
+    errors: &mut E,
+    host: &HostTable,
+) -> Outcome
+    requires { IsLinkInRange link.now }
+    ensures serves { Serves (names_of host.now) (Ok (Order.Plan set.now link.now)) result (F.seen files.old) (F.seen files.new) (O.seen output.old).faults (O.seen output.new).faults }
+    ensures works { PlanWorks (F.seen files.old).told (names_of host.now) (options_of set.now) (links.options_of link.now) result (O.seen output.old) (O.seen output.new) }
+    ensures told { TellsErrors result (E.seen errors.old) (E.seen errors.new) }
+    ensures quiet { result ≡ Outcome.Done → errors.new ≡ errors.old }
+{
+    let listed = plan_main(alloc, set, link, files, output, host);
+    tell(alloc, listed, errors)
+}
+
+/// Runs a set, and tells what came of it.
+fn perform_run<F: Files, I: Source, O: Sink, E: Sink, A: Ambient>(
+    alloc: Global,
+    set: &SetOptions,
+    link: &LinkOptions,
+    steps: u64,
+    args: &[Text],
+    files: &mut F,
+    input: &mut I,
+    output: &mut O,
+    errors: &mut E,
+    ambient: &mut A,
+    host: &HostTable,
+) -> Outcome
+    requires link { IsLinkInRange link.now }
+    requires steps { steps ≤ 9223372036854775807 }
+    ensures serves { Serves (names_of host.now) (Ok (Order.Run set.now link.now steps args.now)) result (F.seen files.old) (F.seen files.new) (O.seen output.old).faults (O.seen output.new).faults }
+    ensures does { RunDoes host.now (F.seen files.old) set.now link.now steps args.now result (I.seen input.old) (O.seen output.old) (E.seen errors.old) (A.seen ambient.old) (I.seen input.new) (O.seen output.new) (E.seen errors.new) (A.seen ambient.new) }
+    ensures quiet { result ≡ Outcome.Done → errors.new ≡ errors.old }
+{
+    let executed = run_main(
+        alloc, set, link, steps, args, files, input, output, errors, ambient, host,
+    );
+    tell(alloc, executed, errors)
 }
 
 /// Runs a module, and tells what came of it.
@@ -55,7 +109,7 @@ fn perform_exec<F: Files, I: Source, O: Sink, E: Sink, A: Ambient>(
     host: &HostTable,
 ) -> Outcome
     requires { steps ≤ 9223372036854775807 }
-    ensures serves { Serves (names_of host.now) (Ok (Order.Exec file.now steps args.now)) result (F.seen files.old) (F.seen files.new) }
+    ensures serves { Serves (names_of host.now) (Ok (Order.Exec file.now steps args.now)) result (F.seen files.old) (F.seen files.new) (O.seen output.old).faults (O.seen output.new).faults }
     ensures does { ExecDoes host.now (F.seen files.old) file.now steps args.now result (I.seen input.old) (O.seen output.old) (E.seen errors.old) (A.seen ambient.old) (I.seen input.new) (O.seen output.new) (E.seen errors.new) (A.seen ambient.new) }
     ensures quiet { result ≡ Outcome.Done → errors.new ≡ errors.old }
 {
@@ -77,18 +131,33 @@ fn perform_order<F: Files, I: Source, O: Sink, E: Sink, A: Ambient>(
     host: &HostTable,
 ) -> Outcome
     requires { IsInRange order.now }
-    ensures serves { Serves (names_of host.now) (Ok order.now) result (F.seen files.old) (F.seen files.new) }
+    ensures serves { Serves (names_of host.now) (Ok order.now) result (F.seen files.old) (F.seen files.new) (O.seen output.old).faults (O.seen output.new).faults }
     ensures does { DoesBy host.now (F.seen files.old) (Ok order.now) result (I.seen input.old) (O.seen output.old) (E.seen errors.old) (A.seen ambient.old) (I.seen input.new) (O.seen output.new) (E.seen errors.new) (A.seen ambient.new) }
     ensures quiet { result ≡ Outcome.Done → errors.new ≡ errors.old }
 {
     match order {
-        Order::Merge { main, out } => perform_merge(
+        Order::Merge { set, link, out } => {
+            perform_merge(alloc, set, link, out.as_str(), files, errors, host)
+        }
+        Order::Run {
+            set,
+            link,
+            steps,
+            args,
+        } => perform_run(
             alloc,
-            main.as_str(),
-            out.as_str(),
+            set,
+            link,
+            *steps,
+            args.items(),
             files,
+            input,
+            output,
             errors,
+            ambient,
+            host,
         ),
+        Order::Plan { set, link } => perform_plan(alloc, set, link, files, output, errors, host),
         Order::Exec { file, steps, args } => perform_exec(
             alloc,
             file.as_str(),
@@ -115,7 +184,7 @@ fn serve_words<F: Files, I: Source, O: Sink, E: Sink, A: Ambient>(
     ambient: &mut A,
     host: &HostTable,
 ) -> Outcome
-    ensures serves { Serves (names_of host.now) (order_of words.now) result (F.seen files.old) (F.seen files.new) }
+    ensures serves { Serves (names_of host.now) (order_of words.now) result (F.seen files.old) (F.seen files.new) (O.seen output.old).faults (O.seen output.new).faults }
     ensures does { DoesBy host.now (F.seen files.old) (order_of words.now) result (I.seen input.old) (O.seen output.old) (E.seen errors.old) (A.seen ambient.old) (I.seen input.new) (O.seen output.new) (E.seen errors.new) (A.seen ambient.new) }
     ensures quiet { result ≡ Outcome.Done → errors.new ≡ errors.old }
 {
@@ -141,8 +210,8 @@ pub fn perform<F: Files, I: Source, O: Sink, E: Sink, A: Ambient>(
     ensures due { ForSome (F.seen files.old).told (λ told. (due : Outcome) → DueFor (names_of host.now) (get told) (Ok order.now) due → Yields due result) }
     ensures tells { ForSome (F.seen files.old).told (λ told. TellsFor (names_of host.now) (get told) (Ok order.now) result) }
     ensures files { ForSome (F.seen files.old).told (λ told. LeavesFor (names_of host.now) (Ok order.now) told result (F.seen files.old) (F.seen files.new)) }
-    ensures complete { ForSome (F.seen files.old).told (λ told. IsComplete (names_of host.now) (get told) (Ok order.now) result (F.seen files.old) (F.seen files.new)) }
-    ensures caused { Caused (Ok order.now) result (F.seen files.old) (F.seen files.new) }
+    ensures complete { ForSome (F.seen files.old).told (λ told. IsComplete (names_of host.now) (get told) (Ok order.now) result (F.seen files.old) (F.seen files.new) (O.seen output.old).faults (O.seen output.new).faults) }
+    ensures caused { Caused (Ok order.now) result (F.seen files.old) (F.seen files.new) (O.seen output.old).faults (O.seen output.new).faults }
     ensures inner { has_inner_memory result ≡ false }
     ensures does { DoesBy host.now (F.seen files.old) (Ok order.now) result (I.seen input.old) (O.seen output.old) (E.seen errors.old) (A.seen ambient.old) (I.seen input.new) (O.seen output.new) (E.seen errors.new) (A.seen ambient.new) }
     ensures quiet { result ≡ Outcome.Done → errors.new ≡ errors.old }
@@ -150,7 +219,6 @@ pub fn perform<F: Files, I: Source, O: Sink, E: Sink, A: Ambient>(
     reading_answers();
     one_record_answer();
     one_gathered();
-    small_sets_link();
     perform_order(alloc, order, files, input, output, errors, ambient, host)
 }
 
@@ -161,6 +229,8 @@ pub fn perform<F: Files, I: Source, O: Sink, E: Sink, A: Ambient>(
 /// - `merge MAIN OUT` gathers the closed set of the main module at the path MAIN, links it, and writes one module at OUT, which agrees
 ///   with the loaded set: whatever a host answers, after any number of steps of either run there is a number of steps of the other
 ///   with the same host calls on the same memory, and with the same end.
+/// - `plan MAIN` gathers and links the set, and puts its listing to the output.
+/// - `run MAIN` gathers and links the set, and runs it as loaded.
 /// - `exec FILE` runs the module at the path FILE for at most 1,000,000,000 steps. Its calls of `wasi_snapshot_preview1` are answered
 ///   over the input, the output, the errors, the clock and the random words, and others by the callbacks of the table.
 ///
@@ -181,10 +251,10 @@ pub fn serve<F: Files, I: Source, O: Sink, E: Sink, A: Ambient>(
     ensures files { ForSome (F.seen files.old).told (λ told. LeavesFor (names_of host.now) (order_of words.now) told result (F.seen files.old) (F.seen files.new)) }
 
     // Where the files are what the order needs and nothing of them fails, it is done.
-    ensures complete { ForSome (F.seen files.old).told (λ told. IsComplete (names_of host.now) (get told) (order_of words.now) result (F.seen files.old) (F.seen files.new)) }
+    ensures complete { ForSome (F.seen files.old).told (λ told. IsComplete (names_of host.now) (get told) (order_of words.now) result (F.seen files.old) (F.seen files.new) (O.seen output.old).faults (O.seen output.new).faults) }
 
     // Whatever is told: when each answer may come. Want of memory is an answer of its own.
-    ensures caused { Caused (order_of words.now) result (F.seen files.old) (F.seen files.new) }
+    ensures caused { Caused (order_of words.now) result (F.seen files.old) (F.seen files.new) (O.seen output.old).faults (O.seen output.new).faults }
     ensures inner { has_inner_memory result ≡ false }
 
     // What a run does to the outside; and the line of the answer, which is put last.
@@ -194,6 +264,5 @@ pub fn serve<F: Files, I: Source, O: Sink, E: Sink, A: Ambient>(
     reading_answers();
     one_record_answer();
     one_gathered();
-    small_sets_link();
     serve_words(alloc, words, files, input, output, errors, ambient, host)
 }

@@ -1,3 +1,5 @@
 pub mod Orders
 pub mod Status
 pub mod Lines
+pub mod Listing
+pub mod KeptListing

@@ -21,13 +21,17 @@ use Rattle.spec_execution.specs.declared.fault.SingleFault.{SingleFault}
 use Rattle.spec_execution.specs.declared.fault.SingleFault.TheVariants as single
 use Rattle.spec_hosts.specs.declared.ran.RunEnd.{RunEnd}
 use Rattle.spec_hosts.specs.declared.ran.RunEnd.TheVariants as end
+use Rattle.spec_merging.specs.declared.fault.MergeFault.{MergeFault}
+use Rattle.spec_merging.specs.declared.fault.MergeFault.TheVariants as merge
+use Rattle.dyl_front.specs.declared.outcome.Opt.{Opt}
+use Rattle.dyl_front.specs.declared.outcome.Opt.TheVariants.{Dl, Path, Pages, Stack, Steps, N}
 use Rattle.dyl_front.specs.declared.outcome.UsageKind.{UsageKind}
-use Rattle.dyl_front.specs.declared.outcome.UsageKind.TheVariants.{NoCommand, UnknownCommand, Words}
+use Rattle.dyl_front.specs.declared.outcome.UsageKind.TheVariants.{NoCommand, UnknownCommand, Words, Number, Name}
 use Rattle.spec_linking.specs.declared.fault.SetFault.{SetFault}
 use Rattle.spec_linking.specs.declared.fault.SetFault.TheVariants as set
 use Rattle.spec_linking.specs.declared.fault.SetFault.TheVariants.{Missing, ReadFault, Decode, Record, Check, ModuleCount, SetSize}
 use Rattle.dyl_front.specs.declared.outcome.Outcome.{Outcome}
-use Rattle.dyl_front.specs.declared.outcome.Outcome.TheVariants.{Done, Ran, Usage, Set, Unbuilt, Link, Single, WriteFault, Memory}
+use Rattle.dyl_front.specs.declared.outcome.Outcome.TheVariants.{Done, Ran, Usage, Set, Unbuilt, Link, Merge, Single, WriteFault, Memory}
 
 -- a lower-case hexadecimal digit
 abbrev pub hex_digit : ℕ → ℕ
@@ -48,10 +52,20 @@ escaped_byte b = if is_printed b then b ∷ [] else 0x5C ∷ hex_byte b
 abbrev pub escaped : List ℕ → List ℕ
 escaped bytes = flat_map escaped_byte bytes
 
+abbrev pub option_text : Opt → List ℕ
+option_text Dl = codes "--dl"
+option_text Path = codes "--path"
+option_text Pages = codes "--pages"
+option_text Stack = codes "--stack"
+option_text Steps = codes "--steps"
+option_text N = codes "N"
+
 abbrev pub usage_text : UsageKind → List ℕ
 usage_text NoCommand = codes "usage: no command"
 usage_text UnknownCommand = codes "usage: unknown command"
 usage_text Words = codes "usage: words"
+usage_text (Number of) = codes "usage: number for " ++ option_text of
+usage_text (Name of) = codes "usage: name for " ++ option_text of
 
 abbrev pub decode_text : ℕ → DecodeFault → List ℕ
 decode_text m (decode.Malformed s) = codes "module " ++ decimal m ++ codes " malformed after " ++ decimal s ++ codes " sections"
@@ -122,6 +136,10 @@ link_text (link.Duplicate name first second) = codes "duplicate " ++ escaped nam
 link_text link.NoEntry = codes "no entry"
 link_text link.Memory = codes "out of memory"
 
+abbrev pub merge_text : MergeFault → List ℕ
+merge_text (merge.SectionSize id) = codes "section " ++ decimal id ++ codes " too long"
+merge_text merge.Memory = codes "out of memory"
+
 abbrev pub trap_text : Trap → List ℕ
 trap_text trap.Unreachable = codes "unreachable"
 trap_text trap.MemoryBounds = codes "memory bounds"
@@ -159,6 +177,7 @@ outcome_text (Usage kind) = Some (usage_text kind)
 outcome_text (Set fault) = Some (set_text fault)
 outcome_text Unbuilt = Some (codes "unbuilt")
 outcome_text (Link fault) = Some (link_text fault)
+outcome_text (Merge fault) = Some (merge_text fault)
 outcome_text (Single fault) = Some (single_text fault)
 outcome_text WriteFault = Some (codes "write fault")
 outcome_text Memory = Some memory_text

@@ -1,69 +1,153 @@
 -- What the words ask for.
-use Rattle.std.specs.Prelude.{◌≡◌, ◌≤◌, ℕ, List, [], ◌∷◌, Bool, true, false, ◌&&◌, nat_eq, not, Result, Ok, Err, String, string_bytes, codes, bytes_eq, if◌then◌else◌}
-use Rattle.std.specs.List.{list_all, list_any}
+use Rattle.std.specs.Prelude.{◌≡◌, ◌≤◌, ◌==◌, ℕ, List, [], ◌∷◌, Bool, true, false, ◌&&◌, nat_le, not, map, length, Option, Some, None, Result, Ok, Err, String, string_bytes, if◌then◌else◌}
+use Rattle.std.specs.List.{list_all, list_any, slice_split}
+use Rattle.std.specs.Str.Parse.{digits_value}
 use Rattle.std.specs.declared.alloc.Global.{Global}
-use Rattle.dyl_front.specs.declared.outcome.UsageKind.{UsageKind}
-use Rattle.dyl_front.specs.declared.outcome.UsageKind.TheVariants.{NoCommand, UnknownCommand, Words}
-use Rattle.dyl_front.specs.declared.order.Order.{Order}
-use Rattle.dyl_front.specs.declared.order.Order.TheVariants.{Merge, Exec}
 use Rattle.std.specs.declared.io.ErrorKind.{ErrorKind}
 use Rattle.std.specs.declared.io.ErrorKind.TheVariants.{OutOfMemory}
+use Rattle.dyl_link.specs.declared.options.LinkOptions.{LinkOptions}
+use Rattle.dyl_search.specs.declared.set.SetOptions.{SetOptions}
+use Rattle.dyl_words.specs.Words.{Asked, asked, command_named, has_zero}
+use Rattle.dyl_words.specs.declared.asked.AskFault.{AskFault}
+use Rattle.dyl_words.specs.declared.asked.AskFault.TheVariants as ask
+use Rattle.dyl_words.specs.declared.names.CommandName.{CommandName}
+use Rattle.dyl_words.specs.declared.names.CommandName.TheVariants as command
+use Rattle.dyl_front.specs.declared.outcome.Opt.{Opt}
+use Rattle.dyl_front.specs.declared.outcome.Opt.TheVariants.{Dl, Path, Pages, Stack, Steps}
+use Rattle.dyl_front.specs.declared.outcome.UsageKind.{UsageKind}
+use Rattle.dyl_front.specs.declared.outcome.UsageKind.TheVariants.{NoCommand, UnknownCommand, Words, Number, Name}
 use Rattle.dyl_front.specs.declared.outcome.Outcome.{Outcome}
 use Rattle.dyl_front.specs.declared.outcome.Outcome.TheVariants as outcome
+use Rattle.dyl_front.specs.declared.order.Order.{Order}
+use Rattle.dyl_front.specs.declared.order.Order.TheVariants.{Merge, Run, Exec, Plan}
 use Rattle.dyl_front.specs.declared.words.WordFault.{WordFault}
 use Rattle.dyl_front.specs.declared.words.WordFault.TheVariants as word
 
-abbrev pub starts_with_hyphen : List ℕ → Bool
-starts_with_hyphen [] = false
-starts_with_hyphen (b ∷ bs) = nat_eq b 0x2D
+abbrev pub Text : Type 0
+Text = List ℕ
 
-abbrev pub has_zero : List ℕ → Bool
-has_zero word = list_any (λ b. nat_eq b 0x00) word
+abbrev pub on_ok : {A B : Type 0} → Result A UsageKind → (A → Result B UsageKind) → Result B UsageKind
+on_ok (Ok x) next = next x
+on_ok (Err kind) next = Err kind
 
--- a word that is no option and has no zero character
-abbrev pub is_plain : List ℕ → Bool
-is_plain word = not (starts_with_hyphen word) && not (has_zero word)
+-- ---- the values of options
 
-abbrev pub merge_order : List (String Global) → Result Order UsageKind
-merge_order (main ∷ out ∷ []) = if is_plain (string_bytes main) && is_plain (string_bytes out) then Ok (Merge (string_bytes main) (string_bytes out)) else Err Words
-merge_order _ = Err Words
+abbrev pub is_digit : ℕ → Bool
+is_digit b = nat_le 0x30 b && nat_le b 0x39
 
--- the steps that are allowed where no number is given
-abbrev pub default_steps : ℕ
-default_steps = 1000000000
+abbrev pub is_number : Text → Bool
+is_number text = not (length text == 0) && list_all is_digit text
 
-abbrev pub exec_order : List (String Global) → Result Order UsageKind
-exec_order (file ∷ []) = if is_plain (string_bytes file) then Ok (Exec (string_bytes file) default_steps []) else Err Words
-exec_order _ = Err Words
+abbrev pub is_between : ℕ → ℕ → ℕ → Bool
+is_between least most n = nat_le least n && nat_le n most
 
--- the first word is the program's own name
+-- a number in its range, in digits alone; where no value is given, this one
+abbrev pub number_in : Opt → ℕ → ℕ → ℕ → Option Text → Result ℕ UsageKind
+number_in of least most unless None = Ok unless
+number_in of least most unless (Some text) = if is_number text && is_between least most (digits_value 10 text) then Ok (digits_value 10 text) else Err (Number of)
+
+abbrev pub is_empty : Text → Bool
+is_empty text = length text == 0
+
+abbrev pub items_of : Opt → List Text → Result (List Text) UsageKind
+items_of of parts = if list_any is_empty parts then Err (Name of) else Ok parts
+
+-- the items between separators; where no value is given, none
+abbrev pub items_in : Opt → ℕ → Option Text → Result (List Text) UsageKind
+items_in of separator None = Ok []
+items_in of separator (Some text) = items_of of (slice_split (λ b. b == separator) text)
+
+-- names between commas, and directories between colons
+abbrev pub set_in : Text → Asked → Result SetOptions UsageKind
+set_in main a = on_ok (items_in Dl 0x2C a.dl) (λ dl. on_ok (items_in Path 0x3A a.path) (λ paths. Ok (record { main = main; dl = dl; paths = paths })))
+
+abbrev pub link_in : Asked → Result LinkOptions UsageKind
+link_in a = on_ok (number_in Pages 1 16384 1024 a.pages) (λ pages. on_ok (number_in Stack 16 16777216 65536 a.stack) (λ stack. Ok (record { stack = stack; pages = pages; no_duplicates = a.no_duplicates })))
+
+abbrev pub steps_in : Asked → Result ℕ UsageKind
+steps_in a = number_in Steps 0 9223372036854775807 1000000000 a.steps
+
+-- ---- orders
+
+abbrev pub over_set : Text → Asked → (SetOptions → LinkOptions → Result Order UsageKind) → Result Order UsageKind
+over_set main a next = on_ok (set_in main a) (λ set. on_ok (link_in a) (λ link. next set link))
+
+abbrev pub merge_order : Text → Text → Asked → Result Order UsageKind
+merge_order main out a = over_set main a (λ set link. Ok (Merge set link out))
+
+abbrev pub run_order : Text → List Text → Asked → Result Order UsageKind
+run_order main args a = over_set main a (λ set link. on_ok (steps_in a) (λ steps. Ok (Run set link steps args)))
+
+abbrev pub exec_order : Text → List Text → Asked → Result Order UsageKind
+exec_order file args a = on_ok (steps_in a) (λ steps. Ok (Exec file steps args))
+
+abbrev pub plan_order : Text → Asked → Result Order UsageKind
+plan_order main a = over_set main a (λ set link. Ok (Plan set link))
+
+-- by the plain words, of which `asked` leaves neither too few nor too many
+abbrev pub order_by : CommandName → List Text → Asked → Result Order UsageKind
+order_by command.Merge (main ∷ out ∷ []) a = merge_order main out a
+order_by command.Run (main ∷ args) a = run_order main args a
+order_by command.Exec (file ∷ args) a = exec_order file args a
+order_by command.Plan (main ∷ []) a = plan_order main a
+order_by _ _ a = Err Words
+
+abbrev pub order_asked : CommandName → Option Asked → Result Order UsageKind
+order_asked c None = Err Words
+order_asked c (Some a) = order_by c a.plain a
+
+abbrev pub order_for : Option CommandName → List Text → Result Order UsageKind
+order_for None words = Err UnknownCommand
+order_for (Some c) words = order_asked c (asked c words)
+
+-- what these words ask for, of which the first is the program's own name
 abbrev pub order_of : List (String Global) → Result Order UsageKind
 order_of [] = Err NoCommand
 order_of (program ∷ []) = Err NoCommand
-order_of (program ∷ command ∷ words) =
-    if bytes_eq (string_bytes command) (codes "merge") then merge_order words
-    else (if bytes_eq (string_bytes command) (codes "exec") then exec_order words else Err UnknownCommand)
+order_of (program ∷ word ∷ words) = order_for (command_named (string_bytes word)) (map string_bytes words)
 
 -- these were read from the words, or this is what is wrong with them, or memory was wanting
-abbrev pub Reads : Result Order WordFault → Result Order UsageKind → Type 0
+abbrev pub Reads : {A : Type 0} → Result A WordFault → Result A UsageKind → Type 0
 Reads (Ok read) order = order ≡ Ok read
 Reads (Err (word.Usage kind)) order = order ≡ Err kind
 Reads (Err word.Memory) order = Unit {0}
+
+-- why nothing is asked for, as a fault of words
+abbrev pub word_fault : AskFault → WordFault
+word_fault ask.Words = word.Usage Words
+word_fault ask.Memory = word.Memory
 
 -- what is answered where the system gives no words, for an error of this kind: words that are no texts are none that any command takes
 abbrev pub refused_words : ErrorKind → Outcome
 refused_words OutOfMemory = outcome.Memory
 refused_words _ = outcome.Usage Words
 
--- the path of the module that is gathered or run
+-- the path of the main module, or of the module that is run
 abbrev pub path_of : Order → List ℕ
-path_of (Merge main out) = main
+path_of (Merge set link out) = set.main
+path_of (Run set link steps args) = set.main
 path_of (Exec file steps args) = file
+path_of (Plan set link) = set.main
 
 abbrev pub has_no_zero : List ℕ → Bool
 has_no_zero text = not (has_zero text)
 
--- an order whose numbers are in their ranges and whose texts have no zero character
+-- a name or a directory of a list
+abbrev pub is_item : List ℕ → Bool
+is_item text = not (length text == 0) && has_no_zero text
+
+abbrev pub IsSetInRange : SetOptions → Type 0
+IsSetInRange set = (has_no_zero set.main ≡ true) × (list_all is_item set.dl ≡ true) × (list_all is_item set.paths ≡ true)
+
+abbrev pub IsLinkInRange : LinkOptions → Type 0
+IsLinkInRange link = (1 ≤ link.pages) × (link.pages ≤ 16384) × (16 ≤ link.stack) × (link.stack ≤ 16777216)
+
+abbrev pub AreArgumentsInRange : ℕ → List (List ℕ) → Type 0
+AreArgumentsInRange steps args = (steps ≤ 9223372036854775807) × (list_all has_no_zero args ≡ true)
+
+-- an order whose numbers are in their ranges, whose lists have no empty item, and whose texts have no zero character
 abbrev pub IsInRange : Order → Type 0
-IsInRange (Merge main out) = (has_no_zero main ≡ true) × (has_no_zero out ≡ true)
-IsInRange (Exec file steps args) = (has_no_zero file ≡ true) × (steps ≤ 9223372036854775807) × (list_all has_no_zero args ≡ true)
+IsInRange (Merge set link out) = IsSetInRange set × IsLinkInRange link × (has_no_zero out ≡ true)
+IsInRange (Run set link steps args) = IsSetInRange set × IsLinkInRange link × AreArgumentsInRange steps args
+IsInRange (Exec file steps args) = (has_no_zero file ≡ true) × AreArgumentsInRange steps args
+IsInRange (Plan set link) = IsSetInRange set × IsLinkInRange link

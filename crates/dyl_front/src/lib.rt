@@ -1,14 +1,22 @@
 //! What is read and what is printed: words to an order, an outcome to its line and its exit status.
 #![tactic(auto)]
 
+mod binds;
 mod faults;
 mod lines;
+mod list;
+mod names;
+mod options;
 mod order;
 mod outcome;
 mod put;
+mod slots;
 mod words;
 
-pub use lines::line;
+pub use dyl_link::LinkOptions;
+pub use dyl_search::SetOptions;
+pub use lines::{line, link_line, set_line, usage_line};
+pub use list::listing;
 pub use order::Order;
-pub use outcome::{Outcome, UsageKind, status};
+pub use outcome::{Opt, Outcome, UsageKind, status};
 pub use words::{WordFault, collected, owned, read_words};

@@ -1,25 +1,50 @@
 // The line that is put to the errors for an outcome.
 ghost use Rattle.std.specs.Prelude.{◌≡◌, ◌++◌, [], codes, decimal, unwrap_or, Some, IsSome, IfOk, OnOk, string_bytes};
 ghost use Rattle.spec_linking.specs.declared.fault.LinkFault.TheVariants as link;
-ghost use Rattle.dyl_front.specs.Lines.{escaped, usage_text, kind_text, link_text, trap_text, end_text, single_text, outcome_text, line_of};
+ghost use Rattle.dyl_front.specs.Lines.{escaped, option_text, usage_text, set_text, kind_text, link_text, merge_text, trap_text, end_text, single_text, outcome_text, line_with, line_of};
 
 use crate::faults::put_set;
-use crate::outcome::{Outcome, UsageKind};
+use crate::outcome::{Opt, Outcome, UsageKind};
 use crate::put::{put_escaped, put_text};
 use spec_execution::SingleFault;
 use spec_hosts::RunEnd;
-use spec_linking::{Kind, LinkFault};
+use spec_linking::{Kind, LinkFault, SetFault};
+use spec_merging::MergeFault;
 use std::alloc::Global;
 use wasm_form::{Memory, Text, Trap};
 
-/// What is wrong with the words.
-fn words_text(kind: UsageKind) -> &'static str
-    ensures { result.now ≡ usage_text kind }
+/// An option as it is written.
+fn opt_text(of: Opt) -> &'static str
+    ensures { result.now ≡ option_text of }
+{
+    match of {
+        Opt::Dl => "--dl",
+        Opt::Path => "--path",
+        Opt::Pages => "--pages",
+        Opt::Stack => "--stack",
+        Opt::Steps => "--steps",
+        Opt::N => "N",
+    }
+}
+
+/// Puts a text and a further one.
+fn put_both(text: &str, end: &str, to: &mut Vec<u8>) -> Result<(), Memory>
+    ensures { OnOk result (to.new.items ≡ to.old.items ++ (text.now ++ end.now)) }
+{
+    put_text(text, to)?;
+    put_text(end, to)
+}
+
+/// Puts what is wrong with the words.
+fn put_usage(kind: UsageKind, to: &mut Vec<u8>) -> Result<(), Memory>
+    ensures { OnOk result (to.new.items ≡ to.old.items ++ usage_text kind) }
 {
     match kind {
-        UsageKind::NoCommand => "usage: no command",
-        UsageKind::UnknownCommand => "usage: unknown command",
-        UsageKind::Words => "usage: words",
+        UsageKind::NoCommand => put_text("usage: no command", to),
+        UsageKind::UnknownCommand => put_text("usage: unknown command", to),
+        UsageKind::Words => put_text("usage: words", to),
+        UsageKind::Number(of) => put_both("usage: number for ", opt_text(of), to),
+        UsageKind::Name(of) => put_both("usage: name for ", opt_text(of), to),
     }
 }
 
@@ -102,7 +127,7 @@ fn pair_text(alloc: Global, first: u32, second: u32) -> Result<String, Memory>
 }
 
 /// Puts a text, a name and a further text.
-fn put_around(text: &str, name: &str, end: &str, to: &mut Vec<u8>) -> Result<(), Memory>
+pub(crate) fn put_around(text: &str, name: &str, end: &str, to: &mut Vec<u8>) -> Result<(), Memory>
     ensures { OnOk result (to.new.items ≡ to.old.items ++ (text.now ++ escaped name.now ++ end.now)) }
 {
     put_text(text, to)?;
@@ -156,6 +181,17 @@ fn put_link(alloc: Global, fault: &LinkFault, to: &mut Vec<u8>) -> Result<(), Me
         LinkFault::NoEntry => put_text("no entry", to),
         LinkFault::Memory => put_text("out of memory", to),
     }
+}
+
+/// Why no merged module is written.
+fn merging_text(alloc: Global, fault: MergeFault) -> Result<String, Memory>
+    ensures { IfOk result (λ text. string_bytes text ≡ merge_text fault) }
+{
+    let text = match fault {
+        MergeFault::SectionSize { id } => format!(in alloc; "section {id} too long")?,
+        MergeFault::Memory => format!(in alloc; "out of memory")?,
+    };
+    Ok(text)
 }
 
 /// Why code trapped.
@@ -225,14 +261,48 @@ fn put_outcome(alloc: Global, outcome: &Outcome, to: &mut Vec<u8>) -> Result<(),
     match outcome {
         Outcome::Done => Ok(()),
         Outcome::Ran(ran) => put_end(ran.end, to),
-        Outcome::Usage(kind) => put_text(words_text(*kind), to),
+        Outcome::Usage(kind) => put_usage(*kind, to),
         Outcome::Set(fault) => put_set(alloc, fault, to),
         Outcome::Unbuilt => put_text("unbuilt", to),
         Outcome::Link(fault) => put_link(alloc, fault, to),
+        Outcome::Merge(fault) => put_text(&merging_text(alloc, *fault)?, to),
         Outcome::Single(fault) => put_single(fault, to),
         Outcome::WriteFault => put_text("write fault", to),
         Outcome::Memory => put_text("out of memory", to),
     }
+}
+
+/// The line of what is wrong with the words, its line feed included.
+pub fn usage_line(alloc: Global, kind: &UsageKind) -> Result<Vec<u8>, Memory>
+    ensures { IfOk result (λ line. line.items ≡ line_with (usage_text kind.now)) }
+{
+    let mut line = Vec::new(alloc);
+    put_text("wdyl: ", &mut line)?;
+    put_usage(*kind, &mut line)?;
+    line.push(b'\n')?;
+    Ok(line)
+}
+
+/// The line of why there is no closed set, its line feed included.
+pub fn set_line(alloc: Global, fault: &SetFault) -> Result<Vec<u8>, Memory>
+    ensures { IfOk result (λ line. line.items ≡ line_with (set_text fault.now)) }
+{
+    let mut line = Vec::new(alloc);
+    put_text("wdyl: ", &mut line)?;
+    put_set(alloc, fault, &mut line)?;
+    line.push(b'\n')?;
+    Ok(line)
+}
+
+/// The line of why a set doesn't link, its line feed included.
+pub fn link_line(alloc: Global, fault: &LinkFault) -> Result<Vec<u8>, Memory>
+    ensures { IfOk result (λ line. line.items ≡ line_with (link_text fault.now)) }
+{
+    let mut line = Vec::new(alloc);
+    put_text("wdyl: ", &mut line)?;
+    put_link(alloc, fault, &mut line)?;
+    line.push(b'\n')?;
+    Ok(line)
 }
 
 /// The line of an outcome of which something is told, its line feed included.

@@ -1,15 +1,28 @@
 // What a call of the program is asked for.
 ghost use Rattle.std.specs.Prelude.{◌≡◌, true};
 ghost use Rattle.std.specs.List.{list_all};
-ghost use Rattle.dyl_front.specs.Orders.{has_zero, has_no_zero, IsInRange};
+ghost use Rattle.dyl_words.specs.Words.{has_zero};
+ghost use Rattle.dyl_front.specs.Orders.{has_no_zero, is_item, IsSetInRange, IsLinkInRange, AreArgumentsInRange, IsInRange};
 
+use dyl_link::LinkOptions;
+use dyl_search::SetOptions;
 use wasm_form::{List, Text};
 
 /// The most steps that an order may allow.
-const MOST_STEPS: u64 = 9_223_372_036_854_775_807;
+pub(crate) const MOST_STEPS: u64 = 9_223_372_036_854_775_807;
+
+/// The least and the most of the most pages of memory, 64 KiB each.
+pub(crate) const LEAST_PAGES: u32 = 1;
+
+pub(crate) const MOST_PAGES: u32 = 16_384;
+
+/// The fewest and the most bytes of the stack.
+pub(crate) const LEAST_STACK: u32 = 16;
+
+pub(crate) const MOST_STACK: u32 = 16_777_216;
 
 /// Whether a text holds a zero character, which no word and no path can.
-pub(crate) fn holds_zero(text: &str) -> bool
+fn holds_zero(text: &str) -> bool
     ensures { result ≡ has_zero text.now }
 {
     text.as_bytes().iter().any(|b| *b == 0)
@@ -27,13 +40,60 @@ fn are_whole(texts: &[Text]) -> bool
     texts.iter().all(|text| is_whole(text))
 }
 
+fn is_item(text: &Text) -> bool
+    ensures { result ≡ is_item text.now }
+{
+    !text.as_str().is_empty() && is_whole(text)
+}
+
+fn are_items(texts: &[Text]) -> bool
+    ensures { result ≡ list_all is_item texts.now }
+{
+    texts.iter().all(|text| is_item(text))
+}
+
+/// Whether names and paths are as words give them.
+fn is_set_in_range(set: &SetOptions) -> bool
+    ensures range { result ≡ true → IsSetInRange set.now }
+    ensures only { IsSetInRange set.now → result ≡ true }
+{
+    is_whole(&set.main) && are_items(set.dl.items()) && are_items(set.paths.items())
+}
+
+/// Whether the numbers of linking are in their ranges.
+fn is_link_in_range(link: &LinkOptions) -> bool
+    ensures range { result ≡ true → IsLinkInRange link.now }
+    ensures only { IsLinkInRange link.now → result ≡ true }
+{
+    link.pages >= LEAST_PAGES
+        && link.pages <= MOST_PAGES
+        && link.stack >= LEAST_STACK
+        && link.stack <= MOST_STACK
+}
+
+/// Whether steps and arguments are as words give them.
+fn are_arguments_in_range(steps: u64, args: &List<Text>) -> bool
+    ensures range { result ≡ true → AreArgumentsInRange steps args.now }
+    ensures only { AreArgumentsInRange steps args.now → result ≡ true }
+{
+    steps <= MOST_STEPS && are_whole(args.items())
+}
+
 /// What a call of the program is asked for.
 #[derive(Drop)]
 pub enum Order {
-    /// Merges the set of the main module at a path, and writes what it merged at the other.
+    /// Merges the set of a main module, and writes the merged module at a path.
     Merge {
-        main: Text,
+        set: SetOptions,
+        link: LinkOptions,
         out: Text,
+    },
+    /// Runs the set of a main module for at most so many steps, for a program with these arguments after its name.
+    Run {
+        set: SetOptions,
+        link: LinkOptions,
+        steps: u64,
+        args: List<Text>,
     },
     /// Runs the module at a path for at most so many steps, for a program with these arguments after its name.
     Exec {
@@ -41,19 +101,37 @@ pub enum Order {
         steps: u64,
         args: List<Text>,
     },
+    /// Lists the set of a main module, its plan, its slots and its links.
+    Plan {
+        set: SetOptions,
+        link: LinkOptions,
+    },
 }
 
 impl Order {
-    /// Whether its numbers are in their ranges and its texts have no zero character.
+    /// Whether its numbers are in their ranges, no name and no directory of a list is empty, and no text has a zero character.
     pub fn is_in_range(&self) -> bool
         ensures range { result ≡ true → IsInRange self.now }
         ensures only { IsInRange self.now → result ≡ true }
     {
         match self {
-            Order::Merge { main, out } => is_whole(main) && is_whole(out),
-            Order::Exec { file, steps, args } => {
-                is_whole(file) && *steps <= MOST_STEPS && are_whole(args.items())
+            Order::Merge { set, link, out } => {
+                is_set_in_range(set) && is_link_in_range(link) && is_whole(out)
             }
+            Order::Run {
+                set,
+                link,
+                steps,
+                args,
+            } => {
+                is_set_in_range(set)
+                    && is_link_in_range(link)
+                    && are_arguments_in_range(*steps, args)
+            }
+            Order::Exec { file, steps, args } => {
+                is_whole(file) && are_arguments_in_range(*steps, args)
+            }
+            Order::Plan { set, link } => is_set_in_range(set) && is_link_in_range(link),
         }
     }
 }

@@ -5,6 +5,24 @@ ghost use Rattle.dyl_front.specs.Status.{end_status, status_of};
 use spec_execution::SingleFault;
 use spec_hosts::{Ran, RunEnd};
 use spec_linking::{LinkFault, SetFault};
+use spec_merging::MergeFault;
+
+/// An option that has a value, or the number of a generated set.
+#[derive(Clone, Copy, Debug, PartialEq, Eq)]
+pub enum Opt {
+    /// Names of modules that may be opened later, between commas.
+    Dl,
+    /// Directories to search, between colons.
+    Path,
+    /// The most pages of memory.
+    Pages,
+    /// The bytes of the stack.
+    Stack,
+    /// The most steps of a run.
+    Steps,
+    /// The number of a generated set.
+    N,
+}
 
 /// What is wrong with the words.
 #[derive(Clone, Copy, Debug, PartialEq, Eq)]
@@ -15,6 +33,10 @@ pub enum UsageKind {
     UnknownCommand,
     /// The words after the command are none that it takes.
     Words,
+    /// The value is no number in the range of its option.
+    Number(Opt),
+    /// An item of the list is empty.
+    Name(Opt),
 }
 
 /// The answer of `serve`.
@@ -32,6 +54,8 @@ pub enum Outcome {
     Unbuilt,
     /// The set does not link. The fault is never `Memory`.
     Link(LinkFault),
+    /// The merged module isn't written. The fault is never `Memory`.
+    Merge(MergeFault),
     /// The module is not run. The fault is never `Memory`.
     Single(SingleFault),
     /// The output could not be written.
@@ -65,7 +89,11 @@ pub fn status(outcome: &Outcome) -> u8
         Outcome::Ran(ran) => end_status(ran.end),
         Outcome::Usage(_) => 64,
         Outcome::Set(SetFault::ReadFault { .. }) => 66,
-        Outcome::Set(_) | Outcome::Unbuilt | Outcome::Link(_) | Outcome::Single(_) => 65,
+        Outcome::Set(_)
+        | Outcome::Unbuilt
+        | Outcome::Link(_)
+        | Outcome::Merge(_)
+        | Outcome::Single(_) => 65,
         Outcome::Memory => 71,
         Outcome::WriteFault => 74,
     }

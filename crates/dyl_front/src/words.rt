@@ -1,15 +1,20 @@
 // Words to an order.
-ghost use Rattle.std.specs.Prelude.{◌≡◌, IfOk, IfErr};
+ghost use Rattle.std.specs.Prelude.{◌≡◌, IfOk, IfErr, map, drop, string_bytes};
 ghost use Rattle.std.specs.IoError.{error_kind};
-ghost use Rattle.dyl_front.specs.Orders.{starts_with_hyphen, is_plain, merge_order, exec_order, order_of, Reads, refused_words, IsInRange};
+ghost use Rattle.dyl_words.specs.Words.{asked};
+ghost use Rattle.dyl_words.specs.declared.names.CommandName.TheVariants as command;
+ghost use Rattle.dyl_words.specs.Shown.{shown};
+ghost use Rattle.dyl_front.specs.Orders.{Reads, word_fault, merge_order, run_order, exec_order, plan_order, order_by, order_asked, order_of, refused_words, IsInRange};
 ghost use Rattle.dyl_front.specs.declared.words.WordFault.TheVariants as word;
 
-use crate::order::{Order, holds_zero};
+use crate::options::{link_in, owned_all, set_in, steps_in};
+use crate::order::Order;
 use crate::outcome::{Outcome, UsageKind};
-use std::alloc::Global;
+use dyl_words::{AskFault, Asked, CommandName, ask};
+use std::alloc::{AllocError, Global};
 use std::env::Args;
 use std::io::{self, ErrorKind};
-use wasm_form::{List, Memory, Text};
+use wasm_form::{Memory, Text};
 
 /// Why words are no order.
 #[derive(Clone, Copy, Debug, PartialEq, Eq)]
@@ -27,20 +32,20 @@ impl From<Memory> for WordFault {
     }
 }
 
-/// The steps that are allowed where no number is given.
-const DEFAULT_STEPS: u64 = 1_000_000_000;
+impl From<UsageKind> for WordFault {
+    ghost from_gives = { λ kind e. e ≡ word.Usage kind };
 
-/// Whether a word begins as an option does.
-fn begins_option(word: &str) -> bool
-    ensures { result ≡ starts_with_hyphen word.now }
-{
-    matches!(word.as_bytes(), [b'-', ..])
+    fn from(kind: UsageKind) -> WordFault {
+        WordFault::Usage(kind)
+    }
 }
 
-fn is_path(word: &str) -> bool
-    ensures { result ≡ is_plain word.now }
-{
-    !begins_option(word) && !holds_zero(word)
+impl From<AllocError> for WordFault {
+    ghost from_gives = { λ _ e. e ≡ word.Memory };
+
+    fn from(_: AllocError) -> WordFault {
+        WordFault::Memory
+    }
 }
 
 /// A text of its own.
@@ -75,53 +80,117 @@ pub fn collected(alloc: Global, answer: io::Result<Args>) -> Result<Vec<String>,
     }
 }
 
-/// The order that words are, of which the first one is the program's name.
+/// Why the words after a command ask for nothing.
+fn word_fault(fault: AskFault) -> WordFault
+    ensures { result ≡ word_fault fault }
+{
+    match fault {
+        AskFault::Words => WordFault::Usage(UsageKind::Words),
+        AskFault::Memory => WordFault::Memory,
+    }
+}
+
+/// The order of `merge`.
+fn merge_order(alloc: Global, main: &str, out: &str, asked: &Asked<'_>) -> Result<Order, WordFault>
+    ensures { Reads result (merge_order main.now out.now (shown asked.now)) }
+{
+    let set = set_in(alloc, main, asked)?;
+    let link = link_in(asked)?;
+    let out = owned(alloc, out)?;
+    Ok(Order::Merge { set, link, out })
+}
+
+/// The order of `run`.
+fn run_order(
+    alloc: Global,
+    main: &str,
+    args: &[&str],
+    asked: &Asked<'_>,
+) -> Result<Order, WordFault>
+    ensures { Reads result (run_order main.now (map (λ x. x.now) args.now) (shown asked.now)) }
+{
+    let set = set_in(alloc, main, asked)?;
+    let link = link_in(asked)?;
+    let steps = steps_in(asked)?;
+    let args = owned_all(alloc, args)?;
+    Ok(Order::Run {
+        set,
+        link,
+        steps,
+        args,
+    })
+}
+
+/// The order of `run`, by its plain words.
+fn run_words(alloc: Global, words: &[&str], asked: &Asked<'_>) -> Result<Order, WordFault>
+    ensures { Reads result (order_by command.Run (map (λ x. x.now) words.now) (shown asked.now)) }
+{
+    match words.split_first() {
+        Some((main, args)) => run_order(alloc, main, args, asked),
+        None => Err(WordFault::Usage(UsageKind::Words)),
+    }
+}
+
+/// The order of `exec`.
+fn exec_order(
+    alloc: Global,
+    file: &str,
+    args: &[&str],
+    asked: &Asked<'_>,
+) -> Result<Order, WordFault>
+    ensures { Reads result (exec_order file.now (map (λ x. x.now) args.now) (shown asked.now)) }
+{
+    let steps = steps_in(asked)?;
+    let file = owned(alloc, file)?;
+    let args = owned_all(alloc, args)?;
+    Ok(Order::Exec { file, steps, args })
+}
+
+/// The order of `plan`.
+fn plan_order(alloc: Global, main: &str, asked: &Asked<'_>) -> Result<Order, WordFault>
+    ensures { Reads result (plan_order main.now (shown asked.now)) }
+{
+    let set = set_in(alloc, main, asked)?;
+    let link = link_in(asked)?;
+    Ok(Order::Plan { set, link })
+}
+
+/// The order that a command is, by what is asked for.
+fn order_by(alloc: Global, command: CommandName, asked: &Asked<'_>) -> Result<Order, WordFault>
+    ensures { Reads result (order_by command (shown asked.now).plain (shown asked.now)) }
+{
+    match (command, asked.plain.as_slice()) {
+        (CommandName::Merge, [main, out]) => merge_order(alloc, main, out, asked),
+        (CommandName::Run, words) => run_words(alloc, words, asked),
+        (CommandName::Exec, [file, args @ ..]) => exec_order(alloc, file, args, asked),
+        (CommandName::Plan, [main]) => plan_order(alloc, main, asked),
+        _ => Err(WordFault::Usage(UsageKind::Words)),
+    }
+}
+
+/// The order of a command, of which the first word is its own.
+fn order_asked(alloc: Global, command: CommandName, words: &[String]) -> Result<Order, WordFault>
+    ensures { Reads result (order_asked command (asked command (drop 1 (map string_bytes words.now)))) }
+{
+    match ask(alloc, command, words) {
+        Ok(asked) => order_by(alloc, command, &asked),
+        Err(fault) => Err(word_fault(fault)),
+    }
+}
+
+/// The order that words are, of which the first one is the program's name: each usage fault comes exactly where it is due.
 pub fn read_words(alloc: Global, words: &[String]) -> Result<Order, WordFault>
     ensures reads { Reads result (order_of words.now) }
     ensures range { IfOk result IsInRange }
 {
-    match words {
-        [] | [_] => Err(WordFault::Usage(UsageKind::NoCommand)),
-        [_, command, rest @ ..] => match command.as_str() {
-            "merge" => merge_words(alloc, rest),
-            "exec" => exec_words(alloc, rest),
-            _ => Err(WordFault::Usage(UsageKind::UnknownCommand)),
-        },
-    }
-}
-
-/// Exactly two words, which are paths.
-fn merge_words(alloc: Global, words: &[String]) -> Result<Order, WordFault>
-    ensures reads { Reads result (merge_order words.now) }
-    ensures range { IfOk result IsInRange }
-{
-    let [main, out] = words else {
-        return Err(WordFault::Usage(UsageKind::Words));
+    let Some((_program, rest)) = words.split_first() else {
+        return Err(WordFault::Usage(UsageKind::NoCommand));
     };
-    let (main, out) = (main.as_str(), out.as_str());
-    if !is_path(main) || !is_path(out) {
-        return Err(WordFault::Usage(UsageKind::Words));
-    }
-    Ok(Order::Merge {
-        main: owned(alloc, main)?,
-        out: owned(alloc, out)?,
-    })
-}
-
-/// Exactly one word, which is a path.
-fn exec_words(alloc: Global, words: &[String]) -> Result<Order, WordFault>
-    ensures reads { Reads result (exec_order words.now) }
-    ensures range { IfOk result IsInRange }
-{
-    let [file] = words else {
-        return Err(WordFault::Usage(UsageKind::Words));
+    let Some((word, _)) = rest.split_first() else {
+        return Err(WordFault::Usage(UsageKind::NoCommand));
     };
-    if !is_path(file.as_str()) {
-        return Err(WordFault::Usage(UsageKind::Words));
-    }
-    Ok(Order::Exec {
-        file: owned(alloc, file.as_str())?,
-        steps: DEFAULT_STEPS,
-        args: List::of(Vec::new(alloc)),
-    })
+    let Some(command) = CommandName::of(word.as_str()) else {
+        return Err(WordFault::Usage(UsageKind::UnknownCommand));
+    };
+    order_asked(alloc, command, rest)
 }

@@ -6,3 +6,4 @@ pub mod Walks
 pub mod Reached
 pub mod Told
 pub mod OwnData
+pub mod Noted

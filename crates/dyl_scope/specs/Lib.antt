@@ -1,5 +1,6 @@
 pub mod Marks
 pub mod Names
 pub mod Orders
+pub mod Definers
 pub mod Scopes
 pub mod Kept

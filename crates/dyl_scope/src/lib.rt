@@ -3,6 +3,7 @@
 #![tactic(auto)]
 
 mod def;
+mod definers;
 mod exports;
 mod globals;
 mod maker;

@@ -8,9 +8,10 @@ ghost use Rattle.dyl_scope.specs.Orders.{needed_in, closure_by, post_order_by};
 ghost use Rattle.dyl_scope.specs.Scopes.{AreOf, told_by, told_of, told_value};
 ghost use Rattle.dyl_scope.specs.Kept.{names_by, kept_of};
 
+use crate::definers::definers_of;
 use crate::exports::definitions_of;
 use crate::names::Names;
-use crate::numbers::distinct;
+use crate::numbers::{Numbers, distinct};
 use crate::orders::{closure_of, post_order_of};
 use crate::symbol::Definition;
 use crate::symbols::Symbols;
@@ -65,7 +66,7 @@ fn names_of(alloc: Global, members: &[Told]) -> Result<Vec<Names>, Memory>
     Ok(names)
 }
 
-fn closures_of(alloc: Global, members: &[Told]) -> Result<Vec<List<u32>>, Memory>
+fn closures_of(alloc: Global, members: &[Told]) -> Result<Vec<Numbers>, Memory>
     requires { length members.now ≤ 256 }
     ensures { IfOk result (λ v. v.items ≡ map (closure_by (needed_in members.now) (length members.now)) (range_with_len 0 (length members.now))) }
 {
@@ -94,9 +95,10 @@ fn kept(alloc: Global, members: &[Told]) -> Result<Symbols, Memory>
     ensures { IfOk result (λ symbols. symbols ≡ kept_of members.now) }
 {
     let names = names_of(alloc, members)?;
+    let definers = definers_of(alloc, members)?;
     let closures = closures_of(alloc, members)?;
     let orders = orders_of(alloc, members)?;
-    Ok(Symbols::of(names, closures, orders))
+    Ok(Symbols::of(names, definers, closures, orders))
 }
 
 impl Maker {

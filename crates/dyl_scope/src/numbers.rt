@@ -96,6 +96,12 @@ impl Numbers {
         Ok(())
     }
 
+    pub fn list(&self) -> &[u32]
+        ensures { result.now ≡ self.now }
+    {
+        &self.list
+    }
+
     pub fn into_list(self) -> List<u32>
         ensures { result ≡ self }
     {

@@ -29,7 +29,7 @@ fn add_needed(members: &[Told], known: &mut Numbers, k: usize) -> Result<(), Mem
 }
 
 // The closure of a member: the member and what it reaches, breadth first.
-pub(crate) fn closure_of(alloc: Global, members: &[Told], m: u32) -> Result<List<u32>, Memory>
+pub(crate) fn closure_of(alloc: Global, members: &[Told], m: u32) -> Result<Numbers, Memory>
     ensures { IfOk result (λ l. l ≡ closure_by (needed_in members.now) (length members.now) m) }
 {
     let mut known = Numbers::new(alloc, members.len())?;
@@ -37,7 +37,7 @@ pub(crate) fn closure_of(alloc: Global, members: &[Told], m: u32) -> Result<List
     for k in 0..members.len() {
         add_needed(members, &mut known, k)?;
     }
-    Ok(known.into_list())
+    Ok(known)
 }
 
 // The members that were entered, and those that were left, in order.

@@ -3,11 +3,14 @@ ghost use Rattle.std.specs.Prelude.{◌≡◌, ℕ, ◌<◌, length, is_some, So
 ghost use Rattle.spec_linking.specs.Sets.{ClosedSet};
 ghost use Rattle.spec_linking.specs.Definitions as defined;
 ghost use Rattle.spec_linking.specs.Orders.{closure, post_order};
-ghost use Rattle.dyl_scope.specs.Scopes.{meaning_of, outside, resolved_in, list_at, by_first, AreOf, IsInside};
+ghost use Rattle.dyl_scope.specs.Definers.{AreDefiners};
+ghost use Rattle.dyl_scope.specs.Scopes.{meaning_of, outside, in_scope, resolved_in, list_at, by_first, AreOf, IsInside};
 ghost use Rattle.dyl_scope.specs.declared.def.Def.TheVariants as def;
 
 use crate::def::Def;
+use crate::definers::Definers;
 use crate::names::Names;
+use crate::numbers::Numbers;
 use crate::search::{by_first, in_scope};
 use std::marker::Model;
 use wasm_form::{List, LoaderCall};
@@ -16,16 +19,20 @@ use wasm_form::{List, LoaderCall};
 #[derive(Drop)]
 pub struct Symbols {
     names: Vec<Names>,
-    closures: Vec<List<u32>>,
+    definers: Definers,
+    closures: Vec<Numbers>,
     orders: Vec<List<u32>>,
 }
 
 impl Model for Symbols {
     ghost use Rattle.dyl_scope.specs.Scopes.{Scopes};
+    ghost use Rattle.dyl_scope.specs.Definers.{AreDefiners};
 
     ghost Value = { Scopes };
 
     ghost view = { λ s. record { names = s.names.items; closures = s.closures.items; orders = s.orders.items } };
+
+    ghost invariant = { λ s. AreDefiners s.names.items s.definers };
 }
 
 fn of_loader(name: &str) -> Def
@@ -54,33 +61,62 @@ fn outside(host: Option<u32>, weak: bool) -> Def
     }
 }
 
-fn list_at(lists: &[List<u32>], m: u32) -> &[u32]
-    ensures { result.now ≡ list_at lists.now m }
+fn closure_at(closures: &[Numbers], m: u32) -> &[u32]
+    ensures { result.now ≡ list_at closures.now m }
 {
-    match lists.get(m as usize) {
-        Some(list) => list.items(),
+    match closures.get(m as usize) {
+        Some(closure) => closure.list(),
+        None => &[],
+    }
+}
+
+fn order_at(orders: &[List<u32>], m: u32) -> &[u32]
+    ensures { result.now ≡ list_at orders.now m }
+{
+    match orders.get(m as usize) {
+        Some(order) => order.items(),
         None => &[],
     }
 }
 
 impl Symbols {
-    pub(crate) fn of(names: Vec<Names>, closures: Vec<List<u32>>, orders: Vec<List<u32>>) -> Symbols
+    pub(crate) fn of(
+        names: Vec<Names>,
+        definers: Definers,
+        closures: Vec<Numbers>,
+        orders: Vec<List<u32>>,
+    ) -> Symbols
+        requires { AreDefiners names.items definers }
         ensures { result ≡ record { names = names.items; closures = closures.items; orders = orders.items } }
     {
         Symbols {
             names,
+            definers,
             closures,
             orders,
         }
+    }
+
+    // In the scope of member m.
+    fn found(&self, m: u32, name: &str) -> Def
+        ensures meaning { meaning_of result ≡ in_scope self.now.names (list_at self.now.closures 0) (list_at self.now.closures m) name.now }
+        ensures inside { IsInside result }
+    {
+        in_scope(
+            &self.names,
+            self.definers.get(name),
+            &self.closures,
+            m,
+            name,
+        )
     }
 
     fn resolved(&self, m: u32, name: &str, host: Option<u32>, weak: bool) -> Def
         ensures meaning { meaning_of result ≡ resolved_in self.now m name.now (is_some host) weak }
         ensures host { (n : ℕ) → result ≡ def.Host n → host ≡ Some n }
     {
-        let startup = list_at(&self.closures, 0);
         match of_loader(name) {
-            Def::Nothing => match in_scope(&self.names, startup, list_at(&self.closures, m), name) {
+            Def::Nothing => match self.found(m, name) {
                 Def::Nothing => outside(host, weak),
                 found => found,
             },
@@ -102,7 +138,7 @@ impl Symbols {
     fn first(&self, list: &[u32], name: &str) -> Def
         ensures { meaning_of result ≡ by_first self.now.names list.now name.now }
     {
-        by_first(&self.names, list, name)
+        by_first(&self.names, self.definers.get(name), list, name)
     }
 
     /// The function or the place of data that the first of some members defines a name as, or nothing.
@@ -116,7 +152,7 @@ impl Symbols {
     fn closure_at(&self, m: u32) -> &[u32]
         ensures { result.now ≡ list_at self.now.closures m }
     {
-        list_at(&self.closures, m)
+        closure_at(&self.closures, m)
     }
 
     /// The closure of member m: the member and what it reaches through needed names, breadth first.
@@ -130,7 +166,7 @@ impl Symbols {
     fn order_at(&self, m: u32) -> &[u32]
         ensures { result.now ≡ list_at self.now.orders m }
     {
-        list_at(&self.orders, m)
+        order_at(&self.orders, m)
     }
 
     /// What member m reaches through needed names, in depth-first post-order: each member after those that it needs.

@@ -28,7 +28,7 @@ module _ {X : Type 0} (t : X → Bool) (c : X) (passes : t c ≡ true) where
 -- ---- keys
 
 module _ (eq : CellKey → CellKey → Bool) (is : (a b : CellKey) → eq a b ≡ same_cell (cell_of_key a) (cell_of_key b)) (k : CellKey) where
-  any_same : (ks : List CellKey) → list_any (eq k) ks ≡ list_any (same_cell (cell_of_key k)) (cells_in ks)
+  pub any_same : (ks : List CellKey) → list_any (eq k) ks ≡ list_any (same_cell (cell_of_key k)) (cells_in ks)
   any_same [] = refl
   any_same (x ∷ ks) = ap₂ (λ a b. a || b) (is k x) (any_same ks)
 

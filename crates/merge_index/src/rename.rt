@@ -163,6 +163,13 @@ fn rename_code(alloc: Global, n: &Numbers, m: u32, c: &Code) -> Result<Code, Mem
 }
 
 impl Numbers {
+    /// An expression of member m, with the numbers in it replaced. `Memory` where no memory could be had.
+    pub fn rename_expr(&self, alloc: Global, m: u32, e: &Expr) -> Result<Expr, Memory>
+        ensures { IfOk result (λ x. x ≡ expr (numbers_in self.now) m e.now) }
+    {
+        rename_expr(alloc, self, m, e)
+    }
+
     /// A body of member m, by its number, with the numbers in it replaced. `Memory` where no memory could be had.
     pub fn rename_body(
         &self,

@@ -31,7 +31,8 @@ fn put_base(to: &mut Vec<Option<u32>>, i: &Import, memory: u32, table: u32) -> R
     Ok(())
 }
 
-fn bases_from(
+/// The bases that imported globals are, by their numbers, where the member has these. `Memory` where no memory could be had.
+pub fn bases_from(
     alloc: Global,
     imports: &[Import],
     memory: u32,

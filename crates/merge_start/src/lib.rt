@@ -17,6 +17,7 @@ mod words;
 ghost use Rattle.merge_start.specs.Laws.{FramesStepAsMerged, MembersOpenAsMerged, PlacingIsDone, SetsRunAsMerged, SetsStepAsMerged};
 ghost use Rattle.merge_start.specs.Typed.{GeneratedIsTyped};
 
+pub use bases::bases_from;
 pub use entry::entry_function;
 pub use functions::phase_functions;
 pub use numbers::StartNumbers;

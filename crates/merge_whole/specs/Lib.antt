@@ -1,5 +1,7 @@
-pub mod SmallForm
-pub mod Laws
-pub mod MergedModule
-pub mod SmallParts
-pub mod Seen
+pub mod Merges
+pub mod Counts
+pub mod Built
+pub mod Given
+pub mod Brief
+pub mod Elements
+pub mod GlobalDefs

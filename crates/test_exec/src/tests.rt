@@ -264,8 +264,9 @@ fn words_of_exec(rt: HostRuntime) -> Result<(), Fail> {
     let (code, errors) = served(alloc, &mut files, &["wdyl", "exec"])?;
     assert_eq!(rt; code, 64);
     assert!(rt; errors.held() == b"wdyl: usage: words\n".as_slice());
-    let (code, _) = served(alloc, &mut files, &["wdyl", "exec", "a", "b"])?;
-    assert_eq!(rt; code, 64);
+    let (code, errors) = served(alloc, &mut files, &["wdyl", "exec", "a", "b"])?;
+    assert_eq!(rt; code, 65);
+    assert!(rt; errors.held() == b"wdyl: missing a\n".as_slice());
     let (code, errors) = served(alloc, &mut files, &["wdyl", "exec", "other.wasm"])?;
     assert_eq!(rt; code, 65);
     assert!(rt; errors.held() == b"wdyl: missing other.wasm\n".as_slice());

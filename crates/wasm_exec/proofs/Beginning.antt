@@ -5,24 +5,58 @@ use Rattle.wasm_form.specs.declared.runtime.Trap.{Trap}
 use Rattle.spec_runs.specs.Systems.{Status, Moving}
 use Rattle.spec_runtime.specs.Names.{HostNames}
 use Rattle.spec_runtime.specs.Hosts.{HostCall}
-use Rattle.spec_execution.specs.OneModule.{ModuleState, module_entry, segments_performed, opened_with, module_opening, module_system, module_too_deep}
 use Rattle.spec_execution.specs.Instances.{ModuleParts}
+use Rattle.spec_execution.specs.OneModule.{ModuleState, module_entry, segments_performed, opened_with, module_opening}
 use Rattle.spec_execution.specs.Segments.{Performed}
 use Rattle.spec_execution.specs.declared.fault.SingleFault.{SingleFault}
 use Rattle.spec_execution.specs.declared.fault.SingleFault.TheVariants as fault
-use Rattle.spec_hosts.specs.declared.ran.Ran.{Ran}
-use Rattle.spec_hosts.specs.Devices.{Devices, KeepsFronts}
+use Rattle.spec_hosts.specs.Devices.{Devices}
 use Rattle.spec_hosts.specs.Hosted.{Embedder}
-use Rattle.spec_hosts.proofs.Fronts.{run_fronts, cut_fronts}
-use Rattle.wasm_form.specs.declared.memory.Memory.{Memory}
+use Rattle.spec_hosts.specs.Ends.{IsCutShort}
 use Rattle.wasm_single.specs.Starts.{IsTold}
-use Rattle.wasm_exec.specs.Executed.{IsRefused}
 use Rattle.wasm_single.specs.Singles.{SingleRun, new_run}
 use Rattle.wasm_exec.specs.declared.driver.Driver.{Driver}
-use Rattle.wasm_exec.specs.Driving.{HaveIntegers, IsDriven, IsDrivenTo, RunGives}
+use Rattle.wasm_exec.specs.declared.program.Program.{Program}
+use Rattle.wasm_exec.specs.declared.program.Program.TheVariants as program
+use Rattle.wasm_exec.specs.Courses.{Course, Origin, OfModule, course_of}
+use Rattle.wasm_exec.specs.Programs.{recorded_of, IsOf}
+use Rattle.wasm_exec.specs.Driving.{Progress, IsDriven, progress_of, Drives, no_steps, Begins, Opens}
+use Rattle.wasm_exec.specs.Executed.{HaveIntegers, IsRefused}
 use Rattle.wasm_exec.proofs.Openings.{opening_parts, are_declared}
+use Rattle.wasm_exec.proofs.Proceeding.{cut_here}
 
--- a run begins by going on
+-- ---- whatever it is that is run
+
+abbrev no_progress : Progress
+no_progress = record { run = no_steps; asked = None; written = 0 }
+
+new_driven : (C : Course) (embedder : Embedder) (begun : Devices) → Begins C embedder.names → IsDriven C embedder no_progress begun begun
+new_driven C embedder begun begins = record {
+  running = record {
+    declared = begins.declared;
+    stands = record { found = refl; run = refl; real = tt; left = refl };
+    taken = refl;
+    asks = rw begins.moving tt;
+    free = λ k lt. absurd (omega arith);
+    written = refl;
+  };
+  hosted = ([], refl, refl);
+}
+
+-- a driver of a program that was opened drives it from there
+pub begins_driven : (embedder : Embedder) (o : Origin) (p : Program) (d : Driver) (begun : Devices) → Opens o embedder.names p → recorded_of p ≡ no_steps
+    → progress_of d ≡ record { run = recorded_of p; asked = None; written = 0 } → d.program ≡ p → Drives embedder o d begun begun
+begins_driven embedder o p d begun opens fresh progress same = (
+  subst (λ x. IsOf x o) (sym same) opens.0,
+  rw (progress, fresh) (new_driven (course_of o) embedder begun opens.1),
+)
+
+-- memory was wanting before it began
+pub not_begun : (C : Course) (embedder : Embedder) (begun : Devices) (most : ℕ) → Begins C embedder.names → IsCutShort C.system C.deep embedder C.opening most begun begun
+not_begun C embedder begun most begins = cut_here (new_driven C embedder begun begins) most (omega arith)
+
+-- ---- one module
+
 opened_moving : (m : Module) (opening : ModuleState) (entry : Option ℕ) (o : Option (Performed ModuleParts)) → opened_with m entry o ≡ Ok opening → opening.status ≡ Moving
 opened_moving m opening None o e = absurd cc
 opened_moving m opening (Some entry) None e = absurd cc
@@ -36,49 +70,16 @@ opened_moving m opening (Some entry) (Some p) e = go p.trap refl
     go None q = let is = rw q at e in sym (ap status_of is)
     go (Some why) q = let is = rw q at e in absurd cc
 
--- a run that is loaded has the opening state of its module
-pub loaded_opens : (m : Module) (names : HostNames) (opening : ModuleState) (s : SingleRun) → s ≡ new_run m → module_opening m names ≡ Ok opening → module_opening s.wasm names ≡ Ok opening
-loaded_opens m names opening s new opens = subst (λ x. module_opening x names ≡ Ok opening) (ap (λ (s : SingleRun). s.wasm) (sym new)) opens
-
-module _ (embedder : Embedder) (opening : ModuleState) (begun : Devices) where
-  abbrev driver : SingleRun → Driver
-  driver s = record { single = s; asked = None; written = 0 }
-
-  new_driven : (m : Module) → HaveIntegers embedder.names → module_opening m embedder.names ≡ Ok opening → IsDriven embedder opening (driver (new_run m)) begun begun
-  new_driven m integers opens =
-      let parts = opening_parts m embedder.names opening opens in
-      let moving = opened_moving m opening (module_entry m) (segments_performed m) parts.1 in
+-- a module that was loaded begins at its opening state
+pub module_opens : (names : HostNames) (m : Module) (opening : ModuleState) (s : SingleRun) → HaveIntegers names → module_opening m names ≡ Ok opening → s ≡ new_run m → Opens (OfModule m opening) names (program.Module s)
+module_opens names m opening s integers opens new =
+    let parts = opening_parts m names opening opens in (
+      (ap (λ (x : SingleRun). x.wasm) new, parts.1),
       record {
-        running = record {
-          opens = opens;
-          declared = are_declared m embedder.names integers opening opens;
-          stands = record { opening = opening; opens = parts.1; stands = record { found = refl; run = refl; real = tt; left = refl } };
-          taken = refl;
-          asks = rw moving tt;
-          free = λ k lt. absurd (omega arith);
-          written = refl;
-        };
-        hosted = ([], refl, refl);
-      }
-
-  -- a run that is loaded is driven from there
-  pub begins : (m : Module) (s : SingleRun) → s ≡ new_run m → HaveIntegers embedder.names → module_opening m embedder.names ≡ Ok opening → IsDriven embedder opening (driver s) begun begun
-  begins m s new integers opens = subst (λ x. IsDriven embedder opening (driver x) begun begun) (sym new) (new_driven m integers opens)
-
-  -- the same as it is kept
-  pub begins_as : (other : Embedder) → other ≡ embedder → (m : Module) (s : SingleRun) → s ≡ new_run m → HaveIntegers embedder.names → module_opening m embedder.names ≡ Ok opening → IsDriven other opening (driver s) begun begun
-  begins_as other same m s new integers opens = subst (λ x. IsDriven x opening (driver s) begun begun) (sym same) (begins m s new integers opens)
-
--- what came of a run that is loaded
-pub loaded_gives : (embedder other : Embedder) → other ≡ embedder → (m : Module) (s : SingleRun) → s ≡ new_run m → (opening : ModuleState) → module_opening m embedder.names ≡ Ok opening
-    → (most : ℕ) (r : Result Ran Memory) (begun now : Devices) → IsDrivenTo other most r (record { single = s; asked = None; written = 0 }) begun now → RunGives m embedder opening most r begun now
-loaded_gives embedder other same m s new opening opens most r begun now gives =
-    let kept = subst (λ x. IsDrivenTo x most r (record { single = s; asked = None; written = 0 }) begun now) same gives opening (loaded_opens m embedder.names opening s new opens) in
-    subst (λ x. RunGives x embedder opening most r begun now) (ap (λ (s : SingleRun). s.wasm) new) kept
-
-gives_fronts : (embedder : Embedder) (m : Module) (opening : ModuleState) (most : ℕ) (r : Result Ran Memory) (begun now : Devices) → RunGives m embedder opening most r begun now → KeepsFronts begun now
-gives_fronts embedder m opening most (Ok r) begun now gives = run_fronts embedder (module_system m) (module_too_deep m) opening most begun now r gives
-gives_fronts embedder m opening most (Err why) begun now gives = cut_fronts embedder (module_system m) (module_too_deep m) opening most begun now gives
+        declared = are_declared m names integers opening opens;
+        moving = opened_moving m opening (module_entry m) (segments_performed m) parts.1;
+      },
+    )
 
 -- a module is refused before anything is done
 pub refuses : (m : Module) (embedder : Embedder) (most : ℕ) (why : SingleFault) (d : Devices) → IsTold (module_opening m embedder.names) why → IsRefused m embedder most why d d
@@ -87,8 +88,3 @@ refuses m embedder most fault.NoEntry d told = (told, refl)
 refuses m embedder most (fault.HostImport from name) d told = (told, refl)
 refuses m embedder most (fault.HostType from name) d told = (told, refl)
 refuses m embedder most fault.SegmentTrap d told = (told, refl)
-
--- whatever came of a run, what the sinks held stays in front
-pub loaded_fronts : (embedder other : Embedder) → other ≡ embedder → (m : Module) (s : SingleRun) → s ≡ new_run m → (opening : ModuleState) → module_opening m embedder.names ≡ Ok opening
-    → (most : ℕ) (r : Result Ran Memory) (begun now : Devices) → IsDrivenTo other most r (record { single = s; asked = None; written = 0 }) begun now → KeepsFronts begun now
-loaded_fronts embedder other same m s new opening opens most r begun now gives = gives_fronts embedder m opening most r begun now (loaded_gives embedder other same m s new opening opens most r begun now gives)

@@ -13,7 +13,7 @@ use Rattle.spec_runtime.specs.Names.{HostName, Fits, host_match, is_integer, has
 use Rattle.spec_hosts.specs.Calls.{WasiCall, ProcExit, wasi_name, call_named, type_of_call}
 use Rattle.spec_hosts.specs.Laws.{run_names, host_called, IsTypeWhere, WasiGoesFirst, OthersAreOfTheTable}
 use Rattle.host_table.specs.Names.{is_called}
-use Rattle.wasm_exec.specs.Driving.{HaveIntegers}
+use Rattle.wasm_exec.specs.Executed.{HaveIntegers}
 
 one_integer : (types : List ValType) → is_one_i32 types ≡ true → list_all is_integer types ≡ true
 one_integer [] one = absurd cc

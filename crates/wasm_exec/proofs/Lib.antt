@@ -6,7 +6,9 @@ pub mod Hosting
 pub mod Integers
 pub mod Limits
 pub mod Openings
-pub mod Standing
 pub mod Proceeding
 pub mod Readiness
+pub mod SetHosts
+pub mod Sets
+pub mod Singles
 pub mod Stepping

@@ -7,16 +7,13 @@ use Rattle.wasm_form.specs.declared.module.ImportDesc.{ImportDesc}
 use Rattle.wasm_form.specs.declared.module.ImportDesc.TheVariants as imported
 use Rattle.wasm_form.specs.declared.module.Module.{Module}
 use Rattle.spec_runtime.specs.Names.{HostName, HostNames, HostMatch, Unknown, Fits, OtherType, host_match}
-use Rattle.spec_execution.specs.Instances.{hosts_in, named_host, imported_hosts}
+use Rattle.spec_execution.specs.Instances.{hosts_in, named_host, imported_hosts, module_hosts}
 use Rattle.spec_execution.specs.OneModule.{ModuleState, import_matched, import_met, imports_met, opened_after, module_opening}
 use Rattle.spec_execution.specs.declared.fault.SingleFault.{SingleFault}
 use Rattle.wasm_single.specs.Starts.{opened}
 use Rattle.wasm_single.proofs.Imports.{both_met}
-use Rattle.wasm_exec.specs.Driving.{HaveIntegers, AreDeclared}
-
--- there is at most one opening state
-pub one_opening : {r : Result ModuleState SingleFault} {a b : ModuleState} → r ≡ Ok a → r ≡ Ok b → a ≡ b
-one_opening first second = cc (first, second)
+use Rattle.wasm_exec.specs.Driving.{AreDeclared}
+use Rattle.wasm_exec.specs.Executed.{HaveIntegers}
 
 -- an opening state is one whose imports are met
 pub opening_parts : (m : Module) (names : HostNames) (opening : ModuleState) → module_opening m names ≡ Ok opening → (imports_met m names m.imports ≡ Ok tt) × (opened m ≡ Ok opening)
@@ -64,7 +61,7 @@ module _ (m : Module) (names : HostNames) where
       one_declared i (imported_hosts m is) k h both.0 at (λ j there. each_declared is j h both.1 there)
 
   -- each host function of a module that has an opening state is declared
-  pub are_declared : HaveIntegers names → (opening : ModuleState) → module_opening m names ≡ Ok opening → AreDeclared m names
+  pub are_declared : HaveIntegers names → (opening : ModuleState) → module_opening m names ≡ Ok opening → AreDeclared (module_hosts m) names
   are_declared integers opening opens entry h at =
       let fits = each_declared m.imports entry h (opening_parts m names opening opens).0 at in
       (fits, integers h.module_name h.name h.ty fits)

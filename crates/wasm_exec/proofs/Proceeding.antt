@@ -1,28 +1,31 @@
 -- A driven run after further steps, and at its end.
-use Rattle.std.proofs.Common.{◌≡◌, ℕ, ◌<◌, ◌≤◌, true, true≢false, Option, Some, None, Result, Ok, Err, IfOk, is_some, sym, ap, ◌∙◌, subst, arith}
+use Rattle.std.proofs.Common.{◌≡◌, ℕ, ◌<◌, ◌≤◌, true, false, true≢false, refl, List, [], ◌++◌, append-nil, Option, Some, None, Result, Ok, Err, IfOk, is_some, sym, ap, ◌∙◌, subst, arith}
 use Rattle.std.specs.Prelude.{◌&&◌}
-use Rattle.wasm_form.specs.declared.module.Module.{Module}
 use Rattle.wasm_form.specs.declared.memory.Memory.{Memory}
 use Rattle.wasm_runtime.specs.declared.Asked.{Asked}
-use Rattle.spec_runs.specs.Systems.{event}
-use Rattle.spec_execution.specs.OneModule.{ModuleState, module_system, module_too_deep}
-use Rattle.spec_hosts.specs.Devices.{Devices}
+use Rattle.wasm_form.specs.declared.runtime.Trap.{Trap}
+use Rattle.spec_runs.specs.Systems.{Status, Moving, Waits, Returned, Exited, Trapped}
+use Rattle.spec_runtime.specs.Names.{HostName}
+use Rattle.spec_runtime.specs.Hosts.{HostCall}
+use Rattle.spec_runtime.specs.Recorded.{Recorded, waits}
+use Rattle.spec_hosts.specs.Devices.{Devices, KeepsFronts}
 use Rattle.spec_hosts.specs.Hosted.{Embedder, Hosted, BreaksOff}
-use Rattle.spec_hosts.specs.Ends.{are_many, taken_of, taken_by, Makes, AreHosted}
-use Rattle.wasm_exec.specs.declared.driver.Driver.{Driver}
-use Rattle.spec_hosts.specs.declared.ran.Ran as ran
+use Rattle.spec_hosts.specs.Ends.{are_many, taken_of, taken_by, Makes, AreHosted, IsCutShort}
+use Rattle.spec_hosts.specs.declared.ran.Ran.{Ran}
 use Rattle.spec_hosts.specs.declared.ran.RunEnd.{RunEnd}
 use Rattle.spec_hosts.specs.declared.ran.RunEnd.TheVariants as end
-use Rattle.spec_hosts.proofs.Fronts.{breaks_none}
-use Rattle.wasm_exec.specs.Executed.{IsModuleRun, IsModuleCut}
-use Rattle.wasm_exec.specs.Driving.{IsAskedOf, reached, IsRunning, KeepsCalls, Grows, StepGives, HasEnded, IsDriven, IsPrepared, Proceeds, ran_of}
+use Rattle.spec_hosts.proofs.Fronts.{breaks_none, run_fronts, cut_fronts}
+use Rattle.wasm_exec.specs.declared.driver.Driver.{Driver}
+use Rattle.wasm_exec.specs.Courses.{Course, Origin, course_of}
+use Rattle.wasm_exec.specs.Recordings.{reached, status_at, memory_at}
+use Rattle.wasm_exec.specs.Driving.{Progress, IsAskedOf, event_reached, IsRunning, KeepsCalls, Grows, StepGives, HasEnded, IsDriven, IsPrepared, CourseGives, Proceeds, ran_of, progress_of, Drives, Prepared, GoesAlong, Steps}
 use Rattle.wasm_exec.proofs.Answering.{asked_call_of, taken_all, none_left}
-use Rattle.wasm_exec.proofs.Openings.{opening_parts}
-use Rattle.wasm_exec.proofs.Standing.{stands_real}
+use Rattle.wasm_exec.proofs.Readiness.{ready_still}
+use Rattle.wasm_exec.proofs.Stepping.{no_event}
 
-module _ {embedder : Embedder} {opening : ModuleState} {d : Driver} {begun now : Devices} where
+module _ {C : Course} {embedder : Embedder} {p : Progress} {begun now : Devices} where
   -- further steps without a host call
-  pub driven_on : IsDriven embedder opening d begun now → (new : Driver) → IsRunning embedder.names opening new × KeepsCalls opening d.single new.single → IsDriven embedder opening new begun now
+  pub driven_on : IsDriven C embedder p begun now → (new : Progress) → IsRunning C embedder.names new × KeepsCalls C p.run new.run → IsDriven C embedder new begun now
   driven_on driven new on = record {
     running = on.0;
     hosted =
@@ -30,29 +33,27 @@ module _ {embedder : Embedder} {opening : ModuleState} {d : Driver} {begun now :
         (h.0, on.1.calls h.0 h.1, subst (λ given. Hosted embedder h.0 given begun now) (sym on.1.answers) h.2);
   }
 
-  grown : IsPrepared embedder opening d begun now → (new : Driver) → Grows opening d.single new.single → AreHosted (module_system new.single.wasm) embedder opening new.single.steps new.single.answers begun now
-  grown answered new grows = ((reached opening d.single).events, grows.events, subst (λ given. Hosted embedder (reached opening d.single).events given begun now) (sym grows.answers) answered.hosted)
+  grown : IsPrepared C embedder p begun now → (new : Recorded) → Grows C p.run new → AreHosted C.system embedder C.opening new.steps new.answers begun now
+  grown prepared new grows = ((reached C p.run).events, grows.events, subst (λ given. Hosted embedder (reached C p.run).events given begun now) (sym grows.answers) prepared.hosted)
 
   -- a step
-  proceeds : IsPrepared embedder opening d begun now → (most : ℕ) → d.single.steps < most → (o : Option RunEnd) (new : Driver) → StepGives embedder.names opening o d new → Proceeds embedder opening most (Ok o) new begun now
-  proceeds answered most lt None new gives = record { running = gives.0; hosted = grown answered new gives.1 }
-  proceeds answered most lt (Some end) new gives = record { runs = gives.0 most lt; hosted = grown answered new gives.1 }
+  proceeds : IsPrepared C embedder p begun now → (most : ℕ) → p.run.steps < most → (o : Option RunEnd) (new : Progress) → StepGives C embedder.names o p new → Proceeds C embedder most (Ok o) new begun now
+  proceeds prepared most lt None new gives = record { running = gives.0; hosted = grown prepared new.run gives.1 }
+  proceeds prepared most lt (Some end) new gives = record { runs = gives.0 most lt; hosted = grown prepared new.run gives.1 }
 
-  made : IsDriven embedder opening d begun now → (most : ℕ) → d.single.steps ≤ most → Makes (module_system d.single.wasm) (module_too_deep d.single.wasm) opening most d.single.steps d.single.answers
-  made driven most few =
-      let running = driven.running in
-      record { few = few; real = stands_real d.single opening (opening_parts d.single.wasm embedder.names opening running.opens).1 (reached opening d.single) running.stands; free = running.free }
+  made : IsDriven C embedder p begun now → (most : ℕ) → p.run.steps ≤ most → Makes C.system C.deep C.opening most p.run.steps p.run.answers
+  made driven most few = record { few = few; real = driven.running.stands.real; free = driven.running.free }
 
   -- the answers were taken
-  taken_whole : IsDriven embedder opening d begun now → taken_by (module_system d.single.wasm) d.single.steps opening d.single.answers ≡ d.single.answers
-  taken_whole driven = ap (taken_of d.single.answers) (none_left embedder.names opening d driven.running) ∙ taken_all d.single.answers
+  taken_whole : IsDriven C embedder p begun now → taken_by C.system p.run.steps C.opening p.run.answers ≡ p.run.answers
+  taken_whole driven = ap (taken_of p.run.answers) (none_left C embedder.names p driven.running) ∙ taken_all p.run.answers
 
   -- memory was wanting
-  pub cut_short : IsDriven embedder opening d begun now → (most : ℕ) → d.single.steps ≤ most → (after : Devices)
-      → BreaksOff embedder (event (module_system d.single.wasm) (reached opening d.single).state) now after → IsModuleCut d.single.wasm embedder opening most begun after
+  pub cut_short : IsDriven C embedder p begun now → (most : ℕ) → p.run.steps ≤ most → (after : Devices) → BreaksOff embedder (event_reached C p.run) now after
+      → IsCutShort C.system C.deep embedder C.opening most begun after
   cut_short driven most few after broken = record {
-    steps = d.single.steps;
-    given = d.single.answers;
+    steps = p.run.steps;
+    given = p.run.answers;
     middle = now;
     made = made driven most few;
     hosted = driven.hosted;
@@ -60,24 +61,23 @@ module _ {embedder : Embedder} {opening : ModuleState} {d : Driver} {begun now :
   }
 
   -- before a use was begun
-  pub cut_here : IsDriven embedder opening d begun now → (most : ℕ) → d.single.steps ≤ most → IsModuleCut d.single.wasm embedder opening most begun now
-  cut_here driven most few = cut_short driven most few now (breaks_none embedder (event (module_system d.single.wasm) (reached opening d.single).state) now)
+  pub cut_here : IsDriven C embedder p begun now → (most : ℕ) → p.run.steps ≤ most → IsCutShort C.system C.deep embedder C.opening most begun now
+  cut_here driven most few = cut_short driven most few now (breaks_none embedder (event_reached C p.run) now)
 
-  pub step_proceeds : IsPrepared embedder opening d begun now → (most : ℕ) → d.single.steps < most → (r : Result (Option RunEnd) Memory) (new : Driver)
-      → IfOk r (λ o. StepGives embedder.names opening o d new) → IsModuleCut new.single.wasm embedder opening most begun now → Proceeds embedder opening most r new begun now
+  pub step_proceeds : IsPrepared C embedder p begun now → (most : ℕ) → p.run.steps < most → (r : Result (Option RunEnd) Memory) (new : Progress)
+      → IfOk r (λ o. StepGives C embedder.names o p new) → IsCutShort C.system C.deep embedder C.opening most begun now → Proceeds C embedder most r new begun now
   step_proceeds prepared most lt (Ok o) new gives cut = proceeds prepared most lt o new gives
   step_proceeds prepared most lt (Err why) new gives cut = cut
 
   -- no further host call is answered
-  pub full : IsDriven embedder opening d begun now → (most : ℕ) → d.single.steps < most → (is_some d.asked && are_many d.single.answers) ≡ true
-      → IsModuleRun d.single.wasm embedder opening most (ran_of end.HostCallLimit d.single) begun now
-  full driven most lt due = by d.asked due driven.running.asks
+  pub full : IsDriven C embedder p begun now → (most : ℕ) → p.run.steps < most → (is_some p.asked && are_many p.run.answers) ≡ true
+      → CourseGives C embedder most (Ok (ran_of end.HostCallLimit p.run)) begun now
+  full driven most lt due = by p.asked due driven.running.asks
     where
-      by : (asked : Option Asked) → (is_some asked && are_many d.single.answers) ≡ true → IsAskedOf d.single.wasm (reached opening d.single).state.status asked
-          → IsModuleRun d.single.wasm embedder opening most (ran_of end.HostCallLimit d.single) begun now
+      by : (asked : Option Asked) → (is_some asked && are_many p.run.answers) ≡ true → IsAskedOf C.host (status_at C p.run) asked → CourseGives C embedder most (Ok (ran_of end.HostCallLimit p.run)) begun now
       by None due asks = absurd (true≢false (sym due))
       by (Some asked) due asks =
-          let call = asked_call_of d.single.wasm (reached opening d.single).state.status asked asks in
+          let call = asked_call_of C.host (status_at C p.run) asked asks in
           record {
             runs = record {
               made = made driven most (omega arith);
@@ -87,19 +87,51 @@ module _ {embedder : Embedder} {opening : ModuleState} {d : Driver} {begun now :
           }
 
   -- all the steps were made
-  pub finished : IsDriven embedder opening d begun now → (most : ℕ) → d.single.steps ≡ most → (end : RunEnd) → HasEnded opening d.single.steps end d.single → IsModuleRun d.single.wasm embedder opening most (ran_of end d.single) begun now
+  pub finished : IsDriven C embedder p begun now → (most : ℕ) → p.run.steps ≡ most → (end : RunEnd) → HasEnded C p.run.steps end p.run → CourseGives C embedder most (Ok (ran_of end p.run)) begun now
   finished driven most all end ended = record {
-    runs = subst (λ n. HasEnded opening n end d.single) all ended;
+    runs = subst (λ n. HasEnded C n end p.run) all ended;
     hosted = driven.hosted;
   }
 
-module _ {embedder : Embedder} {most : ℕ} {begun now : Devices} {m other : Module} {opening o : ModuleState} where
-  -- a run of the same module from its one opening state
-  pub same_run : other ≡ m → o ≡ opening → (r q : ran.Ran) → r ≡ q → IsModuleRun other embedder o most q begun now → IsModuleRun m embedder opening most r begun now
-  same_run same state r q result run =
-      subst (λ x. IsModuleRun x embedder opening most r begun now) same
-      (subst (λ x. IsModuleRun other embedder x most r begun now) state
-      (subst (λ x. IsModuleRun other embedder o most x begun now) (sym result) run))
+-- ---- a run that asks for nothing
 
-  pub same_cut : other ≡ m → o ≡ opening → IsModuleCut other embedder o most begun now → IsModuleCut m embedder opening most begun now
-  same_cut same state cut = subst (λ x. IsModuleCut x embedder opening most begun now) same (subst (λ x. IsModuleCut other embedder x most begun now) state cut)
+unasked_still : (host : ℕ → Option HostName) (status : Status HostCall Trap) → IsAskedOf host status None → waits status ≡ false
+unasked_still host (Waits call) asks = absurd asks
+unasked_still host Moving asks = refl
+unasked_still host Returned asks = refl
+unasked_still host (Exited code) asks = refl
+unasked_still host (Trapped why) asks = refl
+
+module _ {C : Course} {embedder : Embedder} {p : Progress} {begun now : Devices} where
+  -- it may make a step as it stands
+  pub nothing_asked : IsDriven C embedder p begun now → p.asked ≡ None → IsPrepared C embedder p begun now × BreaksOff embedder (event_reached C p.run) now now
+  nothing_asked driven none =
+      let still = unasked_still C.host (status_at C p.run) (subst (IsAskedOf C.host (status_at C p.run)) none driven.running.asks) in
+      let silent : event_reached C p.run ≡ [] = no_event (status_at C p.run) (memory_at C p.run) still in
+      let h = driven.hosted in (
+        record {
+          ready = ready_still C embedder.names p driven.running still;
+          hosted = subst (λ es. Hosted embedder es p.run.answers begun now) (sym (h.1 ∙ ap (λ l. h.0 ++ l) silent ∙ append-nil h.0)) h.2;
+        },
+        breaks_none embedder (event_reached C p.run) now,
+      )
+
+-- whatever came of a run, what the sinks held stays in front
+pub course_fronts : (C : Course) (embedder : Embedder) (most : ℕ) (r : Result Ran Memory) (begun now : Devices) → CourseGives C embedder most r begun now → KeepsFronts begun now
+course_fronts C embedder most (Ok r) begun now gives = run_fronts embedder C.system C.deep C.opening most begun now r gives
+course_fronts C embedder most (Err why) begun now gives = cut_fronts embedder C.system C.deep C.opening most begun now gives
+
+-- ---- the same of a driver, whatever it is that it runs
+
+module _ (o : Origin) (old : Driver) {embedder : Embedder} {begun now : Devices} where
+  -- further steps of code
+  pub driven_along : Drives embedder o old begun now → (new : Driver) → GoesAlong old new → Drives embedder o new begun now
+  driven_along drives new along =
+      let on = along o embedder.names (drives.0, drives.1.running) in
+      (on.0.0, driven_on drives.1 (progress_of new) (on.0.1, on.1))
+
+  -- one step more
+  pub steps_so : Prepared embedder o old begun now → (new : Driver) (r : Result (Option RunEnd) Memory) → IfOk r (λ end. Steps end old new)
+      → IfOk r (λ end. StepGives (course_of o) embedder.names end (progress_of old) (progress_of new))
+  steps_so prepared new (Ok end) steps = (steps o embedder.names (prepared.0, prepared.1.ready)).1
+  steps_so prepared new (Err why) steps = tt

@@ -1,9 +1,16 @@
--- What came of running a module.
-use Rattle.std.specs.Prelude.{◌≡◌, ◌⊎◌, ℕ, Result, Ok, Err}
+-- What came of running a module, or a linked set.
+use Rattle.std.specs.Prelude.{◌≡◌, ◌⊎◌, ℕ, List, Result, Ok, Err, IsTrue}
+use Rattle.wasm_form.specs.declared.memory.Memory.{Memory}
 use Rattle.wasm_form.specs.declared.module.Module.{Module}
+use Rattle.wasm_form.specs.declared.types.FuncType.{FuncType}
+use Rattle.spec_runtime.specs.Names.{HostNames, host_match, Fits, has_integers}
 use Rattle.spec_execution.specs.declared.fault.SingleFault.{SingleFault}
 use Rattle.spec_execution.specs.declared.fault.SingleFault.TheVariants as fault
 use Rattle.spec_execution.specs.OneModule.{ModuleState, module_opening, module_system, module_too_deep}
+use Rattle.spec_linking.specs.LinkedSets.{LinkedSet}
+use Rattle.spec_loading.specs.Loading.{loaded_too_deep}
+use Rattle.spec_loading.specs.LoadedSet.{set_loading, set_system, set_opening}
+use Rattle.dyl_link.specs.Kept.{Kept, IsLinked}
 use Rattle.spec_hosts.specs.declared.ran.Ran.{Ran}
 use Rattle.spec_hosts.specs.Devices.{Devices}
 use Rattle.spec_hosts.specs.Hosted.{Embedder}
@@ -27,3 +34,30 @@ IsRefused m embedder most why begun now = (module_opening m embedder.names ≡ E
 abbrev pub Executes : Module → Embedder → ℕ → Result Ran SingleFault → Devices → Devices → Type 0
 Executes m embedder most (Ok r) begun now = (opening : ModuleState) × (module_opening m embedder.names ≡ Ok opening) × IsModuleRun m embedder opening most r begun now
 Executes m embedder most (Err why) begun now = IsRefused m embedder most why begun now
+
+-- ---- a linked set
+
+-- what is declared has integers alone
+abbrev pub HaveIntegers : HostNames → Type 0
+HaveIntegers names = (from name : List ℕ) (ty : FuncType) → host_match names from name ty ≡ Fits → IsTrue (has_integers ty)
+
+-- what is kept is that of a set which was linked over these host functions
+abbrev pub IsLinkedOver : Kept → HostNames → Type 0
+IsLinkedOver k names = (L : LinkedSet) × IsLinked L k × (L.names ≡ names)
+
+-- what came of a run of a linked set
+abbrev pub IsSetRun : LinkedSet → Embedder → ℕ → Ran → Devices → Devices → Type 0
+IsSetRun L embedder most r begun now = IsRunOf (set_system L) (loaded_too_deep (set_loading L)) embedder (set_opening L) most r begun now
+
+-- a run of a linked set in which memory was wanting
+abbrev pub IsSetCut : LinkedSet → Embedder → ℕ → Devices → Devices → Type 0
+IsSetCut L embedder most begun now = IsCutShort (set_system L) (loaded_too_deep (set_loading L)) embedder (set_opening L) most begun now
+
+-- What came of a linked set: it was run from its opening state, or memory was wanting, before its first step or in its run.
+abbrev pub ExecutesSet : LinkedSet → Embedder → ℕ → Result Ran Memory → Devices → Devices → Type 0
+ExecutesSet L embedder most (Ok r) begun now = IsSetRun L embedder most r begun now
+ExecutesSet L embedder most (Err why) begun now = IsSetCut L embedder most begun now
+
+-- the same of the set that this is kept of
+abbrev pub ExecutesKept : Kept → Embedder → ℕ → Result Ran Memory → Devices → Devices → Type 0
+ExecutesKept k embedder most result begun now = (L : LinkedSet) → IsLinked L k → ExecutesSet L embedder most result begun now

@@ -1,2 +1,5 @@
-pub mod Executed
+pub mod Courses
 pub mod Driving
+pub mod Executed
+pub mod Programs
+pub mod Recordings

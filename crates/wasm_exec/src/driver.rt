@@ -1,13 +1,15 @@
 // A run that is driven by its host.
 ghost use Rattle.std.specs.Prelude.{◌≡◌, ◌<◌, ◌≤◌, ◌+◌, ◌&&◌, map, sum, length, slice_get, Some, None, false, is_some, nat_lt, OnOk, IfOk};
-ghost use Rattle.spec_execution.specs.OneModule.{ModuleState};
 ghost use Rattle.spec_runtime.specs.Names.{HostNames};
-ghost use Rattle.spec_hosts.specs.Devices.{devices};
+ghost use Rattle.spec_hosts.specs.Devices.{Devices, devices};
 ghost use Rattle.spec_hosts.specs.Ends.{bytes_written, are_many};
 ghost use Rattle.host_calls.specs.Embedders.{names_of, embedder};
-ghost use Rattle.wasm_exec.specs.Driving.{AreBound, IsRunning, IsReady, HasEnded, KeepsCalls, StepGives, IsUnderWay, GoesOn, IsServed, ran_of};
+ghost use Rattle.wasm_exec.specs.Courses.{Origin};
+ghost use Rattle.wasm_exec.specs.Programs.{recorded_of, IsOf, Keeps};
+ghost use Rattle.wasm_exec.specs.Driving.{IsBoundTo, Runs, MayStep, Drives, GoesAlong, Steps, EndsSo, GoesOn, IsServed, progress_of, ran_of};
 
 use crate::events::{asked_by, end_by};
+use crate::program::Program;
 use crate::written::bytes_written;
 use dyl_outside::{Ambient, Sink, Source};
 use host_calls::Hosts;
@@ -16,7 +18,6 @@ use spec_hosts::{Ran, RunEnd};
 use std::alloc::Global;
 use wasm_form::Memory;
 use wasm_machine::{Answer, Asked};
-use wasm_single::Single;
 
 /// The most answers, and the most bytes that they may have written.
 const MOST_ANSWERS: usize = 1_048_576;
@@ -26,12 +27,24 @@ const MOST_WRITTEN: u128 = 268_435_456;
 /// A run with the host call that it waits for, and how many bytes the answers so far have written.
 #[derive(Drop)]
 pub(crate) struct Driver<'m> {
-    pub single: Single<'m>,
+    pub program: Program<'m>,
     pub asked: Option<Asked>,
     pub written: u128,
 }
 
 impl<'m> Driver<'m> {
+    /// A program that has made no step.
+    pub fn new(program: Program<'m>) -> Driver<'m>
+        ensures progress { progress_of result ≡ (record { run = recorded_of program.entry; asked = None; written = 0 }) }
+        ensures program { result.program ≡ program.entry }
+    {
+        Driver {
+            program,
+            asked: None,
+            written: 0,
+        }
+    }
+
     /// Makes steps of code, answers the host call that the run then waits for, and makes one step more. The end, if it has come.
     pub fn proceed<I: Source, O: Sink, E: Sink, A: Ambient>(
         &mut self,
@@ -43,13 +56,11 @@ impl<'m> Driver<'m> {
         errors: &mut E,
         ambient: &mut A,
     ) -> Result<Option<RunEnd>, Memory>
-        requires few { self.old.single.steps < most }
-        requires bound { AreBound hosts.now self.old.single.wasm }
-        requires driven { IsUnderWay (embedder hosts.now) self.old (devices (I.seen input.old) (O.seen output.old) (E.seen errors.old) (A.seen ambient.old)) }
+        requires few { (recorded_of self.old.program).steps < most }
+        requires driven { (o : Origin) × (begun : Devices) × IsBoundTo hosts.now o × Drives (embedder hosts.now) o self.old begun (devices (I.seen input.old) (O.seen output.old) (E.seen errors.old) (A.seen ambient.old)) }
         ensures proceeds { GoesOn (embedder hosts.now) most result self.old self.new (devices (I.seen input.old) (O.seen output.old) (E.seen errors.old) (A.seen ambient.old)) (devices (I.seen input.new) (O.seen output.new) (E.seen errors.new) (A.seen ambient.new)) }
-        ensures wasm { self.new.single.wasm ≡ self.old.single.wasm }
-        ensures more { IfOk result (λ o. o ≡ None → self.old.single.steps < self.new.single.steps) }
-        ensures few { OnOk result (self.new.single.steps ≤ most) }
+        ensures more { IfOk result (λ o. o ≡ None → (recorded_of self.old.program).steps < (recorded_of self.new.program).steps) }
+        ensures few { OnOk result ((recorded_of self.new.program).steps ≤ most) }
     {
         if !self.advance(alloc, most)? {
             return Ok(None);
@@ -63,24 +74,25 @@ impl<'m> Driver<'m> {
 
     /// Makes steps of code. Whether a further step may be made.
     fn advance(&mut self, alloc: Global, most: u64) -> Result<bool, Memory>
-        requires few { self.old.single.steps ≤ most }
-        ensures running { (names : HostNames) (opening : ModuleState) → IsRunning names opening self.old → OnOk result (IsRunning names opening self.new × KeepsCalls opening self.old.single self.new.single) }
-        ensures left { IfOk result (λ left. left ≡ nat_lt self.new.single.steps most) }
-        ensures wasm { self.new.single.wasm ≡ self.old.single.wasm }
-        ensures more { self.old.single.steps ≤ self.new.single.steps }
-        ensures few { self.new.single.steps ≤ most }
+        requires runs { (o : Origin) × IsOf self.old.program o }
+        requires few { (recorded_of self.old.program).steps ≤ most }
+        ensures along { OnOk result (GoesAlong self.old self.new) }
+        ensures left { IfOk result (λ left. left ≡ nat_lt (recorded_of self.new.program).steps most) }
+        ensures kept { Keeps self.old.program self.new.program }
+        ensures more { (recorded_of self.old.program).steps ≤ (recorded_of self.new.program).steps }
+        ensures few { (recorded_of self.new.program).steps ≤ most }
     {
-        self.single.advance(alloc, most)?;
-        Ok(self.single.steps() < most)
+        self.program.advance(alloc, most)?;
+        Ok(self.program.steps() < most)
     }
 
     /// Whether a host call is waited for and none is answered any more.
     fn is_full(&self) -> bool
-        requires written { self.now.written ≡ sum (map bytes_written self.now.single.answers) }
-        ensures { result ≡ (is_some self.now.asked && are_many self.now.single.answers) }
+        requires written { self.now.written ≡ sum (map bytes_written (recorded_of self.now.program).answers) }
+        ensures { result ≡ (is_some self.now.asked && are_many (recorded_of self.now.program).answers) }
     {
         self.asked.is_some()
-            && (self.single.answers().len() >= MOST_ANSWERS || self.written >= MOST_WRITTEN)
+            && (self.program.answers().len() >= MOST_ANSWERS || self.written >= MOST_WRITTEN)
     }
 
     /// Answers the host call that the run waits for, if it waits.
@@ -93,41 +105,40 @@ impl<'m> Driver<'m> {
         errors: &mut E,
         ambient: &mut A,
     ) -> Result<(), Memory>
-        requires bound { AreBound hosts.now self.old.single.wasm }
-        requires running { (opening : ModuleState) × IsRunning (names_of hosts.now.table.now) opening self.old }
-        requires room { (is_some self.old.asked && are_many self.old.single.answers) ≡ false }
+        requires running { (o : Origin) × IsBoundTo hosts.now o × Runs o (names_of hosts.now.table.now) self.old }
+        requires room { (is_some self.old.asked && are_many (recorded_of self.old.program).answers) ≡ false }
         ensures served { IsServed (embedder hosts.now) result self.old self.new (devices (I.seen input.old) (O.seen output.old) (E.seen errors.old) (A.seen ambient.old)) (devices (I.seen input.new) (O.seen output.new) (E.seen errors.new) (A.seen ambient.new)) }
-        ensures wasm { self.new.single.wasm ≡ self.old.single.wasm }
-        ensures steps { self.new.single.steps ≡ self.old.single.steps }
+        ensures kept { Keeps self.old.program self.new.program }
+        ensures steps { (recorded_of self.new.program).steps ≡ (recorded_of self.old.program).steps }
     {
         let Some(asked) = &self.asked else {
             return Ok(());
         };
-        let host = host_at(self.single.hosts(), asked.entry);
+        let host = host_at(self.program.hosts(), asked.entry);
         let answer = hosts.ask(
             alloc,
             host,
             asked,
-            self.single.memory(),
+            self.program.memory(),
             input,
             output,
             errors,
             ambient,
         )?;
         self.written += bytes_written(&answer);
-        self.single.answer(alloc, answer)
+        self.program.answer(alloc, answer)
     }
 
     /// Makes a step. The end, if it has come.
     fn step(&mut self, alloc: Global) -> Result<Option<RunEnd>, Memory>
-        requires ready { (names : HostNames) × (opening : ModuleState) × IsReady names opening self.old }
-        requires few { self.old.single.steps < 18446744073709551615 }
-        ensures stepped { (names : HostNames) (opening : ModuleState) → IsReady names opening self.old → IfOk result (λ o. StepGives names opening o self.old self.new) }
-        ensures wasm { self.new.single.wasm ≡ self.old.single.wasm }
-        ensures more { IfOk result (λ o. o ≡ None → self.old.single.steps < self.new.single.steps) }
-        ensures few { self.new.single.steps ≤ self.old.single.steps + 1 }
+        requires ready { (names : HostNames) × (o : Origin) × MayStep o names self.old }
+        requires few { (recorded_of self.old.program).steps < 18446744073709551615 }
+        ensures stepped { IfOk result (λ end. Steps end self.old self.new) }
+        ensures kept { Keeps self.old.program self.new.program }
+        ensures more { IfOk result (λ o. o ≡ None → (recorded_of self.old.program).steps < (recorded_of self.new.program).steps) }
+        ensures few { (recorded_of self.new.program).steps ≤ (recorded_of self.old.program).steps + 1 }
     {
-        let event = self.single.run_step(alloc)?;
+        let event = self.program.run_step(alloc)?;
         let end = end_by(&event);
         self.asked = asked_by(event);
         Ok(end)
@@ -135,15 +146,15 @@ impl<'m> Driver<'m> {
 
     /// The end of a run that has made all its steps.
     pub fn last(&mut self, alloc: Global) -> Result<RunEnd, Memory>
-        requires running { (names : HostNames) × (opening : ModuleState) × IsRunning names opening self.old }
-        requires few { self.old.single.steps < 18446744073709551615 }
-        ensures ended { (names : HostNames) (opening : ModuleState) → IsRunning names opening self.old → IfOk result (λ end. HasEnded opening self.old.single.steps end self.old.single) }
-        ensures same { OnOk result (self.new ≡ self.old) }
+        requires running { (names : HostNames) × (o : Origin) × Runs o names self.old }
+        requires few { (recorded_of self.old.program).steps < 18446744073709551615 }
+        ensures ended { IfOk result (λ end. EndsSo end self.old) }
+        ensures same { OnOk result (recorded_of self.new.program ≡ recorded_of self.old.program) }
     {
-        if !self.single.has_ended() {
+        if !self.program.has_ended() {
             return Ok(RunEnd::StepLimit);
         }
-        let event = self.single.run_step(alloc)?;
+        let event = self.program.run_step(alloc)?;
         match end_by(&event) {
             Some(end) => Ok(end),
             None => unreachable!(),
@@ -152,12 +163,12 @@ impl<'m> Driver<'m> {
 
     /// What came of the run.
     pub fn finish(self, end: RunEnd) -> Ran
-        ensures { result ≡ ran_of end self.entry.single }
+        ensures { result ≡ ran_of end (recorded_of self.entry.program) }
     {
         Ran {
             end,
-            steps: self.single.steps(),
-            answers: self.single.into_answers(),
+            steps: self.program.steps(),
+            answers: self.program.into_answers(),
         }
     }
 }

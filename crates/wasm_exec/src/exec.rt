@@ -1,12 +1,17 @@
-// A run of one module.
-ghost use Rattle.std.specs.Prelude.{◌≡◌, ◌<◌, ◌≤◌, IfOk, OnOk};
+// The run of one module, or of a linked set.
+ghost use Rattle.std.specs.Prelude.{◌≡◌, ◌<◌, ◌≤◌, false, IfOk, OnOk};
 ghost use Rattle.spec_hosts.specs.Devices.{devices, KeepsFronts};
 ghost use Rattle.host_calls.specs.Embedders.{names_of, embedder_of, embedder};
-ghost use Rattle.wasm_exec.specs.Executed.{Executes};
-ghost use Rattle.wasm_exec.specs.Driving.{HaveIntegers, AreBound, IsBegun, IsDrivenTo};
+ghost use Rattle.wasm_exec.specs.Executed.{HaveIntegers, IsLinkedOver, Executes, ExecutesKept};
+ghost use Rattle.wasm_exec.specs.Courses.{Origin};
+ghost use Rattle.wasm_exec.specs.Programs.{recorded_of};
+ghost use Rattle.wasm_exec.specs.Driving.{IsBegun, IsDrivenTo, no_steps, Opens, IsRunFrom};
 
 use crate::driver::Driver;
+use crate::program::Program;
+use dyl_link::Linked;
 use dyl_outside::{Ambient, Sink, Source};
+use dyl_store::Store;
 use host_calls::Hosts;
 use host_table::{HostNames, HostTable};
 use host_wasi::{Wasi, declare};
@@ -16,8 +21,8 @@ use wasm_check::Checked;
 use wasm_form::{List, Memory, Text};
 use wasm_single::{Single, SingleFault};
 
-/// The names of WASI, and then those of a table.
-fn names_of(alloc: Global, table: &HostTable) -> Result<HostNames, Memory>
+/// The names of WASI, and then those of a table: the host functions that a program may import. Each has integers alone.
+pub fn host_names(alloc: Global, table: &HostTable) -> Result<HostNames, Memory>
     ensures names { IfOk result (λ names. names ≡ names_of table.now) }
     ensures integers { OnOk result (HaveIntegers (names_of table.now)) }
 {
@@ -44,18 +49,65 @@ pub fn execute<I: Source, O: Sink, E: Sink, A: Ambient>(
     ensures executes { Executes checked.now (embedder_of args table.now) most result (devices (I.seen input.old) (O.seen output.old) (E.seen errors.old) (A.seen ambient.old)) (devices (I.seen input.new) (O.seen output.new) (E.seen errors.new) (A.seen ambient.new)) }
     ensures fronts { KeepsFronts (devices (I.seen input.old) (O.seen output.old) (E.seen errors.old) (A.seen ambient.old)) (devices (I.seen input.new) (O.seen output.new) (E.seen errors.new) (A.seen ambient.new)) }
 {
-    let names = names_of(alloc, table)?;
+    let names = host_names(alloc, table)?;
     let single = Single::load(alloc, checked, &names)?;
-    let hosts = Hosts::bind(alloc, Wasi::new(args), table, single.hosts())?;
-    let driver = Driver {
-        single,
-        asked: None,
-        written: 0,
-    };
-    match drive(alloc, driver, most, &hosts, input, output, errors, ambient) {
+    let program = Program::Module(single);
+    match run_program(
+        alloc, program, args, most, table, input, output, errors, ambient,
+    ) {
         Ok(ran) => Ok(ran),
         Err(Memory) => Err(SingleFault::Memory),
     }
+}
+
+/// Runs a linked set for a program with these arguments, of which the first one is its name, for at most so many steps: main is opened
+/// with the members that it needs, and then its entry is called. Host calls are answered as for one module. The set was linked over the
+/// names that `host_names` gives for the table, and no member uses the functions of the loader. `Memory` where no memory could be had.
+pub fn execute_set<I: Source, O: Sink, E: Sink, A: Ambient>(
+    alloc: Global,
+    linked: &Linked,
+    args: List<Text>,
+    most: u64,
+    table: &HostTable,
+    input: &mut I,
+    output: &mut O,
+    errors: &mut E,
+    ambient: &mut A,
+) -> Result<Ran, Memory>
+    requires most { most < 18446744073709551615 }
+    requires names { IsLinkedOver linked.now (names_of table.now) }
+    requires integers { HaveIntegers (names_of table.now) }
+    requires alone { linked.now.uses_loader ≡ false }
+    ensures executes { ExecutesKept linked.now (embedder_of args table.now) most result (devices (I.seen input.old) (O.seen output.old) (E.seen errors.old) (A.seen ambient.old)) (devices (I.seen input.new) (O.seen output.new) (E.seen errors.new) (A.seen ambient.new)) }
+    ensures fronts { KeepsFronts (devices (I.seen input.old) (O.seen output.old) (E.seen errors.old) (A.seen ambient.old)) (devices (I.seen input.new) (O.seen output.new) (E.seen errors.new) (A.seen ambient.new)) }
+{
+    let store = Store::load(alloc, linked)?;
+    let program = Program::Set(store);
+    run_program(
+        alloc, program, args, most, table, input, output, errors, ambient,
+    )
+}
+
+/// Runs what was opened.
+fn run_program<I: Source, O: Sink, E: Sink, A: Ambient>(
+    alloc: Global,
+    program: Program,
+    args: List<Text>,
+    most: u64,
+    table: &HostTable,
+    input: &mut I,
+    output: &mut O,
+    errors: &mut E,
+    ambient: &mut A,
+) -> Result<Ran, Memory>
+    requires most { most < 18446744073709551615 }
+    requires fresh { recorded_of program ≡ no_steps }
+    requires opened { (o : Origin) × Opens o (names_of table.now) program }
+    ensures { IsRunFrom (embedder_of args table.now) most result program.entry (devices (I.seen input.old) (O.seen output.old) (E.seen errors.old) (A.seen ambient.old)) (devices (I.seen input.new) (O.seen output.new) (E.seen errors.new) (A.seen ambient.new)) }
+{
+    let hosts = Hosts::bind(alloc, Wasi::new(args), table, program.hosts())?;
+    let driver = Driver::new(program);
+    drive(alloc, driver, most, &hosts, input, output, errors, ambient)
 }
 
 /// Makes the steps of a run, and answers its host calls, until it ends or a limit is due.
@@ -70,13 +122,12 @@ fn drive<I: Source, O: Sink, E: Sink, A: Ambient>(
     ambient: &mut A,
 ) -> Result<Ran, Memory>
     requires most { most < 18446744073709551615 }
-    requires few { driver.single.steps ≤ most }
-    requires bound { AreBound hosts.now driver.single.wasm }
-    requires driven { IsBegun (embedder hosts.now) driver (devices (I.seen input.old) (O.seen output.old) (E.seen errors.old) (A.seen ambient.old)) }
+    requires few { (recorded_of driver.program).steps ≤ most }
+    requires driven { IsBegun hosts.now driver (devices (I.seen input.old) (O.seen output.old) (E.seen errors.old) (A.seen ambient.old)) }
     ensures { IsDrivenTo (embedder hosts.now) most result driver.entry (devices (I.seen input.old) (O.seen output.old) (E.seen errors.old) (A.seen ambient.old)) (devices (I.seen input.new) (O.seen output.new) (E.seen errors.new) (A.seen ambient.new)) }
 {
     let mut driver = driver;
-    while driver.single.steps() < most {
+    while driver.program.steps() < most {
         if let Some(end) = driver.proceed(alloc, most, hosts, input, output, errors, ambient)? {
             return Ok(driver.finish(end));
         }

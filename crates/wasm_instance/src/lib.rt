@@ -15,3 +15,5 @@ mod view;
 
 pub use exports::exported_function;
 pub use instance::Instance;
+pub use rooms::rooms_of;
+pub use tables::tables_of;

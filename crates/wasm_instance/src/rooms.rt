@@ -40,7 +40,7 @@ fn room(checked: &Checked, n: u32) -> u32
 }
 
 /// The rooms of the functions that the module defines, each 4,294,967,295 where it is more.
-pub(crate) fn rooms_of(alloc: Global, checked: &Checked) -> Result<Vec<u32>, Memory>
+pub fn rooms_of(alloc: Global, checked: &Checked) -> Result<Vec<u32>, Memory>
     ensures { IfOk result (λ v. HaveRooms checked.now (length checked.now.codes) v.items) }
 {
     let count = checked.module().codes.items().len() as u32;

@@ -21,8 +21,8 @@ fn table_of(alloc: Global, ty: &TableType) -> Result<Slots, Memory>
     Slots::new(alloc, ty.limits.min, MOST_ENTRIES.min(max))
 }
 
-/// A table for each type.
-pub(crate) fn tables_of(alloc: Global, types: &[TableType]) -> Result<Vec<Slots>, Memory>
+/// A table for each type, of nulls. `Memory` where no memory could be had.
+pub fn tables_of(alloc: Global, types: &[TableType]) -> Result<Vec<Slots>, Memory>
     requires { IsTrue (list_all table_bounded types.now) }
     ensures { IfOk result (λ v. v.items ≡ map opened_table types.now) }
 {

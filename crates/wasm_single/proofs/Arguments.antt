@@ -119,7 +119,7 @@ arguments_fit ty vs p e integers small =
 -- ---- what a step asks
 
 -- it asks a host function that there is for the arguments of its type
-abbrev IsAsked : {Units Mark : Type 0} → View Units → Next Units Mark → Type 0
+abbrev pub IsAsked : {Units Mark : Type 0} → View Units → Next Units Mark → Type 0
 IsAsked V (Asks entry args frames) = (ty : FuncType) × (V.host entry ≡ Some ty) × Fit ty.params args
 IsAsked V (Goes us memory frames) = Unit {0}
 IsAsked V (Loads which args frames) = Unit {0}
@@ -130,7 +130,7 @@ abbrev trapped : {Units Mark : Type 0} → Option (Next Units Mark)
 trapped = Some (Traps trap.Unreachable)
 
 module _ {Units Mark : Type 0} (V : View Units) (us : Units) (memory : MemoryInstance) where
-  call_asks : (caller : Caller Mark) (values : List Value) (r : Ref) → IfSome (call V us memory caller values r) (IsAsked V)
+  pub call_asks : (caller : Caller Mark) (values : List Value) (r : Ref) → IfSome (call V us memory caller values r) (IsAsked V)
   call_asks caller values (Own unit f) =
       each (IsAsked V) (V.code unit f) (call_own us memory caller values unit f)
       (λ x. each (IsAsked V) (take_values (reverse x.ty.params) values) _ (λ p. tt))
@@ -157,7 +157,7 @@ module _ {Units Mark : Type 0} (V : View Units) (us : Units) (memory : MemoryIns
   left_asks values [] = tt
   left_asks values (f ∷ fs) = tt
 
-  carried_asks : (frames : List (Frame Mark)) (m : Move) → IfSome (carried_out V us memory frames m) (IsAsked V)
+  pub carried_asks : (frames : List (Frame Mark)) (m : Move) → IfSome (carried_out V us memory frames m) (IsAsked V)
   carried_asks frames (On a) = tt
   carried_asks frames (Calls f a) = each (IsAsked V) (V.target a.unit f) _ (λ r. call_asks (calling a frames) a.values r)
   carried_asks frames (CallsEntry t ty i a) =

@@ -9,7 +9,7 @@ mod Openings
 mod Running
 mod Stopping
 mod Stepping
-mod Arguments
+pub mod Arguments
 mod Counting
 mod Advancing
 mod Recording

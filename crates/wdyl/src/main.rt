@@ -1,4 +1,5 @@
-//! `wdyl merge MAIN OUT` makes one WebAssembly module of a main module and the libraries that it needs; `wdyl exec FILE` runs a module.
+//! `wdyl run MAIN` runs a main WebAssembly module with the libraries that it needs, `wdyl merge MAIN OUT` makes one module of them,
+//! `wdyl plan MAIN` lists how they are placed and linked, and `wdyl exec FILE` runs one module.
 #![tactic(auto)]
 
 use dyl_app::{serve, tell};

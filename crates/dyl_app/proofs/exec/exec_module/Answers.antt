@@ -1,8 +1,7 @@
-use Rattle.std.proofs.Common.{Ok, Err, inl, refl}
+use Rattle.std.proofs.Common.{Ok, Err}
 use Rattle.spec_execution.specs.declared.fault.SingleFault.TheVariants as single
-use Rattle.spec_hosts.specs.Devices.{devices}
 use Rattle.host_calls.specs.Embedders.{embedder_of}
-use Rattle.dyl_app.proofs.Executing.{with_arguments, memory_is, refused_is}
+use Rattle.dyl_app.proofs.Executing.{with_arguments}
 use Rattle.dyl_app.proofs.exec.exec_module.Goals as goal
 
 pub returns-in-Ok-execute : goal.returns-in-Ok-execute

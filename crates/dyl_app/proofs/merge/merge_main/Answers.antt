@@ -1,8 +1,26 @@
-use Rattle.dyl_app.proofs.Merging.{merge_serves, merge_refused}
+use Rattle.host_calls.specs.Embedders.{names_of}
+use Rattle.dyl_link.specs.Kept as links
+use Rattle.dyl_app.specs.Linking.{linked}
+use Rattle.dyl_app.proofs.Linking.{pages_below, hosts_supported}
+use Rattle.dyl_app.proofs.Merging.{merge_serves}
+use Rattle.dyl_app.proofs.Refusing.{merge_refused}
 use Rattle.dyl_app.proofs.merge.merge_main.Goals as goal
 
+pub merge_linked-requires-clause-set : goal.merge_linked-requires-clause-set
+merge_linked-requires-clause-set g c =
+    let got = c.in-Ok.ensures.got in
+    (linked (names_of c.args.host.now) (links.options_of c.args.link.now) got.set, got.linked)
+
+pub merge_linked-requires-clause-pages : goal.merge_linked-requires-clause-pages
+merge_linked-requires-clause-pages g c = let got = c.in-Ok.ensures.got in pages_below (links.options_of c.args.link.now) got.set (names_of c.args.host.now) c.in-Ok.linked got.linked c.requires.1
+
+pub merge_linked-requires-clause-hosts : goal.merge_linked-requires-clause-hosts
+merge_linked-requires-clause-hosts g c = let got = c.in-Ok.ensures.got in hosts_supported (links.options_of c.args.link.now) got.set (names_of c.args.host.now) c.in-Ok.linked got.linked got.integers
+
 pub returns-in-Ok : goal.returns-in-Ok
-returns-in-Ok g c = λ names. merge_serves c.small_sets_link.ensures names c.args.main.now c.args.out.now c.in-Ok.wasm c.merge_gathered.result _ _ _ c.in-Ok.ensures c.merge_gathered.ensures
+returns-in-Ok g c = λ before now.
+    merge_serves (names_of c.args.host.now) c.args.set.now c.args.link.now c.args.out.now c.in-Ok.linked _ _ _ c.in-Ok.ensures c.merge_linked.result (rw c.items.ensures at c.merge_linked.ensures) before now
 
 pub returns-in-Err : goal.returns-in-Err
-returns-in-Err g c = λ names. rw c.refused.ensures (merge_refused names c.args.main.now c.args.out.now c.in-Err.fault _ _ c.in-Err.ensures)
+returns-in-Err g c = λ before now.
+    merge_refused (names_of c.args.host.now) c.args.set.now c.args.link.now _ _ before now c.in-Err.ensures.files c.args.out.now c.in-Err.outcome c.in-Err.ensures.fault

@@ -1,17 +1,12 @@
-use Rattle.std.proofs.Common.{refl}
+use Rattle.std.proofs.Common.{Err, ap}
+use Rattle.dyl_app.proofs.Merging.{stored_merged, not_merged}
 use Rattle.dyl_app.proofs.merge.write_merged.Goals as goal
 
-pub returns-in-Ok-store : goal.returns-in-Ok-store
-returns-in-Ok-store g c = (
-  c.requires.input.small,
-  (c.args.entry, c.requires.entry),
-  λ files told.
-      rw (c.in-Ok-store.ensures.files files told) (record { output = c.deref.result.now; entry = c.args.entry; entered = c.requires.entry; merged = rw c.deref.ensures.value c.in-Ok.ensures; written = refl }),
-)
+pub returns-in-Ok : goal.returns-in-Ok
+returns-in-Ok g c =
+    stored_merged c.args.linked.now c.args.out.now c.deref.result.now c.store_output.result _ _ (λ L is. rw c.deref.ensures.value (c.in-Ok.ensures.merged L is)) c.store_output.ensures
 
-pub returns-in-Err-Failed : goal.returns-in-Err-Failed
-returns-in-Err-Failed g c =
-    (c.requires.input.small, (c.args.entry, c.requires.entry), (rw c.in-Err-Failed.field-0-is at c.in-Err-Failed.ensures).files, (rw c.in-Err-Failed.field-0-is at c.in-Err-Failed.ensures).writes)
-
-pub returns : goal.returns
-returns g c = (rw c.in-Err-Memory.field-0-is at c.in-Err-Memory.ensures).files
+pub returns-in-Err : goal.returns-in-Err
+returns-in-Err g c =
+    rw c.unmerged.ensures
+    (not_merged c.args.linked.now c.args.out.now c.in-Err.fault (g.F.Files.seen c.args.files.now) (λ id is. c.in-Err.ensures.long id (ap Err is)) (λ id is. c.in-Err.ensures.big id (ap Err is)))

@@ -6,7 +6,7 @@ use Rattle.dyl_app.proofs.service.perform.Goals as goal
 
 pub returns-clause-due : goal.returns-clause-due
 returns-clause-due g c = λ told is.
-    told_yields (laws_of c.reading_answers.ensures c.one_record_answer.ensures c.one_gathered.ensures c.small_sets_link.ensures) (names_of c.args.host.now) (get told) (Ok c.args.order.now) c.perform_order.result (c.perform_order.ensures.serves.tells told is)
+    told_yields (laws_of c.reading_answers.ensures c.one_record_answer.ensures c.one_gathered.ensures) (names_of c.args.host.now) (get told) (Ok c.args.order.now) c.perform_order.result (c.perform_order.ensures.serves.tells told is)
 
 pub returns-clause-tells : goal.returns-clause-tells
 returns-clause-tells g c = c.perform_order.ensures.serves.tells
@@ -16,7 +16,7 @@ returns-clause-files g c = c.perform_order.ensures.serves.leaves
 
 pub returns-clause-complete : goal.returns-clause-complete
 returns-clause-complete g c = λ told is.
-    told_complete (laws_of c.reading_answers.ensures c.one_record_answer.ensures c.one_gathered.ensures c.small_sets_link.ensures) (names_of c.args.host.now) (get told) (g.F.Files.seen c.args.files.now) (g.F.Files.seen c.perform_order.new.files) (Ok c.args.order.now) c.perform_order.result (c.perform_order.ensures.serves.tells told is)
+    told_complete (laws_of c.reading_answers.ensures c.one_record_answer.ensures c.one_gathered.ensures) (names_of c.args.host.now) (get told) (g.F.Files.seen c.args.files.now) (g.F.Files.seen c.perform_order.new.files) _ _ (Ok c.args.order.now) c.perform_order.result (c.perform_order.ensures.serves.tells told is)
     c.perform_order.ensures.serves.caused
 
 pub returns-clause-caused : goal.returns-clause-caused

@@ -9,7 +9,7 @@ use Rattle.dyl_app.proofs.service.perform_exec.Goals as goal
 pub returns-clause-serves : goal.returns-clause-serves
 returns-clause-serves g c =
     told_serves (names_of c.args.host.now) (Ok (Exec c.args.file.now c.args.steps c.args.args.now)) c.exec_file-executed.result c.tell.result
-    (g.F.Files.seen c.args.files.now) (g.F.Files.seen c.exec_file-executed.new.files) c.tell.ensures.answer c.exec_file-executed.ensures.serves
+    (g.F.Files.seen c.args.files.now) (g.F.Files.seen c.exec_file-executed.new.files) _ _ c.tell.ensures.answer c.exec_file-executed.ensures.serves
 
 pub returns-clause-does : goal.returns-clause-does
 returns-clause-does g c =

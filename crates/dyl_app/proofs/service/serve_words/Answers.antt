@@ -1,4 +1,4 @@
-use Rattle.std.proofs.Common.{Err, refl, sym, subst}
+use Rattle.std.proofs.Common.{Err, sym, subst}
 use Rattle.spec_hosts.specs.Devices.{devices}
 use Rattle.host_calls.specs.Embedders.{names_of, embedder_of}
 use Rattle.dyl_front.specs.Orders.{order_of}
@@ -11,7 +11,7 @@ use Rattle.dyl_app.proofs.service.serve_words.Goals as goal
 
 pub returns-in-Ok-clause-serves : goal.returns-in-Ok-clause-serves
 returns-in-Ok-clause-serves g c =
-    subst (λ asked. Serves (names_of c.args.host.now) asked c.perform_order.result (g.F.Files.seen c.args.files.now) (g.F.Files.seen c.perform_order.new.files)) (sym c.in-Ok.ensures.reads) c.perform_order.ensures.serves
+    subst (λ asked. Serves (names_of c.args.host.now) asked c.perform_order.result (g.F.Files.seen c.args.files.now) (g.F.Files.seen c.perform_order.new.files) (g.O.Sink.seen c.args.output.now).faults (g.O.Sink.seen c.perform_order.new.output).faults) (sym c.in-Ok.ensures.reads) c.perform_order.ensures.serves
 
 pub returns-in-Ok-clause-does : goal.returns-in-Ok-clause-does
 returns-in-Ok-clause-does g c =
@@ -23,13 +23,13 @@ returns-in-Ok-clause-does g c =
 
 pub returns-in-Err-Usage-clause-serves : goal.returns-in-Err-Usage-clause-serves
 returns-in-Err-Usage-clause-serves g c =
-    subst (λ asked. Serves (names_of c.args.host.now) asked c.tell.result (g.F.Files.seen c.args.files.now) (g.F.Files.seen c.args.files.now)) (sym (rw c.in-Err-Usage.field-0-is at c.in-Err-Usage.ensures.reads))
-    (told_serves (names_of c.args.host.now) (Err c.in-Err-Usage.kind) (Usage c.in-Err-Usage.kind) c.tell.result _ _ c.tell.ensures.answer (usage_serves (names_of c.args.host.now) c.in-Err-Usage.kind (g.F.Files.seen c.args.files.now)))
+    subst (λ asked. Serves (names_of c.args.host.now) asked c.tell.result (g.F.Files.seen c.args.files.now) (g.F.Files.seen c.args.files.now) (g.O.Sink.seen c.args.output.now).faults (g.O.Sink.seen c.args.output.now).faults) (sym (rw c.in-Err-Usage.field-0-is at c.in-Err-Usage.ensures.reads))
+    (told_serves (names_of c.args.host.now) (Err c.in-Err-Usage.kind) (Usage c.in-Err-Usage.kind) c.tell.result _ _ _ _ c.tell.ensures.answer (usage_serves (names_of c.args.host.now) c.in-Err-Usage.kind (g.F.Files.seen c.args.files.now) _ _))
 
 pub returns-in-Err-Memory-clause-serves : goal.returns-in-Err-Memory-clause-serves
 returns-in-Err-Memory-clause-serves g c =
-    told_serves (names_of c.args.host.now) (order_of c.args.words.now) Memory c.tell-in-Err-Memory.result (g.F.Files.seen c.args.files.now) (g.F.Files.seen c.args.files.now) c.tell-in-Err-Memory.ensures.answer
-    (memory_serves (names_of c.args.host.now) (order_of c.args.words.now) (g.F.Files.seen c.args.files.now))
+    told_serves (names_of c.args.host.now) (order_of c.args.words.now) Memory c.tell-in-Err-Memory.result (g.F.Files.seen c.args.files.now) (g.F.Files.seen c.args.files.now) _ _ c.tell-in-Err-Memory.ensures.answer
+    (memory_serves (names_of c.args.host.now) (order_of c.args.words.now) (g.F.Files.seen c.args.files.now) _ _)
 
 pub returns-in-Err-Usage-clause-does : goal.returns-in-Err-Usage-clause-does
 returns-in-Err-Usage-clause-does g c =

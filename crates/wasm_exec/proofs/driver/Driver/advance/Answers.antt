@@ -1,7 +1,12 @@
+use Rattle.wasm_exec.specs.Courses.{course_of}
+use Rattle.wasm_exec.specs.Programs.{recorded_of}
+use Rattle.wasm_exec.specs.Driving.{progress_of}
 use Rattle.wasm_exec.proofs.Advancing.{advanced}
 use Rattle.wasm_exec.proofs.driver.Driver.advance.Goals as goal
 
-pub returns-clause-running : goal.returns-clause-running
-returns-clause-running c = λ names opening running.
-    let stood = c.steps.ensures.stands c.in_ok-advance.ensures.found in
-    advanced names opening c.args.self.now running c.args.most c.advance.new.self c.advance.ensures.advances c.in_ok-advance.ensures.found stood.0 stood.1
+pub returns-clause-along : goal.returns-clause-along
+returns-clause-along c = λ o names runs.
+    let of = c.advance.ensures.kept o runs.0 in
+    let stood = c.steps.ensures.stands c.in_ok-advance.ensures.found o of in
+    let on = advanced (course_of o) names (progress_of c.args.self.now) runs.1 c.args.most (recorded_of c.advance.new.self) (c.advance.ensures.advances o runs.0) c.in_ok-advance.ensures.found stood in
+    ((of, on.0), on.1)

@@ -1,0 +1,74 @@
+#!/usr/bin/env python3
+"""Times merging beside decoding, checking and encoding the same bytes.
+
+    python3 bench/merging.py bin/wdyl
+
+It builds bench/codec/main.rattle over copies of the crates, as codec.py does, and makes sets of 1, 16 and 256 members with 16 MB of
+code between them: functions with blocks, branches, loads and operators as compilers write them. Printed is processor time in
+seconds, the best of three: `wdyl merge` of the set; decoding, checking and encoding its files one by one, less the starts of these
+processes; and how many times as long merging takes. The exit status is 1 where that is more than 1.7 times.
+"""
+
+import os
+import sys
+import tempfile
+
+import codec
+import crates
+from timing import MB, waited, written
+from make_examples import body, items, name, record, section, unsigned
+
+MOST = 1.7
+COUNTS = (1, 16, 256)
+ADDER = unsigned(len(codec.BODY)) + codec.BODY
+
+
+def member(size, dylink, entry):
+    """Functions of [i32] -> [i32] with the same body, as many as go into so many bytes, and perhaps an entry that returns."""
+    count = (size - 1000 - len(dylink)) // (len(ADDER) + 1)
+    return b"\x00asm\x01\x00\x00\x00" + dylink + b"".join([
+        section(1, b"\x02\x60\x01\x7f\x01\x7f\x60\x00\x00"),
+        section(2, items([name("env") + name("memory") + b"\x02\x00\x01"])),
+        section(3, unsigned(count + entry) + bytes(count) + b"\x01" * entry),
+        section(7, items([name("_start") + b"\x00" + unsigned(count)] * entry)),
+        section(10, unsigned(count + entry) + ADDER * count + body(b"") * entry),
+    ])
+
+
+def code_set(count):
+    names = [f"m{n}.so" for n in range(1, count)]
+    share = 16 * MB // count
+    return {"main.wasm": member(share, record(needed=names), 1), **{text: member(share, record(), 0) for text in names}}
+
+
+def coded(program, path):
+    """Decoding, checking and encoding one file."""
+    times = {work: codec.processor_time([program, work, path]) for work in ["read", "decode", "encode", "check"]}
+    if "0" in (printed for _, printed in times.values()):
+        sys.exit(f"{path}: a work failed")
+    seconds = {work: time for work, (time, _) in times.items()}
+    return seconds["encode"] + seconds["check"] - seconds["decode"] - seconds["read"]
+
+
+def measured(wdyl, program, count):
+    with tempfile.TemporaryDirectory() as folder:
+        files = code_set(count)
+        written(files, folder)
+        merge = [wdyl, "merge", os.path.join(folder, "main.wasm"), os.path.join(folder, "merged")]
+        waited(merge, folder)
+        merging, _ = codec.processor_time(merge)
+        coding = sum(coded(program, os.path.join(folder, file)) for file in files)
+    ratio = merging / coding
+    print(f"{count:3} members: merge {merging:.3f} s, the codec {coding:.3f} s, {ratio:.2f} times as long", flush=True)
+    return ratio <= MOST
+
+
+def main():
+    wdyl = os.path.abspath(sys.argv[1])
+    with tempfile.TemporaryDirectory() as folder:
+        program = crates.build(folder, "codec", codec.USED, [])
+        return 0 if all([measured(wdyl, program, count) for count in COUNTS]) else 1
+
+
+if __name__ == "__main__":
+    sys.exit(main())

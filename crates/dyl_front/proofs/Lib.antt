@@ -1,0 +1,6 @@
+pub mod Numbers
+pub mod Items
+pub mod Ranges
+pub mod Listings
+pub mod SlotLines
+pub mod FirstNames

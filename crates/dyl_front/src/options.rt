@@ -1,0 +1,165 @@
+// The values of options.
+ghost use Rattle.std.specs.Prelude.{◌≡◌, ◌==◌, ◌≤◌, ◌<◌, ◌^◌, IfOk, IfSome, IsNone, map, length, true, false};
+ghost use Rattle.std.specs.List.{list_any, list_all, slice_split};
+ghost use Rattle.std.specs.Str.Parse.{digits_value};
+ghost use Rattle.dyl_words.specs.Shown.{shown, text_in};
+ghost use Rattle.dyl_front.specs.Orders.{Reads, is_digit, is_number, is_between, is_empty, number_in, items_of, items_in, set_in, link_in, steps_in};
+
+use crate::order::{LEAST_PAGES, LEAST_STACK, MOST_PAGES, MOST_STACK, MOST_STEPS};
+use crate::outcome::{Opt, UsageKind};
+use crate::words::{WordFault, owned};
+use dyl_link::LinkOptions;
+use dyl_search::SetOptions;
+use dyl_words::Asked;
+use std::alloc::{AllocError, Global};
+use wasm_form::{List, Memory, Text};
+
+// The most pages, the bytes of the stack and the most steps where no number is given.
+const DEFAULT_PAGES: u64 = 1_024;
+
+const DEFAULT_STACK: u64 = 65_536;
+
+const DEFAULT_STEPS: u64 = 1_000_000_000;
+
+fn is_digit(b: u8) -> bool
+    ensures { result ≡ is_digit b }
+{
+    b >= b'0' && b <= b'9'
+}
+
+fn are_digits(text: &str) -> bool
+    ensures { result ≡ list_all is_digit text.now }
+{
+    text.as_bytes().iter().all(|b| is_digit(*b))
+}
+
+fn is_number(text: &str) -> bool
+    ensures { result ≡ is_number text.now }
+{
+    !text.is_empty() && are_digits(text)
+}
+
+// The number that a text writes, if it is one below 2^64.
+fn number(text: &str) -> Option<u64>
+    ensures small { IfSome result (λ n. (is_number text.now ≡ true) × (n ≡ digits_value 10 text.now)) }
+    ensures none { IsNone result → is_number text.now ≡ true → 2 ^ 64 ≤ digits_value 10 text.now }
+{
+    if !is_number(text) {
+        return None;
+    }
+    match text.parse::<u64>() {
+        Ok(n) => Some(n),
+        Err(_) => None,
+    }
+}
+
+// The value of an option as a number in its range; where none is given, this one.
+fn number_in(
+    option: Opt,
+    least: u64,
+    most: u64,
+    unless: u64,
+    value: Option<&str>,
+) -> Result<u64, UsageKind>
+    requires { unless ≤ most }
+    ensures value { result ≡ number_in option least most unless (text_in value.entry) }
+    ensures range { IfOk result (λ n. n ≤ most) }
+{
+    let Some(text) = value else {
+        return Ok(unless);
+    };
+    match number(text) {
+        Some(n) if n >= least && n <= most => Ok(n),
+        _ => Err(UsageKind::Number(option)),
+    }
+}
+
+// How a set is linked.
+pub(crate) fn link_in(asked: &Asked<'_>) -> Result<LinkOptions, UsageKind>
+    ensures { result ≡ link_in (shown asked.now) }
+{
+    let pages = number_in(
+        Opt::Pages,
+        u64::from(LEAST_PAGES),
+        u64::from(MOST_PAGES),
+        DEFAULT_PAGES,
+        asked.pages,
+    )?;
+    let stack = number_in(
+        Opt::Stack,
+        u64::from(LEAST_STACK),
+        u64::from(MOST_STACK),
+        DEFAULT_STACK,
+        asked.stack,
+    )?;
+    Ok(LinkOptions {
+        stack: stack as u32,
+        pages: pages as u32,
+        no_duplicates: asked.no_duplicates,
+    })
+}
+
+// The most steps of a run.
+pub(crate) fn steps_in(asked: &Asked<'_>) -> Result<u64, UsageKind>
+    ensures { result ≡ steps_in (shown asked.now) }
+{
+    number_in(Opt::Steps, 0, MOST_STEPS, DEFAULT_STEPS, asked.steps)
+}
+
+// The parts of a text between separators, which are ASCII.
+fn parts<'a>(alloc: Global, text: &'a str, separator: char) -> Result<Vec<&'a str>, AllocError>
+    requires { separator < 128 }
+    ensures { IfOk result (λ v. map (λ x. x.now) v.items ≡ slice_split (λ b. b == separator) text.entry.now) }
+{
+    text.split(separator).collect(alloc)
+}
+
+fn some_empty(parts: &[&str]) -> bool
+    ensures { result ≡ list_any (λ x. is_empty x.now) parts.now }
+{
+    parts.iter().any(|part| part.is_empty())
+}
+
+// Texts of their own.
+pub(crate) fn owned_all(alloc: Global, parts: &[&str]) -> Result<List<Text>, Memory>
+    ensures { IfOk result (λ texts. texts ≡ map (λ x. x.now) parts.now) }
+{
+    let mut texts = Vec::new(alloc);
+    for part in parts {
+        texts.push(owned(alloc, part)?)?;
+    }
+    Ok(List::of(texts))
+}
+
+// The items of the value of an option; none where none is given.
+fn items_in(
+    alloc: Global,
+    option: Opt,
+    separator: char,
+    value: Option<&str>,
+) -> Result<List<Text>, WordFault>
+    requires { separator < 128 }
+    ensures { Reads result (items_in option separator (text_in value.entry)) }
+{
+    let Some(text) = value else {
+        return Ok(List::of(Vec::new(alloc)));
+    };
+    let parts = parts(alloc, text, separator)?;
+    if some_empty(&parts) {
+        return Err(WordFault::Usage(UsageKind::Name(option)));
+    }
+    Ok(owned_all(alloc, &parts)?)
+}
+
+// How a set is gathered.
+pub(crate) fn set_in(alloc: Global, main: &str, asked: &Asked<'_>) -> Result<SetOptions, WordFault>
+    ensures { Reads result (set_in main.now (shown asked.now)) }
+{
+    let dl = items_in(alloc, Opt::Dl, ',', asked.dl)?;
+    let paths = items_in(alloc, Opt::Path, ':', asked.path)?;
+    Ok(SetOptions {
+        main: owned(alloc, main)?,
+        dl,
+        paths,
+    })
+}

@@ -1,0 +1,109 @@
+-- What is kept of a member is what it has.
+use Rattle.std.proofs.Common.{◌≡◌, ℕ, zero, suc, ◌+◌, ◌<◌, List, [], ◌∷◌, ◌++◌, length, Option, Some, None, Bool, ap, sym, ◌∙◌, subst, arith, inl, inr, length-append}
+use Rattle.std.specs.Prelude.{slice_get, if◌then◌else◌}
+use Rattle.std.specs.Option.{option_map}
+use Rattle.std.proofs.lemmas.Bool.{cases_lt, lt-ltb}
+use Rattle.std.proofs.lemmas.List.FromFn.{length-map-range_with_len, get_or-map-range_with_len}
+use Rattle.std.proofs.lemmas.Option.{slice_get-get_or, slice_get_within, slice_get-map, same_Some}
+use Rattle.spec_binary.proofs.Lists.{slice_get-append-left, slice_get-append-last}
+use Rattle.wasm_form.specs.declared.module.Module.{Module}
+use Rattle.spec_binary.specs.IndexSpaces.{imported_count, global_space, table_space}
+use Rattle.spec_binary.specs.Options.{◌>>=◌}
+use Rattle.wasm_instance.specs.Rooms.{HaveRooms}
+use Rattle.spec_linking.specs.Sets.{ClosedSet}
+use Rattle.spec_linking.specs.Sets as sets
+use Rattle.spec_linking.specs.LinkedSets.{wasm_of}
+use Rattle.spec_loading.specs.Addresses.{sum_before, item_address, global_address, table_address, elem_address, data_address}
+use Rattle.merge_match.specs.Parts.{number_of}
+use Rattle.merge_match.specs.Renumbering.{Numbers}
+use Rattle.dyl_search.specs.declared.set.Member.{Member}
+use Rattle.dyl_search.specs.Gathers.{member_of}
+use Rattle.dyl_link.specs.Kept.{Kept}
+use Rattle.dyl_store.specs.declared.unit.Unit.{Unit}
+use Rattle.dyl_store.specs.Worlds.{set_in}
+use Rattle.dyl_store.specs.Stores.{IsOfSet}
+use Rattle.dyl_store.specs.Units.{IsUnit}
+use Rattle.dyl_store.specs.Opening.{AreNumbers, first_of}
+use Rattle.dyl_store.proofs.Views.{global_same}
+
+-- one of the first numbers
+pub first_at : (number : ℕ → ℕ) (count i : ℕ) → i < count → slice_get (first_of number count) i ≡ Some (number i)
+first_at number count i lt =
+    slice_get-get_or (first_of number count) i 0 (let many = length-map-range_with_len number 0 count in omega (arith, many)) ∙ ap Some (get_or-map-range_with_len number 0 count i i 0 lt (omega arith))
+
+-- the module of a member
+pub kept_wasm : (k : Kept) (m : ℕ) (x : Member) → slice_get k.set.members m ≡ Some x → wasm_of (set_in k) m ≡ Some x.checked
+kept_wasm k m x e =
+    ap (λ (o : Option sets.Member). o >>= λ y. Some y.wasm) (slice_get-map member_of k.set.members m) ∙ ap (λ (o : Option Member). option_map member_of o >>= λ y. Some y.wasm) e
+
+-- the numbers of a set that links are the addresses
+module _ (k : Kept) (numbers : Numbers) (set : IsOfSet k) (are : AreNumbers k numbers) where
+  pub global_number : (m g : ℕ) → numbers.global m g ≡ number_of (global_address (set_in k) m g)
+  global_number m g = ap (λ (n : Numbers). n.global m g) (are set.0 set.1) ∙ ap number_of (global_same set.0 (set_in k) (sym set.1.set) m g)
+
+  pub table_number : (m t : ℕ) → numbers.table m t ≡ number_of (table_address (set_in k) m t)
+  table_number m t = ap (λ (n : Numbers). n.table m t) (are set.0 set.1) ∙ ap (λ (S : ClosedSet). number_of (table_address (record (set.0) { set = S }) m t)) (sym set.1.set)
+
+  elem_number : (m e : ℕ) → numbers.elem m e ≡ number_of (elem_address (set_in k) m e)
+  elem_number m e = ap (λ (n : Numbers). n.elem m e) (are set.0 set.1) ∙ ap (λ (S : ClosedSet). number_of (elem_address (record (set.0) { set = S }) m e)) (sym set.1.set)
+
+  data_number : (m d : ℕ) → numbers.segment m d ≡ number_of (data_address (set_in k) m d)
+  data_number m d = ap (λ (n : Numbers). n.segment m d) (are set.0 set.1) ∙ ap (λ (S : ClosedSet). number_of (data_address (record (set.0) { set = S }) m d)) (sym set.1.set)
+
+  first_item : (start count : ℕ) → 0 < count → number_of (item_address start count 0) ≡ start
+  first_item start zero lt = absurd (omega arith)
+  first_item start (suc n) lt =
+      ap (λ (b : Bool). number_of (if b then Some (start + 0) else None)) (lt-ltb 0 (suc n) lt) ∙ plain start
+    where
+      plain : (n : ℕ) → n + 0 ≡ n
+      plain n = omega arith
+
+  pub first_elem_is : (m : ℕ) (wasm : Module) → wasm_of (set_in k) m ≡ Some wasm → 0 < length wasm.elems → numbers.elem m 0 ≡ sum_before (λ x. length x.elems) (set_in k).set.members m
+  first_elem_is m wasm is some =
+      elem_number m 0
+      ∙ ap (λ (o : Option Module). number_of (o >>= λ w. item_address (sum_before (λ x. length x.elems) (set_in k).set.members m) (length w.elems) 0)) is
+      ∙ first_item (sum_before (λ x. length x.elems) (set_in k).set.members m) (length wasm.elems) some
+
+  pub first_data_is : (m : ℕ) (wasm : Module) → wasm_of (set_in k) m ≡ Some wasm → 0 < length wasm.datas → numbers.segment m 0 ≡ sum_before (λ x. length x.datas) (set_in k).set.members m
+  first_data_is m wasm is some =
+      data_number m 0
+      ∙ ap (λ (o : Option Module). number_of (o >>= λ w. item_address (sum_before (λ x. length x.datas) (set_in k).set.members m) (length w.datas) 0)) is
+      ∙ first_item (sum_before (λ x. length x.datas) (set_in k).set.members m) (length wasm.datas) some
+
+-- what is kept of a member
+pub unit_is : (k : Kept) (n : Numbers) → IsOfSet k → AreNumbers k n → (m : ℕ) (x : Member) → slice_get k.set.members m ≡ Some x → (u : Unit) → u.checked.now ≡ x.checked
+    → u.imported ≡ imported_count x.checked → HaveRooms x.checked (length x.checked.codes) u.rooms.items
+    → u.globals.items ≡ first_of (n.global m) (length (global_space x.checked)) → u.tables.items ≡ first_of (n.table m) (length (table_space x.checked))
+    → u.first_elem ≡ n.elem m 0 → u.first_data ≡ n.segment m 0 → IsUnit k m u
+unit_is k n set are m x here u same imported rooms globals tables first second =
+    let wasm : wasm_of (set_in k) m ≡ Some u.checked.now = kept_wasm k m x here ∙ ap Some (sym same) in
+    record {
+      member = wasm;
+      imported = imported ∙ ap imported_count (sym same);
+      rooms = subst (λ (w : Module). HaveRooms w (length w.codes) u.rooms.items) (sym same) rooms;
+      globals = λ g lt.
+          ap (λ (l : List ℕ). slice_get l g) globals ∙ first_at (n.global m) (length (global_space x.checked)) g (subst (λ (w : Module). g < length (global_space w)) same lt)
+          ∙ ap Some (global_number k n set are m g);
+      tables = λ t lt.
+          ap (λ (l : List ℕ). slice_get l t) tables ∙ first_at (n.table m) (length (table_space x.checked)) t (subst (λ (w : Module). t < length (table_space w)) same lt)
+          ∙ ap Some (table_number k n set are m t);
+      first_elem = λ some. first ∙ first_elem_is k n set are m u.checked.now wasm some;
+      first_data = λ some. second ∙ first_data_is k n set are m u.checked.now wasm some;
+    }
+
+-- one member more
+pub have_more : (k : Kept) (units more : List Unit) (u : Unit) (m : ℕ) → length units ≡ m → ((i : ℕ) (x : Unit) → slice_get units i ≡ Some x → IsUnit k i x) → IsUnit k m u → more ≡ units ++ u ∷ []
+    → (i : ℕ) (x : Unit) → slice_get more i ≡ Some x → IsUnit k i x
+have_more k units more u m count each is e i x found =
+    let at : slice_get (units ++ u ∷ []) i ≡ Some x = ap (λ (us : List Unit). slice_get us i) (sym e) ∙ found in
+    let within = slice_get_within (units ++ u ∷ []) i x at in
+    let many = length-append units (u ∷ []) in
+    elim (cases_lt i (length units)) [
+      | inl before ↦ each i x (sym (slice_get-append-left units (u ∷ []) i before) ∙ at)
+      | inr past ↦ last at (omega (arith, within, many, past))
+    ]
+  where
+    last : slice_get (units ++ u ∷ []) i ≡ Some x → i ≡ length units → IsUnit k i x
+    last at here =
+        let same : u ≡ x = same_Some u x (sym (slice_get-append-last units u i here) ∙ at) in
+        subst (λ (y : Unit). IsUnit k i y) same (subst (λ (n : ℕ). IsUnit k n u) (sym (here ∙ count)) is)

@@ -1,0 +1,81 @@
+-- An answer fits what a run waits for where it fits the host function that the machine asks.
+use Rattle.std.proofs.Common.{◌≡◌, ℕ, Option, Some, IsTrue, IfSome, refl, sym, ap, ◌∙◌, subst}
+use Rattle.wasm_form.specs.declared.types.FuncType.{FuncType}
+use Rattle.wasm_form.specs.declared.runtime.Trap.{Trap}
+use Rattle.wasm_runtime.specs.declared.Answer.{Answer}
+use Rattle.spec_runs.specs.Systems.{Status, Moving, Waits, Returned, Exited, Trapped}
+use Rattle.spec_runtime.specs.Memories.{MemoryInstance}
+use Rattle.spec_runtime.specs.Hosts.{HostCall, fits_results, answer_fits}
+use Rattle.spec_execution.specs.Views.{View}
+use Rattle.spec_execution.specs.Instances.{ModuleParts, host_type}
+use Rattle.spec_linking.specs.LinkedSets.{LinkedSet, set_hosts}
+use Rattle.spec_loading.specs.LoadedSet.{SetState, set_loading}
+use Rattle.wasm_machine.specs.declared.machine.Standing.{Standing}
+use Rattle.wasm_machine.specs.declared.machine.Standing.TheVariants as standing
+use Rattle.dyl_frames.specs.Cores.{StandsAs, FitsHost}
+use Rattle.dyl_frames.proofs.Answering.{asking}
+use Rattle.dyl_link.specs.Kept.{IsLinked}
+use Rattle.dyl_store.specs.Worlds.{kept_view}
+use Rattle.dyl_store.specs.declared.running.Running.{Running}
+use Rattle.dyl_store.specs.Stores.{FitsWait}
+use Rattle.dyl_store.specs.Runs.{IsRunning, IsAt}
+use Rattle.dyl_store.proofs.Loads.{loaded}
+
+-- an answer fits the results of a type
+abbrev FitsType : MemoryInstance → Answer → Option FuncType → Type 0
+FitsType memory a o = IfSome o (λ ty. IsTrue (fits_results ty.results memory a))
+
+-- the call that is waited for
+pub waited_call : (a : Answer) (status : Status HostCall Trap) (memory : MemoryInstance) → FitsWait a status memory → (call : HostCall) × (status ≡ Waits call) × IsTrue (answer_fits call memory a)
+waited_call a Moving memory h = absurd h
+waited_call a (Waits call) memory h = (call, refl, h)
+waited_call a Returned memory h = absurd h
+waited_call a (Exited code) memory h = absurd h
+waited_call a (Trapped why) memory h = absurd h
+
+module _ (x : Running) (h : IsRunning x) (L : LinkedSet) (linked : IsLinked L x.linked.now) (s : SetState) (at : IsAt L x s) where
+  -- how the run stands where the machine asks
+  pub asking_status : (entry count : ℕ) → x.core.machine.standing ≡ standing.Asking entry count → (call : HostCall) × (s.run.status ≡ Waits call) × (set_hosts L entry ≡ Some call.host)
+  asking_status entry count e =
+      let k = subst (λ (st : Standing). StandsAs (set_loading L) x.core s st) e at.standing in
+      (k.0, k.1, k.2)
+
+  -- where it waits the machine asks
+  waits_asking : (call : HostCall) (st : Standing) → StandsAs (set_loading L) x.core s st → s.run.status ≡ Waits call → (entry count : ℕ) × (st ≡ standing.Asking entry count)
+  waits_asking call standing.Moving k e = absurd (let clash : Moving ≡ Waits call = sym k.0 ∙ e in cc)
+  waits_asking call (standing.Asking entry count) k e = (entry, count, refl)
+  waits_asking call standing.Loading k e = absurd k
+  waits_asking call standing.Returned k e = absurd (let clash : Returned ≡ Waits call = sym k ∙ e in cc)
+  waits_asking call (standing.Trapped why) k e = absurd (let clash : Trapped why ≡ Waits call = sym k ∙ e in cc)
+  waits_asking call (standing.Exited code) k e = absurd (let clash : Exited code ≡ Waits call = sym k ∙ e in cc)
+  waits_asking call standing.Stuck k e = absurd (let clash : Moving ≡ Waits call = sym k.0 ∙ e in cc)
+  waits_asking call standing.Lost k e = absurd k
+
+  host_named : (entry : ℕ) (call : HostCall) → set_hosts L entry ≡ Some call.host → (kept_view x.world.linked).host entry ≡ Some call.host.ty
+  host_named entry call named =
+      let is = loaded x h L linked in
+      ap (λ (V : View ModuleParts). V.host entry) (sym is.view) ∙ is.hosts entry ∙ ap host_type named
+
+  -- an answer that fits a call fits the host function that is asked
+  pub fits_host : (a : Answer) (entry count : ℕ) (call : HostCall) → x.core.machine.standing ≡ standing.Asking entry count → set_hosts L entry ≡ Some call.host → IsTrue (answer_fits call s.run.memory a)
+      → FitsHost (kept_view x.world.linked) x.world.memory a x.core.machine.standing
+  fits_host a entry count call asks named fits =
+      let here : FitsType x.world.memory a (Some call.host.ty) = subst (λ (memory : MemoryInstance). IsTrue (answer_fits call memory a)) at.space fits in
+      subst (FitsHost (kept_view x.world.linked) x.world.memory a) (sym asks) (subst (FitsType x.world.memory a) (sym (host_named entry call named)) here)
+
+  pub wait_fits_host : (a : Answer) → FitsWait a s.run.status s.run.memory → FitsHost (kept_view x.world.linked) x.world.memory a x.core.machine.standing
+  wait_fits_host a fits =
+      let waited = waited_call a s.run.status s.run.memory fits in
+      let asks = waits_asking waited.0 x.core.machine.standing at.standing waited.1 in
+      let status = asking_status asks.0 asks.1 asks.2 in
+      let same : status.0 ≡ waited.0 = let e : Waits status.0 ≡ Waits waited.0 = sym status.1 ∙ waited.1 in cc in
+      fits_host a asks.0 asks.1 status.0 asks.2 status.2 (subst (λ (call : HostCall). IsTrue (answer_fits call s.run.memory a)) (sym same) waited.2)
+
+  -- and the other way round
+  pub host_fits_call : (a : Answer) → FitsHost (kept_view x.world.linked) x.world.memory a x.core.machine.standing → (call : HostCall) × (s.run.status ≡ Waits call) × IsTrue (answer_fits call s.run.memory a)
+  host_fits_call a fits =
+      let asks = asking (kept_view x.world.linked) x.world.memory a x.core.machine.standing fits in
+      let status = asking_status asks.0 asks.1 asks.2 in
+      let there : FitsType x.world.memory a ((kept_view x.world.linked).host asks.0) = subst (FitsHost (kept_view x.world.linked) x.world.memory a) asks.2 fits in
+      let here : FitsType x.world.memory a (Some status.0.host.ty) = subst (FitsType x.world.memory a) (host_named asks.0 status.0 status.2) there in
+      (status.0, status.1, subst (λ (memory : MemoryInstance). IsTrue (answer_fits status.0 memory a)) (sym at.space) here)

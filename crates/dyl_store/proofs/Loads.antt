@@ -1,0 +1,93 @@
+-- The steps of what runs are those of the loaded set.
+use Rattle.std.proofs.Common.{◌≡◌, ℕ, List, [], ◌∷◌, length, Option, Some, None, refl, ap, sym, ◌∙◌, subst}
+use Rattle.std.specs.Prelude.{OnOk, Result, Ok, Err}
+use Rattle.wasm_machine.specs.declared.event.Event.{Event}
+use Rattle.wasm_view.specs.Seen.{Seen}
+use Rattle.spec_loading.specs.declared.task.Task.{Task}
+use Rattle.dyl_frames.specs.Cores.{first_of, StepsFrom}
+use Rattle.std.specs.Borrow.{Bor}
+use Rattle.std.proofs.lemmas.Option.{same_Some}
+use Rattle.wasm_form.specs.declared.runtime.Ref.TheVariants.{Own}
+use Rattle.wasm_form.specs.declared.runtime.Trap.{Trap}
+use Rattle.spec_binary.specs.Options.{◌>>=◌}
+use Rattle.spec_binary.specs.Indices.{nullary}
+use Rattle.spec_execution.specs.Views.{View, type_of}
+use Rattle.spec_execution.specs.Instances.{ModuleParts}
+use Rattle.spec_execution.specs.Ranges.{HoldsAll}
+use Rattle.spec_linking.specs.LinkedSets.{LinkedSet}
+use Rattle.spec_loading.specs.Members.{set_view}
+use Rattle.spec_loading.specs.LoadedSet.{set_loading}
+use Rattle.spec_loading.specs.Laws.{EntryIsThere, PlacedHolds}
+use Rattle.dyl_frames.specs.declared.frames.Core.{Core}
+use Rattle.dyl_frames.specs.Cores.{IsLoaded, IsCore, trap_of}
+use Rattle.dyl_link.specs.Kept.{Kept, IsLinked}
+use Rattle.dyl_store.specs.Worlds.{WorldState, kept_view, seen_of}
+use Rattle.dyl_store.specs.Placements.{PlacesSo}
+use Rattle.dyl_store.specs.declared.running.Running.{Running}
+use Rattle.dyl_store.specs.Runs.{IsRunning, ArePlacements, StepsTo}
+use Rattle.dyl_store.proofs.Views.{kept_view_is}
+
+pub loaded : (x : Running) → IsRunning x → (L : LinkedSet) → IsLinked L x.linked.now → IsLoaded (set_loading L) (kept_view x.world.linked)
+loaded x h L linked = record { view = sym (kept_view_is L x.linked.now linked) ∙ sym h.fixed; hosts = λ entry. refl }
+
+-- what is kept after a step
+pub running_after : (old new : Running) → IsRunning old → new.linked ≡ old.linked → new.placements ≡ old.placements → kept_view new.world.linked ≡ kept_view old.world.linked
+    → IsCore (kept_view old.world.linked) new.world.store new.core → length new.core.stages ≡ length old.core.stages → IsRunning new
+running_after old new h linked placements fixed core members =
+    let k : old.linked.now ≡ new.linked.now = ap (λ (b : Bor Kept). b.now) (sym linked) in
+    record {
+      set = subst (λ (x : Kept). (L : LinkedSet) × IsLinked L x) k h.set;
+      fixed = fixed ∙ h.fixed ∙ ap kept_view k;
+      core = subst (λ (V : View ModuleParts). IsCore V new.world.store new.core) (sym fixed) core;
+      members = members ∙ h.members ∙ ap (λ (x : Kept). length x.set.members) k;
+      placements = subst (λ (x : Kept). ArePlacements x new.placements.items) k (subst (λ (ps : _). ArePlacements old.linked.now ps.items) (sym placements) h.placements);
+    }
+
+-- ---- the entry
+
+pub entry_is : (L : LinkedSet) (k : Kept) → IsLinked L k → (set_loading L).entry ≡ Some (Own 0 k.entry)
+entry_is L k h = ap (λ (o : Option ℕ). o >>= λ f. Some (Own 0 f)) h.entry
+
+pub entry_nullary : EntryIsThere → (x : Running) → IsRunning x → type_of (kept_view x.world.linked) (Own 0 x.linked.now.entry) ≡ Some nullary
+entry_nullary law x h =
+    let L = h.set.0 in
+    let linked = h.set.1 in
+    let there = law L linked.shape linked.links in
+    let same : Own 0 there.0 ≡ Own 0 x.linked.now.entry = same_Some (Own 0 there.0) (Own 0 x.linked.now.entry) (sym there.1 ∙ entry_is L x.linked.now linked) in
+    ap (λ (V : View ModuleParts). type_of V (Own 0 x.linked.now.entry)) (h.fixed ∙ kept_view_is L x.linked.now linked) ∙ ap (type_of (set_view L)) (sym same) ∙ there.2
+
+-- ---- placing
+
+-- the machine names what there is also over a store that holds all
+pub core_kept : (V : View ModuleParts) (us us' : ModuleParts) (c : Core) → IsCore V us c → HoldsAll V us' → IsCore V us' c
+core_kept V us us' c h holds = record {
+  over = record { range = record { whole = h.over.range.whole; units = holds; stack = h.over.range.stack }; rooms = h.over.rooms; asked = h.over.asked };
+  live = h.live;
+  pending = h.pending;
+  alone = h.alone;
+  few = h.few;
+}
+
+pub placed_core : PlacedHolds → (x : Running) → IsRunning x → (m : ℕ) (r : Result (Unit {0}) Trap) (new : WorldState) → PlacesSo x.linked.now m x.world r new → IsCore (kept_view x.world.linked) new.store x.core
+placed_core law x h m r new placed =
+    let L = h.set.0 in
+    let linked = h.set.1 in
+    let same : kept_view x.world.linked ≡ set_view L = h.fixed ∙ kept_view_is L x.linked.now linked in
+    let before : HoldsAll (set_view L) x.world.store = subst (λ (V : View ModuleParts). HoldsAll V x.world.store) same h.core.over.range.units in
+    let after : HoldsAll (set_view L) new.store = law L linked.shape linked.links m x.world.store x.world.memory (record { units = new.store; memory = new.memory; trap = trap_of r }) before (placed L linked) in
+    core_kept (kept_view x.world.linked) x.world.store new.store x.core h.core (subst (λ (V : View ModuleParts). HoldsAll V new.store) (sym same) after)
+
+-- no task is left
+pub none_first : (ts : List Task) → None ≡ first_of ts → ts ≡ []
+none_first [] e = refl
+none_first (t ∷ ts) e = absurd cc
+
+-- what is so of an answer that isn't want of memory
+pub both_ok : {A B : Type 0} (r : Result A B) (P Q X : Type 0) → (P → Q → X) → OnOk r P → OnOk r Q → OnOk r X
+both_ok (Ok a) P Q X f p q = f p q
+both_ok (Err b) P Q X f p q = tt
+
+-- the same machine over the same world
+pub steps_same : (L : LinkedSet) (e : Event) (old new : Running) (core : Core) (w : Seen ModuleParts) → core ≡ old.core → w ≡ seen_of old.world → StepsFrom (set_loading L) e core w new.core (seen_of new.world) → StepsTo L e old new
+steps_same L e old new core w same seen steps =
+    subst (λ (x : Core). StepsFrom (set_loading L) e x (seen_of old.world) new.core (seen_of new.world)) same (subst (λ (x : Seen ModuleParts). StepsFrom (set_loading L) e core x new.core (seen_of new.world)) seen steps)

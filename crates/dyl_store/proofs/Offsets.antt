@@ -1,0 +1,55 @@
+-- How a member is placed is what is kept of it.
+use Rattle.std.proofs.Common.{◌≡◌, ℕ, ◌+◌, ◌<◌, List, [], ◌∷◌, ◌++◌, length, map, Option, Some, refl, ap, ap₂, sym, ◌∙◌, subst, arith, inl, inr, length-append}
+use Rattle.std.specs.Prelude.{slice_get}
+use Rattle.std.proofs.lemmas.Bool.{cases_lt}
+use Rattle.std.proofs.lemmas.Option.{slice_get_within, same_Some}
+use Rattle.spec_binary.proofs.Lists.{slice_get-append-left, slice_get-append-last}
+use Rattle.wasm_form.specs.declared.instr.Expr.{Expr}
+use Rattle.wasm_form.specs.declared.module.Module.{Module}
+use Rattle.wasm_form.specs.declared.runtime.Ref.TheVariants.{Own}
+use Rattle.spec_linking.specs.LinkedSets.{LinkedSet}
+use Rattle.spec_linking.specs.Slots.{member_number, fresh_of}
+use Rattle.merge_start.specs.Listed.{AreBases, number_with}
+use Rattle.merge_start.proofs.Linked.{wasm_at, one_module, members_count}
+use Rattle.merge_start.proofs.Offsets.{with_bases}
+use Rattle.dyl_search.specs.declared.set.Member.{Member}
+use Rattle.dyl_link.specs.Kept.{Kept, IsLinked, fresh_in}
+use Rattle.dyl_store.specs.declared.placing.Placement.{Placement}
+use Rattle.dyl_store.specs.Placements.{IsPlacement, elem_offset, data_offset, own_entry}
+
+own_entries : (m : ℕ) (fs : List ℕ) → map (own_entry m) fs ≡ map Some (map (Own m) fs)
+own_entries m [] = refl
+own_entries m (f ∷ fs) = ap (λ (rs : List _). Some (Own m f) ∷ rs) (own_entries m fs)
+
+pub placement_is : (k : Kept) (m : ℕ) (x : Member) (bases : List (Option ℕ)) (fresh : List ℕ) (p : Placement)
+    → slice_get k.set.members m ≡ Some x → ((L : LinkedSet) → IsLinked L k → AreBases L m bases) → Some fresh ≡ fresh_in k m
+    → p.elems.items ≡ map (elem_offset (number_with bases)) x.checked.elems → p.datas.items ≡ map (data_offset (number_with bases)) x.checked.datas
+    → p.slots.items ≡ map (own_entry m) fresh → length p.slots.items < 4294967296 → IsPlacement k m p
+placement_is k m x bases fresh p here are found elems datas slots few = λ L h wasm is.
+    let same : x.checked ≡ wasm = one_module x.checked wasm (sym (wasm_at L k h m x here) ∙ is) in
+    let numbers : number_with bases ≡ member_number L m = with_bases L m bases (are L h) in
+    let inside : m < length L.set.members = (let within = slice_get_within k.set.members m x here in let many = members_count L k h in omega (arith, within, many)) in
+    let own : fresh ≡ fresh_of L m = same_Some fresh (fresh_of L m) (found ∙ h.fresh m inside) in
+    record {
+      elems = elems ∙ ap₂ (λ (n : Expr → Option ℕ) (w : Module). map (elem_offset n) w.elems) numbers same;
+      datas = datas ∙ ap₂ (λ (n : Expr → Option ℕ) (w : Module). map (data_offset n) w.datas) numbers same;
+      slots = slots ∙ ap (map (own_entry m)) own ∙ own_entries m (fresh_of L m);
+      few = few;
+    }
+
+-- one member more
+pub one_more : (k : Kept) (ps more : List Placement) (p : Placement) (m : ℕ) → length ps ≡ m → ((i : ℕ) (x : Placement) → slice_get ps i ≡ Some x → IsPlacement k i x) → IsPlacement k m p → more ≡ ps ++ p ∷ []
+    → (i : ℕ) (x : Placement) → slice_get more i ≡ Some x → IsPlacement k i x
+one_more k ps more p m count each is e i x found =
+    let at : slice_get (ps ++ p ∷ []) i ≡ Some x = ap (λ (us : List Placement). slice_get us i) (sym e) ∙ found in
+    let within = slice_get_within (ps ++ p ∷ []) i x at in
+    let many = length-append ps (p ∷ []) in
+    elim (cases_lt i (length ps)) [
+      | inl before ↦ each i x (sym (slice_get-append-left ps (p ∷ []) i before) ∙ at)
+      | inr past ↦ last at (omega (arith, within, many, past))
+    ]
+  where
+    last : slice_get (ps ++ p ∷ []) i ≡ Some x → i ≡ length ps → IsPlacement k i x
+    last at here =
+        let same : p ≡ x = same_Some p x (sym (slice_get-append-last ps p i here) ∙ at) in
+        subst (λ (y : Placement). IsPlacement k i y) same (subst (λ (n : ℕ). IsPlacement k n p) (sym (here ∙ count)) is)

@@ -1,0 +1,213 @@
+-- A linked set begins with what its definition says.
+use Rattle.std.proofs.Common.{◌≡◌, ℕ, ◌+◌, ◌*◌, ◌<◌, ◌≤◌, List, [], ◌∷◌, ◌++◌, length, map, take, drop, Option, Some, refl, sym, ap, ap₂, ◌∙◌, subst, arith, length-append, length-drop, false}
+use Rattle.std.specs.Prelude.{reverse, replicate, is_some, IsTrue, Bool, None, Vec, if◌then◌else◌, Result, Ok}
+use Rattle.std.specs.List.{All}
+use Rattle.std.specs.declared.alloc.Global.{Global}
+use Rattle.std.proofs.lemmas.Bool.{le-leb}
+use Rattle.std.proofs.lemmas.List.{length-map, length-take, length-replicate, reverse-reverse}
+use Rattle.std.proofs.lemmas.List.Elements.{All-nil, All-cons}
+use Rattle.wasm_form.specs.declared.runtime.Ref.{Ref}
+use Rattle.wasm_form.specs.declared.runtime.Trap.{Trap}
+use Rattle.wasm_runtime.specs.declared.Value.{Value}
+use Rattle.wasm_runtime.specs.declared.Answer.{Answer}
+use Rattle.wasm_space.specs.Access.{ChangesOrTraps}
+use Rattle.spec_binary.specs.Indices.{Function}
+use Rattle.spec_runtime.specs.Memories.{MemoryInstance, page_size, zeros, new_memory, overwritten, written}
+use Rattle.spec_runtime.specs.Tables.{TableInstance}
+use Rattle.spec_execution.specs.Views.{View}
+use Rattle.spec_execution.specs.Instances.{ModuleParts}
+use Rattle.spec_execution.specs.Ranges.{AreInRange, Exists, IsWhole, HoldsAll}
+use Rattle.spec_linking.specs.Sets.{Member}
+use Rattle.spec_linking.specs.Plans.{Plan}
+use Rattle.spec_linking.specs.LinkedSets.{LinkedSet}
+use Rattle.spec_linking.specs.Slots.{linked_plan}
+use Rattle.spec_linking.proofs.LinkedFacts.{linked_limits}
+use Rattle.spec_safety.specs.Laws.{AreThere, StoreIsWhole}
+use Rattle.spec_safety.proofs.StepsInRange.{All-reverse}
+use Rattle.spec_loading.specs.declared.task.Task as loader
+use Rattle.spec_loading.specs.Texts.{error_texts}
+use Rattle.spec_loading.proofs.Rows.{texts_length}
+use Rattle.spec_loading.specs.Phases.{opening_tasks, startup_frame}
+use Rattle.spec_loading.specs.Members.{set_view, opening_store}
+use Rattle.spec_loading.specs.LoadedSet.{set_loading, set_opening, set_run, opening_memory}
+use Rattle.spec_loading.specs.Laws.{LinkedIsThere, OpeningHolds, SizesArePlanned}
+use Rattle.merge_start.specs.Points.{AreOf}
+use Rattle.merge_start.proofs.Linked.{members_count, startup_is}
+use Rattle.merge_start.proofs.Ranges.{of_startup}
+use Rattle.dyl_scope.specs.Scopes.{list_at}
+use Rattle.dyl_frames.specs.declared.task.Task.{Task}
+use Rattle.dyl_frames.specs.Tasks.{task_value}
+use Rattle.dyl_frames.specs.declared.frames.Core.{Core}
+use Rattle.dyl_frames.specs.Cores.{IsCore, IsState, OpensAt}
+use Rattle.dyl_link.specs.Kept.{Kept, IsLinked}
+use Rattle.dyl_store.specs.declared.world.World.TheInside.{Inside}
+use Rattle.dyl_store.specs.declared.running.Running.{Running}
+use Rattle.dyl_store.specs.declared.store.Store.TheInside as kept
+use Rattle.dyl_store.specs.Stores.{IsOfSet}
+use Rattle.dyl_store.specs.Worlds.{WorldState, kept_instances, kept_view, HasSizes}
+use Rattle.dyl_store.specs.Units.{AreUnits, IsWorld, store_of}
+use Rattle.dyl_store.specs.Opened.{IsOpened}
+use Rattle.dyl_store.specs.Runs.{IsRunning, IsAt, ArePlacements}
+use Rattle.dyl_store.specs.Kept.{IsStore}
+use Rattle.dyl_store.proofs.Views.{kept_view_is, opening_sizes, all_fit}
+
+-- ---- the memory
+
+zeros_length : (n : ℕ) → length (zeros n) ≡ n
+unfolding zeros
+zeros_length n = length-replicate n 0
+
+-- bytes that leave the length as it was lie within
+lie_within : (bytes : List ℕ) (at : ℕ) (new : List ℕ) → 0 < length new → length (overwritten bytes at new) ≡ length bytes → at + length new ≤ length bytes
+unfolding overwritten
+lie_within bytes at new some same =
+    let outer = length-append (take at bytes) (new ++ drop (at + length new) bytes) in
+    let inner = length-append new (drop (at + length new) bytes) in
+    omega (arith, outer, inner, some, same, length-take at bytes, length-drop (at + length new) bytes)
+
+-- what is written within is there
+pub put_so : (why : Trap) (old : MemoryInstance) (at : ℕ) (new : List ℕ) (r : Result (Unit {0}) Trap) (after : MemoryInstance) → at + length new ≤ length old.bytes → ChangesOrTraps why old (written old at new) r after
+    → (r ≡ Ok tt) × (after ≡ record old { bytes = overwritten old.bytes at new })
+put_so why old at new r after le changes =
+    subst (λ (b : Bool). ChangesOrTraps why old (if b then Some (record old { bytes = overwritten old.bytes at new }) else None) r after) (le-leb (at + length new) (length old.bytes) le) changes
+
+texts_some : 0 < length error_texts
+texts_some = (let many = texts_length in omega arith)
+
+module _ (L : LinkedSet) (k : Kept) (h : IsLinked L k) (plan : Plan) (is : plan ≡ k.plan) where
+  planned : plan ≡ linked_plan L
+  planned = is ∙ h.plan
+
+  pub pages_fit : plan.pages ≤ plan.pages_max
+  pages_fit = subst (λ (p : Plan). p.pages ≤ p.pages_max) (sym planned) (linked_limits L h.links).pages
+
+  module _ (sizes : SizesArePlanned) (old : MemoryInstance) (fresh : old ≡ new_memory plan.pages plan.pages_max) where
+    empty : old ≡ new_memory (linked_plan L).pages (linked_plan L).pages_max
+    empty = fresh ∙ ap (λ (p : Plan). new_memory p.pages p.pages_max) planned
+
+    pub texts_lie : (at : ℕ) (texts : List ℕ) → at ≡ plan.stack_top → texts ≡ error_texts → at + length texts ≤ length old.bytes
+    texts_lie at texts place same =
+        let sized : length (opening_memory L).bytes ≡ (linked_plan L).pages * page_size = (sizes L).0 in
+        let many = zeros_length ((linked_plan L).pages * page_size) in
+        let here : (linked_plan L).stack_top + length error_texts ≤ length (zeros ((linked_plan L).pages * page_size)) =
+        lie_within (zeros ((linked_plan L).pages * page_size)) (linked_plan L).stack_top error_texts texts_some (sized ∙ sym many) in
+        rw (place, same, empty, planned) here
+
+    pub memory_is : (at : ℕ) (texts : List ℕ) (new : MemoryInstance) → at ≡ plan.stack_top → texts ≡ error_texts → new ≡ record old { bytes = overwritten old.bytes at texts } → new ≡ opening_memory L
+    memory_is at texts new place same put = put ∙ rw (place, same, empty, planned) refl
+
+-- ---- tasks
+
+-- the member of a task is one of so many
+abbrev IsOf : ℕ → Task → Type 0
+IsOf n t = t.member < n
+
+inside : (L : LinkedSet) (ts : List Task) → AreOf L (map task_value ts) → All (IsOf (length L.set.members)) ts
+inside L [] are = All-nil (IsOf (length L.set.members))
+inside L (t ∷ ts) are = All-cons (IsOf (length L.set.members)) t ts are.0 (inside L ts are.1)
+
+module _ (L : LinkedSet) (k : Kept) (h : IsLinked L k) (tasks : List Task) (breadth post : List ℕ)
+    (opens : map task_value (reverse tasks) ≡ opening_tasks breadth post) (starts : breadth ≡ k.set.startup) (order : post ≡ list_at k.symbols.orders 0) where
+  pub startup_tasks : map task_value (reverse tasks) ≡ (startup_frame L.set).tasks
+  startup_tasks = opens ∙ ap₂ opening_tasks (starts ∙ startup_is L k h) (order ∙ h.symbols.orders 0 h.shape.some)
+
+  pub startup_members : All (λ (t : Task). t.member < length k.set.members) tasks
+  startup_members =
+      let there : All (IsOf (length L.set.members)) (reverse tasks) = inside L (reverse tasks) (subst (AreOf L) (sym startup_tasks) (of_startup L h.shape)) in
+      let here : All (IsOf (length k.set.members)) (reverse tasks) = subst (λ (n : ℕ). All (IsOf n) (reverse tasks)) (members_count L k h) there in
+      subst (λ (ts : List Task). All (IsOf (length k.set.members)) ts) (reverse-reverse tasks) (All-reverse (IsOf (length k.set.members)) (reverse tasks) here)
+
+-- ---- the members
+
+module _ (L : LinkedSet) (k : Kept) (h : IsLinked L k) where
+  are_there : LinkedIsThere → AreThere (kept_instances k)
+  are_there law =
+      let all = law L h.shape h.links in
+      let same : set_view L ≡ kept_view k = sym (kept_view_is L k h) in
+      record {
+        types = subst (λ (V : View ModuleParts). (m t : ℕ) → t < (V.counts m).types → IsTrue (is_some (V.declared m t))) same all.types;
+        functions = subst (λ (V : View ModuleParts). (m f : ℕ) → f < (V.counts m).functions → (r : Ref) × (V.target m f ≡ Some r) × Exists V r) same all.functions;
+        code = subst (λ (V : View ModuleParts). (m f : ℕ) (x : Function) → V.code m f ≡ Some x → AreInRange (V.counts m) x.body) same all.code;
+      }
+
+  pub opened_whole : LinkedIsThere → StoreIsWhole → IsWhole (kept_view k)
+  opened_whole law whole = whole (kept_instances k) (are_there law)
+
+  pub opened_holds : OpeningHolds → HoldsAll (kept_view k) (opening_store L)
+  opened_holds law = subst (λ (V : View ModuleParts). HoldsAll V (opening_store L)) (sym (kept_view_is L k h)) (law L h.shape h.links)
+
+-- a store is known by what it has
+abbrev pub parts_of : List Value → List TableInstance → List (List (Option Ref)) → List (List ℕ) → ModuleParts
+parts_of gs ts es ds = record { globals = gs; tables = ts; elems = es; datas = ds }
+
+pub parts_same : (gs hs : List Value) (ts us : List TableInstance) (es fs : List (List (Option Ref))) (ds bs : List (List ℕ)) → gs ≡ hs → ts ≡ us → es ≡ fs → ds ≡ bs → parts_of gs ts es ds ≡ parts_of hs us fs bs
+parts_same gs hs ts us es fs ds bs g t e d = rw (g, t, e, d) refl
+
+pub world_is : LinkedIsThere → OpeningHolds → (w : Inside) → IsOfSet w.linked.now → AreUnits w.linked.now w.units.items → ((L : LinkedSet) → IsLinked L w.linked.now → store_of w ≡ opening_store L) → IsWorld w
+world_is law holds w set units store =
+    let k = w.linked.now in
+    let L = set.0 in
+    let h = set.1 in
+    record {
+      there = are_there L k h law;
+      fits = all_fit L k h (holds L h.shape h.links);
+      units = units;
+      sizes = subst (HasSizes k) (sym (store L h)) (opening_sizes L k h);
+    }
+
+-- over a world that begins so
+module _ (L : LinkedSet) (k : Kept) (h : IsLinked L k) (w : WorldState) (opened : IsOpened k w) where
+  pub whole_over : LinkedIsThere → StoreIsWhole → IsWhole (kept_view w.linked)
+  whole_over law whole = subst (λ (x : Kept). IsWhole (kept_view x)) (sym opened.linked) (opened_whole L k h law whole)
+
+  pub holds_over : OpeningHolds → HoldsAll (kept_view w.linked) w.store
+  holds_over law =
+      subst (λ (us : ModuleParts). HoldsAll (kept_view w.linked) us) (sym (opened.store L h))
+      (subst (λ (x : Kept). HoldsAll (kept_view x) (opening_store L)) (sym opened.linked) (opened_holds L k h law))
+
+  pub alone_over : k.uses_loader ≡ false → (kept_view w.linked).has_loader ≡ false
+  alone_over none = ap (λ (x : Kept). x.uses_loader) opened.linked ∙ none
+
+-- ---- the machine
+
+-- no member has come to a stage
+no_stages : (xs : List Member) → map {B = ℕ} (λ m. 0) xs ≡ replicate (length xs) 0
+no_stages [] = refl
+no_stages (x ∷ xs) = ap (λ (ns : List ℕ). 0 ∷ ns) (no_stages xs)
+
+pub core_at : (L : LinkedSet) (k : Kept) → IsLinked L k → (w : WorldState) → IsOpened k w → (count : ℕ) → count ≡ length k.set.members → (tasks : List loader.Task) → tasks ≡ (startup_frame L.set).tasks → (c : Core)
+    → OpensAt (set_loading L) count tasks (record { fixed = kept_view w.linked; units = w.store; memory = w.memory }) c → IsState (set_loading L) c w.store w.memory (set_opening L)
+core_at L k h w opened count many tasks are c opens =
+    opens (set_opening L) (record {
+      stages = no_stages L.set.members ∙ ap (λ (n : ℕ). replicate n 0) (members_count L k h ∙ sym many);
+      units = sym (opened.store L h);
+      space = sym (opened.memory L h);
+      status = refl;
+      stack = rw are refl;
+    })
+
+-- ---- the run
+
+pub running_is : (x : Running) → IsOfSet x.linked.now → IsOpened x.linked.now x.world → IsCore (kept_view x.world.linked) x.world.store x.core → ((L : LinkedSet) → IsLinked L x.linked.now → IsAt L x (set_opening L))
+    → ArePlacements x.linked.now x.placements.items → IsRunning x
+running_is x set opened core at placements =
+    let k = x.linked.now in
+    let L = set.0 in
+    let h = set.1 in
+    record {
+      set = set;
+      fixed = ap kept_view opened.linked;
+      core = core;
+      members = ap length (sym (at L h).stages) ∙ length-map L.set.members (λ (m : Member). 0) ∙ members_count L k h;
+      placements = placements;
+    }
+
+abbrev inside_of : Running → Vec Answer Global → kept.Inside
+inside_of x answers = record { running = x; steps = 0; answers = answers; answered = false; lost = false }
+
+-- no step was made
+pub store_is : (x : Running) (answers : Vec Answer Global) → IsRunning x → ((L : LinkedSet) → IsLinked L x.linked.now → IsAt L x (set_opening L)) → answers.items ≡ [] → IsStore (inside_of x answers)
+store_is x answers running at none = record {
+  running = λ e. running;
+  stands = λ e L h. (set_run L answers.items 0, record { found = refl; run = refl; real = tt; left = none }, at L h);
+}

@@ -1,0 +1,17 @@
+use Rattle.std.proofs.Common.{ap₂, ◌∙◌}
+use Rattle.spec_runtime.specs.Memories.{new_memory}
+use Rattle.dyl_store.proofs.Opened.{pages_fit, texts_lie, memory_is}
+use Rattle.dyl_store.proofs.opening.memory_of.Goals as goal
+
+pub new_memory-requires : goal.new_memory-requires
+new_memory-requires c = rw (c.pages.ensures, c.pages_max.ensures) (pages_fit c.requires.0 c.args.linked.now c.requires.1 c.plan-plan.result.now c.plan-plan.ensures)
+
+pub put-requires : goal.put-requires
+put-requires c =
+    let fresh = c.in_ok-memory.ensures ∙ ap₂ new_memory c.pages.ensures c.pages_max.ensures in
+    texts_lie c.requires.0 c.args.linked.now c.requires.1 c.plan-plan.result.now c.plan-plan.ensures c.slots_fit.ensures.sizes c.in_ok-memory.memory fresh c.texts.result c.error_texts.result.now c.texts.ensures c.error_texts.ensures
+
+pub returns : goal.returns
+returns c = λ L h.
+    let fresh = c.in_ok-memory.ensures ∙ ap₂ new_memory c.pages.ensures c.pages_max.ensures in
+    memory_is L c.args.linked.now h c.plan-plan.result.now c.plan-plan.ensures c.slots_fit.ensures.sizes c.in_ok-memory.memory fresh c.texts.result c.error_texts.result.now c.put.new.memory c.texts.ensures c.error_texts.ensures c.put.ensures

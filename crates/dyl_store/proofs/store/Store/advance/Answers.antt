@@ -1,0 +1,42 @@
+use Rattle.std.proofs.Common.{arith, subst, sym, ◌∙◌, ◌≡◌, suc, true, false}
+use Rattle.dyl_store.specs.Stores.{Advances}
+use Rattle.dyl_store.specs.Kept.{run_of, IsStore}
+use Rattle.dyl_store.proofs.Stepping.{linked_of}
+use Rattle.dyl_store.proofs.Stopping.{HasNoneLeft, idle_left, on_either}
+use Rattle.dyl_store.proofs.Advancing.{goes_on, is_nearer, stops}
+use Rattle.dyl_store.proofs.store.Store.advance.Goals as goal
+use Rattle.dyl_store.proofs.store.Store.advance.Goals.{in-Moving, in_default, then-code-test+else-quick_step, else-code-test}
+
+pub returns-then-not-matches-clause-left : goal.returns-then-not-matches-clause-left
+returns-then-not-matches-clause-left c = elim c.match-matches.branch [
+  | in-Moving w ↦ absurd (let clash : true ≡ false = sym w.matches-is ∙ c.if-not-matches.true in cc)
+  | in_default w ↦ λ L of. subst (HasNoneLeft L c.args.most) c.self.view_is (idle_left L c.args.most c.self.inside c.self.invariant (λ moving. w.in_default.not-Moving (c.standing.ensures ∙ moving)) (linked_of c.args.self.now c.self.inside L c.self.view_is of))
+]
+
+pub code-smaller : goal.code-smaller
+code-smaller c =
+    let h : c.quick_step.new.steps ≡ suc c.code.self-inside.steps = is_nearer c.args.most c.args.self.now c.code.self-inside c.quick_step.new.running c.quick_step.new.steps c.quick_step.new.lost c.code.invariant c.code-test.true c.quick_step.ensures.linked c.if-quick_step.ensures.counted in
+    let k = c.code-test.true in
+    omega arith
+
+pub code-preserved : goal.code-preserved
+code-preserved c =
+    goes_on c.args.most c.args.self.now c.code.self-inside c.quick_step.new.running c.quick_step.new.steps c.quick_step.new.lost c.code.invariant c.code-test.true c.quick_step.ensures.linked c.quick_step.ensures.running c.if-quick_step.ensures.counted
+
+pub invariant_of-self : goal.invariant_of-self
+invariant_of-self c = elim c.code-test.branch [
+  | then-code-test+else-quick_step w ↦ subst IsStore (sym w.self-inside-is) (stops c.args.most c.args.self.now c.code.self-inside w.quick_step.new.running w.quick_step.new.steps w.quick_step.new.lost c.code.invariant w.code-test.true w.quick_step.ensures.linked w.quick_step.ensures.running w.if-quick_step.ensures.counted).store
+  | else-code-test w ↦ subst IsStore (sym w.self-inside-is) c.code.invariant.store
+]
+
+pub returns-clause-left : goal.returns-clause-left
+returns-clause-left c = λ L of. on_either c.if-self-2.result _ (elim c.code-test.branch [
+  | then-code-test+else-quick_step w ↦ subst (λ i. HasNoneLeft L c.args.most (run_of i)) (sym w.self-inside-is) ((stops c.args.most c.args.self.now c.code.self-inside w.quick_step.new.running w.quick_step.new.steps w.quick_step.new.lost c.code.invariant w.code-test.true w.quick_step.ensures.linked w.quick_step.ensures.running w.if-quick_step.ensures.counted).left L of)
+  | else-code-test w ↦ subst (λ i. HasNoneLeft L c.args.most (run_of i)) (sym w.self-inside-is) (λ r stands few code. let k = w.code-test.false in omega arith)
+])
+
+pub returns-clause-advances : goal.returns-clause-advances
+returns-clause-advances c = λ L of. elim c.code-test.branch [
+  | then-code-test+else-quick_step w ↦ subst (λ i. Advances L c.args.most c.args.self.now (run_of i)) (sym w.self-inside-is) ((stops c.args.most c.args.self.now c.code.self-inside w.quick_step.new.running w.quick_step.new.steps w.quick_step.new.lost c.code.invariant w.code-test.true w.quick_step.ensures.linked w.quick_step.ensures.running w.if-quick_step.ensures.counted).advances L of)
+  | else-code-test w ↦ subst (λ i. Advances L c.args.most c.args.self.now (run_of i)) (sym w.self-inside-is) (c.code.invariant.advances L of)
+]

@@ -1,0 +1,48 @@
+use Rattle.std.proofs.Common.{rules, sym, ◌∙◌, ◌≡◌, true, false}
+use Rattle.dyl_store.proofs.Stepping.{moving_store, moving_stepped, linked_of, last_found, last_taken, taken_store, taken_stepped, end_so, ended_stepped, end_asks_nothing}
+use Rattle.dyl_store.proofs.Arguments.{arguments_told}
+use Rattle.dyl_store.proofs.store.Store.run_step.Goals as goal
+
+pub step-requires-clause-running : goal.step-requires-clause-running
+step-requires-clause-running c = c.self.invariant.running c.if-self.false
+
+pub invariant_of-self-in-Moving : goal.invariant_of-self-in-Moving
+invariant_of-self-in-Moving c =
+    moving_store c.in-Ok.event c.args.self.now c.self.inside c.step.new.self c.steps_told.result c.self.view_is c.self.invariant c.if-self.false (sym c.standing.ensures ∙ c.in-Moving.is) c.in-Ok.ensures.stepped c.step.ensures.linked c.steps_told.ensures c.in-Ok.ensures.running
+
+pub returns-in-Ok-clause-stepped : goal.returns-in-Ok-clause-stepped
+returns-in-Ok-clause-stepped c =
+    moving_stepped c.in-Ok.event c.args.self.now c.self.inside c.step.new.self c.steps_told.result c.self.view_is c.self.invariant c.if-self.false (sym c.standing.ensures ∙ c.in-Moving.is) c.in-Ok.ensures.stepped c.step.ensures.linked c.steps_told.ensures
+
+pub unreachable-requires : goal.unreachable-requires
+unreachable-requires c =
+    last_found c.args.self.now c.self.inside c.in-Asking.field-0 c.in-Asking.field-1 c.deref.result.now c.self.view_is c.self.invariant c.if-self.false (sym c.standing.ensures ∙ c.in-Asking.is) c.requires.answered c.deref.ensures.value c.in_default-last.ensures.value
+
+pub take-requires-clause-running : goal.take-requires-clause-running
+take-requires-clause-running c = c.self.invariant.running c.if-self.false
+
+pub take-requires-clause-fits : goal.take-requires-clause-fits
+take-requires-clause-fits c =
+    last_taken c.args.self.now c.self.inside c.in-Asking.field-0 c.in-Asking.field-1 c.deref.result.now c.self.view_is c.self.invariant c.if-self.false (sym c.standing.ensures ∙ c.in-Asking.is) c.requires.answered c.deref.ensures.value c.in-Some.answer.now c.in-Some.ensures.value
+
+pub invariant_of-self-in-Asking : goal.invariant_of-self-in-Asking
+invariant_of-self-in-Asking c =
+    taken_store c.args.self.now c.self.inside c.in-Asking.field-0 c.in-Asking.field-1 c.deref.result.now c.self.view_is c.self.invariant c.if-self.false (sym c.standing.ensures ∙ c.in-Asking.is) c.requires.answered c.deref.ensures.value c.in-Some.answer.now c.in-Some.ensures.value c.event_of.result c.standing-in-Asking.result c.take.new.self c.take.ensures.linked c.take.ensures.taken c.event_of.ensures c.standing-in-Asking.ensures c.take.ensures.running
+
+pub returns-in-Some-clause-stepped : goal.returns-in-Some-clause-stepped
+returns-in-Some-clause-stepped c =
+    taken_stepped c.args.self.now c.self.inside c.in-Asking.field-0 c.in-Asking.field-1 c.deref.result.now c.self.view_is c.self.invariant c.if-self.false (sym c.standing.ensures ∙ c.in-Asking.is) c.requires.answered c.deref.ensures.value c.in-Some.answer.now c.in-Some.ensures.value c.event_of.result c.standing-in-Asking.result c.take.new.self c.take.ensures.linked c.take.ensures.taken c.event_of.ensures c.standing-in-Asking.ensures
+
+pub returns-in-Ok-clause-arguments : goal.returns-in-Ok-clause-arguments
+returns-in-Ok-clause-arguments c = λ L linked.
+    let before = linked_of c.args.self.now c.self.inside L c.self.view_is linked in
+    let r = c.self.invariant.stands c.if-self.false L before in
+    arguments_told L c.in-Ok.event r.0.state c.step.new.self (c.in-Ok.ensures.stepped L before r.0.state r.2) c.are_numbers.ensures
+
+pub returns-in_default : goal.returns-in_default
+returns-in_default c = record {
+  stepped = ended_stepped c.event_of-in_default.result c.standing.result c.args.self.now c.self.inside c.self.view_is c.self.invariant c.if-self.false (end_so c.standing.result c.in_default.not-Moving c.in_default.not-Asking c.in_default.not-Stuck) c.standing.ensures c.event_of-in_default.ensures;
+  lost = tt;
+  again = λ lost. absurd (let clash : true ≡ false = search rules in cc);
+  arguments = λ L of. end_asks_nothing c.event_of-in_default.result c.standing.result c.event_of-in_default.ensures L;
+}

@@ -1,0 +1,16 @@
+use Rattle.std.proofs.Common.{ap, arith, subst}
+use Rattle.dyl_store.specs.Worlds.{WorldState, kept_instances, HasPlaces}
+use Rattle.dyl_store.proofs.Members.{unit_within, unit_found}
+use Rattle.dyl_store.proofs.world.World.unit.Goals as goal
+
+pub index-requires : goal.index-requires
+index-requires c =
+    let within = unit_within c.self.inside.linked.now c.args.self.now.linked c.self.inside.units.items c.self.invariant.units (ap (λ (s : WorldState). s.linked) c.self.view_is) c.args.m c.requires in
+    omega (arith, within, c.self.inside.units.ok.0)
+
+pub returns-clause-unit : goal.returns-clause-unit
+returns-clause-unit c =
+    unit_found c.self.inside.linked.now c.args.self.now.linked c.self.inside.units.items c.self.invariant.units (ap (λ (s : WorldState). s.linked) c.self.view_is) c.args.m c.requires c.index.result.now c.index.ensures
+
+pub returns-clause-places : goal.returns-clause-places
+returns-clause-places c = subst (λ (s : WorldState). HasPlaces (kept_instances s.linked) s.store) c.self.view_is (c.self.invariant.fits _ c.self.invariant.sizes)

@@ -1,0 +1,9 @@
+pub mod Stores
+pub mod Worlds
+pub mod Units
+pub mod Placements
+pub mod Runs
+pub mod Steps
+pub mod Kept
+pub mod Opening
+pub mod Opened

@@ -1,0 +1,149 @@
+-- What the members of a linked set begin with, by what their numbers name.
+use Rattle.std.specs.Prelude.{◌≡◌, ◌++◌, ◌+◌, ℕ, List, [], ◌∷◌, length, map, take, slice_get, nat_eq, Option, Some, unwrap_or, if◌then◌else◌}
+use Rattle.std.specs.List.{range_with_len}
+use Rattle.wasm_form.specs.declared.instr.Expr.{Expr}
+use Rattle.wasm_form.specs.declared.module.ElemItems.{ElemItems}
+use Rattle.wasm_form.specs.declared.module.GlobalDef.{GlobalDef}
+use Rattle.wasm_form.specs.declared.module.Elem.{Elem}
+use Rattle.wasm_form.specs.declared.module.Import.{Import}
+use Rattle.wasm_form.specs.declared.module.Module.{Module}
+use Rattle.wasm_form.specs.declared.runtime.Ref.{Ref}
+use Rattle.wasm_runtime.specs.declared.Value.{Value}
+use Rattle.wasm_runtime.specs.declared.Value.TheVariants.{Num, Func}
+use Rattle.spec_binary.specs.Options.{◌>>=◌}
+use Rattle.spec_binary.specs.IndexSpaces.{globals_in}
+use Rattle.spec_runtime.specs.Constants.{constant_of, constant_entry, constant_entries, constant_number}
+use Rattle.spec_runtime.specs.Tables.{TableInstance}
+use Rattle.spec_execution.specs.OneModule.{opened_table}
+use Rattle.spec_execution.specs.Segments.{opened_items}
+use Rattle.spec_execution.specs.Values.{zero_of}
+use Rattle.spec_linking.specs.LinkedSets.{LinkedSet, wasm_of, function_ref}
+use Rattle.spec_linking.specs.Slots.{linked_plan, memory_base, table_base, as_number, member_items, fresh_functions, CellName, cell_of_import, cells_of, cell_value}
+use Rattle.spec_loading.specs.Addresses.{memory_base_address}
+use Rattle.spec_loading.specs.Members.{from_members, opened_global, opened_globals, opening_table}
+use Rattle.merge_start.specs.Listed.{AreBases}
+use Rattle.merge_match.specs.Renumbering.{Numbers}
+use Rattle.merge_index.specs.Numbering.{numbers_of}
+use Rattle.dyl_link.specs.Kept.{Kept, IsLinked}
+use Rattle.dyl_store.specs.declared.names.Names.{Names}
+
+-- ---- constant expressions
+
+-- the functions that numbers name, and the bases that imported globals are
+abbrev pub functions_of : Names → ℕ → Option Ref
+functions_of names = slice_get names.functions.now
+
+abbrev pub bases_of : Names → ℕ → Option Value
+bases_of names g = slice_get names.bases.now g >>= as_number
+
+abbrev pub function_value : Option Ref → Option Value
+function_value found = found >>= λ r. Some (Func (Some r))
+
+-- they are those of member m
+pub record AreNames (L : LinkedSet) (m : ℕ) (names : Names) : Type 0 where
+  pub functions : (f : ℕ) → slice_get names.functions.now f ≡ function_ref L m f
+  pub bases : AreBases L m names.bases.now
+
+abbrev pub value_with : Names → Expr → Option Value
+value_with names e = constant_of (functions_of names) (bases_of names) e
+
+abbrev pub entry_with : Names → Expr → Option Ref
+entry_with names e = constant_entry (functions_of names) (bases_of names) e
+
+abbrev pub items_with : Names → ElemItems → List (Option Ref)
+items_with names items = constant_entries (functions_of names) (bases_of names) items
+
+abbrev pub number_by : Names → Expr → Option ℕ
+number_by names e = constant_number (functions_of names) (bases_of names) e
+
+abbrev pub global_with : Names → GlobalDef → Value
+global_with names g = unwrap_or (value_with names g.init) (zero_of g.ty.value)
+
+abbrev pub elem_with : Names → Elem → List (Option Ref)
+elem_with names segment = opened_items (items_with names) segment
+
+-- ---- addresses
+
+-- the numbers of a set that links
+abbrev pub AreNumbers : Kept → Numbers → Type 0
+AreNumbers k n = (L : LinkedSet) → IsLinked L k → n ≡ numbers_of L
+
+-- the first of the numbers
+abbrev pub first_of : (ℕ → ℕ) → ℕ → List ℕ
+first_of number count = map number (range_with_len 0 count)
+
+-- ---- what members have
+
+-- what the members have, which come before member m
+abbrev pub of_members : {X : Type 0} → (ℕ → Module → List X) → LinkedSet → ℕ → List X
+of_members of L m = from_members of 0 (take m L.set.members)
+
+-- the element segments, the data segments and the tables of a member
+abbrev pub elems_of : LinkedSet → ℕ → Module → List (List (Option Ref))
+elems_of L m wasm = map (opened_items (member_items L m)) wasm.elems
+
+abbrev pub datas_of : LinkedSet → ℕ → Module → List (List ℕ)
+datas_of L m wasm = map (λ d. d.bytes) wasm.datas
+
+abbrev pub tables_of : LinkedSet → ℕ → Module → List TableInstance
+tables_of L m wasm = map opened_table wasm.tables
+
+-- something comes first, and then what the members before member m have
+abbrev pub Begins : {X : Type 0} → (LinkedSet → List X) → (LinkedSet → ℕ → Module → List X) → Kept → ℕ → List X → Type 0
+Begins first of k m xs = (L : LinkedSet) → IsLinked L k → xs ≡ first L ++ of_members (of L) L m
+
+abbrev pub none_first : {X : Type 0} → LinkedSet → List X
+none_first L = []
+
+abbrev pub AreElems : Kept → ℕ → List (List (Option Ref)) → Type 0
+AreElems k m elems = Begins none_first elems_of k m elems
+
+abbrev pub AreDatas : Kept → ℕ → List (List ℕ) → Type 0
+AreDatas k m datas = Begins none_first datas_of k m datas
+
+abbrev pub AreTables : Kept → ℕ → List TableInstance → Type 0
+AreTables k m tables = Begins (λ L. opening_table L ∷ []) tables_of k m tables
+
+abbrev pub AreGlobals : Kept → ℕ → List Value → Type 0
+AreGlobals k m globals = Begins (λ L. Num (linked_plan L).stack_top ∷ []) opened_globals k m globals
+
+-- what a member has was added
+abbrev pub Adds : {X : Type 0} → (LinkedSet → ℕ → Module → List X) → Kept → ℕ → List X → List X → Type 0
+Adds of k m old new = (L : LinkedSet) → IsLinked L k → (wasm : Module) → wasm_of L m ≡ Some wasm → new ≡ old ++ of L m wasm
+
+-- ---- globals of a member
+
+-- its bases, its cells, and those that it defines
+abbrev pub base_globals : LinkedSet → ℕ → Module → List Value
+base_globals L m wasm = Num (unwrap_or (memory_base L m) 0) ∷ Num (unwrap_or (table_base L m) 0) ∷ []
+
+abbrev pub cell_globals : LinkedSet → ℕ → Module → List Value
+cell_globals L m wasm = map (λ c. Num (cell_value L m c)) (cells_of wasm)
+
+abbrev pub own_globals : LinkedSet → ℕ → Module → List Value
+own_globals L m wasm = map (opened_global L m) wasm.globals
+
+-- the cells of member m come next
+abbrev pub IsAtCells : Kept → ℕ → List Value → Type 0
+IsAtCells k m globals = (L : LinkedSet) → IsLinked L k → length globals ≡ memory_base_address L m + 2
+
+-- a cell has the number of what comes next, unless it is there already
+abbrev pub with_cell : List Value → ℕ → Option ℕ → List Value
+with_cell globals number value = if nat_eq number (length globals) then globals ++ Num (unwrap_or value 0) ∷ [] else globals
+
+-- the same of the cell that an import is of, if it is of one
+abbrev pub with_cells : List Value → ℕ → Option ℕ → List CellName → List Value
+with_cells globals number value [] = globals
+with_cells globals number value (c ∷ cs) = with_cell globals number value
+
+-- and of some imports, where the first of the globals that they give has number g
+abbrev pub with_imports : (ℕ → ℕ) → (ℕ → Option ℕ) → List Value → ℕ → List Import → List Value
+with_imports number value globals g [] = globals
+with_imports number value globals g (i ∷ is) =
+    with_imports number value (with_cells globals (number g) (value g) (cell_of_import i)) (g + length (globals_in i.desc)) is
+
+-- ---- the shared table
+
+-- the first of the slots behind the fresh ones of the members
+abbrev pub outside_at : LinkedSet → ℕ
+outside_at L = (linked_plan L).table_end + length (fresh_functions L)

@@ -1,0 +1,37 @@
+-- A loaded set in its run, without what is counted and recorded of it.
+use Rattle.std.specs.Prelude.{◌≡◌, ℕ, List, length, slice_get, Some}
+use Rattle.spec_linking.specs.LinkedSets.{LinkedSet}
+use Rattle.spec_loading.specs.LoadedSet.{SetState, set_loading}
+use Rattle.wasm_step.specs.declared.done.Done.{Done}
+use Rattle.wasm_machine.specs.declared.event.Event.{Event}
+use Rattle.dyl_link.specs.Kept.{Kept}
+use Rattle.dyl_frames.specs.Cores.{IsCore, IsState, StepsFrom, QuickStepsFrom}
+use Rattle.dyl_store.specs.Stores.{IsOfSet}
+use Rattle.dyl_store.specs.Worlds.{kept_view, seen_of}
+use Rattle.dyl_store.specs.Placements.{IsPlacement}
+use Rattle.dyl_store.specs.declared.placing.Placement.{Placement}
+use Rattle.dyl_store.specs.declared.running.Running.{Running}
+
+-- the run stands at this state
+abbrev pub IsAt : LinkedSet → Running → SetState → Type 0
+IsAt L x s = IsState (set_loading L) x.core x.world.store x.world.memory s
+
+-- a step was made from wherever the run stands
+abbrev pub StepsTo : LinkedSet → Event → Running → Running → Type 0
+StepsTo L e old new = StepsFrom (set_loading L) e old.core (seen_of old.world) new.core (seen_of new.world)
+
+abbrev pub QuickStepsTo : LinkedSet → Done → Running → Running → Type 0
+QuickStepsTo L d old new = QuickStepsFrom (set_loading L) d old.core (seen_of old.world) new.core (seen_of new.world)
+
+-- there is a placement of each member
+pub record ArePlacements (k : Kept) (ps : List Placement) : Type 0 where
+  pub count : length ps ≡ length k.set.members
+  pub each : (m : ℕ) (p : Placement) → slice_get ps m ≡ Some p → IsPlacement k m p
+
+-- What is so of it, until memory is wanting: the world is that of the linked set, and the machine names only what there is.
+pub record IsRunning (x : Running) : Type 0 where
+  pub set : IsOfSet x.linked.now
+  pub fixed : kept_view x.world.linked ≡ kept_view x.linked.now
+  pub core : IsCore (kept_view x.world.linked) x.world.store x.core
+  pub members : length x.core.stages ≡ length x.linked.now.set.members
+  pub placements : ArePlacements x.linked.now x.placements.items

@@ -1,0 +1,79 @@
+// The cells of a member, one for each kind and name, in the order of imports.
+ghost use Rattle.std.specs.Prelude.{◌≡◌, ◌<◌, length, OnOk};
+ghost use Rattle.spec_linking.specs.Slots.{cell_of_import};
+ghost use Rattle.merge_index.specs.Kept.{numbers_in};
+ghost use Rattle.dyl_link.specs.Kept.{cell_in};
+ghost use Rattle.dyl_store.specs.Stores.{IsOfSet};
+ghost use Rattle.dyl_store.specs.Opening.{AreNumbers, Adds, cell_globals, IsAtCells, with_cell, with_cells, with_imports};
+
+use crate::units::{end_of, is_global};
+use dyl_imports::{Use, use_of};
+use dyl_link::Linked;
+use merge_index::Numbers;
+use wasm_form::{Import, Memory};
+use wasm_runtime::Value;
+
+// Adds a cell, unless it is there already: it has the number of what comes next.
+fn put_cell(to: &mut Vec<Value>, number: u32, value: Option<u32>) -> Result<(), Memory>
+    ensures { OnOk result (to.new.items ≡ with_cell to.old.items number value) }
+{
+    if number as usize == to.len() {
+        to.push(Value::Num(u64::from(value.unwrap_or(0))))?;
+    }
+    Ok(())
+}
+
+// Adds the cell that an import is of, if it is of one and the cell isn't there already.
+fn put_cell_of(
+    to: &mut Vec<Value>,
+    i: &Import,
+    number: u32,
+    value: Option<u32>,
+) -> Result<(), Memory>
+    ensures { OnOk result (to.new.items ≡ with_cells to.old.items number value (cell_of_import i.now)) }
+{
+    match use_of(i) {
+        Use::DataCell | Use::SlotCell => put_cell(to, number, value),
+        _ => Ok(()),
+    }
+}
+
+// Adds the cells that imports of member m are of.
+fn put_cells(
+    to: &mut Vec<Value>,
+    linked: &Linked,
+    numbers: &Numbers,
+    m: u32,
+    imports: &[Import],
+) -> Result<(), Memory>
+    ensures { OnOk result (to.new.items ≡ with_imports ((numbers_in numbers.now).global m) (cell_in linked.now m) to.old.items 0 imports.now) }
+{
+    let mut g: u32 = 0;
+    for i in imports {
+        put_cell_of(to, i, numbers.global(m, g), linked.find_cell(m, g))?;
+        g = end_of(g, is_global(i.desc))?;
+    }
+    Ok(())
+}
+
+// Adds the cells of a member, which come behind its bases.
+pub(crate) fn put_member_cells(
+    to: &mut Vec<Value>,
+    linked: &Linked,
+    numbers: &Numbers,
+    m: u32,
+) -> Result<(), Memory>
+    requires member { m < length linked.now.set.members }
+    requires numbers { AreNumbers linked.now (numbers_in numbers.now) }
+    requires place { IsAtCells linked.now m to.old.items }
+    ensures { OnOk result (Adds cell_globals linked.now m to.old.items to.new.items) }
+{
+    let member = &linked.set().members.items()[m as usize];
+    put_cells(
+        to,
+        linked,
+        numbers,
+        m,
+        member.checked.module().imports.items(),
+    )
+}

@@ -1,0 +1,208 @@
+// What the members of a linked set begin with.
+ghost use Rattle.std.specs.Prelude.{◌≡◌, ◌<◌, ◌++◌, ℕ, length, map, slice_get, IfOk, OnOk};
+ghost use Rattle.spec_linking.specs.LinkedSets.{LinkedSet};
+ghost use Rattle.spec_loading.specs.Members.{opening_store};
+ghost use Rattle.merge_index.specs.Kept.{numbers_in};
+ghost use Rattle.dyl_link.specs.Kept.{IsLinked, function_in};
+ghost use Rattle.dyl_store.specs.Stores.{IsOfSet};
+ghost use Rattle.dyl_store.specs.Opening as opening;
+ghost use Rattle.dyl_store.specs.Opening.{AreNumbers, AreGlobals, Adds, base_globals, own_globals};
+ghost use Rattle.spec_loading.specs.Members as members;
+
+use crate::cells::put_member_cells;
+use crate::names::{Names, put_elems, put_globals};
+use crate::placements::bases_of;
+use crate::shared::shared_table;
+use dyl_link::Linked;
+use merge_index::Numbers;
+use std::alloc::Global;
+use wasm_form::{Data, Memory, Ref};
+use wasm_instance::tables_of as own_tables;
+use wasm_runtime::Value;
+use wasm_space::Slots;
+
+// The functions that the numbers of member m name.
+fn functions_of(linked: &Linked, m: u32) -> &[Ref]
+    ensures { (f : ℕ) → slice_get result.now f ≡ function_in linked.now m f }
+{
+    match linked.functions().get(m as usize) {
+        Some(refs) => refs.items(),
+        None => &[],
+    }
+}
+
+// ---- element segments
+
+// Adds the element segments of a member.
+fn put_member_elems(
+    alloc: Global,
+    to: &mut Vec<Vec<Option<Ref>>>,
+    linked: &Linked,
+    m: u32,
+) -> Result<(), Memory>
+    requires set { IsOfSet linked.now }
+    requires member { m < length linked.now.set.members }
+    ensures { OnOk result (Adds opening.elems_of linked.now m (map (λ v. v.items) to.old.items) (map (λ v. v.items) to.new.items)) }
+{
+    let bases = bases_of(alloc, linked, m)?;
+    let names = Names {
+        functions: functions_of(linked, m),
+        bases: &bases,
+    };
+    let member = &linked.set().members.items()[m as usize];
+    put_elems(alloc, to, &names, member.checked.module().elems.items())
+}
+
+// The element segments of all members, in order.
+pub(crate) fn elems_of(alloc: Global, linked: &Linked) -> Result<Vec<Vec<Option<Ref>>>, Memory>
+    requires { IsOfSet linked.now }
+    ensures { IfOk result (λ v. (L : LinkedSet) → IsLinked L linked.now → map (λ x. x.items) v.items ≡ (opening_store L).elems) }
+{
+    let count = linked.set().members.items().len() as u32;
+    let mut all = Vec::new(alloc);
+    for m in 0..count {
+        put_member_elems(alloc, &mut all, linked, m)?;
+    }
+    Ok(all)
+}
+
+// ---- data segments
+
+// Adds the bytes of data segments.
+fn put_datas<'m>(to: &mut Vec<&'m [u8]>, segments: &'m [Data]) -> Result<(), Memory>
+    ensures { OnOk result (map (λ d. d.now) to.new.items ≡ map (λ d. d.now) to.old.items ++ map (λ d. d.bytes) segments.now) }
+{
+    for segment in segments {
+        to.push(segment.bytes.items())?;
+    }
+    Ok(())
+}
+
+// Adds the data segments of a member.
+fn put_member_datas<'m>(to: &mut Vec<&'m [u8]>, linked: &'m Linked, m: u32) -> Result<(), Memory>
+    requires { m < length linked.now.set.members }
+    ensures { OnOk result (Adds opening.datas_of linked.now m (map (λ d. d.now) to.old.items) (map (λ d. d.now) to.new.items)) }
+{
+    let member = &linked.set().members.items()[m as usize];
+    put_datas(to, member.checked.module().datas.items())
+}
+
+// The bytes of the data segments of all members, in order.
+pub(crate) fn datas_of<'m>(alloc: Global, linked: &'m Linked) -> Result<Vec<&'m [u8]>, Memory>
+    requires { IsOfSet linked.now }
+    ensures { IfOk result (λ v. (L : LinkedSet) → IsLinked L linked.now → map (λ d. d.now) v.items ≡ (opening_store L).datas) }
+{
+    let count = linked.set().members.items().len() as u32;
+    let mut all = Vec::new(alloc);
+    for m in 0..count {
+        put_member_datas(&mut all, linked, m)?;
+    }
+    Ok(all)
+}
+
+// ---- tables
+
+// Adds the tables that a member defines.
+fn put_member_tables(
+    alloc: Global,
+    to: &mut Vec<Slots>,
+    linked: &Linked,
+    m: u32,
+) -> Result<(), Memory>
+    requires { m < length linked.now.set.members }
+    ensures { OnOk result (Adds opening.tables_of linked.now m to.old.items to.new.items) }
+{
+    let member = &linked.set().members.items()[m as usize];
+    let mut own = own_tables(alloc, member.checked.module().tables.items())?;
+    to.append(&mut own)?;
+    Ok(())
+}
+
+// The shared table, and then the tables that each member defines.
+pub(crate) fn tables_of(alloc: Global, linked: &Linked) -> Result<Vec<Slots>, Memory>
+    requires { IsOfSet linked.now }
+    ensures { IfOk result (λ v. (L : LinkedSet) → IsLinked L linked.now → v.items ≡ (opening_store L).tables) }
+{
+    let count = linked.set().members.items().len() as u32;
+    let shared = shared_table(alloc, linked)?;
+    let mut all = Vec::new(alloc);
+    all.push(shared)?;
+    for m in 0..count {
+        put_member_tables(alloc, &mut all, linked, m)?;
+    }
+    Ok(all)
+}
+
+// ---- globals
+
+// Adds the bases of a member.
+fn put_bases(to: &mut Vec<Value>, linked: &Linked, m: u32) -> Result<(), Memory>
+    requires set { IsOfSet linked.now }
+    requires member { m < length linked.now.set.members }
+    ensures { OnOk result (Adds base_globals linked.now m to.old.items to.new.items) }
+{
+    let plan = linked.plan();
+    let memory = plan.base(m);
+    let table = plan.table_base(m);
+    to.push(Value::Num(u64::from(memory)))?;
+    to.push(Value::Num(u64::from(table)))?;
+    Ok(())
+}
+
+// Adds the globals that a member defines.
+fn put_own_globals(
+    alloc: Global,
+    to: &mut Vec<Value>,
+    linked: &Linked,
+    m: u32,
+) -> Result<(), Memory>
+    requires set { IsOfSet linked.now }
+    requires member { m < length linked.now.set.members }
+    ensures { OnOk result (Adds own_globals linked.now m to.old.items to.new.items) }
+{
+    let bases = bases_of(alloc, linked, m)?;
+    let names = Names {
+        functions: functions_of(linked, m),
+        bases: &bases,
+    };
+    let member = &linked.set().members.items()[m as usize];
+    put_globals(to, &names, member.checked.module().globals.items())
+}
+
+// Adds the bases, the cells and the globals of a member.
+fn put_member_globals(
+    alloc: Global,
+    to: &mut Vec<Value>,
+    linked: &Linked,
+    numbers: &Numbers,
+    m: u32,
+) -> Result<(), Memory>
+    requires set { IsOfSet linked.now }
+    requires member { m < length linked.now.set.members }
+    requires numbers { AreNumbers linked.now (numbers_in numbers.now) }
+    requires before { AreGlobals linked.now m to.old.items }
+    ensures { OnOk result (Adds members.opened_globals linked.now m to.old.items to.new.items) }
+{
+    put_bases(to, linked, m)?;
+    put_member_cells(to, linked, numbers, m)?;
+    put_own_globals(alloc, to, linked, m)
+}
+
+// The stack pointer, and then the bases, the cells and the globals of each member.
+pub(crate) fn globals_of(
+    alloc: Global,
+    linked: &Linked,
+    numbers: &Numbers,
+) -> Result<Vec<Value>, Memory>
+    requires set { IsOfSet linked.now }
+    requires numbers { AreNumbers linked.now (numbers_in numbers.now) }
+    ensures { IfOk result (λ v. (L : LinkedSet) → IsLinked L linked.now → v.items ≡ (opening_store L).globals) }
+{
+    let count = linked.set().members.items().len() as u32;
+    let mut all = Vec::new(alloc);
+    all.push(Value::Num(u64::from(linked.plan().stack_top())))?;
+    for m in 0..count {
+        put_member_globals(alloc, &mut all, linked, numbers, m)?;
+    }
+    Ok(all)
+}

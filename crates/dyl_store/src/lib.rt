@@ -1,0 +1,24 @@
+//! The run of a loaded set: its members share one memory, one table and one stack pointer, and the loader opens them
+//! (DynamicLinking.md of the WebAssembly tool conventions; WebAssembly Core 2.0, section 4.2.3).
+#![tactic(auto)]
+
+mod callees;
+mod cells;
+mod contents;
+mod names;
+mod opening;
+mod placements;
+mod placing;
+mod running;
+mod segments;
+mod shared;
+mod store;
+mod tables;
+mod tasks;
+mod unit;
+mod units;
+mod view;
+mod world;
+
+pub use store::Store;
+pub use wasm_machine::{Answer, Asked, Event};

@@ -1,0 +1,154 @@
+// A linked set in its opening state.
+ghost use Rattle.std.specs.Prelude.{◌≡◌, ◌≤◌, ◌<◌, ◌+◌, length, map, reverse, false, IfOk};
+ghost use Rattle.std.specs.List.{All};
+ghost use Rattle.spec_runtime.specs.Memories.{new_memory, overwritten};
+ghost use Rattle.spec_linking.specs.LinkedSets.{LinkedSet};
+ghost use Rattle.spec_loading.specs.Texts.{error_texts};
+ghost use Rattle.spec_loading.specs.Phases.{startup_frame};
+ghost use Rattle.spec_loading.specs.LoadedSet.{set_loading, set_opening, opening_memory};
+ghost use Rattle.dyl_link.specs.Kept.{IsLinked};
+ghost use Rattle.dyl_frames.specs.Tasks.{task_value};
+ghost use Rattle.dyl_frames.specs.Cores.{IsCore, IsState};
+ghost use Rattle.dyl_store.specs.Stores.{IsOfSet};
+ghost use Rattle.dyl_store.specs.Worlds.{kept_view};
+ghost use Rattle.dyl_store.specs.Opened.{IsOpened};
+ghost use Rattle.dyl_store.specs.Runs.{IsRunning, IsAt};
+
+use crate::contents::{datas_of, elems_of, globals_of, tables_of};
+use crate::placements::placements_of;
+use crate::running::Running;
+use crate::tasks::opening_tasks;
+use crate::units::units_of;
+use crate::world::World;
+use dyl_frames::{Core, Task};
+use dyl_link::Linked;
+use merge_index::Numbers;
+use spec_loading::{linked_code_is_there, slots_fit};
+use spec_safety::store_is_in_range;
+use std::alloc::Global;
+use wasm_form::Memory;
+use wasm_space::Space;
+
+// The most pages of a memory (WebAssembly Core 2.0, section 3.2.5).
+const MOST_PAGES: u32 = 65_536;
+
+// The texts of the loader's errors, each with a zero byte after it.
+const ERROR_TEXTS: &[u8; 101] =
+    b"dlopen: bad flags\0dlopen: no such module\0dlsym: bad handle\0dlsym: no such symbol\0dlclose: bad handle\0";
+
+#[tactic(auto, unfolding(spec_loading::specs::Texts::error_texts))]
+fn error_texts() -> &'static [u8]
+    ensures { result.now ≡ error_texts }
+{
+    ERROR_TEXTS
+}
+
+// So many pages of zeros. There is no memory for more than there may be.
+fn new_memory(alloc: Global, pages: u32, most: u32) -> Result<Space, Memory>
+    requires { pages ≤ most }
+    ensures { IfOk result (λ s. s ≡ new_memory pages most) }
+{
+    if most > MOST_PAGES {
+        return Err(Memory);
+    }
+    Space::new(alloc, pages, most)
+}
+
+// Writes bytes that lie in the memory.
+fn put(memory: &mut Space, at: u32, bytes: &[u8])
+    requires { at + length bytes.now ≤ length memory.old.bytes }
+    ensures { memory.new ≡ record memory.old { bytes = overwritten memory.old.bytes at bytes.now } }
+{
+    let Ok(()) = memory.put(at, bytes) else {
+        unreachable!();
+    };
+}
+
+// The memory of a linked set: zeros, with the texts of the loader's errors behind the stack.
+fn memory_of(alloc: Global, linked: &Linked) -> Result<Space, Memory>
+    requires { IsOfSet linked.now }
+    ensures { IfOk result (λ s. (L : LinkedSet) → IsLinked L linked.now → s ≡ opening_memory L) }
+{
+    slots_fit();
+    let plan = linked.plan();
+    let mut memory = new_memory(alloc, plan.pages(), plan.pages_max())?;
+    put(&mut memory, plan.texts(), error_texts());
+    Ok(memory)
+}
+
+// The tasks of opening the main module, of which the next one comes last.
+fn startup_tasks(alloc: Global, linked: &Linked) -> Result<Vec<Task>, Memory>
+    requires { IsOfSet linked.now }
+    ensures tasks { IfOk result (λ v. (L : LinkedSet) → IsLinked L linked.now → map task_value (reverse v.items) ≡ (startup_frame L.set).tasks) }
+    ensures members { IfOk result (λ v. All (λ t. t.member < length linked.now.set.members) v.items) }
+{
+    let tasks = opening_tasks(
+        alloc,
+        linked.set().startup.items(),
+        linked.construct_order(0),
+    )?;
+    Ok(tasks)
+}
+
+// The machine of a linked set, over its members as they begin.
+fn core_of<'m>(alloc: Global, linked: &Linked, world: &World<'m>) -> Result<Core<'m>, Memory>
+    requires set { IsOfSet linked.now }
+    requires alone { linked.now.uses_loader ≡ false }
+    requires opened { IsOpened linked.now world.now }
+    ensures core { IfOk result (λ c. IsCore (kept_view world.now.linked) world.now.store c) }
+    ensures opened { IfOk result (λ c. (L : LinkedSet) → IsLinked L linked.now → IsState (set_loading L) c world.now.store world.now.memory (set_opening L)) }
+{
+    linked_code_is_there();
+    store_is_in_range();
+    let tasks = startup_tasks(alloc, linked)?;
+    let count = linked.set().members.items().len() as u32;
+    let core = Core::new(alloc, world, count, tasks)?;
+    Ok(core)
+}
+
+impl<'m> World<'m> {
+    // The members of a linked set as they begin.
+    pub fn open(alloc: Global, linked: &'m Linked) -> Result<World<'m>, Memory>
+        requires { IsOfSet linked.now }
+        ensures { IfOk result (λ w. IsOpened linked.now w) }
+    {
+        linked_code_is_there();
+        let numbers = Numbers::of(alloc, linked)?;
+        let units = units_of(alloc, linked, &numbers)?;
+        let globals = globals_of(alloc, linked, &numbers)?;
+        let tables = tables_of(alloc, linked)?;
+        let elems = elems_of(alloc, linked)?;
+        let datas = datas_of(alloc, linked)?;
+        let memory = memory_of(alloc, linked)?;
+        Ok(World {
+            linked,
+            units,
+            globals,
+            tables,
+            elems,
+            datas,
+            memory,
+        })
+    }
+}
+
+impl<'m> Running<'m> {
+    // A linked set in its opening state.
+    pub fn open(alloc: Global, linked: &'m Linked) -> Result<Running<'m>, Memory>
+        requires set { IsOfSet linked.now }
+        requires alone { linked.now.uses_loader ≡ false }
+        ensures running { IfOk result (λ x. IsRunning x) }
+        ensures opened { IfOk result (λ x. (L : LinkedSet) → IsLinked L linked.now → IsAt L x (set_opening L)) }
+        ensures linked { IfOk result (λ x. x.linked.now ≡ linked.now) }
+    {
+        let world = World::open(alloc, linked)?;
+        let core = core_of(alloc, linked, &world)?;
+        let placements = placements_of(alloc, linked)?;
+        Ok(Running {
+            linked,
+            world,
+            core,
+            placements,
+        })
+    }
+}

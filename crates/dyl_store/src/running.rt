@@ -1,0 +1,154 @@
+// A loaded set in its run, without what is counted and recorded of it.
+ghost use Rattle.std.specs.Prelude.{◌≡◌, ◌≢◌, ◌<◌, [], length, true, false, Some, IfOk, OnOk};
+ghost use Rattle.spec_loading.specs.declared.task.Phase.TheVariants as phases;
+ghost use Rattle.spec_loading.specs.LoadedSet.{set_loading};
+ghost use Rattle.spec_linking.specs.LinkedSets.{LinkedSet};
+ghost use Rattle.wasm_machine.specs.Machines.{IsMarked};
+ghost use Rattle.dyl_link.specs.Kept.{IsLinked};
+ghost use Rattle.dyl_frames.specs.Tasks.{phase_value, task_value};
+ghost use Rattle.dyl_frames.specs.Cores.{is_mark, first_task, top_frame, FitsHost, TakenFrom};
+ghost use Rattle.dyl_store.specs.Worlds.{kept_view, seen_of};
+ghost use Rattle.dyl_store.specs.Runs.{IsRunning, StepsTo, QuickStepsTo};
+
+use crate::callees::callee;
+use crate::placing::Placement;
+use crate::world::World;
+use dyl_frames::{Core, Phase, Task};
+use dyl_link::Linked;
+use spec_loading::{linked_code_is_there, linked_functions_are_typed};
+use std::alloc::Global;
+use wasm_form::{Memory, Ref};
+use wasm_machine::{Answer, Done, Event, Standing};
+
+// A linked set, its members over the store, the machine with the frames of the loader, and how each member is placed.
+#[derive(Drop)]
+pub(crate) struct Running<'m> {
+    pub linked: &'m Linked,
+    pub world: World<'m>,
+    pub core: Core<'m>,
+    pub placements: Vec<Placement>,
+}
+
+// Whether a mark is on top.
+fn is_mark(event: &Event) -> bool
+    ensures { result ≡ is_mark event.now }
+{
+    matches!(event, Event::Marked(_))
+}
+
+// Whether a phase places its member.
+fn is_place(phase: Phase) -> bool
+    ensures places { result ≡ true → phase_value phase ≡ phases.Place }
+    ensures calls { result ≡ false → phase_value phase ≢ phases.Place }
+{
+    matches!(phase, Phase::Place)
+}
+
+impl<'m> Running<'m> {
+    // One step of a run that goes on by itself.
+    pub fn step(&mut self, alloc: Global) -> Result<Event, Memory>
+        requires running { IsRunning self.old }
+        requires moving { self.old.core.machine.standing ≡ Standing.Moving }
+        ensures stepped { IfOk result (λ e. (L : LinkedSet) → IsLinked L self.old.linked.now → StepsTo L e self.old self.new) }
+        ensures running { OnOk result (IsRunning self.new) }
+        ensures linked { self.new.linked ≡ self.old.linked }
+    {
+        let event = self.core.step(alloc, &mut self.world)?;
+        if is_mark(&event) {
+            return self.load(alloc);
+        }
+        Ok(event)
+    }
+
+    // One step of code, where the machine can tell it in few bytes.
+    #[inline(always)]
+    pub fn quick(&mut self, alloc: Global) -> Done
+        requires running { IsRunning self.old }
+        requires moving { self.old.core.machine.standing ≡ Standing.Moving }
+        ensures stepped { (L : LinkedSet) → IsLinked L self.old.linked.now → QuickStepsTo L result self.old self.new }
+        ensures running { result ≢ Done.NoMemory → IsRunning self.new }
+        ensures linked { self.new.linked ≡ self.old.linked }
+    {
+        self.core.quick(alloc, &mut self.world)
+    }
+
+    // Takes the answer of the host function that is waited for.
+    pub fn take(&mut self, a: &Answer)
+        requires running { IsRunning self.old }
+        requires fits { FitsHost (kept_view self.old.world.linked) self.old.world.memory a.now self.old.core.machine.standing }
+        ensures taken { (L : LinkedSet) → IsLinked L self.old.linked.now → TakenFrom (set_loading L) a.now self.old.core (seen_of self.old.world) self.new.core (seen_of self.new.world) }
+        ensures running { IsRunning self.new }
+        ensures linked { self.new.linked ≡ self.old.linked }
+    {
+        self.core.take(&mut self.world, a);
+    }
+
+    // The loader does the next task of its frame, or what follows the last.
+    fn load(&mut self, alloc: Global) -> Result<Event, Memory>
+        requires running { IsRunning self.old }
+        requires marked { IsMarked self.old.core.machine }
+        ensures stepped { IfOk result (λ e. (L : LinkedSet) → IsLinked L self.old.linked.now → StepsTo L e self.old self.new) }
+        ensures running { OnOk result (IsRunning self.new) }
+        ensures linked { self.new.linked ≡ self.old.linked }
+    {
+        match self.core.next_task(&self.world) {
+            Some(task) => self.work(alloc, task),
+            None => self.enter(alloc),
+        }
+    }
+
+    // The entry is called.
+    fn enter(&mut self, alloc: Global) -> Result<Event, Memory>
+        requires running { IsRunning self.old }
+        requires marked { IsMarked self.old.core.machine }
+        requires last { (top_frame self.old.core).tasks ≡ [] }
+        ensures stepped { IfOk result (λ e. (L : LinkedSet) → IsLinked L self.old.linked.now → StepsTo L e self.old self.new) }
+        ensures running { OnOk result (IsRunning self.new) }
+        ensures linked { self.new.linked ≡ self.old.linked }
+    {
+        linked_functions_are_typed();
+        let entry = Ref::Own {
+            unit: 0,
+            func: self.linked.entry(),
+        };
+        self.core.enter(alloc, &self.world, entry)
+    }
+
+    // The work of a task.
+    fn work(&mut self, alloc: Global, task: Task) -> Result<Event, Memory>
+        requires running { IsRunning self.old }
+        requires marked { IsMarked self.old.core.machine }
+        requires task { first_task (top_frame self.old.core) ≡ Some (task_value task) }
+        requires member { task.member < length self.old.core.stages }
+        ensures stepped { IfOk result (λ e. (L : LinkedSet) → IsLinked L self.old.linked.now → StepsTo L e self.old self.new) }
+        ensures running { OnOk result (IsRunning self.new) }
+        ensures linked { self.new.linked ≡ self.old.linked }
+    {
+        if is_place(task.phase) {
+            return Ok(self.place(task));
+        }
+        let called = callee(self.linked, task);
+        self.core.call_task(alloc, &self.world, task, called)
+    }
+
+    // A member is placed, unless it was before.
+    fn place(&mut self, task: Task) -> Event
+        requires running { IsRunning self.old }
+        requires marked { IsMarked self.old.core.machine }
+        requires task { first_task (top_frame self.old.core) ≡ Some (task_value task) }
+        requires member { task.member < length self.old.core.stages }
+        requires places { phase_value task.phase ≡ phases.Place }
+        ensures stepped { (L : LinkedSet) → IsLinked L self.old.linked.now → StepsTo L result self.old self.new }
+        ensures running { IsRunning self.new }
+        ensures linked { self.new.linked ≡ self.old.linked }
+    {
+        if !self.core.is_behind(task) {
+            self.core.pass(&self.world, task);
+            return Event::Moved;
+        }
+        linked_code_is_there();
+        let placement = &self.placements[task.member as usize];
+        let outcome = self.world.place(self.linked, task.member, placement);
+        self.core.placed(&self.world, task, outcome)
+    }
+}

@@ -1,0 +1,43 @@
+// The tasks of opening the main module.
+ghost use Rattle.std.specs.Prelude.{◌≡◌, ◌++◌, map, reverse, IfOk, OnOk};
+ghost use Rattle.spec_loading.specs.Phases.{tasks_of, opening_tasks};
+ghost use Rattle.dyl_frames.specs.Tasks.{phase_value, task_value};
+
+use dyl_frames::{Phase, Task};
+use std::alloc::Global;
+use wasm_form::Memory;
+
+// Adds a phase of some members, in order.
+fn put_tasks(to: &mut Vec<Task>, phase: Phase, members: &[u32]) -> Result<(), Memory>
+    ensures { OnOk result (map task_value to.new.items ≡ map task_value to.old.items ++ tasks_of (phase_value phase) members.now) }
+{
+    for m in members {
+        to.push(Task { phase, member: *m })?;
+    }
+    Ok(())
+}
+
+// The tasks of opening, in order.
+fn tasks_in_order(alloc: Global, breadth: &[u32], post: &[u32]) -> Result<Vec<Task>, Memory>
+    ensures { IfOk result (λ v. map task_value v.items ≡ opening_tasks breadth.now post.now) }
+{
+    let mut tasks = Vec::new(alloc);
+    put_tasks(&mut tasks, Phase::Place, breadth)?;
+    put_tasks(&mut tasks, Phase::Start, breadth)?;
+    put_tasks(&mut tasks, Phase::Relocate, breadth)?;
+    put_tasks(&mut tasks, Phase::Construct, post)?;
+    Ok(tasks)
+}
+
+// The tasks of opening, of which the next one comes last.
+pub(crate) fn opening_tasks(
+    alloc: Global,
+    breadth: &[u32],
+    post: &[u32],
+) -> Result<Vec<Task>, Memory>
+    ensures { IfOk result (λ v. map task_value (reverse v.items) ≡ opening_tasks breadth.now post.now) }
+{
+    let mut tasks = tasks_in_order(alloc, breadth, post)?;
+    tasks.reverse();
+    Ok(tasks)
+}

@@ -1,0 +1,120 @@
+// The commands of the program, and their options.
+ghost use Rattle.std.specs.Prelude.{◌≡◌};
+ghost use Rattle.dyl_words.specs.Words.{command_word, option_word, options_of, command_named, takes_plain};
+
+/// A command of the program.
+#[derive(Clone, Copy, Debug, PartialEq, Eq)]
+pub enum CommandName {
+    /// Merges a set into one module.
+    Merge,
+    /// Runs a set.
+    Run,
+    /// Runs one module.
+    Exec,
+    /// Lists a set.
+    Plan,
+}
+
+/// An option of a command.
+#[derive(Clone, Copy, Debug, PartialEq, Eq)]
+pub enum OptionName {
+    /// Names of modules that may be opened later.
+    Dl,
+    /// Directories to search.
+    Path,
+    /// The most pages of memory.
+    Pages,
+    /// The bytes of the stack.
+    Stack,
+    /// Whether a name may be defined but once. It has no value.
+    NoDuplicates,
+    /// The most steps of a run.
+    Steps,
+}
+
+/// The options of a command over a set.
+const SET_OPTIONS: [OptionName; 5] = [
+    OptionName::Dl,
+    OptionName::Path,
+    OptionName::Pages,
+    OptionName::Stack,
+    OptionName::NoDuplicates,
+];
+
+/// The options of a command that runs a set.
+const RUN_OPTIONS: [OptionName; 6] = [
+    OptionName::Dl,
+    OptionName::Path,
+    OptionName::Pages,
+    OptionName::Stack,
+    OptionName::NoDuplicates,
+    OptionName::Steps,
+];
+
+/// The options of a command that runs one module.
+const EXEC_OPTIONS: [OptionName; 1] = [OptionName::Steps];
+
+impl CommandName {
+    // The options that the command takes.
+    pub(crate) fn options(self) -> &'static [OptionName]
+        ensures { result.now ≡ options_of self }
+    {
+        match self {
+            CommandName::Merge | CommandName::Plan => &SET_OPTIONS,
+            CommandName::Run => &RUN_OPTIONS,
+            CommandName::Exec => &EXEC_OPTIONS,
+        }
+    }
+
+    // Whether it takes so many plain words.
+    pub(crate) fn takes_plain(self, count: usize) -> bool
+        ensures { result ≡ takes_plain self count }
+    {
+        match self {
+            CommandName::Merge => count == 2,
+            CommandName::Run | CommandName::Exec => count >= 1,
+            CommandName::Plan => count == 1,
+        }
+    }
+
+    // The command as it is written.
+    pub(crate) fn word<'a>(self) -> &'a str
+        ensures { result.now ≡ command_word self }
+    {
+        match self {
+            CommandName::Merge => "merge",
+            CommandName::Run => "run",
+            CommandName::Exec => "exec",
+            CommandName::Plan => "plan",
+        }
+    }
+
+    /// The command that is written so, if there is one.
+    pub fn of(word: &str) -> Option<CommandName>
+        ensures { result ≡ command_named word.now }
+    {
+        match word {
+            "merge" => Some(CommandName::Merge),
+            "run" => Some(CommandName::Run),
+            "exec" => Some(CommandName::Exec),
+            "plan" => Some(CommandName::Plan),
+            _ => None,
+        }
+    }
+}
+
+impl OptionName {
+    // The option as it is written, without its two hyphens.
+    pub(crate) fn word<'a>(self) -> &'a str
+        ensures { result.now ≡ option_word self }
+    {
+        match self {
+            OptionName::Dl => "dl",
+            OptionName::Path => "path",
+            OptionName::Pages => "pages",
+            OptionName::Stack => "stack",
+            OptionName::NoDuplicates => "no-duplicates",
+            OptionName::Steps => "steps",
+        }
+    }
+}

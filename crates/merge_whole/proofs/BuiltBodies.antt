@@ -1,0 +1,70 @@
+-- Bodies one after the other, by their numbers and those of their members.
+use Rattle.std.proofs.Common.{◌≡◌, ◌<◌, ℕ, zero, suc, ◌+◌, List, [], ◌∷◌, ◌++◌, length, map, drop, slice_get, if◌then◌else◌, is_some, IsTrue, Option, Some, option_map, refl, sym, ap, ◌∙◌, arith, append_assoc}
+use Rattle.wasm_form.specs.declared.module.Code.{Code}
+use Rattle.wasm_form.specs.declared.module.Module.{Module}
+use Rattle.spec_binary.specs.Options.{◌>>=◌}
+use Rattle.dyl_search.specs.declared.set.Member.{Member}
+use Rattle.dyl_link.specs.Kept.{Kept, function_in}
+use Rattle.merge_index.specs.Numbering.{is_stub}
+use Rattle.merge_index.specs.Lists.{module_of}
+use Rattle.merge_module.specs.MergedModule.{trap_code}
+use Rattle.merge_whole.specs.Built.{joined, stubs_at, HasBodies}
+
+inside : {A : Type 0} (xs : List A) (b : ℕ) → b < length xs → (y : A) × (slice_get xs b ≡ Some y)
+inside [] b lt = absurd (omega arith)
+inside (x ∷ xs) zero lt = (x, refl)
+inside (x ∷ xs) (suc b) lt = inside xs b (omega arith)
+
+drop_next : {A : Type 0} (xs : List A) (b : ℕ) (y : A) → slice_get xs b ≡ Some y → drop b xs ≡ y ∷ drop (b + 1) xs
+drop_next [] b y e = absurd cc
+drop_next (x ∷ xs) zero y e = (let same : x ≡ y = cc in ap (λ z. z ∷ xs) same)
+drop_next (x ∷ xs) (suc b) y e = (let next : suc b + 1 ≡ suc (b + 1) = omega arith in rw next (drop_next xs b y e))
+
+some_same : {A : Type 0} (x y : A) → Some x ≡ Some y → x ≡ y
+some_same x y e = cc
+
+pub is_there : (codes : List Code) (b : ℕ) (o : Option Code) → o ≡ slice_get codes b → b < length codes → IsTrue (is_some o)
+is_there codes b o same lt = (let found = inside codes b lt in rw (same ∙ found.1) refl)
+
+pub body_next : (R : Code → Code) (codes : List Code) (b : ℕ) → b < length codes → (o : Option Code) → o ≡ slice_get codes b
+    → (code : Code) → Some code ≡ option_map R o → (before now all : List Code) → before ++ map R (drop b codes) ≡ all
+    → now ≡ before ++ code ∷ [] → now ++ map R (drop (b + 1) codes) ≡ all
+body_next R codes b lt o same code is before now all held added =
+    let found = inside codes b lt in
+    let one : code ≡ R found.0 = some_same code (R found.0) (is ∙ ap (option_map R) (same ∙ found.1)) in
+    let rest = map R (drop (b + 1) codes) in
+    ap (λ l. l ++ rest) added
+    ∙ append_assoc before (code ∷ []) rest
+    ∙ ap (λ c. before ++ c ∷ rest) one
+    ∙ ap (λ l. before ++ map R l) (sym (drop_next codes b found.0 found.1))
+    ∙ held
+
+pub trap_next : (k : Kept) (m f next i : ℕ) (ts : List ℕ) → i < length ts → next ≡ f + 1 → (before now all : List Code)
+    → before ++ stubs_at k m (λ t. trap_code) f (drop i ts) ≡ all → now ≡ before ++ (if is_stub (function_in k m f) then trap_code ∷ [] else [])
+    → now ++ stubs_at k m (λ t. trap_code) next (drop (i + 1) ts) ≡ all
+trap_next k m f next i ts lt is before now all held added =
+    let found = inside ts i lt in
+    let part : List Code = if is_stub (function_in k m f) then trap_code ∷ [] else [] in
+    let rest = stubs_at k m (λ t. trap_code) (f + 1) (drop (i + 1) ts) in
+    ap (λ n. now ++ stubs_at k m (λ t. trap_code) n (drop (i + 1) ts)) is
+    ∙ ap (λ l. l ++ rest) added
+    ∙ append_assoc before part rest
+    ∙ ap (λ l. before ++ stubs_at k m (λ t. trap_code) f l) (sym (drop_next ts i found.0 found.1))
+    ∙ held
+
+pub member_next : {X : Type 0} (of : ℕ → Module → List X) (xs : List Member) (m : ℕ) (x : Member) → slice_get xs m ≡ Some x
+    → (before now all part : List X) → before ++ joined of m (drop m xs) ≡ all → part ≡ of m (module_of x) → now ≡ before ++ part
+    → now ++ joined of (m + 1) (drop (m + 1) xs) ≡ all
+member_next of xs m x here before now all part held is added =
+    let rest = joined of (m + 1) (drop (m + 1) xs) in
+    ap (λ l. l ++ rest) added
+    ∙ append_assoc before part rest
+    ∙ ap (λ p. before ++ (p ++ rest)) is
+    ∙ ap (λ l. before ++ joined of m l) (sym (drop_next xs m x here))
+    ∙ held
+
+pub has_bodies : (k : Kept) (m : ℕ) (x : Member) (codes : List Code) → slice_get k.set.members m ≡ Some x → codes ≡ (module_of x).codes
+    → HasBodies k m codes
+has_bodies k m x codes here same = λ b.
+    ap (λ (o : Option Member). o >>= λ y. slice_get (module_of y).codes b) here
+    ∙ ap (λ l. slice_get l b) (sym same)

@@ -1,0 +1,240 @@
+-- The lists of numbers that are made for generated code are those of a linked set.
+use Rattle.std.proofs.Common.{◌≡◌, ◌<◌, ◌≤◌, ℕ, zero, suc, ◌+◌, ◌-◌, ◌*◌, Bool, true, false, List, [], ◌∷◌, ◌++◌, length, nat_lt, slice_get, Option, Some, None, option_map, if◌then◌else◌, refl, sym, ap, ap₂, ◌∙◌, arith, length-append}
+use Rattle.std.proofs.Math.Path.{fun_ext}
+use Rattle.std.specs.List.{range_with_len}
+use Rattle.std.proofs.lemmas.Bool.Decides.{nat_tests}
+use Rattle.std.proofs.lemmas.List.{length-map, take_all}
+use Rattle.std.proofs.lemmas.List.FromFn.{length-range_with_len}
+use Rattle.std.proofs.lemmas.Option.{slice_get-map, slice_get_within}
+use Rattle.wasm_form.specs.declared.module.Module.{Module}
+use Rattle.wasm_form.specs.declared.runtime.Ref.{Ref}
+use Rattle.spec_binary.specs.Options.{◌>>=◌}
+use Rattle.spec_binary.specs.IndexSpaces.{imports_of, tables_in, table_space}
+use Rattle.spec_binary.proofs.Lists.{slice_get-append-left, slice_get-append-right}
+use Rattle.spec_linking.specs.Sets.{Member}
+use Rattle.spec_linking.specs.LinkedSets.{LinkedSet, wasm_of, function_ref}
+use Rattle.spec_linking.specs.Links.{set_entry}
+use Rattle.spec_loading.specs.declared.task.Phase.{Phase}
+use Rattle.spec_loading.specs.declared.task.Phase.TheVariants.{Place, Start, Relocate, Construct}
+use Rattle.spec_loading.specs.Phases.{stage_of, phase_function}
+use Rattle.spec_loading.specs.Addresses.{sum_before, item_address}
+use Rattle.spec_loading.specs.Members.{from_members}
+use Rattle.dyl_link.specs.Kept.{Kept, function_in, IsLinked}
+use Rattle.merge_match.specs.Renumbering.{Numbers}
+use Rattle.merge_match.specs.Parts.{nowhere, number_of}
+use Rattle.merge_start.specs.Listed.{AreListed, in_part}
+use Rattle.merge_start.proofs.Linked.{members_are, members_count}
+use Rattle.merge_index.specs.Numbering.{sum_of, first_phase, first_stub, numbers_of, starts_of}
+use Rattle.merge_index.proofs.Numbered.{range_item}
+use Rattle.merge_index.proofs.FunctionNumbers.{sum_within}
+use Rattle.merge_whole.specs.declared.built.counts.Space.TheVariants.{Codes, Elems}
+use Rattle.merge_whole.specs.Counts.{members_of, size_in, total, stubs_by, stubs_total, tables_by, calls_by, starts_by}
+
+-- ---- sums
+
+pub total_is : (size : Module → ℕ) (start : ℕ) (xs : List Member) → total size start xs ≡ start + sum_before size xs (length xs)
+total_is size start [] = omega arith
+total_is size start (x ∷ xs) = total_is size (start + size x.wasm) xs ∙ omega arith
+
+stubs_total_is : (of : ℕ → ℕ → Option Ref) (start m : ℕ) (xs : List Member)
+    → stubs_total of start m xs ≡ start + length (from_members (stubs_by of) m xs)
+stubs_total_is of start m [] = omega arith
+stubs_total_is of start m (x ∷ xs) =
+    let later = stubs_total_is of (start + length (stubs_by of m x.wasm)) (m + 1) xs in
+    let many = length-append (stubs_by of m x.wasm) (from_members (stubs_by of) (m + 1) xs) in
+    later ∙ omega arith
+
+fours : (xs : List Member) (m : ℕ) → m ≤ length xs → sum_before (λ w. 4) xs m ≡ 4 * m
+fours xs zero le = refl
+fours [] (suc m) le = absurd (omega arith)
+fours (x ∷ xs) (suc m) le = (let later = fours xs m (omega arith) in omega arith)
+
+-- ---- items of a list that is made member by member
+
+module _ {X : Type 0} (of : ℕ → Module → List X) (size : Module → ℕ) (many : (m : ℕ) (wasm : Module) → length (of m wasm) ≡ size wasm) where
+  item_from : (k : ℕ) (xs : List Member) (m i : ℕ) (x : Member) → slice_get xs m ≡ Some x → i < size x.wasm
+      → slice_get (from_members of k xs) (sum_before size xs m + i) ≡ slice_get (of (k + m) x.wasm) i
+  item_from k [] m i x e lt = absurd cc
+  item_from k (y ∷ xs) zero i x e lt =
+      let same : y ≡ x = cc in
+      let here : i < length (of k y.wasm) = (let n = many k y.wasm in let s = ap (λ (z : Member). size z.wasm) same in omega arith) in
+      let none : 0 + i ≡ i = omega arith in
+      let first : k + 0 ≡ k = omega arith in
+      ap (slice_get (of k y.wasm ++ from_members of (k + 1) xs)) none
+      ∙ slice_get-append-left (of k y.wasm) (from_members of (k + 1) xs) i here
+      ∙ ap (λ (z : Member). slice_get (of k z.wasm) i) same
+      ∙ ap (λ n. slice_get (of n x.wasm) i) (sym first)
+  item_from k (y ∷ xs) (suc m) i x e lt =
+      let n = many k y.wasm in
+      let place = size y.wasm + sum_before size xs m + i in
+      let back : place - length (of k y.wasm) ≡ sum_before size xs m + i = omega arith in
+      let on : k + 1 + m ≡ k + suc m = omega arith in
+      slice_get-append-right (of k y.wasm) (from_members of (k + 1) xs) place (omega arith)
+      ∙ ap (slice_get (from_members of (k + 1) xs)) back
+      ∙ item_from (k + 1) xs m i x e lt
+      ∙ ap (λ q. slice_get (of q x.wasm) i) on
+
+  pub item_of : (xs : List Member) (m i : ℕ) (x : Member) → slice_get xs m ≡ Some x → i < size x.wasm
+      → slice_get (from_members of 0 xs) (sum_before size xs m + i) ≡ slice_get (of m x.wasm) i
+  item_of xs m i x e lt = item_from 0 xs m i x e lt ∙ ap (λ q. slice_get (of q x.wasm) i) (omega arith)
+
+-- ---- numbers that come one after the other
+
+range_at : (n i : ℕ) → i < n → slice_get (range_with_len 0 n) i ≡ Some i
+range_at n i lt = range_item 0 n i ∙ go (nat_lt i n) refl
+  where
+    go : (b : Bool) → nat_lt i n ≡ b → (if b then Some (0 + i) else None) ≡ Some i
+    go true q = ap Some (omega arith)
+    go false q = absurd (grind (arith, nat_tests))
+
+part_is : (n first count i : ℕ) → first + count ≤ n → number_of (item_address first count i) ≡ in_part (range_with_len 0 n) first count i
+part_is n first count i fits = go (nat_lt i count) refl
+  where
+    go : (b : Bool) → nat_lt i count ≡ b
+        → number_of (if b then Some (first + i) else None) ≡ (if b then number_of (slice_get (range_with_len 0 n) (first + i)) else nowhere)
+    go true q =
+        let lt : i < count = grind (arith, nat_tests) in
+        sym (ap number_of (range_at n (first + i) (omega arith)))
+    go false q = refl
+
+-- ---- a set
+
+member_at : (L : LinkedSet) (m : ℕ) (wasm : Module) → wasm_of L m ≡ Some wasm
+    → (x : Member) × (slice_get L.set.members m ≡ Some x) × (x.wasm ≡ wasm)
+member_at L m wasm e = go (slice_get L.set.members m) refl e
+  where
+    go : (o : Option Member) → slice_get L.set.members m ≡ o → (o >>= λ x. Some x.wasm) ≡ Some wasm
+        → (x : Member) × (slice_get L.set.members m ≡ Some x) × (x.wasm ≡ wasm)
+    go None q e = absurd cc
+    go (Some x) q e = (x, q, (let same : x.wasm ≡ wasm = cc in same))
+
+module _ (L : LinkedSet) (k : Kept) (h : IsLinked L k) where
+  abbrev members : List Member
+  members = L.set.members
+
+  abbrev n : Numbers
+  n = numbers_of L
+
+  same_functions : function_in k ≡ function_ref L
+  same_functions = fun_ext (λ m. fun_ext (λ f. h.functions m f))
+
+  first_is : stubs_total (function_in k) (total (size_in Codes) (length k.hosts) (members_of k.set.members)) 0 (members_of k.set.members) ≡ first_phase L
+  first_is =
+      ap₂ (λ of ms. stubs_total of (total (size_in Codes) (length k.hosts) ms) 0 ms) same_functions (members_are L k h)
+      ∙ stubs_total_is (function_ref L) (total (size_in Codes) (length k.hosts) members) 0 members
+      ∙ ap (λ t. t + length (from_members (stubs_by (function_ref L)) 0 members))
+      (total_is (size_in Codes) (length k.hosts) members ∙ ap (λ hs. length hs + sum_before (size_in Codes) members (length members)) h.hosts)
+      ∙ ap (λ ms. first_stub L + length (from_members (stubs_by (function_ref L)) 0 ms)) (sym (take_all (length members) members (omega arith)))
+
+  -- ---- segments
+
+  segment_is : (size : Module → ℕ) (more m i : ℕ) (wasm : Module) → wasm_of L m ≡ Some wasm
+      → number_of (wasm_of L m >>= λ w. item_address (sum_before size members m) (size w) i)
+      ≡ in_part (range_with_len 0 (total size more (members_of k.set.members))) (sum_before size members m) (size wasm) i
+  segment_is size more m i wasm e =
+      let found = member_at L m wasm e in
+      let within = sum_within size members m found.0 found.1 in
+      let same = ap size found.2 in
+      let all : total size more (members_of k.set.members) ≡ more + sum_before size members (length members) =
+      ap (total size more) (members_are L k h) ∙ total_is size more members in
+      ap (λ (o : Option Module). number_of (o >>= λ w. item_address (sum_before size members m) (size w) i)) e
+      ∙ part_is (total size more (members_of k.set.members)) (sum_before size members m) (size wasm) i (omega arith)
+
+  slot_is : (m : ℕ) → m < length members
+      → sum_of (λ w. length w.elems) L + m
+      ≡ number_of (slice_get (range_with_len 0 (total (size_in Elems) (length k.set.members) (members_of k.set.members)))
+      (sum_before (λ w. length w.elems) members (length members) + m))
+  slot_is m lt =
+      let count = members_count L k h in
+      let all : total (size_in Elems) (length k.set.members) (members_of k.set.members) ≡ length k.set.members + sum_before (size_in Elems) members (length members) =
+      ap (total (size_in Elems) (length k.set.members)) (members_are L k h) ∙ total_is (size_in Elems) (length k.set.members) members in
+      sym (ap number_of (range_at (total (size_in Elems) (length k.set.members) (members_of k.set.members))
+      (sum_before (λ w. length w.elems) members (length members) + m) (omega arith)))
+
+  -- ---- tables
+
+  table_past : (m t : ℕ) (wasm : Module) → wasm_of L m ≡ Some wasm → length (table_space wasm) ≤ t → n.table m t ≡ nowhere
+  table_past m t wasm e le =
+      ap (λ (o : Option Module). number_of (o >>= λ w.
+      if nat_lt t (length (imports_of tables_in w.imports)) then Some 0
+      else item_address (1 + sum_before (λ x. length x.tables) members m) (length w.tables) (t - length (imports_of tables_in w.imports)))) (ap (λ o. o) e)
+      ∙ go (nat_lt t (length (imports_of tables_in wasm.imports))) refl (nat_lt (t - length (imports_of tables_in wasm.imports)) (length wasm.tables)) refl
+    where
+      go : (b : Bool) → nat_lt t (length (imports_of tables_in wasm.imports)) ≡ b
+          → (c : Bool) → nat_lt (t - length (imports_of tables_in wasm.imports)) (length wasm.tables) ≡ c
+          → number_of (if b then Some 0 else (if c then Some (1 + sum_before (λ x. length x.tables) L.set.members m + (t - length (imports_of tables_in wasm.imports))) else None)) ≡ nowhere
+      go false q false r = refl
+      go true q c r =
+          let many = length-append (imports_of tables_in wasm.imports) wasm.tables in
+          absurd (grind (arith, nat_tests))
+      go false q true r =
+          let many = length-append (imports_of tables_in wasm.imports) wasm.tables in
+          absurd (grind (arith, nat_tests))
+
+  tables_many : (m : ℕ) (wasm : Module) → length (tables_by n m wasm) ≡ length (table_space wasm)
+  tables_many m wasm = length-map (range_with_len 0 (length (table_space wasm))) (n.table m) ∙ length-range_with_len 0 (length (table_space wasm))
+
+  table_is : (m t : ℕ) (wasm : Module) → wasm_of L m ≡ Some wasm
+      → n.table m t ≡ in_part (from_members (tables_by n) 0 (members_of k.set.members)) (sum_before (λ w. length (table_space w)) members m) (length (table_space wasm)) t
+  table_is m t wasm e = go (nat_lt t (length (table_space wasm))) refl
+    where
+      size : Module → ℕ
+      size w = length (table_space w)
+
+      go : (b : Bool) → nat_lt t (length (table_space wasm)) ≡ b
+          → n.table m t
+          ≡ (if b then number_of (slice_get (from_members (tables_by n) 0 (members_of k.set.members)) (sum_before (λ w. length (table_space w)) L.set.members m + t)) else nowhere)
+      go false q = table_past m t wasm e (grind (arith, nat_tests))
+      go true q =
+          let found = member_at L m wasm e in
+          let lt : t < length (table_space wasm) = grind (arith, nat_tests) in
+          let same = ap (λ (w : Module). length (table_space w)) found.2 in
+          let there : slice_get (from_members (tables_by n) 0 (members_of k.set.members)) (sum_before (λ w. length (table_space w)) L.set.members m + t) ≡ Some (n.table m t) =
+          ap (λ ms. slice_get (from_members (tables_by n) 0 ms) (sum_before (λ w. length (table_space w)) L.set.members m + t)) (members_are L k h)
+          ∙ item_of (tables_by n) (λ w. length (table_space w)) tables_many L.set.members m t found.0 found.1 (omega arith)
+          ∙ slice_get-map (n.table m) (range_with_len 0 (length (table_space found.0.wasm))) t
+          ∙ ap (option_map (n.table m)) (range_at (length (table_space found.0.wasm)) t (omega arith)) in
+          sym (ap number_of there)
+
+  -- ---- calls
+
+  stage : Phase → ℕ
+  stage p = stage_of p - 1
+
+  stage_low : (p : Phase) → stage_of p - 1 < 4
+  stage_low Place = omega arith
+  stage_low Start = omega arith
+  stage_low Relocate = omega arith
+  stage_low Construct = omega arith
+
+  call_at : (p : Phase) (m : ℕ) (wasm : Module) → slice_get (calls_by n m wasm) (stage_of p - 1) ≡ Some (option_map (n.named m) (phase_function p m wasm))
+  call_at Place m wasm = refl
+  call_at Start m wasm = refl
+  call_at Relocate m wasm = refl
+  call_at Construct m wasm = refl
+
+  call_is : (m : ℕ) (p : Phase) (wasm : Module) → wasm_of L m ≡ Some wasm
+      → slice_get (from_members (calls_by n) 0 (members_of k.set.members)) (4 * m + (stage_of p - 1)) ≡ Some (option_map (n.named m) (phase_function p m wasm))
+  call_is m p wasm e =
+      let found = member_at L m wasm e in
+      let within = slice_get_within members m found.0 found.1 in
+      let place = fours members m (omega arith) in
+      ap₂ (λ ms i. slice_get (from_members (calls_by n) 0 ms) (i + (stage_of p - 1))) (members_are L k h) (sym place)
+      ∙ item_of (calls_by n) (λ w. 4) (λ q w. refl) members m (stage_of p - 1) found.0 found.1 (stage_low p)
+      ∙ ap (λ (w : Module). slice_get (calls_by n m w) (stage_of p - 1)) found.2
+      ∙ call_at p m wasm
+
+  entry_is : (f : ℕ) → set_entry L.set.members ≡ Some f → n.named 0 f ≡ n.named 0 k.entry
+  entry_is f e = (let same : f ≡ k.entry = (let q = sym e ∙ h.entry in cc) in ap (n.named 0) same)
+
+  pub are_listed : (guard : ℕ) → guard ≡ (starts_of L).guards → AreListed L (starts_by k n guard) n (starts_of L)
+  are_listed guard is = record {
+    guards = sym is;
+    phases = λ m p. ap (λ f. f + 4 * m + (stage_of p - 1)) (sym first_is);
+    calls = call_is;
+    entry = entry_is;
+    elems = λ m e wasm q. segment_is (λ w. length w.elems) (length k.set.members) m e wasm q;
+    slots = slot_is;
+    datas = λ m d wasm q. segment_is (λ w. length w.datas) 0 m d wasm q;
+    tables = table_is;
+  }

@@ -1,0 +1,28 @@
+use Rattle.std.proofs.Common.{◌≡◌, List, length, map, true, ◌++◌, ap, ap₂, ◌∙◌, arith}
+use Rattle.wasm_form.specs.declared.module.GlobalDef.{GlobalDef}
+use Rattle.dyl_search.specs.declared.set.Member.{Member}
+use Rattle.dyl_search.specs.declared.set.ClosedSet.{ClosedSet}
+use Rattle.merge_index.specs.Kept.{numbers_in}
+use Rattle.merge_index.specs.Numbering.{starts_of}
+use Rattle.merge_module.specs.MergedModule.{number_global, merged_globals}
+use Rattle.merge_whole.specs.Counts.{members_of}
+use Rattle.merge_whole.proofs.GlobalLists.{many_are, globals_are}
+use Rattle.merge_whole.proofs.built.globals.merged_globals.Goals as goal
+
+pub returns-clause-globals : goal.returns-clause-globals
+returns-clause-globals c = λ L h numbers.
+    let k = c.args.linked.now in
+    let n = numbers_in c.args.n.now in
+    let members : c.items.result.now ≡ k.set.members = c.items.ensures ∙ ap (λ (S : ClosedSet). S.members) c.set.ensures in
+    c.of.ensures
+    ∙ c.in_ok-put_guards.ensures
+    ∙ ap₂ (λ (gs : List GlobalDef) (ms : List Member). gs ++ map (λ x. number_global true 0) (members_of ms)) c.in_ok-list.ensures members
+    ∙ globals_are L k h n
+    ∙ ap (merged_globals L) numbers
+
+pub returns-clause-guards : goal.returns-clause-guards
+returns-clause-guards c = λ L h numbers.
+    let len = c.len.ensures in
+    let many : length c.in_ok-list.list.items ≡ (starts_of L).guards =
+    ap length c.in_ok-list.ensures ∙ many_are L c.args.linked.now h (numbers_in c.args.n.now) in
+    c.in_ok-guard.ensures ∙ omega arith

@@ -1,0 +1,19 @@
+use Rattle.std.proofs.Common.{◌<◌, sym, ap, subst, ◌∙◌}
+use Rattle.merge_start.specs.Listed.{AreListed}
+use Rattle.merge_index.specs.Numbering.{numbers_of, starts_of}
+use Rattle.merge_whole.specs.Counts.{starts_by}
+use Rattle.merge_whole.proofs.StartLists.{are_listed}
+use Rattle.merge_whole.proofs.built.starts.set_starts.Goals as goal
+
+pub returns : goal.returns
+returns c =
+    let k = c.args.linked.now in
+    let s = c.in_ok-starts.starts in
+    record {
+      listed = λ L h numbers guard.
+          subst (λ z. AreListed L z (numbers_of L) (starts_of L))
+          (sym (c.in_ok-starts.ensures ∙ ap (λ n. starts_by k n c.args.guard) numbers))
+          (are_listed L k h c.args.guard guard);
+      guard = subst (λ z. z.guard < 2147483648) (sym c.in_ok-starts.ensures) c.if-guard-ge2147483648.false;
+      first = c.if-starts-ge2147483648.false;
+    }

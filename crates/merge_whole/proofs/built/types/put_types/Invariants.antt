@@ -1,0 +1,5 @@
+use Rattle.std.proofs.Common.{◌≡◌, ◌++◌, drop}
+use Rattle.merge_whole.proofs.built.types.put_types.Given as goal
+
+abbrev pub invariant-loop-ty : goal.invariant-loop-ty
+invariant-loop-ty l = l.to.items ++ drop l.ty-index l.types ≡ l.fn.to.items ++ l.types

@@ -1,0 +1,60 @@
+-- The globals of the merged module of a set, by what is kept of the set.
+use Rattle.std.specs.Prelude.{ℕ, ◌+◌, true, false, List, [], ◌∷◌, ◌++◌, length, map, slice_get, Option, Some, unwrap_or}
+use Rattle.wasm_form.specs.declared.instr.Expr.{Expr}
+use Rattle.wasm_form.specs.declared.module.Import.{Import}
+use Rattle.wasm_form.specs.declared.module.GlobalDef.{GlobalDef}
+use Rattle.wasm_form.specs.declared.module.Module.{Module}
+use Rattle.wasm_form.specs.declared.runtime.Ref.{Ref}
+use Rattle.wasm_runtime.specs.declared.Value.{Value}
+use Rattle.wasm_runtime.specs.declared.Value.TheVariants.{Func}
+use Rattle.spec_binary.specs.Options.{◌>>=◌}
+use Rattle.spec_binary.specs.IndexSpaces.{globals_in}
+use Rattle.spec_runtime.specs.Constants.{constant_of}
+use Rattle.spec_execution.specs.Values.{zero_of}
+use Rattle.spec_linking.specs.Slots.{CellName, as_number, cell_of_import, first_cells}
+use Rattle.spec_loading.specs.Members.{from_members}
+use Rattle.dyl_link.specs.Kept.{Kept, function_in, cell_in}
+use Rattle.merge_match.specs.Renumbering.{Numbers}
+use Rattle.merge_start.specs.Listed.{bases_from}
+use Rattle.merge_index.specs.Globals.{with_cells}
+use Rattle.merge_module.specs.MergedModule.{number_global, constant_instr}
+use Rattle.merge_whole.specs.Counts.{members_of}
+
+-- ---- constants of a member
+
+abbrev pub function_value : Option Ref → Option Value
+function_value found = found >>= λ r. Some (Func (Some r))
+
+-- imported globals are these bases
+abbrev pub base_value : List (Option ℕ) → ℕ → Option Value
+base_value bases g = slice_get bases g >>= as_number
+
+abbrev pub constant_by : Kept → List (Option ℕ) → ℕ → Expr → Option Value
+constant_by k bases m e = constant_of (function_in k m) (base_value bases) e
+
+-- ---- globals of a member
+
+-- a global of member m begins with its value, where imported globals are these bases
+abbrev pub value_by : Kept → List (Option ℕ) → ℕ → GlobalDef → Value
+value_by k bases m g = unwrap_or (constant_by k bases m g.init) (zero_of g.ty.value)
+
+abbrev pub own_by : Kept → Numbers → List (Option ℕ) → ℕ → GlobalDef → GlobalDef
+own_by k n bases m g = record g { init = record { list = constant_instr n g.ty.value (value_by k bases m g) ∷ [] } }
+
+-- the cells of member m that imports give, where cells are known from imports before, which give so many globals
+abbrev pub cells_by : Kept → ℕ → List CellName → ℕ → List Import → List GlobalDef
+cells_by k m known g [] = []
+cells_by k m known g (i ∷ is) =
+    map (λ c. number_global true (unwrap_or (cell_in k m g) 0)) (first_cells known (cell_of_import i))
+    ++ cells_by k m (with_cells known (cell_of_import i)) (g + length (globals_in i.desc)) is
+
+-- those of member m
+abbrev pub globals_by : Kept → Numbers → ℕ → Module → List GlobalDef
+globals_by k n m wasm =
+    let memory = unwrap_or (slice_get k.plan.bases m) 0 in
+    let table = unwrap_or (slice_get k.plan.table_bases m) 0 in
+    number_global false memory ∷ number_global false table
+    ∷ (cells_by k m [] 0 wasm.imports ++ map (own_by k n (bases_from memory table wasm.imports) m) wasm.globals)
+
+abbrev pub all_globals : Kept → Numbers → List GlobalDef
+all_globals k n = number_global true k.plan.stack_top ∷ from_members (globals_by k n) 0 (members_of k.set.members)

@@ -1,0 +1,18 @@
+// The parts of the merged module of a linked set.
+pub(crate) mod brief;
+mod codes;
+mod constants;
+mod copies;
+mod counts;
+mod datas;
+mod elems;
+mod exports;
+mod funcs;
+mod given;
+mod globals;
+mod imports;
+mod starts;
+mod stubs;
+mod tables;
+mod types;
+pub(crate) mod whole;

@@ -1,0 +1,112 @@
+// The bodies of the merged module.
+ghost use Rattle.std.specs.Prelude.{◌≡◌, ◌++◌, ◌∷◌, [], ◌<◌, ◌^◌, map, IfOk, OnOk};
+ghost use Rattle.spec_linking.specs.LinkedSets.{LinkedSet};
+ghost use Rattle.dyl_link.specs.Kept.{IsLinked};
+ghost use Rattle.merge_match.specs.Joined.{renumbered_code};
+ghost use Rattle.merge_start.specs.Words.{Starts};
+ghost use Rattle.merge_start.specs.Listed.{IsOfSet, AreListed};
+ghost use Rattle.merge_index.specs.Kept.{numbers_in};
+ghost use Rattle.merge_module.specs.MergedModule.{merged_codes};
+ghost use Rattle.merge_whole.specs.Built.{joined, HasBodies, bodies_of, traps_of, code_of};
+
+use crate::built::copies::copied_code;
+use crate::built::counts::end_of;
+use crate::built::stubs::{imported_types, put_traps};
+use dyl_link::Linked;
+use dyl_search::Member;
+use merge_index::Numbers;
+use merge_start::{Part, StartNumbers, entry_function, phase_functions};
+use std::alloc::Global;
+use wasm_form::{Code, List, Memory};
+
+fn put_bodies(
+    alloc: Global,
+    to: &mut Vec<Code>,
+    linked: &Linked,
+    n: &Numbers,
+    m: u32,
+    codes: &[Code],
+) -> Result<(), Memory>
+    requires { HasBodies linked.now m codes.now }
+    ensures { OnOk result (to.new.items ≡ to.old.items ++ map (renumbered_code (numbers_in n.now) m) codes.now) }
+{
+    let count = end_of(0, codes.len())?;
+    for b in 0..count {
+        let code = n.rename_body(alloc, linked, m, b)?;
+        to.push(code)?;
+    }
+    Ok(())
+}
+
+fn put_members(
+    alloc: Global,
+    to: &mut Vec<Code>,
+    linked: &Linked,
+    n: &Numbers,
+) -> Result<(), Memory>
+    ensures { OnOk result (to.new.items ≡ to.old.items ++ joined (bodies_of (numbers_in n.now)) 0 linked.now.set.members) }
+{
+    let members = linked.set().members.items();
+    let count = end_of(0, members.len())?;
+    for m in 0..count {
+        let codes = members[m as usize].checked.module().codes.items();
+        put_bodies(alloc, to, linked, n, m, codes)?;
+    }
+    Ok(())
+}
+
+fn put_stubs(
+    alloc: Global,
+    to: &mut Vec<Code>,
+    linked: &Linked,
+    members: &[Member],
+) -> Result<(), Memory>
+    ensures { OnOk result (to.new.items ≡ to.old.items ++ joined (traps_of linked.now) 0 members.now) }
+{
+    let mut m: u32 = 0;
+    for member in members {
+        let types = imported_types(alloc, member.checked.module().imports.items())?;
+        put_traps(alloc, to, linked, m, types.as_slice())?;
+        m = end_of(m, 1)?;
+    }
+    Ok(())
+}
+
+fn put_parts(alloc: Global, to: &mut Vec<Code>, parts: &[Part]) -> Result<(), Memory>
+    ensures { OnOk result (to.new.items ≡ to.old.items ++ map code_of parts.now) }
+{
+    for part in parts {
+        to.push(copied_code(alloc, &part.code)?)?;
+    }
+    Ok(())
+}
+
+// Those of the members and of the stubs.
+fn own_codes(alloc: Global, linked: &Linked, n: &Numbers) -> Result<Vec<Code>, Memory>
+    ensures { IfOk result (λ x. x.items ≡ joined (bodies_of (numbers_in n.now)) 0 linked.now.set.members ++ joined (traps_of linked.now) 0 linked.now.set.members) }
+{
+    let mut codes = Vec::new(alloc);
+    put_members(alloc, &mut codes, linked, n)?;
+    put_stubs(alloc, &mut codes, linked, linked.set().members.items())?;
+    Ok(codes)
+}
+
+// Those of the members, of the stubs, of the phases of each member and of the entry function.
+pub(crate) fn merged_codes(
+    alloc: Global,
+    linked: &Linked,
+    n: &Numbers,
+    s: &StartNumbers,
+) -> Result<List<Code>, Memory>
+    requires set { IsOfSet linked.now }
+    requires guard { s.now.guard < 2 ^ 31 }
+    requires first { s.now.first_function < 2 ^ 31 }
+    ensures { IfOk result (λ c. (L : LinkedSet) (x : Starts) → IsLinked L linked.now → AreListed L s.now (numbers_in n.now) x → c ≡ merged_codes L (numbers_in n.now) x) }
+{
+    let mut codes = own_codes(alloc, linked, n)?;
+    let phases = phase_functions(alloc, linked, s)?;
+    put_parts(alloc, &mut codes, phases.items())?;
+    let entry = entry_function(alloc, linked, s)?;
+    codes.push(entry.code)?;
+    Ok(List::of(codes))
+}

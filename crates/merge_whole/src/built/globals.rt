@@ -1,0 +1,263 @@
+// The globals.
+ghost use Rattle.std.specs.Prelude.{◌≡◌, ◌+◌, ◌<◌, ◌++◌, ◌∷◌, [], true, cond, length, map, slice_get, unwrap_or, IfOk, OnOk};
+ghost use Rattle.spec_binary.specs.IndexSpaces.{globals_in};
+ghost use Rattle.spec_linking.specs.LinkedSets.{LinkedSet};
+ghost use Rattle.spec_linking.specs.Slots.{cell_of_import, first_cells};
+ghost use Rattle.dyl_link.specs.Kept.{IsLinked, cell_in};
+ghost use Rattle.merge_index.specs.Numbering.{numbers_of, starts_of};
+ghost use Rattle.merge_index.specs.Globals.{cell_named, cells_in, with_cells};
+ghost use Rattle.merge_index.specs.Kept.{numbers_in};
+ghost use Rattle.merge_start.specs.Listed.{IsOfSet};
+ghost use Rattle.merge_module.specs.MergedModule.{number_global, merged_globals};
+ghost use Rattle.merge_whole.specs.Counts.{members_of};
+ghost use Rattle.merge_whole.specs.GlobalDefs.{value_by, own_by, cells_by, globals_by, all_globals};
+
+use crate::built::constants::{constant, constant_instr, zero_of};
+use crate::built::counts::end_of;
+use crate::built::elems::number_expr;
+use dyl_imports::{Use, use_of};
+use dyl_link::Linked;
+use dyl_search::Member;
+use indexmap::IndexSet;
+use merge_index::Numbers;
+use merge_start::bases_from;
+use std::alloc::Global;
+use wasm_form::{Expr, GlobalDef, GlobalType, Import, ImportDesc, List, Memory, Module, ValType};
+use wasm_runtime::Value;
+
+// An i32 that begins with this number, and may be set or may not.
+fn number_global(alloc: Global, may_be_set: bool, k: u32) -> Result<GlobalDef, Memory>
+    ensures { IfOk result (λ g. g ≡ number_global may_be_set k) }
+{
+    let init = number_expr(alloc, k)?;
+    Ok(GlobalDef {
+        ty: GlobalType {
+            value: ValType::I32,
+            mutable: may_be_set,
+        },
+        init,
+    })
+}
+
+fn own_value(linked: &Linked, m: u32, bases: &[Option<u32>], g: &GlobalDef) -> Value
+    ensures { result ≡ value_by linked.now bases.now m g.now }
+{
+    match constant(linked, m, bases, &g.init) {
+        Some(value) => value,
+        None => zero_of(g.ty.value),
+    }
+}
+
+// A global that member m defines, where imported globals are these bases.
+fn own_global(
+    alloc: Global,
+    linked: &Linked,
+    n: &Numbers,
+    bases: &[Option<u32>],
+    m: u32,
+    g: &GlobalDef,
+) -> Result<GlobalDef, Memory>
+    ensures { IfOk result (λ x. x ≡ own_by linked.now (numbers_in n.now) bases.now m g.now) }
+{
+    let value = own_value(linked, m, bases, g);
+    let init = constant_instr(n, g.ty.value, value)?;
+    Ok(GlobalDef {
+        ty: g.ty,
+        init: Expr {
+            list: List::of(vec![in alloc; init]?),
+        },
+    })
+}
+
+fn put_own(
+    to: &mut Vec<GlobalDef>,
+    alloc: Global,
+    linked: &Linked,
+    n: &Numbers,
+    bases: &[Option<u32>],
+    m: u32,
+    globals: &[GlobalDef],
+) -> Result<(), Memory>
+    ensures { OnOk result (to.new.items ≡ to.old.items ++ map (own_by linked.now (numbers_in n.now) bases.now m) globals.now) }
+{
+    for g in globals {
+        to.push(own_global(alloc, linked, n, bases, m, g)?)?;
+    }
+    Ok(())
+}
+
+// Whether a cell is a new one; it is known from then on.
+fn is_new<'a>(
+    cells: &mut IndexSet<(bool, &'a str)>,
+    slot: bool,
+    name: &'a str,
+) -> Result<bool, Memory>
+    ensures cells { OnOk result (cells_in cells.new.keys ≡ with_cells (cells_in cells.old.keys) (cell_named slot name.now ∷ [])) }
+    ensures new { IfOk result (λ b. first_cells (cells_in cells.old.keys) (cell_named slot name.now ∷ []) ≡ cond b (cell_named slot name.now ∷ []) []) }
+{
+    let (_, added) = cells.insert_full((slot, name))?;
+    Ok(added)
+}
+
+fn put_cell<'a>(
+    to: &mut Vec<GlobalDef>,
+    alloc: Global,
+    cells: &mut IndexSet<(bool, &'a str)>,
+    slot: bool,
+    name: &'a str,
+    value: u32,
+) -> Result<(), Memory>
+    ensures cells { OnOk result (cells_in cells.new.keys ≡ with_cells (cells_in cells.old.keys) (cell_named slot name.now ∷ [])) }
+    ensures put { OnOk result (to.new.items ≡ to.old.items ++ map (λ c. number_global true value) (first_cells (cells_in cells.old.keys) (cell_named slot name.now ∷ []))) }
+{
+    let added = is_new(cells, slot, name)?;
+    if !added {
+        return Ok(());
+    }
+    to.push(number_global(alloc, true, value)?)?;
+    Ok(())
+}
+
+// The cell that an import gives, if it is a new one, with this value.
+fn put_import<'a>(
+    to: &mut Vec<GlobalDef>,
+    alloc: Global,
+    cells: &mut IndexSet<(bool, &'a str)>,
+    i: &'a Import,
+    value: u32,
+) -> Result<(), Memory>
+    ensures cells { OnOk result (cells_in cells.new.keys ≡ with_cells (cells_in cells.old.keys) (cell_of_import i.now)) }
+    ensures put { OnOk result (to.new.items ≡ to.old.items ++ map (λ c. number_global true value) (first_cells (cells_in cells.old.keys) (cell_of_import i.now))) }
+{
+    match use_of(i) {
+        Use::DataCell => put_cell(to, alloc, cells, false, i.field.as_str(), value),
+        Use::SlotCell => put_cell(to, alloc, cells, true, i.field.as_str(), value),
+        _ => Ok(()),
+    }
+}
+
+fn is_global(desc: &ImportDesc) -> usize
+    ensures { result ≡ length (globals_in desc.now) }
+{
+    match desc {
+        ImportDesc::Global(_) => 1,
+        _ => 0,
+    }
+}
+
+fn cell_or_zero(linked: &Linked, m: u32, g: u32) -> u32
+    ensures { result ≡ unwrap_or (cell_in linked.now m g) 0 }
+{
+    match linked.find_cell(m, g) {
+        Some(value) => value,
+        None => 0,
+    }
+}
+
+// The cells of member m.
+fn put_cells(
+    to: &mut Vec<GlobalDef>,
+    alloc: Global,
+    linked: &Linked,
+    m: u32,
+    imports: &[Import],
+) -> Result<(), Memory>
+    ensures { OnOk result (to.new.items ≡ to.old.items ++ cells_by linked.now m [] 0 imports.now) }
+{
+    let mut cells = IndexSet::new(alloc);
+    let mut g: u32 = 0;
+    for i in imports {
+        let value = cell_or_zero(linked, m, g);
+        put_import(to, alloc, &mut cells, i, value)?;
+        let end = end_of(g, is_global(&i.desc))?;
+        g = end;
+    }
+    Ok(())
+}
+
+fn memory_base(linked: &Linked, m: u32) -> u32
+    requires set { IsOfSet linked.now }
+    requires member { m < length linked.now.set.members }
+    ensures { result ≡ unwrap_or (slice_get linked.now.plan.bases m) 0 }
+{
+    linked.plan().base(m)
+}
+
+fn table_base(linked: &Linked, m: u32) -> u32
+    requires set { IsOfSet linked.now }
+    requires member { m < length linked.now.set.members }
+    ensures { result ≡ unwrap_or (slice_get linked.now.plan.table_bases m) 0 }
+{
+    linked.plan().table_base(m)
+}
+
+// The bases of a member, its cells and its own globals.
+fn put_member(
+    to: &mut Vec<GlobalDef>,
+    alloc: Global,
+    linked: &Linked,
+    n: &Numbers,
+    m: u32,
+    wasm: &Module,
+) -> Result<(), Memory>
+    requires set { IsOfSet linked.now }
+    requires member { m < length linked.now.set.members }
+    ensures { OnOk result (to.new.items ≡ to.old.items ++ globals_by linked.now (numbers_in n.now) m wasm.now) }
+{
+    let memory = memory_base(linked, m);
+    let table = table_base(linked, m);
+    let bases = bases_from(alloc, wasm.imports.items(), memory, table)?;
+    to.push(number_global(alloc, false, memory)?)?;
+    to.push(number_global(alloc, false, table)?)?;
+    put_cells(to, alloc, linked, m, wasm.imports.items())?;
+    put_own(
+        to,
+        alloc,
+        linked,
+        n,
+        bases.as_slice(),
+        m,
+        wasm.globals.items(),
+    )?;
+    Ok(())
+}
+
+// The stack pointer, and then the globals of the members.
+fn all_globals(alloc: Global, linked: &Linked, n: &Numbers) -> Result<Vec<GlobalDef>, Memory>
+    requires set { IsOfSet linked.now }
+    ensures { IfOk result (λ v. v.items ≡ all_globals linked.now (numbers_in n.now)) }
+{
+    let mut list = Vec::new(alloc);
+    let mut m: u32 = 0;
+    list.push(number_global(alloc, true, linked.plan().stack_top())?)?;
+    for member in linked.set().members.items() {
+        put_member(&mut list, alloc, linked, n, m, member.checked.module())?;
+        m = end_of(m, 1)?;
+    }
+    Ok(list)
+}
+
+fn put_guards(to: &mut Vec<GlobalDef>, alloc: Global, members: &[Member]) -> Result<(), Memory>
+    ensures { OnOk result (to.new.items ≡ to.old.items ++ map (λ x. number_global true 0) (members_of members.now)) }
+{
+    for _member in members {
+        to.push(number_global(alloc, true, 0)?)?;
+    }
+    Ok(())
+}
+
+// The globals of the merged module, and the number of the first guard.
+pub(crate) fn merged_globals(
+    alloc: Global,
+    linked: &Linked,
+    n: &Numbers,
+) -> Result<(List<GlobalDef>, u32), Memory>
+    requires set { IsOfSet linked.now }
+    ensures globals { IfOk result (λ x. (L : LinkedSet) → IsLinked L linked.now → numbers_in n.now ≡ numbers_of L → x.0 ≡ merged_globals L (numbers_of L)) }
+    ensures guards { IfOk result (λ x. (L : LinkedSet) → IsLinked L linked.now → numbers_in n.now ≡ numbers_of L → x.1 ≡ (starts_of L).guards) }
+{
+    let mut list = all_globals(alloc, linked, n)?;
+    let guard = end_of(0, list.len())?;
+    put_guards(&mut list, alloc, linked.set().members.items())?;
+    Ok((List::of(list), guard))
+}

@@ -1,0 +1,70 @@
+// The types of the merged module.
+ghost use Rattle.std.specs.Prelude.{◌≡◌, ◌++◌, ◌∷◌, [], map, IfOk, OnOk};
+ghost use Rattle.spec_binary.specs.Indices.{nullary};
+ghost use Rattle.host_table.specs.Names.{host_name_of};
+ghost use Rattle.spec_linking.specs.LinkedSets.{LinkedSet};
+ghost use Rattle.dyl_link.specs.Kept.{IsLinked};
+ghost use Rattle.merge_module.specs.MergedModule.{merged_types};
+ghost use Rattle.merge_whole.specs.Built.{joined, types_of, host_type, types_in};
+
+use crate::built::copies::copied_type;
+use dyl_link::Linked;
+use dyl_search::Member;
+use host_table::HostName;
+use std::alloc::Global;
+use wasm_form::{FuncType, List, Memory};
+
+fn put_types(alloc: Global, to: &mut Vec<FuncType>, types: &[FuncType]) -> Result<(), Memory>
+    ensures { OnOk result (to.new.items ≡ to.old.items ++ types.now) }
+{
+    for ty in types {
+        to.push(copied_type(alloc, ty)?)?;
+    }
+    Ok(())
+}
+
+fn put_members(alloc: Global, to: &mut Vec<FuncType>, members: &[Member]) -> Result<(), Memory>
+    ensures { OnOk result (to.new.items ≡ to.old.items ++ joined types_of 0 members.now) }
+{
+    for member in members {
+        put_types(alloc, to, member.checked.module().types.items())?;
+    }
+    Ok(())
+}
+
+fn put_hosts(alloc: Global, to: &mut Vec<FuncType>, hosts: &[HostName]) -> Result<(), Memory>
+    ensures { OnOk result (to.new.items ≡ to.old.items ++ map host_type (map host_name_of hosts.now)) }
+{
+    for host in hosts {
+        to.push(copied_type(alloc, &host.ty)?)?;
+    }
+    Ok(())
+}
+
+fn put_nullary(alloc: Global, to: &mut Vec<FuncType>) -> Result<(), Memory>
+    ensures { OnOk result (to.new.items ≡ to.old.items ++ nullary ∷ []) }
+{
+    to.push(FuncType {
+        params: List::of(Vec::new(alloc)),
+        results: List::of(Vec::new(alloc)),
+    })?;
+    Ok(())
+}
+
+fn types(alloc: Global, linked: &Linked) -> Result<Vec<FuncType>, Memory>
+    ensures { IfOk result (λ x. x.items ≡ types_in linked.now) }
+{
+    let mut types = Vec::new(alloc);
+    put_members(alloc, &mut types, linked.set().members.items())?;
+    put_nullary(alloc, &mut types)?;
+    put_hosts(alloc, &mut types, linked.hosts())?;
+    Ok(types)
+}
+
+// Those of the members, that of generated functions, and those of the host functions.
+pub(crate) fn merged_types(alloc: Global, linked: &Linked) -> Result<List<FuncType>, Memory>
+    ensures { IfOk result (λ x. (L : LinkedSet) → IsLinked L linked.now → x ≡ merged_types L) }
+{
+    let types = types(alloc, linked)?;
+    Ok(List::of(types))
+}

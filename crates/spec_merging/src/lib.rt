@@ -1,0 +1,6 @@
+//! What there is to say of merged modules.
+#![tactic(auto)]
+
+mod fault;
+
+pub use fault::MergeFault;

@@ -1,0 +1,129 @@
+// What is run.
+ghost use Rattle.std.specs.Prelude.{◌≡◌, ◌<◌, ◌≤◌, false, true, map, slice_get, IfOk, OnOk, OnErr};
+ghost use Rattle.spec_runtime.specs.Recorded as recorded;
+ghost use Rattle.host_table.specs.Names.{host_name_of};
+ghost use Rattle.wasm_exec.specs.Courses.{Origin, course_of};
+ghost use Rattle.wasm_exec.specs.Recordings.{status_at, memory_at, IsAt, is_waiting, RunStepped, ArgumentsFit, Advances, Awaits, with_answer};
+ghost use Rattle.wasm_exec.specs.Programs.{recorded_of, IsOf, Keeps};
+
+use dyl_store::Store;
+use host_table::HostName;
+use std::alloc::Global;
+use wasm_form::{List, Memory};
+use wasm_machine::{Answer, Event};
+use wasm_single::Single;
+use wasm_space::Space;
+
+/// A program that is run: one module, or a loaded set.
+#[derive(Drop)]
+pub(crate) enum Program<'m> {
+    Module(Single<'m>),
+    Set(Store<'m>),
+}
+
+impl<'m> Program<'m> {
+    /// Makes one step, which takes the answer that is recorded for a wait, and tells how the run stands then. An end is told again,
+    /// `Deep` where the step would pass a limit of depth, and `Stuck` where there is none, with nothing changed.
+    pub fn run_step(&mut self, alloc: Global) -> Result<Event, Memory>
+        requires answered { (o : Origin) × IsOf self.old o × IsAt (course_of o) (recorded_of self.old) × (is_waiting (course_of o) (recorded_of self.old) ≡ false) }
+        requires few { (recorded_of self.old).steps < 18446744073709551615 }
+        ensures stepped { IfOk result (λ e. (o : Origin) → IsOf self.old o → IsAt (course_of o) (recorded_of self.old) → RunStepped (course_of o) e (recorded_of self.old) (recorded_of self.new)) }
+        ensures arguments { IfOk result (λ e. (o : Origin) → IsOf self.old o → ArgumentsFit (course_of o).host e) }
+        ensures lost { OnErr result (recorded_of self.new ≡ (record (recorded_of self.old) { lost = true })) }
+        ensures kept { Keeps self.old self.new }
+    {
+        match self {
+            Program::Module(single) => single.run_step(alloc),
+            Program::Set(store) => store.run_step(alloc),
+        }
+    }
+
+    /// Makes steps of code, up to so many in all, until one is left for `run_step`.
+    pub fn advance(&mut self, alloc: Global, most: u64) -> Result<(), Memory>
+        requires { (o : Origin) × IsOf self.old o }
+        ensures advances { (o : Origin) → IsOf self.old o → Advances (course_of o) most (recorded_of self.old) (recorded_of self.new) }
+        ensures more { (recorded_of self.old).steps ≤ (recorded_of self.new).steps }
+        ensures few { (recorded_of self.old).steps ≤ most → (recorded_of self.new).steps ≤ most }
+        ensures found { OnOk result ((recorded_of self.new).lost ≡ false) }
+        ensures kept { Keeps self.old self.new }
+    {
+        match self {
+            Program::Module(single) => single.advance(alloc, most),
+            Program::Set(store) => store.advance(alloc, most),
+        }
+    }
+
+    /// Records the answer that the next step takes.
+    pub fn answer(&mut self, alloc: Global, a: Answer) -> Result<(), Memory>
+        requires { (o : Origin) × IsOf self.old o × Awaits (course_of o) (recorded_of self.old) a }
+        ensures recorded { OnOk result (recorded_of self.new ≡ with_answer (recorded_of self.old) a) }
+        ensures lost { OnErr result (recorded_of self.new ≡ (record (recorded_of self.old) { lost = true })) }
+        ensures kept { Keeps self.old self.new }
+    {
+        match self {
+            Program::Module(single) => single.answer(alloc, a),
+            Program::Set(store) => store.answer(alloc, a),
+        }
+    }
+
+    /// Whether it has returned, exited or trapped.
+    pub fn has_ended(&self) -> bool
+        ensures { (o : Origin) → IsOf self.now o → IsAt (course_of o) (recorded_of self.now) → result ≡ recorded.has_ended (status_at (course_of o) (recorded_of self.now)) }
+    {
+        match self {
+            Program::Module(single) => single.has_ended(),
+            Program::Set(store) => store.has_ended(),
+        }
+    }
+
+    /// How many steps were made. The run stands where these lead.
+    pub fn steps(&self) -> u64
+        ensures value { result ≡ (recorded_of self.now).steps }
+        ensures stands { (recorded_of self.now).lost ≡ false → (o : Origin) → IsOf self.now o → IsAt (course_of o) (recorded_of self.now) }
+    {
+        match self {
+            Program::Module(single) => single.steps(),
+            Program::Set(store) => store.steps(),
+        }
+    }
+
+    /// The answers that are recorded, in order.
+    pub fn answers(&self) -> &[Answer]
+        ensures { result.now ≡ (recorded_of self.now).answers }
+    {
+        match self {
+            Program::Module(single) => single.answers(),
+            Program::Set(store) => store.answers(),
+        }
+    }
+
+    /// The answers themselves.
+    pub fn into_answers(self) -> List<Answer>
+        ensures { result ≡ (recorded_of self.entry).answers }
+    {
+        match self {
+            Program::Module(single) => single.into_answers(),
+            Program::Set(store) => store.into_answers(),
+        }
+    }
+
+    /// The memory as the run stands.
+    pub fn memory(&self) -> &Space
+        ensures { (o : Origin) → IsOf self.now o → IsAt (course_of o) (recorded_of self.now) → result.now ≡ memory_at (course_of o) (recorded_of self.now) }
+    {
+        match self {
+            Program::Module(single) => single.memory(),
+            Program::Set(store) => store.memory(),
+        }
+    }
+
+    /// The host functions, by their entries.
+    pub fn hosts(&self) -> &[HostName]
+        ensures { (o : Origin) → IsOf self.now o → (course_of o).host ≡ slice_get (map host_name_of result.now) }
+    {
+        match self {
+            Program::Module(single) => single.hosts(),
+            Program::Set(store) => store.hosts(),
+        }
+    }
+}

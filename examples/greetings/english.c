@@ -1,0 +1,3 @@
+void say(const char *text);
+
+void english(void) { say("Hello\n"); }
