@@ -1,0 +1,53 @@
+#!/bin/sh
+# Builds the modules of the programs again, from their sources, with clang and wasm-ld.
+#
+#     sh examples/programs/build.sh [FOLDER]
+#
+# FOLDER is examples/programs/modules where none is given. CLANG and WASM_LD name other tools than `clang` and `wasm-ld`. The modules
+# in the repository were made by clang-19 and wasm-ld-19, both 19.1.7, as Debian 12 has them.
+set -eu
+
+source=$(cd "$(dirname "$0")" && pwd)
+to=${1:-$source/modules}
+mkdir -p "$to"
+to=$(cd "$to" && pwd)
+work=$(mktemp -d)
+trap 'rm -rf "$work"' EXIT
+cd "$work"
+
+for file in "$source"/*.c; do
+    "${CLANG:-clang}" --target=wasm32-unknown-emscripten -O2 -fPIC -fvisibility=default -ffreestanding -mbulk-memory \
+        -c "$file" -o "$(basename "$file" .c).o"
+done
+
+# The first word is the module, the others are what it is linked of.
+library() {
+    module=$1
+    shift
+    "${WASM_LD:-wasm-ld}" --experimental-pic -shared "$@" -o "$module"
+}
+main() {
+    module=$1
+    shift
+    "${WASM_LD:-wasm-ld}" --experimental-pic -pie --import-memory start.o "$@" -o "$module"
+}
+
+library libio.so io.o
+library libreport.so report.o libio.so
+library libcrc.so crc.o libreport.so
+library libadler.so adler.o libreport.so
+main checksums.wasm checksums.o libcrc.so libadler.so libreport.so libio.so
+
+library libcity.so city.o
+library liblines.so lines.o libcity.so
+main timetable.wasm timetable.o liblines.so libio.so
+
+library libletters.so letters.o
+library libupper.so upper.o libletters.so
+library librot13.so rot13.o libletters.so
+main filters.wasm --import-undefined filters.o libio.so
+
+main count.wasm count.o libio.so
+
+chmod a-x ./*.so ./*.wasm
+cp ./*.so ./*.wasm "$to"

@@ -1,0 +1,93 @@
+#!/bin/sh
+# Runs the programs in three ways: as sets; merged, by wdyl; merged, by node, where node is there. Each has to put out what stands in
+# expected/, and to end with the status that is wanted. Where cc is there, it builds the sources for this machine, and what that puts
+# out has to be the same. Where clang and wasm-ld are there, the modules are built again, and these are run in the same ways.
+#
+#     sh examples/programs/demo.sh bin/wdyl
+set -eu
+
+wdyl=$1
+source=$(dirname "$0")
+. "$source/../opening.sh"
+work=$(mktemp -d)
+trap 'rm -rf "$work"' EXIT
+
+has() {
+    for tool in "$@"; do
+        command -v "$tool" >/dev/null || { echo "$tool is missing"; return 1; }
+    done
+}
+
+# Runs a command on the input. It has to put out what is expected, and to end with the wanted status.
+same() {
+    way=$1
+    shift
+    code=0
+    "$@" <"$source/input.txt" >"$work/output" || code=$?
+    cmp "$work/output" "$source/expected/$expected.txt" || { echo "$expected, $way: this was put out:"; cat "$work/output"; exit 1; }
+    [ $code -eq "$status" ] || { echo "$expected, $way: status $code, and $status is wanted"; exit 1; }
+    echo "$way: the same"
+}
+
+# A program: what it has to put out, the wanted status, its main module, options of the set, and then its arguments.
+program() {
+    expected=$1 status=$2 main=$3 options=$4
+    shift 4
+    echo "== $main${*:+ $*}"
+    if [ "$is_native" = yes ]; then
+        same cc env LD_LIBRARY_PATH="$work/native" "$work/native/$main" "$@"
+    fi
+    if [ "$runs" = yes ]; then
+        same run "$wdyl" run $options "$modules/$main.wasm" -- "$@"
+    else
+        echo "run: this isn't built yet for programs that open modules"
+    fi
+    if [ "$merges" = no ]; then
+        echo "merge: this isn't built yet for programs that open modules"
+        return
+    fi
+    "$wdyl" merge $options "$modules/$main.wasm" "$work/merged.wasm"
+    same exec "$wdyl" exec "$work/merged.wasm" -- "$@"
+    if [ "$has_node" = yes ]; then
+        same node node --no-warnings "$source/wasi.mjs" "$work/merged.wasm" "$@"
+    fi
+}
+
+programs() {
+    runs=yes merges=yes
+    program checksums 0 checksums ""
+    program timetable 0 timetable ""
+    program count 0 count "" -l -w -c
+    program count-refused 2 count "" colour
+    runs=$opening_runs merges=$opening_merges
+    program filters 0 filters "--dl libupper.so,librot13.so" libupper.so librot13.so libnone.so librot13.so
+}
+
+native() {
+    mkdir "$work/native"
+    cc -O1 -o "$work/native/checksums" "$source/checksums.c" "$source/crc.c" "$source/adler.c" "$source/report.c" "$source/io.c"
+    cc -O1 -o "$work/native/timetable" "$source/timetable.c" "$source/lines.c" "$source/city.c" "$source/io.c"
+    cc -O1 -o "$work/native/count" "$source/count.c" "$source/io.c"
+    cc -O1 -o "$work/native/filters" "$source/filters.c" "$source/io.c" -ldl
+    for name in upper rot13; do
+        cc -O1 -shared -fPIC -o "$work/native/lib$name.so" "$source/$name.c" "$source/letters.c"
+    done
+}
+
+has_node=no is_native=no
+if has node; then has_node=yes; else echo "the merged programs are run by wdyl alone"; fi
+if has cc; then native; is_native=yes; else echo "the sources aren't built for this machine"; fi
+
+echo "-- the modules of the repository"
+modules=$source/modules
+programs
+
+is_native=no
+if has clang wasm-ld; then
+    echo "-- modules built by $(clang --version | head -n 1) and $(wasm-ld --version)"
+    sh "$source/build.sh" "$work/built"
+    modules=$work/built
+    programs
+else
+    echo "the modules aren't built again"
+fi

@@ -1,0 +1,13 @@
+// What a program says to open a library while it runs. The numbers are those of Linux.
+
+#ifndef DL_H
+#define DL_H
+
+enum { RTLD_LAZY = 1, RTLD_NOW = 2 };
+
+void *dlopen(const char *name, int flags);
+void *dlsym(void *library, const char *name);
+int dlclose(void *library);
+char *dlerror(void);
+
+#endif
