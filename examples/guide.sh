@@ -1,0 +1,130 @@
+#!/bin/sh
+# Runs the commands of docs/GUIDE.md, and compares what they print with what the guide shows.
+#
+#     sh examples/guide.sh bin/wdyl
+#
+# In the guide, a block that begins with ```console has commands, each behind `$ ` (and `> ` where it goes on), with what it prints.
+# The words behind `console` tell what it needs. Where something is missing, this is said, and the block is skipped. With the word
+# `repository` it is run beside a copy of examples/, else in a folder of the guide's own files. A block whose first line names a file,
+# as ```c say.c, is written there.
+#
+# CLANG and WASM_LD name other tools than `clang` and `wasm-ld`. WASI_LIBC_SOURCE is a folder with the sources of wasi-libc.
+set -eu
+
+program=$(cd "$(dirname "$1")" && pwd)/$(basename "$1")
+top=$(cd "$(dirname "$0")/.." && pwd)
+guide=$top/docs/GUIDE.md
+. "$top/examples/opening.sh"
+work=$(mktemp -d)
+trap 'rm -rf "$work"' EXIT
+mkdir "$work/tools" "$work/blocks" "$work/own" "$work/repository"
+cp -R "$top/examples" "$work/repository/examples"
+ln -s "$program" "$work/tools/wdyl"
+for name in clang wasm-ld; do
+    case $name in clang) named=${CLANG:-} ;; *) named=${WASM_LD:-} ;; esac
+    [ -z "$named" ] || ln -s "$(command -v "$named")" "$work/tools/$name"
+done
+PATH=$work/tools:$PATH
+
+# Each block becomes a file of its words, one of its text, and one of the commands that print that text.
+awk -v to="$work/blocks" '
+function ended() {
+    if (shown == "") return
+    printf "cat <<\\END_OF_COMMAND\n%sEND_OF_COMMAND\n%s\n", shown, command > (at ".sh")
+    print "code=$?; [ $code -eq 0 ] || echo \"This ended with status $code.\"" > (at ".sh")
+    shown = command = ""
+}
+/^```/ {
+    if (is_open) { ended(); is_open = 0; if (at != "") { close(at ".text"); close(at ".sh") } next }
+    is_open = 1
+    at = ""
+    if (NF < 2 && $0 != "```console") next
+    at = sprintf("%s/%03d", to, ++count)
+    print substr($0, 4) > (at ".words")
+    close(at ".words")
+    printf "" > (at ".text")
+    has_commands = $1 == "```console"
+    next
+}
+!is_open { next }
+at == "" { if (/^\$ /) { print "a command stands in a block that is not run: " $0; exit 1 } next }
+{ print > (at ".text") }
+has_commands && /^\$ / { ended(); shown = $0 "\n"; command = substr($0, 3) "\n"; next }
+has_commands && /^> / { shown = shown $0 "\n"; command = command substr($0, 3) "\n"; next }
+' "$guide"
+
+makes_position_independent() {
+    echo 'int here; int *there(void) { return &here; }' >"$work/try.c"
+    clang -Wno-deprecated --target=wasm32-wasi -fPIC -fvisibility=default -c "$work/try.c" -o "$work/try.o" 2>/dev/null &&
+        wasm-ld --experimental-pic -shared "$work/try.o" -o "$work/try.so" 2>/dev/null
+}
+
+# Whether there is what a word tells of. What is missing is named.
+has() {
+    missing=$1
+    case $1 in
+    repository) true ;;
+    opening-runs) missing="run for programs that open modules" && [ "$opening_runs" = yes ] ;;
+    opening-merges) missing="merge for programs that open modules" && [ "$opening_merges" = yes ] ;;
+    rpath) missing="the option -rpath of wasm-ld" && wasm-ld --help 2>/dev/null | grep -q -e -rpath ;;
+    wasi-libc)
+        missing="wasi-libc, and the library of clang for it"
+        [ -f /usr/include/wasm32-wasi/stdio.h ] &&
+            [ -f "$(clang -Wno-deprecated --target=wasm32-wasi -print-libgcc-file-name 2>/dev/null)" ]
+        ;;
+    wasi-libc-source) missing="the sources of wasi-libc, in WASI_LIBC_SOURCE" && [ -n "${WASI_LIBC_SOURCE:-}" ] ;;
+    pic-for-wasi) missing="position-independent code of this clang for wasm32-wasi" && makes_position_independent ;;
+    *) command -v "$1" >/dev/null ;;
+    esac
+}
+
+ran=0 skipped=0
+for words in "$work"/blocks/*.words; do
+    block=${words%.words}
+    read -r kind needs <"$words"
+    if [ "$kind" != console ]; then
+        cp "$block.text" "$work/own/$needs"
+        continue
+    fi
+    folder=own lacks=
+    for need in $needs; do
+        [ "$need" != repository ] || folder=repository
+        [ -n "$lacks" ] || has "$need" || lacks=$missing
+    done
+    if [ -n "$lacks" ]; then
+        skipped=$((skipped + 1))
+        echo "$lacks" >>"$work/lacking"
+        continue
+    fi
+    (cd "$work/$folder" && sh "$block.sh" >"$block.printed" 2>&1 </dev/null)
+    if ! cmp -s "$block.text" "$block.printed"; then
+        echo "The guide shows, and this is printed:"
+        diff "$block.text" "$block.printed"
+        exit 1
+    fi
+    ran=$((ran + 1))
+done
+
+# The guide and the manual page tell of each line that the program may put.
+awk '
+/^##/ { is_in = $0 == "### The line" }
+is_in && /^- `/ {
+    rest = substr($0, 3)
+    while (match(rest, /^`[^`]*`/)) {
+        print substr(rest, 2, RLENGTH - 2)
+        rest = substr(rest, RLENGTH + 1)
+        sub(/^, /, "", rest)
+    }
+}' "$top/docs/FORMATS.md" >"$work/lines"
+[ "$(wc -l <"$work/lines")" -ge 35 ] || { echo "docs/FORMATS.md has other lines than this script reads"; exit 1; }
+sed 's/\\-/-/g' "$top/man/wdyl.1" >"$work/manual"
+while IFS= read -r line; do
+    grep -qF -e "\`$line\`" "$guide" || { echo "docs/GUIDE.md doesn't tell of the line: $line"; exit 1; }
+    grep -qF -e "$line" "$work/manual" || { echo "man/wdyl.1 doesn't tell of the line: $line"; exit 1; }
+done <"$work/lines"
+
+echo "$ran blocks of commands print what the guide shows."
+if [ $skipped -gt 0 ]; then
+    echo "$skipped blocks were skipped, for these are missing:"
+    sort "$work/lacking" | uniq -c | sed 's/^ *[0-9]* /  /'
+fi
