@@ -56,7 +56,7 @@ has_commands && /^> / { shown = shown $0 "\n"; command = command substr($0, 3) "
 makes_position_independent() {
     echo 'int here; int *there(void) { return &here; }' >"$work/try.c"
     clang -Wno-deprecated --target=wasm32-wasi -fPIC -fvisibility=default -c "$work/try.c" -o "$work/try.o" 2>/dev/null &&
-        wasm-ld --experimental-pic -shared "$work/try.o" -o "$work/try.so" 2>/dev/null
+        wasm-ld --experimental-pic -shared --unresolved-symbols=import-dynamic "$work/try.o" -o "$work/try.so" 2>/dev/null
 }
 
 # Whether there is what a word tells of. What is missing is named.
@@ -73,7 +73,7 @@ has() {
             [ -f "$(clang -Wno-deprecated --target=wasm32-wasi -print-libgcc-file-name 2>/dev/null)" ]
         ;;
     wasi-libc-source) missing="the sources of wasi-libc, in WASI_LIBC_SOURCE" && [ -n "${WASI_LIBC_SOURCE:-}" ] ;;
-    pic-for-wasi) missing="position-independent code of this clang for wasm32-wasi" && makes_position_independent ;;
+    pic-for-wasi) missing="position-independent code for wasm32-wasi, by this clang and this wasm-ld" && makes_position_independent ;;
     *) command -v "$1" >/dev/null ;;
     esac
 }
