@@ -1,5 +1,7 @@
 # make        builds bin/wdyl
-# make demo   builds it, and lists, merges and runs the examples, one of them a set built with clang and wasm-ld
+# make demo   builds it, and lists, merges and runs the examples, which are built again where clang and wasm-ld are there
+# make guide  runs the commands of docs/GUIDE.md, and compares what they print with what stands there
+# make install    puts the program and its manual page under PREFIX, which is /usr/local if not given; make uninstall removes them
 # make bench  builds it and measures it
 # make speed  measures runs of whole programs beside other engines
 # make codec  measures decoding, encoding and checking beside wabt, and merging beside these
@@ -9,7 +11,11 @@
 
 SOURCES := crates.txt $(shell find crates -name out -prune -o -type f \( -name '*.rt' -o -name '*.antt' \) -print)
 
-.PHONY: all demo bench speed codec inner compare test clean
+PREFIX = /usr/local
+programs = $(DESTDIR)$(PREFIX)/bin
+manuals = $(DESTDIR)$(PREFIX)/share/man/man1
+
+.PHONY: all demo guide install uninstall bench speed codec inner compare test clean
 
 all: bin/wdyl
 
@@ -22,6 +28,18 @@ bin/wdyl: $(SOURCES)
 demo: bin/wdyl
 	sh examples/demo.sh bin/wdyl
 	sh examples/greetings.sh bin/wdyl
+	sh examples/programs/demo.sh bin/wdyl
+
+guide: bin/wdyl
+	sh examples/guide.sh bin/wdyl
+
+install: bin/wdyl
+	install -d "$(programs)" "$(manuals)"
+	install -m 755 bin/wdyl "$(programs)/wdyl"
+	install -m 644 man/wdyl.1 "$(manuals)/wdyl.1"
+
+uninstall:
+	rm -f "$(programs)/wdyl" "$(manuals)/wdyl.1"
 
 bench: bin/wdyl
 	python3 bench/merge.py bin/wdyl

@@ -1,9 +1,9 @@
 #!/bin/sh
-# Runs the commands of docs/GUIDE.md, and compares what they print with what the guide shows.
+# Runs the commands of docs/GUIDE.md, and then those of README.md, and compares what they print with what is shown there.
 #
 #     sh examples/guide.sh bin/wdyl
 #
-# In the guide, a block that begins with ```console has commands, each behind `$ ` (and `> ` where it goes on), with what it prints.
+# A block that begins with ```console has commands, each behind `$ ` (and `> ` where it goes on), with what it prints.
 # The words behind `console` tell what it needs. Where something is missing, this is said, and the block is skipped. With the word
 # `repository` it is run beside a copy of examples/, else in a folder of the guide's own files. A block whose first line names a file,
 # as ```c say.c, is written there.
@@ -51,7 +51,7 @@ at == "" { if (/^\$ /) { print "a command stands in a block that is not run: " $
 { print > (at ".text") }
 has_commands && /^\$ / { ended(); shown = $0 "\n"; command = substr($0, 3) "\n"; next }
 has_commands && /^> / { shown = shown $0 "\n"; command = command substr($0, 3) "\n"; next }
-' "$guide"
+' "$guide" "$top/README.md"
 
 makes_position_independent() {
     echo 'int here; int *there(void) { return &here; }' >"$work/try.c"
@@ -98,7 +98,7 @@ for words in "$work"/blocks/*.words; do
     fi
     (cd "$work/$folder" && sh "$block.sh" >"$block.printed" 2>&1 </dev/null)
     if ! cmp -s "$block.text" "$block.printed"; then
-        echo "The guide shows, and this is printed:"
+        echo "This is shown, and printed is:"
         diff "$block.text" "$block.printed"
         exit 1
     fi
@@ -123,7 +123,7 @@ while IFS= read -r line; do
     grep -qF -e "$line" "$work/manual" || { echo "man/wdyl.1 doesn't tell of the line: $line"; exit 1; }
 done <"$work/lines"
 
-echo "$ran blocks of commands print what the guide shows."
+echo "$ran blocks of commands print what is shown."
 if [ $skipped -gt 0 ]; then
     echo "$skipped blocks were skipped, for these are missing:"
     sort "$work/lacking" | uniq -c | sed 's/^ *[0-9]* /  /'
