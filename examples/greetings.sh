@@ -19,7 +19,7 @@ work=$(mktemp -d)
 trap 'rm -rf "$work"' EXIT
 
 for name in say english german main; do
-    clang --target=wasm32-unknown-emscripten -O1 -fPIC -fvisibility=default -nostdlib -mbulk-memory -mmutable-globals \
+    clang --target=wasm32-unknown-emscripten -O1 -fPIC -fvisibility=default -ffreestanding -mbulk-memory -mmutable-globals \
         -c "$source/$name.c" -o "$work/$name.o"
 done
 library() {

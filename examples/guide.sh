@@ -53,6 +53,11 @@ has_commands && /^\$ / { ended(); shown = $0 "\n"; command = substr($0, 3) "\n";
 has_commands && /^> / { shown = shown $0 "\n"; command = command substr($0, 3) "\n"; next }
 ' "$guide" "$top/README.md"
 
+links_for_wasi() {
+    echo 'int main(void) { return 0; }' >"$work/try.c"
+    clang -Wno-deprecated --target=wasm32-wasi "$work/try.c" -lc-printscan-no-floating-point -o "$work/try.wasm" 2>/dev/null
+}
+
 makes_position_independent() {
     echo 'int here; int *there(void) { return &here; }' >"$work/try.c"
     clang -Wno-deprecated --target=wasm32-wasi -fPIC -fvisibility=default -c "$work/try.c" -o "$work/try.o" 2>/dev/null &&
@@ -67,11 +72,7 @@ has() {
     opening-runs) missing="run for programs that open modules" && [ "$opening_runs" = yes ] ;;
     opening-merges) missing="merge for programs that open modules" && [ "$opening_merges" = yes ] ;;
     rpath) missing="the option -rpath of wasm-ld" && wasm-ld --help 2>/dev/null | grep -q -e -rpath ;;
-    wasi-libc)
-        missing="wasi-libc, and the library of clang for it"
-        [ -f /usr/include/wasm32-wasi/stdio.h ] &&
-            [ -f "$(clang -Wno-deprecated --target=wasm32-wasi -print-libgcc-file-name 2>/dev/null)" ]
-        ;;
+    wasi-libc) missing="wasi-libc, with the library and the linker that clang takes with it" && links_for_wasi ;;
     wasi-libc-source) missing="the sources of wasi-libc, in WASI_LIBC_SOURCE" && [ -n "${WASI_LIBC_SOURCE:-}" ] ;;
     pic-for-wasi) missing="position-independent code for wasm32-wasi, by this clang and this wasm-ld" && makes_position_independent ;;
     *) command -v "$1" >/dev/null ;;
