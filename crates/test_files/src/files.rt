@@ -10,8 +10,9 @@ pub type Import = (&'static str, &'static str, &'static str);
 /// An export: its name, and what it is of, in hexadecimal.
 pub type Export = (&'static str, &'static str);
 
-/// A file at a path that holds a module. The memory information, further subsections of the record, the contents of sections, the bodies
-/// without their sizes, and further sections are in hexadecimal; a section without contents is left out.
+/// A file at a path that holds a module. The memory information, further subsections of the record,
+/// the contents of sections, the bodies without their sizes, and further sections are in hexadecimal;
+/// a section without contents is left out.
 #[derive(Drop)]
 pub struct File {
     pub path: &'static str,
@@ -21,6 +22,7 @@ pub struct File {
     pub types: &'static str,
     pub imports: &'static [Import],
     pub functions: &'static str,
+    pub tables: &'static str,
     pub globals: &'static str,
     pub exports: &'static [Export],
     pub elems: &'static str,
@@ -38,6 +40,7 @@ pub const EMPTY: File = File {
     types: "",
     imports: &[],
     functions: "",
+    tables: "",
     globals: "",
     exports: &[],
     elems: "",
@@ -166,6 +169,7 @@ fn head_of(alloc: Global, file: &File) -> Result<Vec<u8>, Memory> {
     put_text_section(alloc, &mut bytes, 1, file.types)?;
     put_imports(alloc, &mut bytes, file.imports)?;
     put_text_section(alloc, &mut bytes, 3, file.functions)?;
+    put_text_section(alloc, &mut bytes, 4, file.tables)?;
     put_text_section(alloc, &mut bytes, 6, file.globals)?;
     Ok(bytes)
 }
