@@ -3,8 +3,8 @@
 as many.
 
 Each library needs the next, and the main module needs them all. They export the entry alone and import nothing, so that the time
-goes into reading and checking the files. Printed are the seconds of both, the best of three, and their ratio. The exit status is 1
-where twice as many members take more than 2.5 times as long.
+goes into reading and checking the files. Printed is the processor time of both, the best of three, and the ratio. The exit status is
+1 where twice as many members take more than 2.5 times as long.
 """
 
 import os

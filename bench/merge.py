@@ -4,7 +4,7 @@
     python3 bench/merge.py bin/wdyl
 
 There are two series: files of 1 to 16 MB (of 1,048,576 bytes) with one long body of nops, and modules of 1,000 to
-65,536 functions with as many exports, which call each other. Each is merged three times, and the best time counts; the
+65,536 functions with as many exports, which call each other. Each is merged three times, and the best processor time counts; the
 peak of memory is the greatest of the three, and at least that of this script, about 14 MB. The exit status is 1 where a
 file of twice the size took more than 2.7 times as long.
 """

@@ -1,16 +1,18 @@
 #!/usr/bin/env python3
 """What runs and merges of sets take: `sets.py WDYL`.
 
-Printed, each the best of three:
+Printed, each the best of three, in processor time:
 
 - calls: a loop of 2,000,000 calls of a function of the main module, and of one of a library, by `run`;
 - opening: `run` of 256 members with 16 MB of data between them and an entry that returns, beside `plan` of the same;
 - merging: sets of 1, 16 and 256 members with 16 MB of code between them, and of 256 with 100,000 imports (those of link.py),
-  with the bytes that were read and written, and how many may be written.
+  with the bytes that were read and written, and how many may be written;
+- merging of twice as much: 128 and 256 members with 8 and 16 MB of code, with 50,000 and 100,000 imports, and with 32,768 and 65,536
+  names, where the main module imports `dlsym`: the merged module searches all names by its own code.
 
 The merged file may have 1.1 times the bytes of the members' own sections, and 200 bytes a member and 10 a function that is called
-across members. The exit status is 1 where it has more, where a call of another member takes more than 1.1 times as long, or where
-opening takes a second more than `plan`.
+across members. The exit status is 1 where it has more, where a call of another member takes more than 1.1 times as long, where
+opening takes a second more than `plan`, or where merging of twice as much takes more than 2.5 times as long.
 """
 
 import os
@@ -19,7 +21,7 @@ import tempfile
 
 import gather
 import link
-from timing import MB, best, written
+from timing import MB, best, doubled, written
 from make_examples import body, call, items, name, record, section, signed, unsigned
 
 HEADER = b"\x00asm\x01\x00\x00\x00"
@@ -28,6 +30,7 @@ CALLS = 2_000_000
 MOST_OF_CALLS = 1.1
 MOST_OF_OPENING = 1.0
 MEMBERS = 256
+NAMES = 65_536
 # a file has less than 64 KB, so that 256 of them and their records have no more than 16 MB
 SEGMENT = 65_000
 
@@ -108,6 +111,34 @@ def code_set(count):
     return {"main.wasm": made([("_start", 0)], record(needed=names)), **{text: made([], record()) for text in names}}
 
 
+def halves_of_code():
+    """Members of 64 KB of code each, half as many and all."""
+    return [gather.set_of(count) for count in (MEMBERS // 2, MEMBERS)]
+
+
+def halves_of_imports():
+    """Members with their share of imports, half as many and all."""
+    return [link.named_set(count, link.NAMES // link.MEMBERS, 0) for count in (MEMBERS // 2, MEMBERS)]
+
+
+def halves_of_names():
+    """A main module that imports `dlsym`, and libraries that define their share of names."""
+    share = NAMES // MEMBERS
+    return [searched_set(count, share) for count in (MEMBERS // 2, MEMBERS)]
+
+
+def searched_set(count, share):
+    names = [f"m{n}.so" for n in range(count - 1)]
+    dlsym = [section(1, b"\x02\x60\x00\x00\x60\x02\x7f\x7f\x01\x7f"), section(2, items([name("env") + name("dlsym") + b"\x00\x01"]))]
+    main = [*dlsym, section(3, b"\x01\x00"), exported("_start", 1), section(10, items([body(b"")]))]
+    files = {"main.wasm": HEADER + record(needed=names) + b"".join(main)}
+    for m, text in enumerate(names):
+        exports = section(7, items(name(f"symbol_{m}_{n}") + b"\x00" + unsigned(n) for n in range(share)))
+        parts = [section(1, b"\x01\x60\x00\x00"), section(3, unsigned(share) + bytes(share)), exports, section(10, items([body(b"")] * share))]
+        files[text] = HEADER + record() + b"".join(parts)
+    return files
+
+
 def own_sections(files):
     """The bytes of the members' sections but the custom ones."""
     total = 0
@@ -143,6 +174,20 @@ def merging_measured(wdyl, what, files, called):
     return size <= most
 
 
+def merging_doubled(wdyl, what, sizes, halves):
+    """Merging of a set and of one twice as large, with the bytes that were read and written."""
+    seconds, bytes_of = [], []
+    for files in halves:
+        def merged(folder):
+            time = best([wdyl, "merge", "main.wasm", "merged.out"], folder)
+            return time, os.path.getsize(os.path.join(folder, "merged.out"))
+        time, size = in_folder(files, merged)
+        seconds.append(time)
+        bytes_of.append(f"{sum(map(len, files.values())):,} to {size:,}")
+    print(f"    bytes read to bytes written: {', '.join(bytes_of)}", flush=True)
+    return doubled(f"merging {what}", sizes, *seconds)
+
+
 def main():
     wdyl = os.path.abspath(sys.argv[1])
     fits = [calls_measured(wdyl), opening_measured(wdyl)]
@@ -152,6 +197,9 @@ def main():
     named = link.named_set(MEMBERS, share, 0)
     called = MEMBERS * ((share + 1) // 2)
     fits.append(merging_measured(wdyl, f"{MEMBERS} members with {link.NAMES:,} imports", named, called))
+    fits.append(merging_doubled(wdyl, "members", ("8 MB of code", "16 MB"), halves_of_code()))
+    fits.append(merging_doubled(wdyl, "members", (f"{link.NAMES // 2:,} imports", f"{link.NAMES:,}"), halves_of_imports()))
+    fits.append(merging_doubled(wdyl, "members that are searched", (f"{NAMES // 2:,} names", f"{NAMES:,}"), halves_of_names()))
     return 0 if all(fits) else 1
 
 

@@ -3,7 +3,6 @@
 import os
 import subprocess
 import sys
-import time
 
 # the modules are made by the functions of the examples
 sys.path.insert(0, os.path.join(os.path.dirname(os.path.abspath(__file__)), "..", "examples"))
@@ -22,14 +21,12 @@ def written(files, folder):
 
 
 def waited(command, folder, status=0):
-    """The seconds that a command takes, and its peak of memory in bytes. It has to end with this status."""
-    start = time.perf_counter()
+    """The seconds of processor time that a command takes, and its peak of memory in bytes. It has to end with this status."""
     process = subprocess.Popen(command, cwd=folder, stdout=subprocess.DEVNULL, stderr=subprocess.DEVNULL)
     _, ended, usage = os.wait4(process.pid, 0)
-    seconds = time.perf_counter() - start
     if os.waitstatus_to_exitcode(ended) != status:
         sys.exit(f"{' '.join(command)}: status {os.waitstatus_to_exitcode(ended)}")
-    return seconds, usage.ru_maxrss * 1024
+    return usage.ru_utime + usage.ru_stime, usage.ru_maxrss * 1024
 
 
 def best(command, folder, status=0):

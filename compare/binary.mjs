@@ -1,6 +1,8 @@
 // What a loader has to read of a module's file, which is valid: imports, types, exports, globals, element segments, the start
 // function and the record `dylink.0`. By the WebAssembly Core Specification 2.0, chapter 5, and DynamicLinking.md.
 
+const HEADER = Buffer.from("\0asm\x01\0\0\0", "latin1");
+
 class Reader {
   constructor(bytes, at = 0, end = bytes.length) { Object.assign(this, { bytes, at, end }); }
   byte() { return this.bytes[this.at++]; }
@@ -132,4 +134,15 @@ export function startExported(bytes, module, name) {
   const parts = kept.map((section) => section.bytes);
   parts.splice(at < 0 ? parts.length : at, 0, exports);
   return Buffer.concat([bytes.subarray(0, 8), ...parts]);
+}
+
+// A module that imports functions from "from" and exports them under the same names. Each has a name, parameters and results.
+export function passingOn(functions) {
+  const vector = (items) => Buffer.from([...spelled(items.length), ...items.flatMap((item) => [...item])]);
+  const values = (types) => vector(types.map((type) => [type]));
+  const name = (text) => values([...Buffer.from(text)]);
+  const numbered = (before) => vector(functions.map(([text], n) => [...before, ...name(text), 0, ...spelled(n)]));
+  const section = (id, contents) => Buffer.from([id, ...spelled(contents.length), ...contents]);
+  const types = vector(functions.map(([, params, results]) => [0x60, ...values(params), ...values(results)]));
+  return Buffer.concat([HEADER, section(1, types), section(2, numbered(name("from"))), section(7, numbered([]))]);
 }

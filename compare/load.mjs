@@ -1,5 +1,6 @@
-// Loads and runs sets of modules, and prints a line of JSON for each: how its run ended or why it isn't run, what it wrote, and
-// the listing of its plan.
+// Loads and runs sets of modules, and prints a line of JSON for each: how its run ended or why it isn't run, what it wrote, the
+// listing of its plan, and how often it opened members, did so while one was being opened, was told errors or gave a string without
+// an end.
 //
 //     node compare/load.mjs < ORDERS
 //
@@ -26,9 +27,10 @@ function ran(order) {
     throw error;
   }
   const held = { output: [] };
-  const told = (end) => ({ end, output: Buffer.concat(held.output).toString("hex"), listing: linked.listing() });
+  const program = new Program(linked, held, wasi(held));
+  const { counts } = program.openings;
+  const told = (end) => ({ end, output: Buffer.concat(held.output).toString("hex"), listing: linked.listing(), counts });
   try {
-    const program = new Program(linked, held, wasi(held));
     globalThis.go = () => program.run();
     vm.runInThisContext("go()", { timeout: 5000 });
     return told(endOf());

@@ -1,8 +1,9 @@
 // A loader of sets for node, written from DynamicLinking.md and docs/FORMATS.md alone: it finds the members of a set, places and
-// links them, lists the plan, and runs the set. It has no opening of modules while a program runs.
+// links them, lists the plan, and runs the set. What members call to open others while they run is in opening.mjs.
 
 import { existsSync, readFileSync } from "node:fs";
 import { read, startExported } from "./binary.mjs";
+import { breadthFirst, LOADER_TYPES, Openings } from "./opening.mjs";
 
 const PAGE = 65536;
 const STACK_BEGIN = 1024;
@@ -10,7 +11,6 @@ const WASI = "wasi_snapshot_preview1";
 const TEXTS = ["dlopen: bad flags", "dlopen: no such module", "dlsym: bad handle", "dlsym: no such symbol", "dlclose: bad handle"];
 const TEXT_BYTES = Buffer.from(TEXTS.map((text) => `${text}\0`).join(""));
 const UNDEFINING = ["__wasm_apply_data_relocs", "__wasm_call_ctors", "__dso_handle", "_start", "_initialize"];
-const LOADER_FUNCTIONS = ["dlopen", "dlsym", "dlclose", "dlerror"];
 const HOSTS = { fd_write: "[127,127,127,127] -> [127]", proc_exit: "[127] -> []", sched_yield: "[] -> [127]" };
 const START = " start";
 
@@ -19,7 +19,15 @@ export class Refusal extends Error {}
 
 const roundedUp = (n, step) => Math.ceil(n / step) * step;
 const typeText = ({ params, results }) => `[${params}] -> [${results}]`;
+// Where the texts stand from an address on.
+const textsAt = (begin) => TEXTS.map((_, n) => TEXTS.slice(0, n).reduce((at, text) => at + text.length + 1, begin));
+// A name as it is printed.
+const printed = (name) => [...Buffer.from(name)].map(printedByte).join("");
 const maxima = (declared) => declared.filter(({ maximum }) => maximum !== undefined).map(({ maximum }) => maximum);
+
+function printedByte(byte) {
+  return byte > 0x20 && byte < 0x7f && byte !== 0x5c ? String.fromCharCode(byte) : `\\${byte.toString(16).padStart(2, "0")}`;
+}
 
 // ---- the files of a set
 
@@ -74,7 +82,7 @@ function gathered(order) {
   const late = [...order.dl];
   for (let n = 0; n < names.length; n++) {
     const path = n === 0 ? order.main : pathsTried(order, names[n], finders[n]).find((tried) => existsSync(tried));
-    if (path === undefined || !existsSync(path)) throw new Refusal(`missing ${names[n]}`);
+    if (path === undefined || !existsSync(path)) throw new Refusal(`missing ${printed(names[n])}`);
     const member = new Member(n, names[n], path);
     if (member.record === undefined) throw new Refusal(`module ${n} has no dylink.0 section`);
     members.push(member);
@@ -83,21 +91,6 @@ function gathered(order) {
   }
   for (const member of members) member.needs = member.record.needed.map((name) => members[names.indexOf(name)]);
   return members;
-}
-
-// ---- orders of members
-
-function breadthFirst(from) {
-  const listed = [from];
-  for (let n = 0; n < listed.length; n++) for (const other of listed[n].needs) if (!listed.includes(other)) listed.push(other);
-  return listed;
-}
-
-function postOrder(from, entered = new Set(), listed = []) {
-  entered.add(from);
-  for (const other of from.needs) if (!entered.has(other)) postOrder(other, entered, listed);
-  listed.push(from);
-  return listed;
 }
 
 // ---- places
@@ -136,14 +129,18 @@ class Links {
   }
   // What a name is for a member.
   definition(member, name) {
-    if (LOADER_FUNCTIONS.includes(name)) return { loader: name };
+    if (Object.hasOwn(LOADER_TYPES, name)) return { loader: name };
     if (name === "__heap_base" || name === "__heap_end") return { heap: name };
     const scope = [...this.startup, ...breadthFirst(member).filter((other) => !this.startup.includes(other))];
-    for (const other of scope) {
-      const found = other.defines(name);
+    return this.searched(scope, name) ?? (member.isWeak(name) ? { weak: true } : undefined);
+  }
+  // What the first of some members that defines a name defines it as.
+  searched(members, name) {
+    for (const member of members) {
+      const found = member.defines(name);
       if (found) return found;
     }
-    return member.isWeak(name) ? { weak: true } : undefined;
+    return undefined;
   }
   // What an imported function is.
   imported(member, index) {
@@ -157,9 +154,14 @@ class Links {
     const found = this.imported(member, item.function);
     return found?.member ? `${found.member.number} ${found.index}` : "another";
   }
+  // The type of what is defined as a function.
+  typeOf({ loader, member, index }) {
+    if (loader) return LOADER_TYPES[loader];
+    return index === undefined ? undefined : member.typeOf(index);
+  }
   // The fault of an import, if it has one.
   importFault(member, i) {
-    const told = (what, kind) => `${what} ${kind} ${i.field} in ${member.number}`;
+    const told = (what, kind) => `${what} ${kind} ${printed(i.field)} in ${member.number}`;
     const isGlobal = (mutable) => i.kind === "global" && i.type === 0x7f && i.mutable === mutable;
     const forms = {
       memory: i.kind === "memory",
@@ -185,8 +187,7 @@ class Links {
     }
     const found = this.definition(member, i.field);
     if (!found) return told("unresolved", "function");
-    if (found.weak) return undefined;
-    return found.index !== undefined && found.member.typeOf(found.index) === type ? undefined : told("ill-typed", "function");
+    return found.weak || this.typeOf(found) === type ? undefined : told("ill-typed", "function");
   }
 }
 
@@ -194,7 +195,7 @@ function firstFault(links, order) {
   for (const member of links.members) {
     if (member.memories.length) return `module ${member.number} has its own memory`;
     const tls = member.record.exports.find(({ flags }) => flags & 256);
-    if (tls) return `module ${member.number} has TLS export ${tls.name}`;
+    if (tls) return `module ${member.number} has TLS export ${printed(tls.name)}`;
     for (const name of UNDEFINING.slice(0, 2)) {
       const index = member.ownFunction(name);
       if (index !== undefined && member.typeOf(index) !== "[] -> []") return `ill-typed function ${name} in ${member.number}`;
@@ -208,7 +209,7 @@ function firstFault(links, order) {
     for (const member of links.members) {
       for (const { name } of member.exports) {
         const first = member.defines(name) && links.members.slice(0, member.number).find((other) => other.defines(name));
-        if (first) return `duplicate ${name} in ${first.number} and ${member.number}`;
+        if (first) return `duplicate ${printed(name)} in ${first.number} and ${member.number}`;
       }
     }
   }
@@ -226,7 +227,7 @@ function entryOf(main) {
 
 // ---- slots
 
-// The slots that members' own segments give, and fresh ones in order.
+// The slots that members' own segments give, and fresh ones in order: those of members' functions, and then of the loader's.
 function slotsOf(links, plan) {
   const slots = new Map();
   const fresh = [];
@@ -250,6 +251,11 @@ function slotsOf(links, plan) {
       if (at === undefined) fresh.push({ slot: slots.get(reference), member, name });
     }
   }
+  const isCell = (name) => links.members.some(({ imports }) => imports.some((i) => i.module === "GOT.func" && i.field === name));
+  for (const name of Object.keys(LOADER_TYPES).filter(isCell)) {
+    slots.set(name, plan.regionsEnd + fresh.length);
+    fresh.push({ slot: slots.get(name), name });
+  }
   return { slots, fresh };
 }
 
@@ -266,20 +272,25 @@ export class Linked {
     Object.assign(this, { members, plan, ...slotsOf(this.links, plan) });
     Object.assign(plan, tablePlanned(plan, this.fresh.length));
   }
-  cell(member, { module, field }) {
-    const found = this.links.definition(member, field);
-    if (found.weak) return 0;
-    if (found.heap) return found.heap === "__heap_base" ? this.plan.heapBase : this.plan.heapEnd;
-    if (module === "GOT.func") return this.slots.get(`${found.member.number} ${found.index}`);
-    return (this.plan.bases[found.member.number].memory + found.offset) >>> 0;
+  // The slot of a function, or the address of data.
+  place({ weak, heap, loader, member, index, offset }) {
+    if (weak) return 0;
+    if (heap) return heap === "__heap_base" ? this.plan.heapBase : this.plan.heapEnd;
+    if (loader) return this.slots.get(loader);
+    if (index !== undefined) return this.slots.get(`${member.number} ${index}`);
+    return (this.plan.bases[member.number].memory + offset) >>> 0;
+  }
+  cell(member, { field }) {
+    return this.place(this.links.definition(member, field));
   }
   bound(member, i) {
-    if (i.module === "GOT.mem" || i.module === "GOT.func") return `${i.module.slice(4)} ${i.field} ${this.cell(member, i)}`;
+    const name = printed(i.field);
+    if (i.module === "GOT.mem" || i.module === "GOT.func") return `${i.module.slice(4)} ${name} ${this.cell(member, i)}`;
     if (i.kind !== "function") return undefined;
     const found = i.module === "env" ? this.links.definition(member, i.field) : { host: true };
-    return `function ${i.field} ${found.host ? "host" : found.weak ? "weak" : found.member.number}`;
+    return `function ${name} ${found.member?.number ?? ["host", "weak", "loader"].find((kind) => found[kind])}`;
   }
-  // The lines of `wdyl plan`. Names have no bytes here that are printed in another way.
+  // The lines of `wdyl plan`.
   listing() {
     const { plan } = this;
     const lines = [
@@ -291,9 +302,9 @@ export class Linked {
     ];
     for (const { number, name } of this.members) {
       const base = plan.bases[number];
-      lines.push(`module ${number} ${name} ${base.memory} ${base.size} ${base.table} ${base.entries}`);
+      lines.push(`module ${number} ${printed(name)} ${base.memory} ${base.size} ${base.table} ${base.entries}`);
     }
-    for (const { slot, member, name } of this.fresh) lines.push(`slot ${slot} ${member.number} ${name}`);
+    for (const { slot, member, name } of this.fresh) lines.push(`slot ${slot} ${member?.number ?? "loader"} ${printed(name)}`);
     for (const member of this.members) {
       for (const i of member.imports) {
         const bound = this.bound(member, i);
@@ -314,28 +325,35 @@ export class Program {
     this.memory = new WebAssembly.Memory({ initial: plan.pages, maximum: plan.pagesMost });
     this.table = new WebAssembly.Table({ element: "anyfunc", initial: plan.entries, maximum: plan.entriesMost });
     this.pointer = new WebAssembly.Global({ value: "i32", mutable: true }, plan.stackEnd);
+    this.openings = new Openings(this, textsAt(plan.stackEnd));
     new Uint8Array(this.memory.buffer).set(TEXT_BYTES, plan.stackEnd);
+    for (const { slot, name } of linked.fresh.filter(({ member }) => !member)) this.table.set(slot, this.openings.functions[name]);
     held.memory = () => this.memory.buffer;
   }
   run() {
     const [main] = this.linked.members;
-    const { name } = entryOf(main);
-    const startup = breadthFirst(main);
-    for (const member of startup) this.place(member);
-    for (const member of startup) if (member.start !== undefined) this.instances[member.number].exports[START]();
-    for (const member of startup) this.callOwn(member, "__wasm_apply_data_relocs");
-    for (const member of postOrder(main)) if (member !== main || name !== "_start") this.callOwn(member, "__wasm_call_ctors");
-    this.instances[0].exports[name]();
+    this.openings.begin(main);
+    this.instances[0].exports[entryOf(main).name]();
   }
-  callOwn(member, name) {
-    if (member.ownFunction(name) !== undefined) this.instances[member.number].exports[name]();
-  }
-  // Its segments are applied, and then its fresh slots are written.
+  // The work of the four phases. The first applies a member's segments, and then writes its fresh slots.
   place(member) {
     const compiled = new WebAssembly.Module(startExported(member.bytes, member, START));
     this.instances[member.number] = new WebAssembly.Instance(compiled, this.importsOf(member));
     const { exports } = this.instances[member.number];
     for (const { slot, name } of this.linked.fresh.filter((f) => f.member === member)) this.table.set(slot, exports[name]);
+  }
+  start(member) {
+    if (member.start !== undefined) this.instances[member.number].exports[START]();
+  }
+  relocate(member) {
+    this.callOwn(member, "__wasm_apply_data_relocs");
+  }
+  // An entry `_start` calls the constructors of the main module itself.
+  construct(member) {
+    if (member.number !== 0 || entryOf(member).name !== "_start") this.callOwn(member, "__wasm_call_ctors");
+  }
+  callOwn(member, name) {
+    if (member.ownFunction(name) !== undefined) this.instances[member.number].exports[name]();
   }
   importsOf(member) {
     const given = {};
@@ -355,6 +373,7 @@ export class Program {
     if (i.kind === "global") return new WebAssembly.Global({ value: "i32", mutable: true }, this.linked.cell(member, i) | 0);
     if (i.module === WASI) return this.wasi[i.field];
     const found = this.linked.links.definition(member, i.field);
+    if (found.loader) return this.openings.functions[found.loader];
     if (found.weak) return () => { throw new WebAssembly.RuntimeError("unreachable"); };
     // the other member may have no instance yet
     return (...words) => this.instances[found.member.number].exports[found.name](...words);

@@ -118,33 +118,43 @@ class Body(modules.Body):
 class Member(modules.Module):
     """A member with code: `whole` gives its file.
 
-    `wanted` and `given` are pairs of a name and a type, `wanted_data` and `given_data` names.
+    `wanted` and `given` are pairs of a name and a type, `wanted_data` and `given_data` names. Other kinds of members may have more
+    types, imported functions (pairs of a name and a type), cells, items of the part of the table (by their numbers from the last
+    imported function on, -1) and globals that bodies don't set; and bytes at the begin of the memory region.
     """
+
+    # the code of functions, and of those that the loader calls
+    body = role_body = Body
+    # how many memories and tables have a small maximum
+    bounded = 0.1
+    more_types = more_functions = more_cells = more_items = more_globals = ()
+    texts = b""
 
     def __init__(self, rng, types, wanted, wanted_data, given, given_data, undefined, is_main):
         self.rng = rng
         self.is_main = is_main
-        self.types = [ty for _, ty in HOSTS] + [NOTHING, PUT_TYPE] + types
+        self.types = [ty for _, ty in HOSTS] + [NOTHING, PUT_TYPE, *types, *self.more_types]
         rng.shuffle(self.types)
         self.weak = [(text, ty) for text, ty in undefined if rng.random() < 0.7]
         self.wanted = wanted
         self.given = given
         self.inner = [rng.choice(types) for _ in range(rng.randint(0 if wanted or given else 1, 2))]
         self.functions = [self.types.index(ty) for _, ty in wanted + given] + [self.types.index(ty) for ty in self.inner]
-        self.imported = len(HOSTS) + len(self.weak)
+        self.imported = len(HOSTS) + len(self.weak) + len(self.more_functions)
         self.own = self.imported + len(wanted)
         self.put = self.imported + len(self.functions)
         self.size = rng.choice((0, 4, 16, 40, 64, 200, 70_000)) if rng.random() < 0.9 else 0
+        self.size = max(self.size, len(self.texts))
         self.alignment = rng.choice((0, 2, 2, 3, 4, 4, 9, 16))
-        self.region = [rng.randrange(len(self.functions)) for _ in range(rng.randint(0, 4))]
+        self.region = [rng.randrange(len(self.functions)) for _ in range(rng.randint(0, 4))] + list(self.more_items)
         self.table_alignment = rng.choice((0, 0, 1, 3))
         self.cells = [("GOT.mem", text) for text in wanted_data] + [("GOT.func", text) for text, _ in wanted + given if rng.random() < 0.5]
         self.cells += [(rng.choice(("GOT.mem", "GOT.func")), text) for text, _ in undefined if rng.random() < 0.5]
-        self.cells += [("GOT.mem", text) for text in ("__heap_base", "__heap_end") if rng.random() < 0.2]
+        self.cells += [("GOT.mem", text) for text in ("__heap_base", "__heap_end") if rng.random() < 0.2] + list(self.more_cells)
         self.link(dict(wanted + given))
         self.data_names = given_data
-        self.datas = rng.randint(0, 3)
-        self.passive = [n for n in range(self.datas) if rng.random() < 0.3]
+        self.datas = rng.randint(0, 3) + (self.texts != b"")
+        self.passive = [n for n in range(self.texts != b"", self.datas) if rng.random() < 0.3]
         self.usable = self.passive if rng.random() < 0.9 else range(self.datas)
         self.elems = 3
         self.parts = self.file(self.bodies(), given)
@@ -155,7 +165,8 @@ class Member(modules.Module):
         """The imports in random order, functions among themselves in theirs; the numbers of what they bring."""
         rng = self.rng
         function = lambda module, text, ty: name(module) + name(text) + b"\x00" + unsigned(self.types.index(ty))
-        functions = [function(WASI, text, ty) for text, ty in HOSTS] + [function("env", text, ty) for text, ty in self.weak + self.wanted]
+        functions = [function(WASI, text, ty) for text, ty in HOSTS]
+        functions += [function("env", text, ty) for text, ty in [*self.weak, *self.more_functions, *self.wanted]]
         bases = [("env", "__memory_base"), ("env", "__table_base"), ("env", "__stack_pointer")]
         kept = [base for base in bases if base[1] != "__stack_pointer" or rng.random() < 0.8]
         brought = kept + self.cells
@@ -164,13 +175,14 @@ class Member(modules.Module):
         changeable = lambda key: key not in bases[:2]
         others = [name(module) + name(text) + b"\x03\x7f" + bytes([changeable((module, text))]) for module, text in brought]
         entries = unsigned(rng.choice((0, 20, 20, 20)) if self.is_main else rng.choice((0, 1, 5)))
-        entries = b"\x00" + entries if rng.random() < 0.9 else b"\x01" + entries + unsigned(rng.choice((22, 500)))
-        pages = rng.choice((b"\x00\x00", b"\x00\x01", b"\x00\x02", b"\x01\x01\x80\x20")) if rng.random() < 0.9 else b"\x01\x00\x03"
+        entries = b"\x00" + entries if rng.random() < 1 - self.bounded else b"\x01" + entries + unsigned(rng.choice((22, 500)))
+        pages = rng.choice((b"\x00\x00", b"\x00\x01", b"\x00\x02", b"\x01\x01\x80\x20")) if rng.random() < 1 - self.bounded else b"\x01\x00\x03"
         others.insert(rng.randint(0, len(others)), name("env") + name("memory") + b"\x02" + pages)
         others.insert(rng.randint(0, len(others)), name("env") + name("__indirect_function_table") + b"\x01\x70" + entries)
         self.imports = self.merged(functions, others)
         self.memory_base, self.table_base = number[bases[0]], number[bases[1]]
         self.stack_pointer = number.get(bases[2])
+        self.number_of_cell = number
         typed = [(n, text) for (module, text), n in number.items() if module == "GOT.func" and text in types_of]
         self.function_cells = [(n, self.types.index(types_of[text])) for n, text in typed]
         self.data_cells = [n for key, n in number.items() if key[0] == "GOT.mem"]
@@ -178,8 +190,10 @@ class Member(modules.Module):
         self.fuel = len(brought)
         own = [I32, I32] + [rng.choice((I32, I64, FUNCREF)) for _ in range(rng.randint(0, 3))]
         self.globals = [I32] * len(brought) + own
+        self.kept = [len(self.globals) + n for n in range(len(self.more_globals))]
         self.mutable = [self.fuel + 1] + [n for n in range(self.fuel + 2, len(self.globals)) if rng.random() < 0.7]
         self.mutable += [n for n in self.data_cells + [cell for cell, _ in self.function_cells] if rng.random() < 0.03]
+        self.globals += self.more_globals
 
     def merged(self, first, second):
         first, second, both = list(first), list(second), []
@@ -193,7 +207,7 @@ class Member(modules.Module):
         """The bodies of its own functions, and the further functions with their numbers: `put` and what the loader calls."""
         rng = self.rng
         nothing = self.types.index(NOTHING)
-        code = [Body(self, ty).code() for ty in self.functions[len(self.wanted):]]
+        code = [self.body(self, ty).code() for ty in self.functions[len(self.wanted):]]
         put = vector([]) + PUT + END
         code.append(unsigned(len(put)) + put)
         self.further = [self.types.index(PUT_TYPE)]
@@ -202,8 +216,8 @@ class Member(modules.Module):
             if rng.random() < chance:
                 self.roles[role] = self.put + len(self.further)
                 self.further.append(nothing)
-                code.append(self.relocations() if role == "__wasm_apply_data_relocs" else Body(self, nothing).code())
-        imported = [len(HOSTS) + len(self.weak) + n for n, (_, ty) in enumerate(self.wanted) if ty == NOTHING]
+                code.append(self.relocations() if role == "__wasm_apply_data_relocs" else self.role_body(self, nothing).code())
+        imported = [self.imported + n for n, (_, ty) in enumerate(self.wanted) if ty == NOTHING]
         if "start" in self.roles and imported and rng.random() < 0.3:
             self.roles["start"] = rng.choice(imported)
         if self.is_main:
@@ -218,8 +232,15 @@ class Member(modules.Module):
         cells = self.data_cells + [cell for cell, _ in self.function_cells]
         base = GLOBAL_GET + unsigned(self.memory_base)
         stored = lambda n, cell: base + GLOBAL_GET + unsigned(cell) + I32_STORE + b"\x02" + unsigned(4 * n)
-        inside = vector([]) + b"".join(stored(n, cell) for n, cell in enumerate(cells)) + END
+        inside = vector([]) + b"".join(stored(n, cell) for n, cell in enumerate(cells)) + self.further_code(0.3) + END
         return unsigned(len(inside)) + inside
+
+    def further_code(self, chance):
+        """Statements that need no locals, if there are any."""
+        return b""
+
+    def further_exports(self):
+        return []
 
     def entry(self):
         """Its locals: a number of 64 bits, which is put, an address or an index, and a bound."""
@@ -227,7 +248,7 @@ class Member(modules.Module):
         put = LOCAL_GET + unsigned(0) + CALL + unsigned(self.put)
         code = VECTOR_SET
         for _ in range(rng.randint(2, 6)):
-            code += self.called_and_put(put)
+            code += self.further_code(0.7) + self.called_and_put(put)
         for size in (MEMORY_SIZE, TABLE_SIZE):
             code += size + b"\x00" + I64_EXTEND_U + CALL + unsigned(self.put)
         pages = MEMORY_SIZE + b"\x00" + i32(CHECKED_PAGES)
@@ -259,16 +280,16 @@ class Member(modules.Module):
         by_expression = b"\x05\x70" + vector(expression() for _ in range(rng.randint(0, 3)))
         listed = vector(REF_FUNC + named() + END for _ in range(rng.randint(0, 2)))
         own_table = b"\x06\x01" + i32(rng.randint(0, 4)) + END + b"\x70" + listed
-        declared = b"\x03\x00" + vector(map(number, range(len(self.functions) + 1)))
+        declared = b"\x03\x00" + vector(map(number, range(-len(self.more_functions), len(self.functions) + 1)))
         return [active, passive, by_expression, own_table, again, declared] + ([fixed] if rng.random() < 0.1 else [])
 
     def data(self):
         rng = self.rng
-        datas = []
-        for n in range(self.datas):
+        base = GLOBAL_GET + unsigned(self.memory_base) + END
+        datas = [b"\x00" + base + unsigned(len(self.texts)) + self.texts] if self.texts else []
+        for n in range(len(datas), self.datas):
             most = 12 if n in self.passive else min(self.size, 12)
             contents = bytes(rng.getrandbits(8) for _ in range(rng.randint(0, most)))
-            base = GLOBAL_GET + unsigned(self.memory_base) + END
             far = i32(rng.choice((rng.randint(0, 2000), rng.randint(66_000, 66_700), 131_070 if rng.random() < 0.1 else 0))) + END
             head = b"\x01" if n in self.passive else rng.choice((b"\x00" + base, b"\x00" + base, b"\x02\x00" + base, b"\x00" + far))
             datas.append(head + unsigned(len(contents)) + contents)
@@ -278,7 +299,7 @@ class Member(modules.Module):
         rng = self.rng
         own_globals = self.globals[self.fuel:]
         globals_ = [b"\x7f\x01" + i32(FUEL) + END]
-        globals_ += [bytes([ty, self.fuel + n in self.mutable]) + self.constant(ty) for n, ty in enumerate(own_globals) if n > 0]
+        globals_ += [bytes([ty, self.fuel + n in self.mutable + self.kept]) + self.constant(ty) for n, ty in enumerate(own_globals) if n > 0]
         globals_ += [b"\x7f\x00" + i32(rng.randint(0, max(self.size - 4, 0))) + END for _ in self.data_names]
         exports = [name(text) + b"\x00" + unsigned(self.own + n) for n, (text, _) in enumerate(given)]
         exports += [name(text) + b"\x03" + unsigned(len(self.globals) + n) for n, text in enumerate(self.data_names)]
@@ -286,6 +307,7 @@ class Member(modules.Module):
         if self.wanted and rng.random() < 0.1:
             # an imported function that is exported again defines nothing
             exports.append(name("again") + b"\x00" + unsigned(self.imported))
+        exports += self.further_exports()
         rng.shuffle(exports)
         return [
             type_section(self.types),
@@ -342,19 +364,24 @@ class Plain:
 class Set:
     """A random set: `files` by their paths, the path `main`, and the options as words."""
 
+    # what the option `--pages` may say
+    pages = (1, 2, 2, 3, 5)
+
     def __init__(self, seed):
         self.rng = rng = random.Random(seed)
         self.main = rng.choice(("main.wasm", "app/main.wasm"))
         self.folder = self.main.rpartition("/")[0]
-        self.names = [None] + [f"lib{n}.so" for n in range(1, rng.randint(2, 5))]
-        count = len(self.names)
-        # the last library is perhaps needed by none, and named by an option
-        self.late = count > 2 and rng.random() < 0.15
-        self.started = count - 1 if self.late else count
-        self.needed = self.needs(count)
+        self.name_members()
+        self.needed = self.needs(len(self.names))
         self.options = self.chosen_options()
         self.give()
         self.files = self.written()
+
+    def name_members(self):
+        """The names of the members. Those behind the ones that start with the main module are named by an option."""
+        self.names = [None] + [f"lib{n}.so" for n in range(1, self.rng.randint(2, 5))]
+        is_late = len(self.names) > 2 and self.rng.random() < 0.15
+        self.started = len(self.names) - is_late
 
     def needs(self, count):
         """Each library is needed by one before it; further needs make cycles and diamonds."""
@@ -364,27 +391,30 @@ class Set:
             needed[rng.randrange(n)].append(n)
         for _ in range(rng.randint(0, 4)):
             needed[rng.randrange(self.started)].append(rng.randrange(self.started))
-        if self.late:
-            needed[-1] = [rng.randrange(count) for _ in range(rng.randint(0, 2))]
+        for n in range(self.started, count):
+            needed[n] = [rng.randrange(count) for _ in range(rng.randint(0, 2))]
         for listed in needed:
             rng.shuffle(listed)
         return needed
 
     def chosen_options(self):
         rng = self.rng
-        options = []
-        if self.late:
-            options += ["--dl", self.names[-1]]
         self.path = rng.choice((None, None, "more", "other:more"))
+        later = self.named_later()
+        options = ["--dl", ",".join(later)] if later else []
         if self.path:
             options += ["--path", self.path]
         if rng.random() < 0.2:
-            options += ["--pages", str(rng.choice((1, 2, 2, 3, 5)))]
+            options += ["--pages", str(rng.choice(self.pages))]
         if rng.random() < 0.2:
             options += ["--stack", str(rng.choice((16, 1000, 100_000)))]
         if rng.random() < 0.1:
             options += ["--no-duplicates"]
         return options
+
+    def named_later(self):
+        """The names of the option `--dl`."""
+        return self.names[self.started:]
 
     def give(self):
         """Which member defines which names, and wants which."""
@@ -394,8 +424,8 @@ class Set:
         self.types = [NOTHING] + [(numbers(rng.randint(0, 3)), numbers(rng.choice((0, 1, 1, 1, 2)))) for _ in range(rng.randint(2, 4))]
         self.given = [[] for _ in range(count)]
         self.given_data = [[] for _ in range(count)]
-        self.symbols = [(f"f{n}", rng.choice(self.types)) for n in range(rng.randint(1, 8))]
-        self.data = [f"d{n}" for n in range(rng.randint(0, 4))]
+        self.symbols = [(self.spelled(f"f{n}"), rng.choice(self.types)) for n in range(rng.randint(1, 8))]
+        self.data = [self.spelled(f"d{n}") for n in range(rng.randint(0, 4))]
         times = lambda: rng.choice((1, 1, 1, 2)) if "--no-duplicates" not in self.options or rng.random() < 0.1 else 1
         for text, ty in self.symbols:
             for m in set(rng.randrange(self.started) for _ in range(times())):
@@ -406,26 +436,39 @@ class Set:
                 self.given_data[m].append(text)
         self.undefined = [(f"w{n}", NOTHING) for n in range(rng.choice((0, 0, 1, 2)))]
 
-    def wanted(self, m):
+    def spelled(self, text):
+        """The name in place of one such as f0."""
+        return text
+
+    def seen(self, m):
+        """The symbols and data that member m may want, and the functions that nothing defines for it."""
+        return self.symbols, self.data, self.undefined
+
+    def wanted(self, m, symbols, data):
         rng = self.rng
         # rarely one of its own
-        listed = [symbol for symbol in self.symbols if rng.random() < (0.1 if symbol in self.given[m] else 0.6)]
+        listed = [symbol for symbol in symbols if rng.random() < (0.1 if symbol in self.given[m] else 0.6)]
         # what nothing defines, or data where a function is wanted
         again = [rng.choice(listed)] if listed and rng.random() < 0.05 else []
-        fault = [(rng.choice(["none"] + self.data), NOTHING)] if rng.random() < 0.02 else []
-        return listed + again + fault, [text for text in self.data if rng.random() < 0.5]
+        fault = [(rng.choice(["none"] + data), NOTHING)] if rng.random() < 0.02 else []
+        return listed + again + fault, [text for text in data if rng.random() < 0.5]
 
     def member(self, m):
         if m and self.rng.random() < 0.15:
             return Plain(self.rng, self.given[m], self.given_data[m])
-        wanted, wanted_data = self.wanted(m)
-        return Member(self.rng, list(unique(self.types)), wanted, wanted_data, self.given[m], self.given_data[m], self.undefined, m == 0)
+        symbols, data, undefined = self.seen(m)
+        wanted, wanted_data = self.wanted(m, symbols, data)
+        types = list(unique(self.types))
+        return self.with_code(self.rng, types, wanted, wanted_data, self.given[m], self.given_data[m], undefined, m == 0)
+
+    def with_code(self, *parts):
+        return Member(*parts)
 
     def written(self):
         """The files. A library stands beside the main module, in a folder that an option names, or where a member's record says."""
         rng = self.rng
         inside = lambda *parts: "/".join(part for part in (self.folder, *parts) if part)
-        hidden = "" if self.late else rng.choice(("", "", "lib"))
+        hidden = rng.choice(("", "", "lib")) if self.started == len(self.names) else ""
         files = {}
         for m, text in enumerate(self.names):
             needed = [self.main.rpartition("/")[2] if n == 0 else self.names[n] for n in self.needed[m]]
@@ -435,6 +478,8 @@ class Set:
             whole = self.member(m).whole(needed, paths)
             if m == 0:
                 files[self.main] = whole
+            elif "/" in text:
+                files[text] = whole
             elif hidden:
                 files[inside(hidden, text)] = whole
             else:

@@ -14,7 +14,6 @@ set -eu
 program=$(cd "$(dirname "$1")" && pwd)/$(basename "$1")
 top=$(cd "$(dirname "$0")/.." && pwd)
 guide=$top/docs/GUIDE.md
-. "$top/examples/opening.sh"
 work=$(mktemp -d)
 trap 'rm -rf "$work"' EXIT
 mkdir "$work/tools" "$work/blocks" "$work/own" "$work/repository"
@@ -69,8 +68,6 @@ has() {
     missing=$1
     case $1 in
     repository) true ;;
-    opening-runs) missing="run for programs that open modules" && [ "$opening_runs" = yes ] ;;
-    opening-merges) missing="merge for programs that open modules" && [ "$opening_merges" = yes ] ;;
     rpath) missing="the option -rpath of wasm-ld" && wasm-ld --help 2>/dev/null | grep -q -e -rpath ;;
     wasi-libc) missing="wasi-libc, with the library and the linker that clang takes with it" && links_for_wasi ;;
     wasi-libc-source) missing="the sources of wasi-libc, in WASI_LIBC_SOURCE" && [ -n "${WASI_LIBC_SOURCE:-}" ] ;;

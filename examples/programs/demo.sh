@@ -8,7 +8,6 @@ set -eu
 
 wdyl=$1
 source=$(dirname "$0")
-. "$source/../opening.sh"
 work=$(mktemp -d)
 trap 'rm -rf "$work"' EXIT
 
@@ -37,15 +36,7 @@ program() {
     if [ "$is_native" = yes ]; then
         same cc env LD_LIBRARY_PATH="$work/native" "$work/native/$main" "$@"
     fi
-    if [ "$runs" = yes ]; then
-        same run "$wdyl" run $options "$modules/$main.wasm" -- "$@"
-    else
-        echo "run: this isn't built yet for programs that open modules"
-    fi
-    if [ "$merges" = no ]; then
-        echo "merge: this isn't built yet for programs that open modules"
-        return
-    fi
+    same run "$wdyl" run $options "$modules/$main.wasm" -- "$@"
     "$wdyl" merge $options "$modules/$main.wasm" "$work/merged.wasm"
     same exec "$wdyl" exec "$work/merged.wasm" -- "$@"
     if [ "$has_node" = yes ]; then
@@ -54,12 +45,10 @@ program() {
 }
 
 programs() {
-    runs=yes merges=yes
     program checksums 0 checksums ""
     program timetable 0 timetable ""
     program count 0 count "" -l -w -c
     program count-refused 2 count "" colour
-    runs=$opening_runs merges=$opening_merges
     program filters 0 filters "--dl libupper.so,librot13.so" libupper.so librot13.so libnone.so librot13.so
 }
 

@@ -1,5 +1,5 @@
 -- At most one outcome is due; so what an answer tells says what it is where one is due.
-use Rattle.std.proofs.Common.{◌≡◌, ◌⊎◌, ◌<◌, ◌≤◌, ◌^◌, arith, ℕ, List, [], Bool, true, false, Option, Some, None, Result, Ok, Err, refl, sym, ap, ◌∙◌, subst, inl, inr}
+use Rattle.std.proofs.Common.{◌≡◌, ◌⊎◌, ◌<◌, ◌≤◌, ◌^◌, arith, ℕ, List, [], true, false, Option, Some, None, Result, Ok, Err, refl, sym, ap, ◌∙◌, subst, inl, inr}
 use Rattle.wasm_form.specs.declared.module.Module.{Module}
 use Rattle.dyl_outside.specs.Files.{FilesState}
 use Rattle.dyl_outside.specs.Faults.{Rose}
@@ -13,7 +13,6 @@ use Rattle.spec_linking.specs.declared.fault.SetFault.TheVariants.{ReadFault}
 use Rattle.spec_linking.specs.Sets.{Files, ClosedSet, SetOptions}
 use Rattle.spec_linking.specs.Gathering.{IsGathered}
 use Rattle.spec_linking.specs.Plans.{LinkOptions}
-use Rattle.spec_linking.specs.LinkedSets.{LinkedSet}
 use Rattle.spec_linking.specs.Links.{link_fault}
 use Rattle.spec_linking.specs.Laws.{OneAnswer, OneRecord, OneGathered}
 use Rattle.spec_reading.specs.Laws.{ReadingAnswers}
@@ -27,12 +26,12 @@ use Rattle.dyl_link.specs.declared.options.LinkOptions as linking
 use Rattle.dyl_link.specs.Kept as links
 use Rattle.dyl_front.specs.declared.outcome.UsageKind.{UsageKind}
 use Rattle.dyl_front.specs.declared.outcome.Outcome.{Outcome}
-use Rattle.dyl_front.specs.declared.outcome.Outcome.TheVariants.{Done, Ran, Usage, Set, Unbuilt, Link, Merge, Single, WriteFault, Memory}
+use Rattle.dyl_front.specs.declared.outcome.Outcome.TheVariants.{Done, Ran, Usage, Set, Link, Merge, Single, WriteFault, Memory}
 use Rattle.dyl_front.specs.declared.order.Order.{Order}
 use Rattle.dyl_front.specs.declared.order.Order.TheVariants as order
 use Rattle.dyl_app.specs.OneFile.{OfFile}
-use Rattle.dyl_app.specs.Linking.{linked, LinksAs, FaultDue}
-use Rattle.dyl_app.specs.Due.{is_merge_built, is_run_built, MergeDue, RunDue, PlanDue, ExecDue, DueFor, TellsFor, MergeFaultTells, is_run, Yields, IsComplete}
+use Rattle.dyl_app.specs.Linking.{linked, LinksAt, FaultDue}
+use Rattle.dyl_app.specs.Due.{MergeDue, RunDue, PlanDue, ExecDue, DueFor, TellsFor, MergeFaultTells, is_run, Yields, IsComplete}
 use Rattle.dyl_app.specs.Causes.{Caused}
 use Rattle.dyl_app.proofs.OneFile.{one_of_file}
 
@@ -54,17 +53,16 @@ canon outcome = outcome
 abbrev pub Alike : Outcome → Outcome → Type 0
 Alike due answer = canon due ≡ canon answer
 
--- the outcome by whether the command is built for the set, and by its link fault
-abbrev verdict : Outcome → Bool → Option LinkFault → Outcome
-verdict done true None = done
-verdict done false None = Unbuilt
-verdict done built (Some fault) = Link fault
+-- the outcome by the link fault of the set
+abbrev verdict : Outcome → Option LinkFault → Outcome
+verdict done None = done
+verdict done (Some fault) = Link fault
 
 -- ---- a set
 
-module _ (laws : Laws) (names : HostNames) (files : Files) (o : SetOptions) (l : LinkOptions) (done : Outcome) (built : LinkedSet → Bool) where
+module _ (laws : Laws) (names : HostNames) (files : Files) (o : SetOptions) (l : LinkOptions) (done : Outcome) where
   abbrev BySet : Result ClosedSet SetFault → Outcome → Type 0
-  BySet (Ok S) due = canon due ≡ verdict done (built (linked names l S)) (link_fault (linked names l S))
+  BySet (Ok S) due = canon due ≡ verdict done (link_fault (linked names l S))
   BySet (Err fault) due = canon due ≡ Set fault
 
   one_by_set : (answer : Result ClosedSet SetFault) (a b : Outcome) → BySet answer a → BySet answer b → Alike a b
@@ -79,44 +77,36 @@ module _ (laws : Laws) (names : HostNames) (files : Files) (o : SetOptions) (l :
       let same = (laws.one_gathered laws.one_answer laws.one_record files o x.1.tried y.1.tried x.0 y.0 x.1.gathers y.1.gathers).1 in
       one_by_set y.0 a b (subst (λ answer. BySet answer a) same x.2) y.2
 
-  -- a set that links, and this is whether the command is built for it
-  pub links_by : (due : Outcome) (S : ClosedSet) (is : Bool) → IsGathered files o (Ok S) → link_fault (linked names l S) ≡ None → built (linked names l S) ≡ is
-      → canon due ≡ verdict done is None → SetBy due
-  links_by due S is gathered links tested same =
-      (Ok S, gathered, same ∙ ap (λ b. verdict done b None) (sym tested) ∙ ap (verdict done (built (linked names l S))) (sym links))
+  -- a set that links
+  pub links_by : (due : Outcome) (S : ClosedSet) → IsGathered files o (Ok S) → link_fault (linked names l S) ≡ None → canon due ≡ done → SetBy due
+  links_by due S gathered links same = (Ok S, gathered, same ∙ ap (verdict done) (sym links))
 
   pub fault_by : (due : Outcome) → FaultDue names files o l due → SetBy due
   fault_by (Set fault) d = (Err fault, d, refl)
-  fault_by (Link fault) d = (Ok d.set, d.gathered, faulted (built (linked names l d.set)) ∙ ap (verdict done (built (linked names l d.set))) (sym d.found))
-    where
-      faulted : (b : Bool) → Link fault ≡ verdict done b (Some fault)
-      faulted true = refl
-      faulted false = refl
+  fault_by (Link fault) d = (Ok d.set, d.gathered, ap (verdict done) (sym d.found))
   fault_by _ d = absurd d
 
 module _ (laws : Laws) (names : HostNames) (files : Files) (o : SetOptions) (l : LinkOptions) where
-  merge_by : (due : Outcome) → MergeDue names files o l due → SetBy laws names files o l Done (is_merge_built o) due
-  merge_by Done d = links_by laws names files o l Done (is_merge_built o) Done d.set true d.gathered d.links d.tested refl
-  merge_by Unbuilt d = links_by laws names files o l Done (is_merge_built o) Unbuilt d.set false d.gathered d.links d.tested refl
-  merge_by due d = fault_by laws names files o l Done (is_merge_built o) due d
+  merge_by : (due : Outcome) → MergeDue names files o l due → SetBy laws names files o l Done due
+  merge_by Done d = links_by laws names files o l Done Done d.set d.gathered d.links refl
+  merge_by due d = fault_by laws names files o l Done due d
 
-  run_by : (due : Outcome) → RunDue names files o l due → SetBy laws names files o l any_run is_run_built due
-  run_by (Ran ran) d = links_by laws names files o l any_run is_run_built (Ran ran) d.set true d.gathered d.links d.tested refl
-  run_by Unbuilt d = links_by laws names files o l any_run is_run_built Unbuilt d.set false d.gathered d.links d.tested refl
-  run_by due d = fault_by laws names files o l any_run is_run_built due d
+  run_by : (due : Outcome) → RunDue names files o l due → SetBy laws names files o l any_run due
+  run_by (Ran ran) d = links_by laws names files o l any_run (Ran ran) d.set d.gathered d.links refl
+  run_by due d = fault_by laws names files o l any_run due d
 
-  plan_by : (due : Outcome) → PlanDue names files o l due → SetBy laws names files o l Done (λ L. true) due
-  plan_by Done d = links_by laws names files o l Done (λ L. true) Done d.set true d.gathered d.links refl refl
-  plan_by due d = fault_by laws names files o l Done (λ L. true) due d
+  plan_by : (due : Outcome) → PlanDue names files o l due → SetBy laws names files o l Done due
+  plan_by Done d = links_by laws names files o l Done Done d.set d.gathered d.links refl
+  plan_by due d = fault_by laws names files o l Done due d
 
   one_merge_due : (a b : Outcome) → MergeDue names files o l a → MergeDue names files o l b → Alike a b
-  one_merge_due a b h k = one_set_due laws names files o l Done (is_merge_built o) a b (merge_by a h) (merge_by b k)
+  one_merge_due a b h k = one_set_due laws names files o l Done a b (merge_by a h) (merge_by b k)
 
   one_run_due : (a b : Outcome) → RunDue names files o l a → RunDue names files o l b → Alike a b
-  one_run_due a b h k = one_set_due laws names files o l any_run is_run_built a b (run_by a h) (run_by b k)
+  one_run_due a b h k = one_set_due laws names files o l any_run a b (run_by a h) (run_by b k)
 
   one_plan_due : (a b : Outcome) → PlanDue names files o l a → PlanDue names files o l b → Alike a b
-  one_plan_due a b h k = one_set_due laws names files o l Done (λ L. true) a b (plan_by a h) (plan_by b k)
+  one_plan_due a b h k = one_set_due laws names files o l Done a b (plan_by a h) (plan_by b k)
 
 -- ---- one module
 
@@ -154,7 +144,6 @@ canon_is (Ran ran) none = absurd cc
 canon_is Done none = refl
 canon_is (Usage kind) none = refl
 canon_is (Set fault) none = refl
-canon_is Unbuilt none = refl
 canon_is (Link fault) none = refl
 canon_is (Merge fault) none = refl
 canon_is (Single fault) none = refl
@@ -166,7 +155,6 @@ canon_runs (Ran ran) = refl
 canon_runs Done = refl
 canon_runs (Usage kind) = refl
 canon_runs (Set fault) = refl
-canon_runs Unbuilt = refl
 canon_runs (Link fault) = refl
 canon_runs (Merge fault) = refl
 canon_runs (Single fault) = refl
@@ -212,7 +200,6 @@ module _ (laws : Laws) (names : HostNames) (files : Files) where
       go (Ran ran) t = a_run due (Ran ran) (one_due asked due (Ran ran) d t)
       go Done t = no_run due Done refl (one_due asked due Done d t)
       go (Usage kind) t = no_run due (Usage kind) refl (one_due asked due (Usage kind) d t)
-      go Unbuilt t = no_run due Unbuilt refl (one_due asked due Unbuilt d t)
       go (Link fault) t = no_run due (Link fault) refl (one_due asked due (Link fault) d t)
       go (Single fault) t = no_run due (Single fault) refl (one_due asked due (Single fault) d t)
       go (Set fault) t = of_set fault t
@@ -225,7 +212,7 @@ module _ (laws : Laws) (names : HostNames) (files : Files) where
 
   module _ (old new : FilesState) (before now : ℕ) where
     -- what is answered in place of Done, and of a run
-    not_long : (o : search.SetOptions) (l : linking.LinkOptions) (out : List ℕ) (fault : MergeFault) (m : LinksAs names files (options_of o) (links.options_of l) (is_merge_built (options_of o)) true)
+    not_long : (o : search.SetOptions) (l : linking.LinkOptions) (out : List ℕ) (fault : MergeFault) (m : LinksAt names files (options_of o) (links.options_of l))
         → MergeFaultTells names files (Ok (order.Merge o l out)) fault → bulk (linked names (links.options_of l) m.set) < 2 ^ 32 → ⊥
     not_long o l out merge.Memory m tells few = tells
     not_long o l out (merge.SectionSize id) m tells few =
@@ -238,7 +225,7 @@ module _ (laws : Laws) (names : HostNames) (files : Files) where
         too_big : (n : ℕ) → 2 ^ 32 ≤ n → n < 2 ^ 32 → ⊥
         too_big n big few = omega arith
 
-    merged_whole : (o : search.SetOptions) (l : linking.LinkOptions) (out : List ℕ) (answer : Outcome) (m : LinksAs names files (options_of o) (links.options_of l) (is_merge_built (options_of o)) true)
+    merged_whole : (o : search.SetOptions) (l : linking.LinkOptions) (out : List ℕ) (answer : Outcome) (m : LinksAt names files (options_of o) (links.options_of l))
         → TellsFor names files (Ok (order.Merge o l out)) answer → Yields Done answer → Caused (Ok (order.Merge o l out)) answer old new before now
         → bulk (linked names (links.options_of l) m.set) < 2 ^ 32 → ¬ Rose old.read_faults new.read_faults → ¬ Rose old.write_faults new.write_faults → (answer ≡ Done) ⊎ (answer ≡ Memory)
     merged_whole o l out Done m tells y caused few reads writes = inl refl
@@ -247,7 +234,6 @@ module _ (laws : Laws) (names : HostNames) (files : Files) where
     merged_whole o l out WriteFault m tells y caused few reads writes = absurd (writes caused.rose)
     merged_whole o l out (Ran ran) m tells y caused few reads writes = absurd cc
     merged_whole o l out (Usage kind) m tells y caused few reads writes = absurd cc
-    merged_whole o l out Unbuilt m tells y caused few reads writes = absurd cc
     merged_whole o l out (Link fault) m tells y caused few reads writes = absurd cc
     merged_whole o l out (Single fault) m tells y caused few reads writes = absurd cc
     merged_whole o l out (Set fault) m tells y caused few reads writes = of_set fault y caused
@@ -264,7 +250,6 @@ module _ (laws : Laws) (names : HostNames) (files : Files) where
     listed_whole o l WriteFault y caused reads puts = absurd (puts caused.rose)
     listed_whole o l (Ran ran) y caused reads puts = absurd cc
     listed_whole o l (Usage kind) y caused reads puts = absurd cc
-    listed_whole o l Unbuilt y caused reads puts = absurd cc
     listed_whole o l (Link fault) y caused reads puts = absurd cc
     listed_whole o l (Single fault) y caused reads puts = absurd cc
     listed_whole o l (Set fault) y caused reads puts = of_set fault y caused
@@ -281,7 +266,6 @@ module _ (laws : Laws) (names : HostNames) (files : Files) where
     run_whole WriteFault y read = absurd cc
     run_whole Done y read = absurd cc
     run_whole (Usage kind) y read = absurd cc
-    run_whole Unbuilt y read = absurd cc
     run_whole (Link fault) y read = absurd cc
     run_whole (Single fault) y read = absurd cc
     run_whole (Set fault) y read = of_set fault y read

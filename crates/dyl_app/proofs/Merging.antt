@@ -1,6 +1,6 @@
 -- What comes of merging a set that links.
-use Rattle.std.proofs.Common.{◌≡◌, ◌≤◌, ◌^◌, ℕ, List, length, true, false, ◌&&◌, nat_eq, not, Option, Some, None, Ok, refl, sym, ap, ◌∙◌, subst, inl}
-use Rattle.std.specs.Prelude.{IsSomeAnd, Bool}
+use Rattle.std.proofs.Common.{◌≡◌, ◌≤◌, ◌^◌, ℕ, List, Option, Some, None, Ok, refl, sym, ◌∙◌, subst, inl}
+use Rattle.std.specs.Prelude.{IsSomeAnd}
 use Rattle.std.specs.FinMap.{get}
 use Rattle.dyl_outside.specs.FileMap.{FileMap}
 use Rattle.dyl_outside.specs.Faults.{Rises}
@@ -18,12 +18,11 @@ use Rattle.dyl_link.specs.Kept as links
 use Rattle.dyl_link.specs.Kept.{Kept, IsLinked}
 use Rattle.dyl_front.specs.declared.order.Order.TheVariants as order
 use Rattle.dyl_front.specs.declared.outcome.Outcome.{Outcome}
-use Rattle.dyl_front.specs.declared.outcome.Outcome.TheVariants.{Done, Unbuilt, Merge, WriteFault, Memory}
-use Rattle.dyl_app.specs.Linking.{linked, LinksAs}
+use Rattle.dyl_front.specs.declared.outcome.Outcome.TheVariants.{Done, Merge, WriteFault, Memory}
+use Rattle.dyl_app.specs.Linking.{linked, LinksAt}
 use Rattle.merge_whole.specs.Merges as whole
-use Rattle.dyl_app.specs.Due.{is_merge_built}
 use Rattle.dyl_app.specs.Files.{IsMerged}
-use Rattle.dyl_app.specs.Served.{Serves, Gets, HoldsMerged, StoresOutput, WritesMerged, is_kept_built, MergesKept, merge_outcome}
+use Rattle.dyl_app.specs.Served.{Serves, Gets, HoldsMerged, StoresOutput, WritesMerged, merge_outcome}
 
 -- what is stored is what was merged
 pub stored_merged : (k : Kept) (out bytes : List ℕ) (answer : Outcome) (old new : FilesState) → ((L : LinkedSet) → IsLinked L k → whole.Merges L bytes) → StoresOutput out bytes answer old new
@@ -32,11 +31,6 @@ stored_merged k out bytes Done old new merges h = λ files told. subst (λ after
 stored_merged k out bytes WriteFault old new merges h = h
 stored_merged k out bytes Memory old new merges h = h
 stored_merged k out bytes _ old new merges h = absurd h
-
--- a set that is merged today, or isn't
-pub merges_built : (dl : List (List ℕ)) (k : Kept) (out : List ℕ) (answer : Outcome) (old new : FilesState) → is_kept_built dl k ≡ true → WritesMerged k out answer old new → MergesKept dl k out answer old new
-merges_built dl k out Unbuilt old new is h = absurd h
-merges_built dl k out _ old new is h = (is, h)
 
 -- nothing is merged
 pub not_merged : (k : Kept) (out : List ℕ) (fault : MergeFault) (old : FilesState) → ((id : ℕ) → fault ≡ merge.SectionSize id → (L : LinkedSet) → IsLinked L k → IsFirstTooLong (merged_module L) id)
@@ -48,13 +42,8 @@ module _ (names : HostNames) (o : SetOptions) (l : LinkOptions) (out : List ℕ)
   abbrev L : LinkedSet
   L = linked names (links.options_of l) gets.got.set
 
-  links_as : (is : Bool) → is_kept_built o.dl k ≡ is → (files : FileMap) → old.told ≡ Some files → LinksAs names (get files) (options_of o) (links.options_of l) (is_merge_built (options_of o)) is
-  links_as is built files told = record {
-    set = gets.got.set;
-    gathered = gets.got.gathered files told;
-    links = gets.got.linked.links;
-    tested = ap (λ b. nat_eq (length o.dl) 0 && not b) (sym gets.got.linked.uses_loader) ∙ built;
-  }
+  links_at : (files : FileMap) → old.told ≡ Some files → LinksAt names (get files) (options_of o) (links.options_of l)
+  links_at files told = record { set = gets.got.set; gathered = gets.got.gathered files told; links = gets.got.linked.links }
 
   merged_at : (files : FileMap) → old.told ≡ Some files → (after : Option FileMap) → IsSomeAnd after (HoldsMerged k out files)
       → IsSomeAnd after (IsMerged names (options_of o) (links.options_of l) out files)
@@ -69,44 +58,33 @@ module _ (names : HostNames) (o : SetOptions) (l : LinkOptions) (out : List ℕ)
     written = h.written;
   }
 
-  pub merge_serves : (answer : Outcome) → MergesKept o.dl k out answer mid new → (before now : ℕ) → Serves names (Ok (order.Merge o l out)) answer old new before now
+  pub merge_serves : (answer : Outcome) → WritesMerged k out answer mid new → (before now : ℕ) → Serves names (Ok (order.Merge o l out)) answer old new before now
   merge_serves Done h before now = record {
-    tells = links_as true h.0;
-    leaves = λ files told. merged_at files told new.told (h.1 files (gets.files ∙ told));
+    tells = links_at;
+    leaves = λ files told. merged_at files told new.told (h files (gets.files ∙ told));
     caused = tt;
     inner = refl;
   }
   merge_serves WriteFault h before now = record {
-    tells = links_as true h.0;
-    leaves = λ files told. h.1.0 files (gets.files ∙ told);
-    caused = subst (λ n. Rises n new.write_faults) gets.writes h.1.1;
+    tells = links_at;
+    leaves = λ files told. h.0 files (gets.files ∙ told);
+    caused = subst (λ n. Rises n new.write_faults) gets.writes h.1;
     inner = refl;
   }
-  merge_serves (Merge merge.Memory) h before now = absurd h.1
+  merge_serves (Merge merge.Memory) h before now = absurd h
   merge_serves (Merge (merge.SectionSize id)) h before now = record {
     tells = λ files told. record {
-      merges = record {
-        set = gets.got.set;
-        gathered = gets.got.gathered files told;
-        links = gets.got.linked.links;
-        tested = ap (λ b. nat_eq (length o.dl) 0 && not b) (sym gets.got.linked.uses_loader) ∙ h.0;
-      };
-      long = h.1.0 L gets.got.linked;
+      merges = record { set = gets.got.set; gathered = gets.got.gathered files told; links = gets.got.linked.links };
+      long = h.0 L gets.got.linked;
     };
-    leaves = λ files told. h.1.1 ∙ gets.files ∙ told;
-    caused = tt;
-    inner = refl;
-  }
-  merge_serves Unbuilt h before now = record {
-    tells = links_as false h.0;
     leaves = λ files told. h.1 ∙ gets.files ∙ told;
     caused = tt;
     inner = refl;
   }
   merge_serves Memory h before now = record {
     tells = λ files told. tt;
-    leaves = λ files told. inl (h.1 files (gets.files ∙ told));
+    leaves = λ files told. inl (h files (gets.files ∙ told));
     caused = tt;
     inner = refl;
   }
-  merge_serves _ h before now = absurd h.1
+  merge_serves _ h before now = absurd h

@@ -1,6 +1,5 @@
 -- What comes of running a set that links.
-use Rattle.std.proofs.Common.{◌≡◌, ◌≢◌, ℕ, List, true, false, not, Some, Ok, refl, sym, ap, ◌∙◌, subst, inl, inr}
-use Rattle.std.specs.Prelude.{Bool}
+use Rattle.std.proofs.Common.{◌≡◌, ◌≢◌, ℕ, List, Some, Ok, refl, ◌∙◌, subst, inl, inr}
 use Rattle.std.specs.FinMap.{get}
 use Rattle.dyl_outside.specs.FileMap.{FileMap}
 use Rattle.dyl_outside.specs.Files.{FilesState}
@@ -14,48 +13,32 @@ use Rattle.dyl_link.specs.Kept as links
 use Rattle.dyl_link.specs.Kept.{Kept}
 use Rattle.dyl_front.specs.declared.order.Order.TheVariants as order
 use Rattle.dyl_front.specs.declared.outcome.Outcome.{Outcome}
-use Rattle.dyl_front.specs.declared.outcome.Outcome.TheVariants.{Done, Ran, Unbuilt, Memory}
-use Rattle.dyl_app.specs.Linking.{linked, LinksAs}
-use Rattle.dyl_app.specs.Due.{is_run_built}
+use Rattle.dyl_front.specs.declared.outcome.Outcome.TheVariants.{Done, Ran, Memory}
+use Rattle.dyl_app.specs.Linking.{linked, LinksAt}
 use Rattle.dyl_app.specs.Runs.{IsThere, RunWorks}
-use Rattle.dyl_app.specs.Served.{Serves, Gets, RunsKept, Runs}
-
--- a set that is run today
-pub runs_built : (k : Kept) (embedder : Embedder) (steps : ℕ) (answer : Outcome) (old new : Devices) → k.uses_loader ≡ false → RunsKept k embedder steps answer old new → Runs k embedder steps answer old new
-runs_built k embedder steps Unbuilt old new is h = absurd h
-runs_built k embedder steps _ old new is h = (is, h)
+use Rattle.dyl_app.specs.Served.{Serves, Gets, Runs}
 
 module _ (embedder : Embedder) (o : SetOptions) (l : LinkOptions) (steps : ℕ) (k : Kept) (old new : FilesState) (gets : Gets embedder.names (options_of o) (links.options_of l) (Ok k) old new) (begun now : Devices) where
   abbrev L : LinkedSet
   L = linked embedder.names (links.options_of l) gets.got.set
 
-  links_as : (is uses : Bool) → k.uses_loader ≡ uses → not uses ≡ is → (files : FileMap) → old.told ≡ Some files → LinksAs embedder.names (get files) (options_of o) (links.options_of l) is_run_built is
-  links_as is uses built same files told = record {
-    set = gets.got.set;
-    gathered = gets.got.gathered files told;
-    links = gets.got.linked.links;
-    tested = ap not (sym gets.got.linked.uses_loader ∙ built) ∙ same;
-  }
+  links_at : (files : FileMap) → old.told ≡ Some files → LinksAt embedder.names (get files) (options_of o) (links.options_of l)
+  links_at files told = record { set = gets.got.set; gathered = gets.got.gathered files told; links = gets.got.linked.links }
 
   there : IsThere old.told embedder.names (options_of o) (links.options_of l) gets.got.set
   there = record { gathered = gets.got.gathered; shape = gets.got.linked.shape; links = gets.got.linked.links }
 
   pub run_serves : (args : List (List ℕ)) (answer : Outcome) → Runs k embedder steps answer begun now → (before after : ℕ) → Serves embedder.names (Ok (order.Run o l steps args)) answer old new before after
-  run_serves args (Ran r) h before after = record { tells = links_as true false h.0 refl; leaves = λ files told. gets.files ∙ told; caused = tt; inner = refl }
-  run_serves args Unbuilt h before after = record { tells = links_as false true h.0 refl; leaves = λ files told. gets.files ∙ told; caused = tt; inner = refl }
+  run_serves args (Ran r) h before after = record { tells = links_at; leaves = λ files told. gets.files ∙ told; caused = tt; inner = refl }
   run_serves args Memory h before after = record { tells = λ files told. tt; leaves = λ files told. gets.files ∙ told; caused = tt; inner = refl }
-  run_serves args _ h before after = absurd h.1
+  run_serves args _ h before after = absurd h
 
   pub run_works : (answer : Outcome) → Runs k embedder steps answer begun now → RunWorks old.told (options_of o) (links.options_of l) steps embedder answer begun now
-  run_works (Ran r) h = record { set = gets.got.set; there = there; run = h.1 L gets.got.linked }
-  run_works Unbuilt h = h.1
-  run_works Memory h = after h.1
-    where
-      after : RunsKept k embedder steps Memory begun now → RunWorks old.told (options_of o) (links.options_of l) steps embedder Memory begun now
-      after (inl same) = inl same
-      after (inr cut) = inr (record { set = gets.got.set; there = there; cut = cut L gets.got.linked })
-  run_works _ h = absurd h.1
+  run_works (Ran r) h = record { set = gets.got.set; there = there; run = h L gets.got.linked }
+  run_works Memory (inl same) = inl same
+  run_works Memory (inr cut) = inr (record { set = gets.got.set; there = there; cut = cut L gets.got.linked })
+  run_works _ h = absurd h
 
 -- a run never answers Done
 pub runs_not_done : (k : Kept) (embedder : Embedder) (steps : ℕ) (answer : Outcome) (old new : Devices) → Runs k embedder steps answer old new → answer ≢ Done
-runs_not_done k embedder steps answer old new h is = (subst (λ a. Runs k embedder steps a old new) is h).1
+runs_not_done k embedder steps answer old new h is = subst (λ a. Runs k embedder steps a old new) is h

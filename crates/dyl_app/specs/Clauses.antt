@@ -16,7 +16,7 @@ use Rattle.dyl_front.specs.declared.order.Order.TheVariants.{Run, Exec}
 use Rattle.dyl_front.specs.declared.outcome.UsageKind.{UsageKind}
 use Rattle.dyl_front.specs.declared.outcome.Outcome.{Outcome}
 use Rattle.dyl_app.specs.Runs.{guest_arguments, Works, Does}
-use Rattle.dyl_app.specs.Served.{RunsKept, Runs, Executes}
+use Rattle.dyl_app.specs.Served.{Runs, Executes}
 
 -- what is said of devices before and after, of their parts
 abbrev OfParts : Type 1
@@ -46,11 +46,7 @@ module _ {X : Type 0} {F : X → Type 0} {g : _} where
   abbrev pub ExecWorks : HostTable X F g → FilesState → List ℕ → ℕ → List (List ℕ) → Outcome → OfParts
   ExecWorks host files file steps args = WorksBy host files (Exec file steps args)
 
-  -- what running a linked set does, where it is run today, and else
-  abbrev pub KeptRuns : HostTable X F g → Kept → List (List ℕ) → ℕ → Outcome → OfParts
-  KeptRuns host k args steps answer i o e a input output errors ambient =
-      RunsKept k (embedder_of (guest_arguments args) host) steps answer (devices i o e a) (devices input output errors ambient)
-
+  -- what running a linked set does
   abbrev pub SetRuns : HostTable X F g → Kept → List (List ℕ) → ℕ → Outcome → OfParts
   SetRuns host k args steps answer i o e a input output errors ambient =
       Runs k (embedder_of (guest_arguments args) host) steps answer (devices i o e a) (devices input output errors ambient)

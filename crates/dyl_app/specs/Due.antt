@@ -1,6 +1,6 @@
 -- The outcome that is due for what is asked over some files, if nothing outside fails and there is memory; and what an answer may be in its
 -- place. Each command has its own rows, and no other outcome is ever due for it.
-use Rattle.std.specs.Prelude.{◌≡◌, ◌≢◌, ◌⊎◌, ◌<◌, ◌^◌, List, ℕ, length, Bool, true, false, ◌&&◌, nat_eq, not, Result, Ok, Err}
+use Rattle.std.specs.Prelude.{◌≡◌, ◌≢◌, ◌⊎◌, ◌<◌, ◌^◌, List, ℕ, Bool, true, false, Result, Ok, Err}
 use Rattle.wasm_form.specs.declared.module.Module.{Module}
 use Rattle.dyl_outside.specs.Faults.{Rose}
 use Rattle.dyl_outside.specs.Files.{FilesState}
@@ -11,8 +11,6 @@ use Rattle.spec_linking.specs.declared.fault.SetFault.TheVariants.{ReadFault}
 use Rattle.spec_linking.specs.Sets.{Files, SetOptions}
 use Rattle.spec_linking.specs.Gathering as gathering
 use Rattle.spec_linking.specs.Plans.{LinkOptions}
-use Rattle.spec_linking.specs.LinkedSets.{LinkedSet}
-use Rattle.spec_loading.specs.Members.{uses_loader}
 use Rattle.spec_merging.specs.declared.fault.MergeFault.{MergeFault}
 use Rattle.spec_merging.specs.declared.fault.MergeFault.TheVariants as merge
 use Rattle.merge_whole.specs.Merges.{bulk}
@@ -20,31 +18,21 @@ use Rattle.dyl_search.specs.Gathers.{options_of}
 use Rattle.dyl_link.specs.Kept as links
 use Rattle.dyl_front.specs.declared.outcome.UsageKind.{UsageKind}
 use Rattle.dyl_front.specs.declared.outcome.Outcome.{Outcome}
-use Rattle.dyl_front.specs.declared.outcome.Outcome.TheVariants.{Done, Ran, Usage, Set, Unbuilt, Merge, Single, WriteFault, Memory}
+use Rattle.dyl_front.specs.declared.outcome.Outcome.TheVariants.{Done, Ran, Usage, Set, Merge, Single, WriteFault, Memory}
 use Rattle.dyl_front.specs.declared.order.Order.{Order}
 use Rattle.dyl_front.specs.declared.order.Order.TheVariants as order
 use Rattle.dyl_app.specs.OneFile.{OfFile}
-use Rattle.dyl_app.specs.Linking.{linked, LinksAt, LinksAs, IsLong, FaultDue}
+use Rattle.dyl_app.specs.Linking.{linked, LinksAt, IsLong, FaultDue}
 
 -- ---- merging, running and listing a set
 
--- merging is built for sets that open nothing later: no name is given for that, and no member uses the loader
-abbrev pub is_merge_built : SetOptions → LinkedSet → Bool
-is_merge_built o L = nat_eq (length o.dl) 0 && not (uses_loader L)
-
--- running is built for sets in which no member uses the loader
-abbrev pub is_run_built : LinkedSet → Bool
-is_run_built L = not (uses_loader L)
-
 abbrev pub MergeDue : HostNames → Files → SetOptions → LinkOptions → Outcome → Type 0
-MergeDue names files o link Done = LinksAs names files o link (is_merge_built o) true
-MergeDue names files o link Unbuilt = LinksAs names files o link (is_merge_built o) false
+MergeDue names files o link Done = LinksAt names files o link
 MergeDue names files o link due = FaultDue names files o link due
 
 -- a run is due, whatever comes of it
 abbrev pub RunDue : HostNames → Files → SetOptions → LinkOptions → Outcome → Type 0
-RunDue names files o link (Ran ran) = LinksAs names files o link is_run_built true
-RunDue names files o link Unbuilt = LinksAs names files o link is_run_built false
+RunDue names files o link (Ran ran) = LinksAt names files o link
 RunDue names files o link due = FaultDue names files o link due
 
 abbrev pub PlanDue : HostNames → Files → SetOptions → LinkOptions → Outcome → Type 0
@@ -92,7 +80,7 @@ Tries files (Ok (order.Plan o link)) path = gathering.Tries files (options_of o)
 
 -- a set that is merged has a section that is too long
 pub record HasLongSection (names : HostNames) (files : Files) (o : SetOptions) (link : LinkOptions) (id : ℕ) : Type 0 where
-  pub merges : LinksAs names files o link (is_merge_built o) true
+  pub merges : LinksAt names files o link
   pub long : IsLong (linked names link merges.set) id
 
 abbrev pub MergeFaultTells : HostNames → Files → Result Order UsageKind → MergeFault → Type 0
@@ -128,10 +116,10 @@ Yields due answer = due ≡ answer
 abbrev pub IsComplete : HostNames → Files → Result Order UsageKind → Outcome → FilesState → FilesState → ℕ → ℕ → Type 0
 IsComplete names files (Err kind) answer old new before now = Unit {0}
 IsComplete names files (Ok (order.Merge o link out)) answer old new before now =
-    (merges : LinksAs names files (options_of o) (links.options_of link) (is_merge_built (options_of o)) true) → bulk (linked names (links.options_of link) merges.set) < 2 ^ 32
+    (merges : LinksAt names files (options_of o) (links.options_of link)) → bulk (linked names (links.options_of link) merges.set) < 2 ^ 32
     → ¬ Rose old.read_faults new.read_faults → ¬ Rose old.write_faults new.write_faults → (answer ≡ Done) ⊎ (answer ≡ Memory)
 IsComplete names files (Ok (order.Run o link steps args)) answer old new before now =
-    LinksAs names files (options_of o) (links.options_of link) is_run_built true → ¬ Rose old.read_faults new.read_faults → (is_run answer ≡ true) ⊎ (answer ≡ Memory)
+    LinksAt names files (options_of o) (links.options_of link) → ¬ Rose old.read_faults new.read_faults → (is_run answer ≡ true) ⊎ (answer ≡ Memory)
 IsComplete names files (Ok (order.Exec file steps args)) answer old new before now =
     OpensAt names files file → ¬ Rose old.read_faults new.read_faults → (is_run answer ≡ true) ⊎ (answer ≡ Memory)
 IsComplete names files (Ok (order.Plan o link)) answer old new before now =

@@ -1,5 +1,5 @@
 -- What there is to say of a set that is asked for: that it is gathered and links, or why not. It is the same for each command that takes one.
-use Rattle.std.specs.Prelude.{◌≡◌, ◌≤◌, ◌^◌, ℕ, Bool, Some, Ok, Err}
+use Rattle.std.specs.Prelude.{◌≡◌, ◌≤◌, ◌^◌, ℕ, Some, Ok, Err}
 use Rattle.spec_runtime.specs.Names.{HostNames}
 use Rattle.spec_linking.specs.declared.fault.LinkFault.{LinkFault}
 use Rattle.spec_linking.specs.declared.fault.SetFault.TheVariants.{ReadFault}
@@ -23,13 +23,6 @@ pub record LinksAt (names : HostNames) (files : Files) (o : SetOptions) (link : 
   pub set : ClosedSet
   pub gathered : IsGathered files o (Ok set)
   pub links : Links (linked names link set)
-
--- it does, and this test of it comes to this
-pub record LinksAs (names : HostNames) (files : Files) (o : SetOptions) (link : LinkOptions) (test : LinkedSet → Bool) (is : Bool) : Type 0 where
-  pub set : ClosedSet
-  pub gathered : IsGathered files o (Ok set)
-  pub links : Links (linked names link set)
-  pub tested : test (linked names link set) ≡ is
 
 -- it is gathered and doesn't link, and why
 pub record HasLinkFault (names : HostNames) (files : Files) (o : SetOptions) (link : LinkOptions) (fault : LinkFault) : Type 0 where

@@ -1,5 +1,5 @@
 -- What is so of an answer and of the files, for each command.
-use Rattle.std.specs.Prelude.{◌≡◌, ◌⊎◌, ℕ, List, length, Bool, true, false, ◌&&◌, nat_eq, not, Some, IsSomeAnd, IfOk, IfErr, Result, Ok, Err}
+use Rattle.std.specs.Prelude.{◌≡◌, ◌⊎◌, ℕ, List, false, Some, IsSomeAnd, IfOk, IfErr, Result, Ok, Err}
 use Rattle.std.specs.Option.{ForSome}
 use Rattle.std.specs.FinMap.{get, insert}
 use Rattle.wasm_form.specs.declared.module.Module.{Module}
@@ -33,7 +33,7 @@ use Rattle.dyl_front.specs.Listing.{listing_of}
 use Rattle.dyl_front.specs.declared.order.Order.{Order}
 use Rattle.dyl_front.specs.declared.outcome.UsageKind.{UsageKind}
 use Rattle.dyl_front.specs.declared.outcome.Outcome.{Outcome}
-use Rattle.dyl_front.specs.declared.outcome.Outcome.TheVariants.{Done, Ran, Set, Unbuilt, Link, Merge, Single, WriteFault, Memory}
+use Rattle.dyl_front.specs.declared.outcome.Outcome.TheVariants.{Done, Ran, Set, Link, Merge, Single, WriteFault, Memory}
 use Rattle.dyl_app.specs.Linking.{linked, IsLong, FaultTells}
 use Rattle.dyl_app.specs.Due.{TellsFor}
 use Rattle.dyl_app.specs.Files.{LeavesFor}
@@ -106,14 +106,6 @@ WritesMerged k out (Merge (merge.SectionSize id)) old new = ((L : LinkedSet) →
 WritesMerged k out Memory old new = ForSome old.told (λ files. new.told ≡ Some files)
 WritesMerged k out _ old new = ⊥
 
--- whether what is kept is of a set that is merged today, with these names that may be opened later
-abbrev pub is_kept_built : List (List ℕ) → Kept → Bool
-is_kept_built dl k = nat_eq (length dl) 0 && not k.uses_loader
-
-abbrev pub MergesKept : List (List ℕ) → Kept → List ℕ → Outcome → FilesState → FilesState → Type 0
-MergesKept dl k out Unbuilt old new = (is_kept_built dl k ≡ false) × (new.told ≡ old.told)
-MergesKept dl k out answer old new = (is_kept_built dl k ≡ true) × WritesMerged k out answer old new
-
 -- ---- listing a linked set
 
 -- its listing was put, with this result
@@ -131,15 +123,10 @@ Lists k _ old new = ⊥
 -- ---- running a linked set
 
 -- What each outcome does to the devices, for the set of which this is kept.
-abbrev pub RunsKept : Kept → Embedder → ℕ → Outcome → Devices → Devices → Type 0
-RunsKept k embedder steps (Ran r) old new = (L : LinkedSet) → IsLinked L k → executed.IsSetRun L embedder steps r old new
-RunsKept k embedder steps Memory old new = (new ≡ old) ⊎ ((L : LinkedSet) → IsLinked L k → executed.IsSetCut L embedder steps old new)
-RunsKept k embedder steps _ old new = ⊥
-
--- the same, or it isn't run today
 abbrev pub Runs : Kept → Embedder → ℕ → Outcome → Devices → Devices → Type 0
-Runs k embedder steps Unbuilt old new = (k.uses_loader ≡ true) × (new ≡ old)
-Runs k embedder steps answer old new = (k.uses_loader ≡ false) × RunsKept k embedder steps answer old new
+Runs k embedder steps (Ran r) old new = (L : LinkedSet) → IsLinked L k → executed.IsSetRun L embedder steps r old new
+Runs k embedder steps Memory old new = (new ≡ old) ⊎ ((L : LinkedSet) → IsLinked L k → executed.IsSetCut L embedder steps old new)
+Runs k embedder steps _ old new = ⊥
 
 -- ---- running a module that was read
 

@@ -1,11 +1,11 @@
 // Merging a set.
-ghost use Rattle.std.specs.Prelude.{◌≡◌, ◌≤◌, ℕ, All, false, Ok};
+ghost use Rattle.std.specs.Prelude.{◌≡◌, ◌≤◌, ℕ, All, Ok};
 ghost use Rattle.host_calls.specs.Embedders.{names_of};
 ghost use Rattle.spec_linking.specs.LinkedSets.{LinkedSet};
 ghost use Rattle.dyl_link.specs.Kept.{IsLinked};
 ghost use Rattle.merge_module.specs.Laws.{IsSupported};
 ghost use Rattle.dyl_front.specs.Orders.{IsLinkInRange};
-ghost use Rattle.dyl_app.specs.Served.{Serves, StoresOutput, WritesMerged, MergesKept, is_kept_built, merge_outcome};
+ghost use Rattle.dyl_app.specs.Served.{Serves, StoresOutput, WritesMerged, merge_outcome};
 
 use crate::sets::linked_set;
 use dyl_front::{Order, Outcome};
@@ -16,7 +16,6 @@ use host_table::HostTable;
 use merge_whole::merge_set;
 use spec_merging::MergeFault;
 use std::alloc::Global;
-use wasm_form::Text;
 
 /// Stores the output.
 fn store_output<F: Files>(alloc: Global, out: &str, bytes: &[u8], files: &mut F) -> Outcome
@@ -42,7 +41,6 @@ fn unmerged(fault: MergeFault) -> Outcome
 /// Writes the merged module of a linked set.
 fn write_merged<F: Files>(alloc: Global, linked: &Linked, out: &str, files: &mut F) -> Outcome
     requires set { (L : LinkedSet) × IsLinked L linked.now }
-    requires loader { linked.now.uses_loader ≡ false }
     requires pages { linked.now.plan.pages_max ≤ 16384 }
     requires hosts { All IsSupported linked.now.hosts }
     ensures { WritesMerged linked.now out.now result (F.seen files.old) (F.seen files.new) }
@@ -50,33 +48,6 @@ fn write_merged<F: Files>(alloc: Global, linked: &Linked, out: &str, files: &mut
     match merge_set(alloc, linked) {
         Ok(bytes) => store_output(alloc, out, &bytes, files),
         Err(fault) => unmerged(fault),
-    }
-}
-
-/// Whether a linked set is merged today: nothing is opened later.
-fn is_built(dl: &[Text], linked: &Linked) -> bool
-    ensures { result ≡ is_kept_built dl.now linked.now }
-{
-    dl.is_empty() && !linked.uses_loader()
-}
-
-/// Writes the merged module of a linked set, if it is of the form that is built.
-fn merge_linked<F: Files>(
-    alloc: Global,
-    dl: &[Text],
-    linked: &Linked,
-    out: &str,
-    files: &mut F,
-) -> Outcome
-    requires set { (L : LinkedSet) × IsLinked L linked.now }
-    requires pages { linked.now.plan.pages_max ≤ 16384 }
-    requires hosts { All IsSupported linked.now.hosts }
-    ensures { MergesKept dl.now linked.now out.now result (F.seen files.old) (F.seen files.new) }
-{
-    if is_built(dl, linked) {
-        write_merged(alloc, linked, out, files)
-    } else {
-        Outcome::Unbuilt
     }
 }
 
@@ -93,7 +64,7 @@ pub fn merge_main<F: Files>(
     ensures { (before now : ℕ) → Serves (names_of host.now) (Ok (Order.Merge set.now link.now out.now)) result (F.seen files.old) (F.seen files.new) before now }
 {
     match linked_set(alloc, set, link, files, host) {
-        Ok(linked) => merge_linked(alloc, set.dl.items(), &linked, out, files),
+        Ok(linked) => write_merged(alloc, &linked, out, files),
         Err(outcome) => outcome,
     }
 }

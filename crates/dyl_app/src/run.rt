@@ -1,10 +1,10 @@
 // Running a set.
-ghost use Rattle.std.specs.Prelude.{◌≡◌, ◌≢◌, ◌≤◌, false, Ok};
+ghost use Rattle.std.specs.Prelude.{◌≢◌, ◌≤◌, Ok};
 ghost use Rattle.host_calls.specs.Embedders.{names_of};
 ghost use Rattle.dyl_front.specs.Orders.{IsLinkInRange};
 ghost use Rattle.wasm_exec.specs.Executed.{HaveIntegers, IsLinkedOver};
 ghost use Rattle.dyl_app.specs.Served.{Serves};
-ghost use Rattle.dyl_app.specs.Clauses.{KeptRuns, SetRuns, RunWorks};
+ghost use Rattle.dyl_app.specs.Clauses.{SetRuns, RunWorks};
 
 use crate::exec::guest_arguments;
 use crate::sets::linked_set;
@@ -17,36 +17,7 @@ use std::alloc::Global;
 use wasm_exec::execute_set;
 use wasm_form::{Memory, Text};
 
-/// Runs a linked set in which no member uses the loader.
-fn run_alone<I: Source, O: Sink, E: Sink, A: Ambient>(
-    alloc: Global,
-    linked: &Linked,
-    steps: u64,
-    args: &[Text],
-    input: &mut I,
-    output: &mut O,
-    errors: &mut E,
-    ambient: &mut A,
-    host: &HostTable,
-) -> Outcome
-    requires names { IsLinkedOver linked.now (names_of host.now) }
-    requires integers { HaveIntegers (names_of host.now) }
-    requires alone { linked.now.uses_loader ≡ false }
-    requires steps { steps ≤ 9223372036854775807 }
-    ensures { KeptRuns host.now linked.now args.now steps result (I.seen input.old) (O.seen output.old) (E.seen errors.old) (A.seen ambient.old) (I.seen input.new) (O.seen output.new) (E.seen errors.new) (A.seen ambient.new) }
-{
-    let Ok(args) = guest_arguments(alloc, args) else {
-        return Outcome::Memory;
-    };
-    match execute_set(
-        alloc, linked, args, steps, host, input, output, errors, ambient,
-    ) {
-        Ok(ran) => Outcome::Ran(ran),
-        Err(Memory) => Outcome::Memory,
-    }
-}
-
-/// Runs a linked set, if it is of the form that is built.
+/// Runs a linked set.
 fn run_linked<I: Source, O: Sink, E: Sink, A: Ambient>(
     alloc: Global,
     linked: &Linked,
@@ -63,12 +34,15 @@ fn run_linked<I: Source, O: Sink, E: Sink, A: Ambient>(
     requires steps { steps ≤ 9223372036854775807 }
     ensures { SetRuns host.now linked.now args.now steps result (I.seen input.old) (O.seen output.old) (E.seen errors.old) (A.seen ambient.old) (I.seen input.new) (O.seen output.new) (E.seen errors.new) (A.seen ambient.new) }
 {
-    if linked.uses_loader() {
-        return Outcome::Unbuilt;
+    let Ok(args) = guest_arguments(alloc, args) else {
+        return Outcome::Memory;
+    };
+    match execute_set(
+        alloc, linked, args, steps, host, input, output, errors, ambient,
+    ) {
+        Ok(ran) => Outcome::Ran(ran),
+        Err(Memory) => Outcome::Memory,
     }
-    run_alone(
-        alloc, linked, steps, args, input, output, errors, ambient, host,
-    )
 }
 
 /// Runs the set that is asked for, for at most so many steps, for a program with these arguments after its name.

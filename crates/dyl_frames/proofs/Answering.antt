@@ -13,14 +13,15 @@ use Rattle.spec_runs.specs.Systems.{Exited}
 use Rattle.wasm_view.specs.Seen.{Seen}
 use Rattle.wasm_step.specs.Moves.{between}
 use Rattle.wasm_machine.specs.Machines.{MachineState, IsOver, StandsAt, FitsAnswer, Received, Answered}
-use Rattle.wasm_machine.specs.Marks.{marked_stack, AreMarks, IsStack}
+use Rattle.wasm_machine.specs.Marks.{marked_stack, AreMarksOver}
 use Rattle.wasm_machine.specs.declared.machine.Standing.{Standing}
 use Rattle.wasm_machine.specs.declared.machine.Standing.TheVariants as standing
-use Rattle.wasm_machine.proofs.Under.{given_under}
+use Rattle.wasm_machine.proofs.Under.{given_over}
 use Rattle.spec_loading.specs.Phases.{LoaderFrame}
 use Rattle.spec_loading.specs.Loading.{Loading, LoadedState, with_run}
 use Rattle.dyl_frames.specs.declared.frames.Core.{Core}
-use Rattle.dyl_frames.specs.Cores.{frame_at, IsLive, IsCore, IsState, StandsAs, TakenFrom, FitsHost}
+use Rattle.dyl_frames.specs.declared.frames.Pending.{Pending}
+use Rattle.dyl_frames.specs.Cores.{frame_at, LiesUnder, IsStacked, IsLive, IsCore, IsState, StandsAs, TakenFrom, FitsHost}
 use Rattle.dyl_frames.proofs.CodeSteps.{with_machine}
 
 -- a host function is waited for
@@ -32,7 +33,7 @@ pub fits_answer : {Units : Type 0} (V : View Units) (memory : MemoryInstance) (a
 fits_answer V memory a (standing.Asking entry count) fits = fits
 fits_answer V memory a st fits = absurd fits
 
-module _ {Units : Type 0} (D : Loading Units) (c : Core) (n : MachineState) (us : Units) (memory : MemoryInstance) (s : LoadedState Units) (stages : s.loader.stages ≡ c.stages) (units : s.run.units ≡ us) where
+module _ {Units : Type 0} (D : Loading Units) (c : Core) (n : MachineState) (us : Units) (memory : MemoryInstance) (s : LoadedState Units) (stages : s.loader.stages ≡ c.stages) (error : s.loader.error ≡ c.error) (units : s.run.units ≡ us) where
   abbrev values_of : List ℕ → List Value
   values_of results = reverse (map Num results)
 
@@ -44,15 +45,17 @@ module _ {Units : Type 0} (D : Loading Units) (c : Core) (n : MachineState) (us 
         → IsState D (with_machine c n) us memory (after (f ∷ fs))
     goes f fs frames stack at = record {
       stages = stages;
+      error = error;
       units = same;
       space = space;
       standing = subst (λ (st : Standing). StandsAs D (with_machine c n) (after (f ∷ fs)) st) (sym at.standing_is)
           (refl, stack ∙ ap (λ (xs : List (Frame ℕ)). marked_stack (frame_at c.frames.items) xs) (sym at.frames_are));
     }
 
-    received : (frames : List (Frame ℕ)) → Received frames results n → IsState D (with_machine c n) us memory (after (marked_stack (frame_at c.frames.items) frames))
+    pub received : (frames : List (Frame ℕ)) → Received frames results n → IsState D (with_machine c n) us memory (after (marked_stack (frame_at c.frames.items) frames))
     received [] at = record {
       stages = stages;
+      error = error;
       units = same;
       space = space;
       standing = subst (λ (st : Standing). StandsAs D (with_machine c n) (after []) st) (sym at.standing_is) refl;
@@ -63,6 +66,7 @@ module _ {Units : Type 0} (D : Loading Units) (c : Core) (n : MachineState) (us 
   exited : (code : ℕ) → s.run.memory ≡ memory → StandsAt n [] (standing.Exited code) → IsState D (with_machine c n) us memory (with_run s (stands s.run [] (Exited code)))
   exited code space at = record {
     stages = stages;
+    error = error;
     units = units;
     space = space;
     standing = subst (λ (st : Standing). StandsAs D (with_machine c n) (with_run s (stands s.run [] (Exited code))) st) (sym at.standing_is) refl;
@@ -78,25 +82,25 @@ taken_from {Units} D w w' c n a fits t s k = go a fits t
         let run : State Units LoaderFrame = record s.run { memory = all_written writes s.run.memory } in
         let space : all_written writes s.run.memory ≡ w'.memory = ap (all_written writes) k.space ∙ sym t.2 in
         subst (λ (fs : List (Frame LoaderFrame)). IsState D (with_machine c n) w'.units w'.memory (with_run s (returned run (reverse (map Num results)) fs))) (sym st.3)
-        (received D c n w'.units w'.memory s k.stages (k.units ∙ sym t.1) results run (k.units ∙ sym t.1) space c.machine.stack.frames t.0)
-    go (Exit code) fits t = exited D c n w'.units w'.memory s k.stages (k.units ∙ sym t.1.0) code (k.space ∙ sym t.1.1) t.0
+        (received D c n w'.units w'.memory s k.stages k.error (k.units ∙ sym t.1) results run (k.units ∙ sym t.1) space c.machine.stack.frames t.0)
+    go (Exit code) fits t = exited D c n w'.units w'.memory s k.stages k.error (k.units ∙ sym t.1.0) code (k.space ∙ sym t.1.1) t.0
 
 -- ---- the core
 
-live_after : (n : ℕ) (frames : List (Frame ℕ)) (results : List ℕ) (new : MachineState) → AreMarks n frames → Received frames results new → IsLive new.standing n new.stack.frames
-live_after n [] results new marks at = subst (λ (st : Standing). IsLive st n new.stack.frames) (sym at.standing_is) tt
-live_after n (f ∷ frames) results new marks at =
+pub live_after : (ps : List Pending) (frames : List (Frame ℕ)) (results : List ℕ) (new : MachineState) → AreMarksOver (LiesUnder ps) (length ps) frames → Received frames results new → IsLive new.standing ps new.stack.frames
+live_after ps [] results new marks at = subst (λ (st : Standing). IsLive st ps new.stack.frames) (sym at.standing_is) tt
+live_after ps (f ∷ frames) results new marks at =
     let values : List Value = reverse (map Num results) in
-    let there : IsStack n (given values f ∷ frames) = record { some = λ e. cc; marks = given_under n values f frames marks } in
-    subst (λ (st : Standing). IsLive st n new.stack.frames) (sym at.standing_is) (subst (λ (fs : List (Frame ℕ)). IsStack n fs) (sym at.frames_are) there)
+    let there : IsStacked ps (given values f ∷ frames) = record { some = λ e. cc; marks = given_over (LiesUnder ps) (length ps) values f frames marks } in
+    subst (λ (st : Standing). IsLive st ps new.stack.frames) (sym at.standing_is) (subst (λ (fs : List (Frame ℕ)). IsStacked ps fs) (sym at.frames_are) there)
 
 pub taken_core : {Units : Type 0} (w w' : Seen Units) (c : Core) (n : MachineState) (a : Answer) → IsCore w.fixed w.units c → FitsHost w.fixed w.memory a c.machine.standing → Answered a c.machine n (between w w') → IsOver w.fixed w'.units n
     → IsCore w.fixed w'.units (with_machine c n)
-taken_core w w' c n a h fits t over = record { over = over; live = go a fits t; pending = h.pending; alone = h.alone; few = h.few }
+taken_core w w' c n a h fits t over = record { over = over; live = go a fits t; pending = h.pending }
   where
-    go : (x : Answer) → FitsHost w.fixed w.memory x c.machine.standing → Answered x c.machine n (between w w') → IsLive n.standing (length c.frames.items) n.stack.frames
+    go : (x : Answer) → FitsHost w.fixed w.memory x c.machine.standing → Answered x c.machine n (between w w') → IsLive n.standing c.frames.items n.stack.frames
     go (Reply results writes) fits t =
         let at = asking w.fixed w.memory (Reply results writes) c.machine.standing fits in
-        let live : IsStack (length c.frames.items) c.machine.stack.frames = subst (λ (x : Standing). IsLive x (length c.frames.items) c.machine.stack.frames) at.2 h.live in
-        live_after (length c.frames.items) c.machine.stack.frames results n live.marks t.0
-    go (Exit code) fits t = subst (λ (st : Standing). IsLive st (length c.frames.items) n.stack.frames) (sym t.0.standing_is) tt
+        let live : IsStacked c.frames.items c.machine.stack.frames = subst (λ (x : Standing). IsLive x c.frames.items c.machine.stack.frames) at.2 h.live in
+        live_after c.frames.items c.machine.stack.frames results n live.marks t.0
+    go (Exit code) fits t = subst (λ (st : Standing). IsLive st c.frames.items n.stack.frames) (sym t.0.standing_is) tt

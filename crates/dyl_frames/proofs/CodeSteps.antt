@@ -2,6 +2,7 @@
 use Rattle.std.proofs.Common.{◌≡◌, ◌≢◌, inl, inr, ℕ, List, [], ◌∷◌, Option, Some, None, refl, ap, sym, ◌∙◌, subst, true, false}
 use Rattle.std.specs.Prelude.{IfSome, length, Result, Ok, Err, IfOk, OnOk}
 use Rattle.wasm_form.specs.declared.Memory.{Memory}
+use Rattle.wasm_form.specs.declared.runtime.LoaderCall.{LoaderCall}
 use Rattle.std.specs.Option.{option_map}
 use Rattle.spec_runs.specs.Systems.{Moving}
 use Rattle.spec_runtime.specs.Memories.{MemoryInstance}
@@ -12,23 +13,24 @@ use Rattle.wasm_step.specs.Moves.{Changes, AreSame, between}
 use Rattle.wasm_step.specs.declared.done.Done.{Done}
 use Rattle.wasm_step.specs.declared.done.Done.TheVariants as done
 use Rattle.wasm_view.specs.Seen.{Seen}
-use Rattle.wasm_machine.specs.Machines.{MachineState, IsOver, next_of, LeavesCode, Told, Repeats, IsAtMark, IsMarked, IsCallingOutside, IsExited, Stepped, QuickStepped}
-use Rattle.wasm_machine.specs.Marks.{marked_stack, marked_next, IsStack, KeepsUnder}
+use Rattle.wasm_machine.specs.Machines.{MachineState, IsOver, next_of, LeavesCode, Told, Repeats, IsAtMark, IsMarked, IsCallingOutside, IsExited, Stepped, QuickStepped, second_of}
+use Rattle.wasm_machine.specs.Marks.{marked_stack, marked_next, KeepsOver}
 use Rattle.wasm_machine.specs.declared.machine.Standing.{Standing}
 use Rattle.wasm_machine.specs.declared.machine.Standing.TheVariants as standing
 use Rattle.wasm_machine.specs.declared.event.Event.{Event}
 use Rattle.wasm_machine.specs.declared.event.Event.TheVariants as event
 use Rattle.wasm_machine.proofs.Marked.{marked_move}
-use Rattle.wasm_machine.proofs.Under.{step_under}
+use Rattle.wasm_machine.proofs.Under.{step_over}
 use Rattle.spec_loading.specs.Phases.{LoaderFrame}
 use Rattle.spec_loading.specs.Loading.{Loading, LoadedState, comes_to, loaded_next}
 use Rattle.dyl_frames.specs.declared.frames.Core.{Core}
 use Rattle.dyl_frames.specs.Steps.{IsCodeNext}
-use Rattle.dyl_frames.specs.Cores.{frame_at, stack_of, IsLive, IsLoaded, IsCore, IsState, StandsAs, Steps, QuickSteps, StepsFrom, QuickStepsFrom, IsMarkTold, is_made, is_mark}
-use Rattle.dyl_frames.proofs.Telling.{ComesFrom, steps_told, stuck_told, deep_told, live_told, leaves_moving}
+use Rattle.dyl_frames.specs.Cores.{frame_at, stack_of, LiesUnder, loader_arguments, IsStacked, IsLive, IsLoaded, IsCore, IsState, StandsAs, Steps, QuickSteps, StepsFrom, QuickStepsFrom, IsMarkTold, is_made, is_mark}
+use Rattle.dyl_frames.proofs.Loads.{IsLoad, step_load}
+use Rattle.dyl_frames.proofs.Telling.{ComesFrom, steps_told, stuck_told, loader_told, deep_told, live_told, leaves_moving}
 
-pub core_live : {Units : Type 0} (V : View Units) (us : Units) (c : Core) → IsCore V us c → c.machine.standing ≡ standing.Moving → IsStack (length c.frames.items) c.machine.stack.frames
-core_live V us c h moving = subst (λ (st : Standing). IsLive st (length c.frames.items) c.machine.stack.frames) moving h.live
+pub core_live : {Units : Type 0} (V : View Units) (us : Units) (c : Core) → IsCore V us c → c.machine.standing ≡ standing.Moving → IsStacked c.frames.items c.machine.stack.frames
+core_live V us c h moving = subst (λ (st : Standing). IsLive st c.frames.items c.machine.stack.frames) moving h.live
 
 pub state_moving : {Units : Type 0} (D : Loading Units) (c : Core) (us : Units) (memory : MemoryInstance) (s : LoadedState Units) → IsState D c us memory s → c.machine.standing ≡ standing.Moving
     → (s.run.status ≡ Moving) × (s.run.stack ≡ stack_of c)
@@ -63,25 +65,22 @@ module _ {Units : Type 0} (V : View Units) (c : Core) (n : MachineState) (us us'
   pub same_core : n ≡ c.machine → AreSame (changes us us' memory memory') → IsCore V us' (with_machine c n)
   same_core same kept = record {
     over = subst (λ (x : Units). IsOver V x n) (sym kept.0) (subst (λ (x : MachineState). IsOver V us x) (sym same) h.over);
-    live = subst (λ (x : MachineState). IsLive x.standing (length c.frames.items) x.stack.frames) (sym same) h.live;
+    live = subst (λ (x : MachineState). IsLive x.standing c.frames.items x.stack.frames) (sym same) h.live;
     pending = h.pending;
-    alone = h.alone;
-    few = h.few;
   }
 
   module _ (moving : c.machine.standing ≡ standing.Moving) where
-    pub told_core : (e : Event) (next : Option (Next Units ℕ)) → Told V e next c.machine n (changes us us' memory memory') → IfSome next (KeepsUnder V (length c.frames.items)) → IsOver V us' n → IsCore V us' (with_machine c n)
-    told_core e next t under over = record {
+    pub told_core : (e : Event) (next : Option (Next Units ℕ)) → Told V e next c.machine n (changes us us' memory memory') → IfSome next (KeepsOver (LiesUnder c.frames.items) V (length c.frames.items)) → IfSome next IsLoad → IsOver V us' n → IsCore V us' (with_machine c n)
+    told_core e next t under load over = record {
       over = over;
-      live = live_told V h.alone (length c.frames.items) c.machine n (changes us us' memory memory') e next t under h.live;
+      live = live_told V c.frames.items c.machine n (changes us us' memory memory') e next t under load h.live;
       pending = h.pending;
-      alone = h.alone;
-      few = h.few;
     }
 
     pub step_core : (e : Event) → Stepped V e c.machine n (changes us us' memory memory') → IsOver V us' n → IsCore V us' (with_machine c n)
     step_core e (inl t) over =
-        told_core e (next_of V us memory c.machine.stack.frames) t.2 (step_under V us memory (length c.frames.items) c.machine.stack.frames (core_live V us c h moving).marks) over
+        told_core e (next_of V us memory c.machine.stack.frames) t.2 (step_over (LiesUnder c.frames.items) V us memory (length c.frames.items) c.machine.stack.frames (core_live V us c h moving).marks)
+        (step_load V us memory c.machine.stack.frames) over
     step_core e (inr (inl t)) over = same_core t.2 t.3
     step_core e (inr (inr t)) over = same_core t.1 t.2
 
@@ -107,6 +106,7 @@ pub same_state : {Units : Type 0} (D : Loading Units) (c : Core) (n : MachineSta
     → (s : LoadedState Units) → IsState D c us memory s → IsState D (with_machine c n) us' memory' s
 same_state D c n us us' memory memory' same kept s k = record {
   stages = k.stages;
+  error = k.error;
   units = k.units ∙ sym kept.0;
   space = k.space ∙ sym kept.1;
   standing = subst (λ (x : MachineState). StandsAs D (with_machine c x) s x.standing) (sym same) k.standing;
@@ -131,8 +131,8 @@ module _ {Units : Type 0} (D : Loading Units) (c : Core) (n : MachineState) (us 
   abbrev next_here : Option (Next Units ℕ)
   next_here = next_of D.view us memory c.machine.stack.frames
 
-  under_here : IfSome next_here (KeepsUnder D.view (length c.frames.items))
-  under_here = step_under D.view us memory (length c.frames.items) c.machine.stack.frames (core_live D.view us c core moving).marks
+  under_here : IfSome next_here (KeepsOver (LiesUnder c.frames.items) D.view (length c.frames.items))
+  under_here = step_over (LiesUnder c.frames.items) D.view us memory (length c.frames.items) c.machine.stack.frames (core_live D.view us c core moving).marks
 
   comes_code : is_running c.machine.stack.frames ≡ true → ComesFrom D s s (with_machine c n) us' memory' (frame_at c.frames.items) next_here
   comes_code code = ap (loaded_next D s) at.1 ∙ code_next D s (frame_at c.frames.items) us memory c.machine.stack.frames code k.units k.space
@@ -146,13 +146,28 @@ module _ {Units : Type 0} (D : Loading Units) (c : Core) (n : MachineState) (us 
 
     made_steps : is_made e ≡ true → Steps D e s (with_machine c n) us' memory'
     made_steps is =
-        steps_told D s s (with_machine c n) us' memory' k.stages hosts.hosts core.alone (length c.frames.items) e next_here c.machine is (comes_code code) over_state under_here over.asked
+        steps_told D s s (with_machine c n) us' memory' k.stages k.error hosts.hosts e next_here c.machine is (comes_code code) over_state over.asked
+
+  -- a function of the loader is called
+  loads_told : (which : LoaderCall) (first second : ℕ) (code : is_running c.machine.stack.frames ≡ true) (next : Option (Next Units ℕ)) → next_here ≡ next
+      → Told D.view (event.Loader which first second) next c.machine n (changes us us' memory memory') → Steps D (event.Loader which first second) s (with_machine c n) us' memory'
+  loads_told which first second code None is t = absurd t
+  loads_told which first second code (Some (Goes x y frames)) is t = absurd t
+  loads_told which first second code (Some (Asks entry args frames)) is t = absurd t
+  loads_told which first second code (Some Ends) is t = absurd t
+  loads_told which first second code (Some (Traps why)) is t = absurd t
+  loads_told which first second code (Some (Loads called args frames)) is t =
+      let keeps = subst (λ (o : Option (Next Units ℕ)). IfSome o (KeepsOver (LiesUnder c.frames.items) D.view (length c.frames.items))) is under_here in
+      let load = subst (λ (o : Option (Next Units ℕ)). IfSome o IsLoad) is (step_load D.view us memory c.machine.stack.frames) in
+      let comes = subst (λ (o : Option (Next Units ℕ)). ComesFrom D s s (with_machine c n) us' memory' (frame_at c.frames.items) o) is (comes_code code) in
+      let given : args ≡ loader_arguments called first second = load.1 ∙ ap (λ (x : ℕ). loader_arguments called x (second_of args)) (sym t.2) ∙ ap (λ (x : ℕ). loader_arguments called first x) (sym t.3) in
+      loader_told D s s (with_machine c n) us' memory' which called first second args frames keeps.0 comes refl t.0 t.1 given k.stages k.error at.0 (k.units ∙ sym t.4.0) (k.space ∙ sym t.4.1)
 
   told_steps : (e : Event) → is_mark e ≡ false → is_running c.machine.stack.frames ≡ true → Told D.view e next_here c.machine n (changes us us' memory memory') → IsOver D.view us' n
       → Steps D e s (with_machine c n) us' memory'
   told_steps event.Moved is code t over = made_steps event.Moved code t over refl
   told_steps (event.Waits asked) is code t over = made_steps (event.Waits asked) code t over refl
-  told_steps (event.Loader which first second) is code t over = made_steps (event.Loader which first second) code t over refl
+  told_steps (event.Loader which first second) is code t over = loads_told which first second code next_here refl t
   told_steps (event.Marked tag) is code t over = absurd cc
   told_steps event.Returned is code t over = made_steps event.Returned code t over refl
   told_steps (event.Trapped why) is code t over = made_steps (event.Trapped why) code t over refl
@@ -165,7 +180,7 @@ module _ {Units : Type 0} (D : Loading Units) (c : Core) (n : MachineState) (us 
   told_steps event.Stuck is code t over =
       let still = stuck_same D.view us us' memory memory' next_here c.machine n t in
       stuck_told D s s (with_machine c n) us' memory' next_here c.machine (frame_at c.frames.items) (comes_code code) (over_state event.Stuck code t over)
-      k.stages at.0 (k.units ∙ sym still.0) (k.space ∙ sym still.1)
+      k.stages k.error at.0 (k.units ∙ sym still.0) (k.space ∙ sym still.1)
 
   pub step_steps : (e : Event) → Stepped D.view e c.machine n (changes us us' memory memory') → IsOver D.view us' n → is_mark e ≡ false → Steps D e s (with_machine c n) us' memory'
   step_steps e (inl t) over is = told_steps e is t.1 t.2 over
@@ -216,7 +231,7 @@ module _ {Units : Type 0} (D : Loading Units) (c : Core) (n : MachineState) (us 
   outside_none : IsCallingOutside D.view us c.machine → LeavesCode next_here → IsCodeNext D s → ⊥
   outside_none calling leaves code =
       let on_top = calling_code c.machine.standing c.machine.stack.rooms c.machine.stack.frames calling in
-      leaves_moving D s s (with_machine c n) us' memory' core.alone (length c.frames.items) next_here (frame_at c.frames.items) (comes_code on_top) leaves under_here code.3.0 code.3.1 code.3.2
+      leaves_moving D s s (with_machine c n) us' memory' code.4 next_here (frame_at c.frames.items) (comes_code on_top) leaves code.3.0 code.3.1 code.3.2
 
   pub quick_steps : (d : Done) → QuickStepped D.view d c.machine n (changes us us' memory memory') → IsOver D.view us' n → QuickSteps D d s (with_machine c n) us' memory'
   quick_steps done.Goes t o = (goes_on t, step_steps event.Moved t o refl)

@@ -1,3 +1,4 @@
+pub mod Loads
 pub mod Telling
 pub mod CodeSteps
 pub mod Tops
@@ -5,3 +6,4 @@ pub mod Tasks
 pub mod Entering
 pub mod Answering
 pub mod Opening
+pub mod Giving

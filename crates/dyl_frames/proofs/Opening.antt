@@ -1,5 +1,5 @@
 -- The first frame is put on an empty call stack.
-use Rattle.std.proofs.Common.{◌≡◌, ◌<◌, ◌≤◌, arith, ℕ, zero, suc, List, [], ◌∷◌, Some, refl, ap, sym, ◌∙◌, subst, length, map, All, false}
+use Rattle.std.proofs.Common.{◌≡◌, ◌<◌, ℕ, zero, suc, List, [], ◌∷◌, Some, refl, ap, sym, ◌∙◌, subst, length, map, All}
 use Rattle.std.specs.Prelude.{slice_get, reverse, replicate}
 use Rattle.std.proofs.lemmas.List.{length-replicate}
 use Rattle.std.proofs.lemmas.List.Elements.{All-nil, All-map}
@@ -10,19 +10,20 @@ use Rattle.spec_safety.proofs.StepsInRange.{All-reverse}
 use Rattle.wasm_view.specs.Seen.{Seen}
 use Rattle.wasm_machine.specs.Stacks.{CallStack, empty_stack}
 use Rattle.wasm_machine.specs.Machines.{MachineState, IsOver, Marks}
-use Rattle.wasm_machine.specs.Marks.{marked_stack, IsStack}
+use Rattle.wasm_machine.specs.Marks.{marked_stack}
 use Rattle.wasm_machine.specs.declared.machine.Standing.{Standing}
 use Rattle.wasm_machine.specs.declared.machine.Standing.TheVariants as standing
 use Rattle.spec_loading.specs.declared.task.Task.{Task}
 use Rattle.spec_loading.specs.declared.task.After.TheVariants.{CallEntry}
 use Rattle.spec_loading.specs.Phases.{LoaderFrame}
 use Rattle.spec_loading.specs.Loading.{Loading}
-use Rattle.dyl_frames.specs.Tasks.{task_value}
+use Rattle.dyl_frames.specs.Tasks.{task_value, after_value}
 use Rattle.dyl_frames.specs.declared.task.Task as code
+use Rattle.dyl_frames.specs.declared.task.After as code_after
 use Rattle.dyl_frames.specs.declared.task.After.TheVariants as after
 use Rattle.dyl_frames.specs.declared.frames.Pending.{Pending}
 use Rattle.dyl_frames.specs.declared.frames.Core.{Core}
-use Rattle.dyl_frames.specs.Cores.{frame_of, frame_at, IsPending, IsLive, IsCore, StandsAs, OpensAt}
+use Rattle.dyl_frames.specs.Cores.{frame_of, frame_at, LiesOver, IsHandle, IsPending, IsStacked, IsLive, IsCore, StandsAs, OpensAt}
 
 -- nothing runs over a whole view
 pub idle_over : {Units : Type 0} (V : View Units) (us : Units) (st : Standing) → IsWhole V → HoldsAll V us → st ≡ standing.Moving → IsOver V us (record { stack = empty_stack; standing = st })
@@ -33,7 +34,7 @@ pub tasks_small : (members : ℕ) (tasks : List code.Task) → All (λ (t : code
 tasks_small members tasks h = All-map (λ (t : Task). t.member < members) task_value (reverse tasks) (All-reverse (λ (t : code.Task). t.member < members) tasks h)
 
 module _ {Units : Type 0} (w : Seen Units) (members : ℕ) (tasks : List code.Task) (c : Core) (p : Pending) (m : MachineState)
-    (frames : c.frames.items ≡ p ∷ []) (items : p.tasks.items ≡ tasks) (follows : p.after ≡ after.CallEntry) (stages : c.stages ≡ replicate members 0)
+    (frames : c.frames.items ≡ p ∷ []) (items : p.tasks.items ≡ tasks) (follows : p.after ≡ after.CallEntry) (stages : c.stages ≡ replicate members 0) (error : c.error ≡ 0)
     (bare : m.stack.frames ≡ []) (marks : Marks 0 m c.machine) where
   on_stack : c.machine.stack.frames ≡ Marked 0 ∷ []
   on_stack = ap (λ (s : CallStack). s.frames) marks.stack ∙ ap (λ (fs : List (Frame ℕ)). Marked 0 ∷ fs) bare
@@ -41,6 +42,7 @@ module _ {Units : Type 0} (w : Seen Units) (members : ℕ) (tasks : List code.Ta
   pub opened_at : (D : Loading Units) → OpensAt D members (map task_value (reverse tasks)) w c
   opened_at D s o = record {
     stages = o.stages ∙ sym stages;
+    error = o.error ∙ sym error;
     units = o.units;
     space = o.space;
     standing = subst (λ (st : Standing). StandsAs D c s st) (sym marks.goes_on) (o.status, stack);
@@ -52,28 +54,29 @@ module _ {Units : Type 0} (w : Seen Units) (members : ℕ) (tasks : List code.Ta
       stack : s.run.stack ≡ marked_stack (frame_at c.frames.items) c.machine.stack.frames
       stack = o.stack ∙ ap (λ (f : LoaderFrame). Marked f ∷ []) (sym frame_is) ∙ ap (λ (fs : List (Frame ℕ)). marked_stack (frame_at c.frames.items) fs) (sym on_stack)
 
-  pub opened_core : IsOver w.fixed w.units c.machine → w.fixed.has_loader ≡ false → All (λ (t : Task). t.member < members) (map task_value (reverse tasks)) → IsCore w.fixed w.units c
-  opened_core over alone small = record {
+  pub opened_core : IsOver w.fixed w.units c.machine → All (λ (t : Task). t.member < members) (map task_value (reverse tasks)) → IsCore w.fixed w.units c
+  opened_core over small = record {
     over = over;
-    live = subst (λ (st : Standing). IsLive st (length c.frames.items) c.machine.stack.frames) (sym marks.goes_on)
-        (subst (λ (fs : List (Frame ℕ)). IsStack (length c.frames.items) fs) (sym on_stack) (subst (λ (xs : List Pending). IsStack (length xs) (Marked 0 ∷ [])) (sym frames) one));
+    live = subst (λ (st : Standing). IsLive st c.frames.items c.machine.stack.frames) (sym marks.goes_on)
+        (subst (λ (fs : List (Frame ℕ)). IsStacked c.frames.items fs) (sym on_stack) (subst (λ (xs : List Pending). IsStacked xs (Marked 0 ∷ [])) (sym frames) one));
     pending = λ i q e. found i q (sym (ap (λ (xs : List Pending). slice_get xs i) frames) ∙ e);
-    alone = alone;
-    few = subst (λ (xs : List Pending). length xs ≤ 1) (sym frames) (omega arith);
   }
     where
-      one : IsStack 1 (Marked 0 ∷ [])
-      one = record { some = λ e. cc; marks = (refl, refl, refl) }
+      nothing_under : LiesOver (after_value p.after) []
+      nothing_under = subst (λ (a : code_after.After). LiesOver (after_value a) []) (sym follows) refl
+
+      one : IsStacked (p ∷ []) (Marked 0 ∷ [])
+      one = record { some = λ e. cc; marks = (refl, nothing_under, refl) }
 
       count : length c.stages ≡ members
       count = ap length stages ∙ length-replicate members 0
 
-      first : IsPending (length c.stages) 0 p
+      first : IsPending (length c.stages) p
       first = record {
         tasks = subst (λ (n : ℕ). All (λ (t : Task). t.member < n) (frame_of p).tasks) (sym count) (subst (λ (ts : List code.Task). All (λ (t : Task). t.member < members) (map task_value (reverse ts))) (sym items) small);
-        followed = rw follows tt;
+        handle = subst (λ (a : code_after.After). IsHandle (after_value a)) (sym follows) tt;
       }
 
-      found : (i : ℕ) (q : Pending) → slice_get (p ∷ []) i ≡ Some q → IsPending (length c.stages) i q
-      found zero q e = let same : p ≡ q = cc in subst (λ (x : Pending). IsPending (length c.stages) 0 x) same first
+      found : (i : ℕ) (q : Pending) → slice_get (p ∷ []) i ≡ Some q → IsPending (length c.stages) q
+      found zero q e = let same : p ≡ q = cc in subst (λ (x : Pending). IsPending (length c.stages) x) same first
       found (suc i) q e = absurd cc

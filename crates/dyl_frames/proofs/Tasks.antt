@@ -1,5 +1,5 @@
 -- What a task on top comes to.
-use Rattle.std.proofs.Common.{◌≡◌, ◌≢◌, ◌⊎◌, inl, inr, ℕ, suc, ◌-◌, ◌<◌, ◌≤◌, List, [], ◌∷◌, Option, Some, None, refl, ap, sym, ◌∙◌, subst, true, false, length, get_or, drop, arith, All}
+use Rattle.std.proofs.Common.{◌≡◌, ◌≢◌, ◌⊎◌, inl, inr, ℕ, suc, ◌-◌, ◌<◌, List, [], ◌∷◌, Option, Some, None, refl, ap, sym, ◌∙◌, subst, true, false, length, get_or, drop, arith, All}
 use Rattle.std.specs.Prelude.{slice_get, slice_set, nat_lt, nat_eq, if◌then◌else◌, IfSome}
 use Rattle.std.specs.Option.{option_map}
 use Rattle.std.proofs.lemmas.Option.{slice_get-get_or}
@@ -8,20 +8,22 @@ use Rattle.wasm_form.specs.declared.runtime.Ref.{Ref}
 use Rattle.wasm_form.specs.declared.runtime.Trap.{Trap}
 use Rattle.spec_binary.specs.Options.{◌>>=◌}
 use Rattle.spec_runtime.specs.Memories.{MemoryInstance}
-use Rattle.spec_execution.specs.Views.{View}
+use Rattle.spec_binary.specs.Indices.{nullary}
+use Rattle.spec_execution.specs.Views.{View, type_of}
 use Rattle.spec_execution.specs.Instances.{host_type}
 use Rattle.spec_execution.specs.Limits.{passes_limit}
-use Rattle.spec_execution.specs.Runs.{Frame, Marked, Next, call}
+use Rattle.spec_execution.specs.Runs.{Frame, Marked, Next, Loads, call}
 use Rattle.spec_execution.specs.Ranges.{IsFrameInRange}
 use Rattle.spec_execution.specs.Segments.{Performed}
 use Rattle.wasm_view.specs.Seen.{Seen}
+use Rattle.wasm_step.specs.Moves.{Changes}
 use Rattle.wasm_machine.specs.Machines.{MachineState, IsOver, IsMarked, IsAsked, Told, Begins, ended}
-use Rattle.wasm_machine.specs.Marks.{marked_stack, marked_next, KeepsUnder}
+use Rattle.wasm_machine.specs.Marks.{marked_stack, marked_next}
 use Rattle.wasm_machine.specs.declared.machine.Standing.TheVariants as standing
 use Rattle.wasm_machine.specs.declared.event.Event.{Event}
 use Rattle.wasm_machine.specs.declared.event.Event.TheVariants as event
 use Rattle.wasm_machine.proofs.Marked.{marked_call}
-use Rattle.wasm_machine.proofs.Under.{call_under}
+use Rattle.wasm_machine.proofs.Under.{call_over}
 use Rattle.spec_loading.specs.declared.task.Phase.{Phase}
 use Rattle.spec_loading.specs.declared.task.Phase.TheVariants.{Place, Start, Relocate, Construct}
 use Rattle.spec_loading.specs.declared.task.Task.{Task}
@@ -31,10 +33,11 @@ use Rattle.dyl_frames.specs.Tasks.{task_value}
 use Rattle.dyl_frames.specs.declared.task.Task as code
 use Rattle.dyl_frames.specs.declared.frames.Pending.{Pending}
 use Rattle.dyl_frames.specs.declared.frames.Core.{Core}
-use Rattle.dyl_frames.specs.Cores.{frame_of, frame_in, frame_at, stack_of, IsFollowed, IsPending, IsLive, IsLoaded, IsCore, IsState, Steps, StepsFrom, is_made, is_mark, is_begun, is_below, is_behind, raised_stages, top_frame, first_of, first_task, TakesTask, Finishes}
+use Rattle.dyl_frames.specs.Cores.{frame_of, frame_in, frame_at, stack_of, LiesUnder, IsHandle, IsPending, IsLive, IsLoaded, IsCore, IsState, Steps, StepsFrom, is_made, is_begun, is_below, is_behind, raised_stages, top_frame, first_of, first_task, TakesTask, Finishes}
 use Rattle.dyl_frames.proofs.CodeSteps.{changes, with_machine, state_moving, core_live, told_core, deep_same, same_state, by_view}
 use Rattle.dyl_frames.proofs.Telling.{stays_at, steps_told, deep_told, stuck_told}
-use Rattle.dyl_frames.proofs.Tops.{OnMark, on_mark, rest_of, same_count, finished_stack, marks_alike, changed_or_kept, length_set, taken_frame}
+use Rattle.dyl_frames.proofs.Tops.{OnMark, on_mark, rest_of, finished_stack, finished_live, marks_alike, changed_or_kept, length_set, taken_frame}
+use Rattle.dyl_frames.proofs.Loads.{IsPlain, plain_load, nullary_plain}
 
 -- ---- the core once the task is done
 
@@ -42,34 +45,32 @@ tail_holds : {A : Type 0} (P : A → Type 0) (xs : List A) → All P xs → All 
 tail_holds P [] h = h
 tail_holds P (x ∷ xs) h = All-tail P x xs h
 
-taken_pending : (members i : ℕ) (p q : Pending) → TakesTask p q → IsPending members i p → IsPending members i q
-taken_pending members i p q t h =
+taken_pending : (members : ℕ) (p q : Pending) → TakesTask p q → IsPending members p → IsPending members q
+taken_pending members p q t h =
     let same = taken_frame p q t in
     record {
       tasks = subst (λ (f : LoaderFrame). All (λ (t : Task). t.member < members) f.tasks) (sym same) (tail_holds (λ (t : Task). t.member < members) (frame_of p).tasks h.tasks);
-      followed = subst (λ (f : LoaderFrame). IsFollowed i f.after) (sym same) h.followed;
+      handle = subst (λ (f : LoaderFrame). IsHandle f.after) (sym same) h.handle;
     }
 
 module _ {Units : Type 0} (V : View Units) (us : Units) (stages : List ℕ) (k : ℕ) (c new : Core) (f : Finishes stages c new) (count : length c.frames.items ≡ suc k) (h : IsCore V us c) (members : length stages ≡ length c.stages) where
   same_members : length new.stages ≡ length c.stages
   same_members = ap length f.stages_are ∙ members
 
-  finished_pending : (i : ℕ) (p : Pending) → slice_get new.frames.items i ≡ Some p → IsPending (length c.stages) i p
+  finished_pending : (i : ℕ) (p : Pending) → slice_get new.frames.items i ≡ Some p → IsPending (length c.stages) p
   finished_pending i p e = go (changed_or_kept c.frames.items (length c.frames.items - 1) f.frames.1 i p (sym (ap (λ (xs : List Pending). slice_get xs i) f.frames.3) ∙ e))
     where
-      go : ((i ≡ length c.frames.items - 1) × (p ≡ f.frames.1)) ⊎ (slice_get c.frames.items i ≡ Some p) → IsPending (length c.stages) i p
+      go : ((i ≡ length c.frames.items - 1) × (p ≡ f.frames.1)) ⊎ (slice_get c.frames.items i ≡ Some p) → IsPending (length c.stages) p
       go (inl k) =
-          subst (λ (x : Pending). IsPending (length c.stages) i x) (sym k.1)
-          (taken_pending (length c.stages) i f.frames.0 f.frames.1 f.frames.4 (h.pending i f.frames.0 (ap (λ (n : ℕ). slice_get c.frames.items n) k.0 ∙ f.frames.2)))
+          subst (λ (x : Pending). IsPending (length c.stages) x) (sym k.1)
+          (taken_pending (length c.stages) f.frames.0 f.frames.1 f.frames.4 (h.pending i f.frames.0 (ap (λ (n : ℕ). slice_get c.frames.items n) k.0 ∙ f.frames.2)))
       go (inr k) = h.pending i p k
 
   pub finished_core : IsCore V us new
   finished_core = record {
     over = subst (λ (m : MachineState). IsOver V us m) (sym f.machine) h.over;
-    live = subst (λ (n : ℕ). IsLive new.machine.standing n new.machine.stack.frames) (sym (same_count stages c new f k count)) (subst (λ (m : MachineState). IsLive m.standing (length c.frames.items) m.stack.frames) (sym f.machine) h.live);
-    pending = λ i p e. subst (λ (n : ℕ). IsPending n i p) (sym same_members) (finished_pending i p e);
-    alone = h.alone;
-    few = subst (λ (n : ℕ). n ≤ 1) (sym (same_count stages c new f k count)) h.few;
+    live = finished_live stages c new f k count new.machine.standing new.machine.stack.frames (subst (λ (m : MachineState). IsLive m.standing c.frames.items m.stack.frames) (sym f.machine) h.live);
+    pending = λ i p e. subst (λ (n : ℕ). IsPending n p) (sym same_members) (finished_pending i p e);
   }
 
 pub raised_count : (c : Core) (t : Task) → length (raised_stages c t) ≡ length c.stages
@@ -128,21 +129,21 @@ module _ {Units : Type 0} (D : Loading Units) (s : LoadedState Units) where
 
 -- a step that calls nothing
 module _ {Units : Type 0} (D : Loading Units) (s b : LoadedState Units) (comes : loaded_next D s s.run.stack ≡ comes_by_itself b) where
-  quiet_depth : passes_limit D.view (loaded_next D s s.run.stack >>= λ x. x.next) ≡ false
+  pub quiet_depth : passes_limit D.view (loaded_next D s s.run.stack >>= λ x. x.next) ≡ false
   quiet_depth = ap (λ (o : Option (Comes Units)). passes_limit D.view (o >>= λ x. x.next)) comes
 
-  quiet_step : loaded_step D s ≡ Some b
+  pub quiet_step : loaded_step D s ≡ Some b
   quiet_step = ap (λ (o : Option (Comes Units)). o >>= λ x. came_to D x.state x.next) comes
 
 pub quiet_steps : {Units : Type 0} (D : Loading Units) (s b : LoadedState Units) (new : Core) (us : Units) (memory : MemoryInstance) → loaded_next D s s.run.stack ≡ comes_by_itself (goes_on b (stack_of new))
-    → b.loader.stages ≡ new.stages → b.run.units ≡ us → b.run.memory ≡ memory → new.machine.standing ≡ standing.Moving → Steps D event.Moved s new us memory
-quiet_steps D s b new us memory comes stages units space moving = (
+    → b.loader.stages ≡ new.stages → b.loader.error ≡ new.error → b.run.units ≡ us → b.run.memory ≡ memory → new.machine.standing ≡ standing.Moving → Steps D event.Moved s new us memory
+quiet_steps D s b new us memory comes stages error units space moving = (
   quiet_depth D s (goes_on b (stack_of new)) comes,
   (
     goes_on b (stack_of new),
     quiet_step D s (goes_on b (stack_of new)) comes,
     tt,
-    stays_at D s b new us memory (goes_on b (stack_of new)) standing.Moving stages units space moving (refl, refl),
+    stays_at D s b new us memory (goes_on b (stack_of new)) standing.Moving stages error units space moving (refl, refl),
   ),
 )
 
@@ -160,7 +161,10 @@ module _ {Units : Type 0} (D : Loading Units) (s : LoadedState Units) (c new : C
   after_task = Marked (rest_of (top_frame c)) ∷ marked_stack (frame_at c.frames.items) m.rest
 
   pub new_stack : marked_stack (frame_at new.frames.items) (Marked m.number ∷ m.rest) ≡ after_task
-  new_stack = finished_stack stages c new f m.number m.count m.rest m.marks
+  new_stack = finished_stack stages c new f m.number m.count (LiesUnder c.frames.items) m.rest m.marks
+
+  same_error : s.loader.error ≡ new.error
+  same_error = k.error ∙ sym f.error
 
   still_stack : stack_of new ≡ after_task
   still_stack =
@@ -172,20 +176,20 @@ module _ {Units : Type 0} (D : Loading Units) (s : LoadedState Units) (c new : C
   still_moving : new.machine.standing ≡ standing.Moving
   still_moving = ap (λ (x : MachineState). x.standing) f.machine ∙ moving
 
-  quiet_task : (b : LoadedState Units) → task_next D s after_task t ≡ comes_by_itself (goes_on b after_task) → b.loader.stages ≡ new.stages → b.run.units ≡ us' → b.run.memory ≡ memory' → Steps D event.Moved s new us' memory'
-  quiet_task b on stages units space =
-      quiet_steps D s b new us' memory' (comes_on ∙ on ∙ ap (λ (fs : List (Frame LoaderFrame)). comes_by_itself (goes_on b fs)) (sym still_stack)) stages units space still_moving
+  quiet_task : (b : LoadedState Units) → task_next D s after_task t ≡ comes_by_itself (goes_on b after_task) → b.loader.stages ≡ new.stages → b.loader.error ≡ new.error → b.run.units ≡ us' → b.run.memory ≡ memory' → Steps D event.Moved s new us' memory'
+  quiet_task b on stages error units space =
+      quiet_steps D s b new us' memory' (comes_on ∙ on ∙ ap (λ (fs : List (Frame LoaderFrame)). comes_by_itself (goes_on b fs)) (sym still_stack)) stages error units space still_moving
 
   pub stages_raised : stages ≡ raised_stages c t → (raised_by s t).loader.stages ≡ new.stages
   stages_raised at = ap (λ (xs : List ℕ). slice_set xs t.member (stage_of t.phase)) k.stages ∙ sym at ∙ sym f.stages_are
 
   module _ (same : us ≡ us') (kept : memory ≡ memory') where
     pub pass_steps : t.member < length c.stages → is_behind c t ≡ false → stages ≡ c.stages → Steps D event.Moved s new us' memory'
-    pass_steps lt late still = quiet_task s (passed_over D s c k.stages after_task t lt late) (k.stages ∙ sym still ∙ sym f.stages_are) (k.units ∙ same) (k.space ∙ kept)
+    pass_steps lt late still = quiet_task s (passed_over D s c k.stages after_task t lt late) (k.stages ∙ sym still ∙ sym f.stages_are) same_error (k.units ∙ same) (k.space ∙ kept)
 
     pub nothing_steps : is_behind c t ≡ true → stages ≡ raised_stages c t → t.phase ≢ Place → D.callee t.phase t.member ≡ Some None → Steps D event.Moved s new us' memory'
     nothing_steps behind at calls none =
-        quiet_task (raised_by s t) (worked D s c k.stages after_task t behind ∙ calls_work D (raised_by s t) after_task t.phase t.member calls ∙ ap (λ (o : Option (Option Ref)). o >>= call_next D (raised_by s t) after_task) none) (stages_raised at)
+        quiet_task (raised_by s t) (worked D s c k.stages after_task t behind ∙ calls_work D (raised_by s t) after_task t.phase t.member calls ∙ ap (λ (o : Option (Option Ref)). o >>= call_next D (raised_by s t) after_task) none) (stages_raised at) same_error
         (k.units ∙ same) (k.space ∙ kept)
 
   -- ---- placing
@@ -207,7 +211,7 @@ module _ {Units : Type 0} (D : Loading Units) (s : LoadedState Units) (c new : C
 
     pub placed_steps : D.placed t.member us memory ≡ Some (placed_so None) → Steps D event.Moved s new us' memory'
     placed_steps done =
-        quiet_steps D s with_placed new us' memory' (place_comes None done ∙ ap (λ (fs : List (Frame LoaderFrame)). comes_by_itself (goes_on with_placed fs)) (sym still_stack)) (stages_raised at) refl refl still_moving
+        quiet_steps D s with_placed new us' memory' (place_comes None done ∙ ap (λ (fs : List (Frame LoaderFrame)). comes_by_itself (goes_on with_placed fs)) (sym still_stack)) (stages_raised at) same_error refl refl still_moving
 
     pub trap_steps : (why : Trap) (n : MachineState) → n.standing ≡ standing.Trapped why → D.placed t.member us memory ≡ Some (placed_so (Some why)) → Steps D (event.Trapped why) s (record new { machine = n }) us' memory'
     trap_steps why n ends done = (
@@ -216,7 +220,7 @@ module _ {Units : Type 0} (D : Loading Units) (s : LoadedState Units) (c new : C
         ended_by with_placed after_task (Some why),
         quiet_step D s (ended_by with_placed after_task (Some why)) (place_comes (Some why) done),
         refl,
-        stays_at D s s (record new { machine = n }) us' memory' (ended_by with_placed after_task (Some why)) (standing.Trapped why) (stages_raised at) refl refl ends refl,
+        stays_at D s s (record new { machine = n }) us' memory' (ended_by with_placed after_task (Some why)) (standing.Trapped why) (stages_raised at) same_error refl refl ends refl,
       ),
     )
 
@@ -252,13 +256,11 @@ module _ {Units : Type 0} (D : Loading Units) (s : LoadedState Units) (c : Core)
       ∙ ap (λ (fs : List (Frame LoaderFrame)). comes_to (raised_by s t) (call D.view s.run.units s.run.memory (λ _. fs) [] r)) (sym stack)
       ∙ ap (comes_to (raised_by s t)) (marked_call D.view s.run.units s.run.memory h (λ _. Marked m.number ∷ m.rest) [] r)
 
-  pub call_steps : (hosts : (entry : ℕ) → D.view.host entry ≡ host_type (D.names entry)) (core : IsCore D.view us c) (over : IsOver D.view us n) (new : Core) (f : Finishes (raised_stages c t) (with_machine c n) new) → is_made e ≡ true → Steps D e s new us memory
-  call_steps hosts core over new f is =
-      steps_told D s (raised_by s t) new us memory (ap (λ (xs : List ℕ). slice_set xs t.member (stage_of t.phase)) k.stages ∙ sym f.stages_are) hosts core.alone (length c.frames.items) e next_here c.machine is
-      (comes_here (frame_at new.frames.items) (finished_stack (raised_stages c t) (with_machine c n) new f m.number m.count m.rest m.marks))
+  pub call_steps : (hosts : (entry : ℕ) → D.view.host entry ≡ host_type (D.names entry)) (over : IsOver D.view us n) (new : Core) (f : Finishes (raised_stages c t) (with_machine c n) new) → is_made e ≡ true → Steps D e s new us memory
+  call_steps hosts over new f is =
+      steps_told D s (raised_by s t) new us memory (ap (λ (xs : List ℕ). slice_set xs t.member (stage_of t.phase)) k.stages ∙ sym f.stages_are) (k.error ∙ sym f.error) hosts e next_here c.machine is
+      (comes_here (frame_at new.frames.items) (finished_stack (raised_stages c t) (with_machine c n) new f m.number m.count (LiesUnder c.frames.items) m.rest m.marks))
       (subst (λ (x : MachineState). Told D.view e next_here c.machine x (changes s.run.units us s.run.memory memory)) (sym f.machine) told_here)
-      (subst (λ (fs : List (Frame ℕ)). IfSome (call D.view s.run.units s.run.memory (λ _. fs) [] r) (KeepsUnder D.view (length c.frames.items))) m.frames
-      (call_under D.view s.run.units s.run.memory (length c.frames.items) (λ _. c.machine.stack.frames) [] (λ vs. core_live D.view us c core moving) r))
       (subst (λ (x : MachineState). IsAsked D.view x.standing) (sym f.machine) over.asked)
 
   abbrev frames_over : ℕ → LoaderFrame
@@ -267,7 +269,7 @@ module _ {Units : Type 0} (D : Loading Units) (s : LoadedState Units) (c : Core)
   stack_over : marked_stack frames_over (Marked m.number ∷ m.rest) ≡ frames_then
   stack_over =
       let here : frames_over m.number ≡ rest_of (top_frame c) = rw (nat_eq-refl m.number) refl in
-      let below = marks_alike frames_over (frame_at c.frames.items) m.number m.rest m.marks (λ i lt. rw (nat_eq-below i m.number lt) refl) in
+      let below = marks_alike frames_over (frame_at c.frames.items) (LiesUnder c.frames.items) m.number m.rest m.marks (λ i lt. rw (nat_eq-below i m.number lt) refl) in
       rw (here, below) refl
 
   pub unmade_steps : is_begun e ≡ false → Steps D e s (with_machine c n) us memory
@@ -280,7 +282,7 @@ module _ {Units : Type 0} (D : Loading Units) (s : LoadedState Units) (c : Core)
           deep_told D s (raised_by s _) (with_machine c n) us memory next_here c.machine frames_over (comes_here frames_over stack_over) t (ap (λ (x : MachineState). x.standing) same.0 ∙ moving)
           (same_state D c n us us memory memory same.0 same.1 s k)
       go event.Stuck is t here =
-          stuck_told D s (raised_by s _) (with_machine c n) us memory next_here c.machine frames_over (comes_here frames_over stack_over) t k.stages (state_moving D c us memory s k moving).0 k.units k.space
+          stuck_told D s (raised_by s _) (with_machine c n) us memory next_here c.machine frames_over (comes_here frames_over stack_over) t k.stages k.error (state_moving D c us memory s k moving).0 k.units k.space
       go x is t here = absurd cc
 
 -- a mark on top of the core
@@ -312,22 +314,23 @@ module _ {Units : Type 0} (V : View Units) (us : Units) (c : Core) (h : IsCore V
 abbrev pub CallTold : {Units : Type 0} → View Units → Units → MemoryInstance → Core → MachineState → Ref → Event → Type 0
 CallTold V us memory c n r e = Told V e (call V us memory (λ _. c.machine.stack.frames) [] r) c.machine n (changes us us memory memory)
 
-pub called_core : {Units : Type 0} (w : Seen Units) (c : Core) (n : MachineState) (h : IsCore w.fixed w.units c) (moving : c.machine.standing ≡ standing.Moving) (r : Ref) (e : Event)
+pub called_core : {Units : Type 0} (w : Seen Units) (c : Core) (n : MachineState) (h : IsCore w.fixed w.units c) (moving : c.machine.standing ≡ standing.Moving) (r : Ref) (e : Event) → type_of w.fixed r ≡ Some nullary
     → Begins w e r c.machine n → IsOver w.fixed w.units n → IsCore w.fixed w.units (with_machine c n)
-called_core w c n h moving r e told over =
+called_core w c n h moving r e plain told over =
     told_core w.fixed c n w.units w.units w.memory w.memory h moving e (call w.fixed w.units w.memory (λ _. c.machine.stack.frames) [] r) told.1
-    (call_under w.fixed w.units w.memory (length c.frames.items) (λ _. c.machine.stack.frames) [] (λ vs. core_live w.fixed w.units c h moving) r) over
+    (call_over (LiesUnder c.frames.items) w.fixed w.units w.memory (length c.frames.items) (λ _. c.machine.stack.frames) [] (λ vs. core_live w.fixed w.units c h moving) r)
+    (plain_load (call w.fixed w.units w.memory (λ _. c.machine.stack.frames) [] r) (nullary_plain w.fixed w.units w.memory (λ _. c.machine.stack.frames) r plain)) over
 
-begun_made : (e : Event) → is_begun e ≡ true → is_mark e ≡ false → is_made e ≡ true
-begun_made event.Moved b m = refl
-begun_made (event.Waits a) b m = refl
-begun_made (event.Loader which first second) b m = refl
-begun_made (event.Marked tag) b m = absurd cc
-begun_made event.Returned b m = refl
-begun_made (event.Trapped why) b m = refl
-begun_made (event.Exited code) b m = refl
-begun_made event.Deep b m = absurd cc
-begun_made event.Stuck b m = absurd cc
+-- a call that calls no function of the loader tells none
+plain_made : {Units : Type 0} (V : View Units) (next : Option (Next Units ℕ)) (old n : MachineState) (c : Changes Units) (e : Event) → IfSome next IsPlain → Told V e next old n c → is_begun e ≡ true → is_made e ≡ true
+plain_made V next old n c event.Moved plain t b = refl
+plain_made V next old n c (event.Waits a) plain t b = refl
+plain_made V (Some (Loads called args frames)) old n c (event.Loader which first second) plain t b = absurd plain
+plain_made V next old n c event.Returned plain t b = refl
+plain_made V next old n c (event.Trapped why) plain t b = refl
+plain_made V next old n c event.Deep plain t b = absurd cc
+plain_made V next old n c event.Stuck plain t b = absurd cc
+plain_made V next old n c e plain t b = absurd t
 
 module _ {Units : Type 0} (D : Loading Units) (w : Seen Units) (loaded : IsLoaded D w.fixed) (c : Core) (n : MachineState) (h : IsCore w.fixed w.units c) (marked : IsMarked c.machine) (t : Task) (first : first_task (top_frame c) ≡ Some t) (behind : is_behind c t ≡ true) (calls : t.phase ≢ Place) (r : Ref) (callee : D.callee t.phase t.member ≡ Some (Some r)) (e : Event) (told : Begins w e r c.machine n) where
   told_by : CallTold D.view w.units w.memory c n r e
@@ -336,16 +339,15 @@ module _ {Units : Type 0} (D : Loading Units) (w : Seen Units) (loaded : IsLoade
   pub unmade_call : is_begun e ≡ false → StepsFrom D e c w (with_machine c n) w
   unmade_call begun s k = unmade_steps D s c n w.units w.memory k marked.0 (live_mark w.fixed w.units c h marked) t first behind calls r callee e told_by begun
 
-  pub made_call : IsOver w.fixed w.units n → (new : Core) → Finishes (raised_stages c t) (with_machine c n) new → is_begun e ≡ true → is_mark e ≡ false → StepsFrom D e c w new w
+  pub made_call : IsOver w.fixed w.units n → (new : Core) → Finishes (raised_stages c t) (with_machine c n) new → is_begun e ≡ true → type_of w.fixed r ≡ Some nullary → StepsFrom D e c w new w
   made_call over new f begun plain s k =
       call_steps D s c n w.units w.memory k marked.0 (live_mark w.fixed w.units c h marked) t first behind calls r callee e told_by loaded.hosts
-      (by_view D w.fixed loaded (λ (W : View Units). IsCore W w.units c) h) (by_view D w.fixed loaded (λ (W : View Units). IsOver W w.units n) over) new f (begun_made e begun plain)
+      (by_view D w.fixed loaded (λ (W : View Units). IsOver W w.units n) over) new f
+      (plain_made w.fixed (call w.fixed w.units w.memory (λ _. c.machine.stack.frames) [] r) c.machine n (changes w.units w.units w.memory w.memory) e (nullary_plain w.fixed w.units w.memory (λ _. c.machine.stack.frames) r plain) told.1 begun)
 
 pub trapped_core : {Units : Type 0} (V : View Units) (us : Units) (c : Core) (why : Trap) (n : MachineState) → IsCore V us c → n ≡ ended (standing.Trapped why) → IsCore V us (with_machine c n)
 trapped_core V us c why n h is = subst (λ (x : MachineState). IsCore V us (with_machine c x)) (sym is) (record {
   over = record { range = record { whole = h.over.range.whole; units = h.over.range.units; stack = All-nil (IsFrameInRange V) }; rooms = refl; asked = tt };
   live = tt;
   pending = h.pending;
-  alone = h.alone;
-  few = h.few;
 })

@@ -1,5 +1,5 @@
 -- What the machine tells of a step is told of the step of the run.
-use Rattle.std.proofs.Common.{◌≡◌, ℕ, List, [], Option, Some, None, refl, ap, sym, ◌∙◌, subst, true, false}
+use Rattle.std.proofs.Common.{◌≡◌, ℕ, List, [], Option, Some, None, refl, ap, sym, ◌∙◌, subst, length, true, false}
 use Rattle.std.specs.Prelude.{IfSome}
 use Rattle.std.specs.Option.{option_map}
 use Rattle.std.proofs.lemmas.Option.{same_Some}
@@ -17,16 +17,20 @@ use Rattle.spec_execution.specs.Limits.{is_deep, passes_limit}
 use Rattle.spec_execution.specs.Runs.{Frame, Next, Goes, Asks, Loads, Ends, Traps, stands}
 use Rattle.wasm_step.specs.Moves.{Changes}
 use Rattle.wasm_machine.specs.Machines.{MachineState, IsAsked, LeavesCode, Told, StandsAt}
-use Rattle.wasm_machine.specs.Marks.{marked_stack, marked_next, KeepsUnder}
+use Rattle.wasm_machine.specs.Marks.{marked_stack, marked_next, KeepsOver}
 use Rattle.wasm_machine.specs.declared.machine.Standing.{Standing}
 use Rattle.wasm_machine.specs.declared.machine.Standing.TheVariants as standing
 use Rattle.wasm_machine.specs.declared.event.Event.{Event}
 use Rattle.wasm_machine.specs.declared.event.Event.TheVariants as event
 use Rattle.wasm_machine.proofs.Marked.{marked_deep}
 use Rattle.spec_loading.specs.Phases.{LoaderFrame}
-use Rattle.spec_loading.specs.Loading.{Loading, LoadedState, Comes, comes_to, loaded_next, loaded_step, loaded_too_deep, with_run, went, came_to}
+use Rattle.spec_loading.specs.Loading.{Loading, LoadedState, LoaderAnswer, Comes, comes_to, loaded_next, loaded_step, loaded_too_deep, with_run, went, answered, came_to}
 use Rattle.dyl_frames.specs.declared.frames.Core.{Core}
-use Rattle.dyl_frames.specs.Cores.{frame_at, IsLive, IsState, StandsAs, Steps, is_made}
+use Rattle.wasm_form.specs.declared.runtime.LoaderCall.{LoaderCall}
+use Rattle.dyl_frames.specs.declared.frames.Pending.{Pending}
+use Rattle.dyl_frames.specs.Steps.{answer_of, next_answer}
+use Rattle.dyl_frames.specs.Cores.{frame_at, LiesUnder, loader_arguments, IsLive, IsState, StandsAs, Steps, is_made}
+use Rattle.dyl_frames.proofs.Loads.{IsLoad}
 
 named : (h : Option HostName) (ty : FuncType) → host_type h ≡ Some ty → (x : HostName) × (h ≡ Some x)
 named None ty e = absurd cc
@@ -46,10 +50,10 @@ module _ {Units : Type 0} (D : Loading Units) (s b : LoadedState Units) (new : C
   step_is : (n : Next Units LoaderFrame) → loaded_next D s s.run.stack ≡ comes_to b (Some n) → loaded_step D s ≡ went D b n
   step_is n e = ap (λ (o : Option (Comes Units)). o >>= λ x. came_to D x.state x.next) e
 
-  pub stays_at : (t : LoadedState Units) (st : Standing) → t.loader.stages ≡ new.stages → t.run.units ≡ us → t.run.memory ≡ memory → new.machine.standing ≡ st → StandsAs D new t st → IsState D new us memory t
-  stays_at t st stages units space at h = record { stages = stages; units = units; space = space; standing = subst (λ (x : Standing). StandsAs D new t x) (sym at) h }
+  pub stays_at : (t : LoadedState Units) (st : Standing) → t.loader.stages ≡ new.stages → t.loader.error ≡ new.error → t.run.units ≡ us → t.run.memory ≡ memory → new.machine.standing ≡ st → StandsAs D new t st → IsState D new us memory t
+  stays_at t st stages error units space at h = record { stages = stages; error = error; units = units; space = space; standing = subst (λ (x : Standing). StandsAs D new t x) (sym at) h }
 
-  module _ (stages : b.loader.stages ≡ new.stages) where
+  module _ (stages : b.loader.stages ≡ new.stages) (error : b.loader.error ≡ new.error) where
     went_on : (us' : Units) (memory' : MemoryInstance) (frames : List (Frame ℕ)) → loaded_next D s s.run.stack ≡ comes_to b (Some (Goes us' memory' (marked_stack (frame_at new.frames.items) frames)))
         → StandsAt new.machine frames standing.Moving → is_deep D.view frames ≡ false → us ≡ us' → memory ≡ memory' → Steps D event.Moved s new us memory
     went_on us' memory' frames e at light units space = (
@@ -58,7 +62,7 @@ module _ {Units : Type 0} (D : Loading Units) (s b : LoadedState Units) (new : C
         with_run b (record { units = us'; memory = memory'; stack = marked_stack (frame_at new.frames.items) frames; status = Moving }),
         step_is _ e,
         tt,
-        stays_at _ standing.Moving stages (sym units) (sym space) at.standing_is (refl, ap (λ (fs : List (Frame ℕ)). marked_stack (frame_at new.frames.items) fs) (sym at.frames_are)),
+        stays_at _ standing.Moving stages error (sym units) (sym space) at.standing_is (refl, ap (λ (fs : List (Frame ℕ)). marked_stack (frame_at new.frames.items) fs) (sym at.frames_are)),
       ),
     )
 
@@ -72,19 +76,19 @@ module _ {Units : Type 0} (D : Loading Units) (s b : LoadedState Units) (new : C
             with_run b (stands b.run seen (Waits (record { host = host; args = args }))),
             step_is _ e ∙ ap (λ (o : Option HostName). (o >>= λ x. Some (stands b.run seen (Waits (record { host = x; args = args })))) >>= λ t. Some (with_run b t)) found,
             (ap D.names which ∙ found, same),
-            stays_at _ (standing.Asking entry count) stages units space at.standing_is
+            stays_at _ (standing.Asking entry count) stages error units space at.standing_is
                 (record { host = host; args = args }, refl, found, ap (λ (fs : List (Frame ℕ)). marked_stack (frame_at new.frames.items) fs) (sym at.frames_are)),
           ),
         )
 
     returned : loaded_next D s s.run.stack ≡ comes_to b (Some Ends) → new.machine.standing ≡ standing.Returned → b.run.units ≡ us → b.run.memory ≡ memory → Steps D event.Returned s new us memory
-    returned e at units space = (depth _ e, (with_run b (stands b.run [] Returned), step_is _ e, tt, stays_at _ standing.Returned stages units space at refl))
+    returned e at units space = (depth _ e, (with_run b (stands b.run [] Returned), step_is _ e, tt, stays_at _ standing.Returned stages error units space at refl))
 
     trapped : (why cause : Trap) → loaded_next D s s.run.stack ≡ comes_to b (Some (Traps cause)) → new.machine.standing ≡ standing.Trapped why → why ≡ cause → b.run.units ≡ us → b.run.memory ≡ memory
         → Steps D (event.Trapped why) s new us memory
     trapped why cause e at same units space =
         let of : Trap → Status HostCall Trap = λ x. Trapped x in
-        (depth _ e, (with_run b (stands b.run [] (Trapped cause)), step_is _ e, same, stays_at _ (standing.Trapped why) stages units space at (ap of (sym same))))
+        (depth _ e, (with_run b (stands b.run [] (Trapped cause)), step_is _ e, same, stays_at _ (standing.Trapped why) stages error units space at (ap of (sym same))))
 
     module _ (hosts : (entry : ℕ) → D.view.host entry ≡ host_type (D.names entry)) where
       asked : (a : Asked) (entry : ℕ) (args : List ℕ) (frames : List (Frame ℕ)) (count : ℕ) → loaded_next D s s.run.stack ≡ comes_to b (Some (Asks entry args (marked_stack (frame_at new.frames.items) frames)))
@@ -96,28 +100,55 @@ module _ {Units : Type 0} (D : Loading Units) (s b : LoadedState Units) (new : C
           asked_of found.0 a entry args frames count found.1 e at which same units space
 
       -- a step that is made
-      pub steps_told : D.view.has_loader ≡ false → (n : ℕ) (e : Event) (next : Option (Next Units ℕ)) (old : MachineState) → is_made e ≡ true → ComesFrom (frame_at new.frames.items) next → Told D.view e next old new.machine since
-          → IfSome next (KeepsUnder D.view n) → IsAsked D.view new.machine.standing → Steps D e s new us memory
-      steps_told alone n event.Moved (Some (Goes us' memory' frames)) old is comes t under host = went_on us' memory' frames comes t.0 t.1 t.2 t.3
-      steps_told alone n (event.Waits a) (Some (Asks entry args frames)) old is comes t under host = asked a entry args frames t.0 comes t.1 host t.2 t.3 (sym t.4.0) (sym t.4.1)
-      steps_told alone n (event.Loader which first second) (Some (Loads called args frames)) old is comes t under host = absurd (let wrong : true ≡ false = sym under.0 ∙ alone in cc)
-      steps_told alone n event.Returned (Some Ends) old is comes t under host = returned comes t.0.standing_is (sym t.1.0) (sym t.1.1)
-      steps_told alone n (event.Trapped why) (Some (Traps cause)) old is comes t under host = trapped why cause comes t.0.standing_is t.1 (sym t.2.0) (sym t.2.1)
-      steps_told alone n event.Deep (Some (Goes us' memory' frames)) old is comes t under host = absurd cc
-      steps_told alone n event.Stuck None old is comes t under host = absurd cc
-      steps_told alone n e next old is comes t under host = absurd t
+      pub steps_told : (e : Event) (next : Option (Next Units ℕ)) (old : MachineState) → is_made e ≡ true → ComesFrom (frame_at new.frames.items) next → Told D.view e next old new.machine since
+          → IsAsked D.view new.machine.standing → Steps D e s new us memory
+      steps_told event.Moved (Some (Goes us' memory' frames)) old is comes t host = went_on us' memory' frames comes t.0 t.1 t.2 t.3
+      steps_told (event.Waits a) (Some (Asks entry args frames)) old is comes t host = asked a entry args frames t.0 comes t.1 host t.2 t.3 (sym t.4.0) (sym t.4.1)
+      steps_told (event.Loader which first second) (Some (Loads called args frames)) old is comes t host = absurd cc
+      steps_told event.Returned (Some Ends) old is comes t host = returned comes t.0.standing_is (sym t.1.0) (sym t.1.1)
+      steps_told (event.Trapped why) (Some (Traps cause)) old is comes t host = trapped why cause comes t.0.standing_is t.1 (sym t.2.0) (sym t.2.1)
+      steps_told event.Deep (Some (Goes us' memory' frames)) old is comes t host = absurd cc
+      steps_told event.Stuck None old is comes t host = absurd cc
+      steps_told e next old is comes t host = absurd t
 
   -- code that is stuck
   pub stuck_told : (next : Option (Next Units ℕ)) (old : MachineState) (h : ℕ → LoaderFrame) → ComesFrom h next → Told D.view event.Stuck next old new.machine since
-      → s.loader.stages ≡ new.stages → s.run.status ≡ Moving → s.run.units ≡ us → s.run.memory ≡ memory → Steps D event.Stuck s new us memory
-  stuck_told None old h comes t stages moving units space =
+      → s.loader.stages ≡ new.stages → s.loader.error ≡ new.error → s.run.status ≡ Moving → s.run.units ≡ us → s.run.memory ≡ memory → Steps D event.Stuck s new us memory
+  stuck_told None old h comes t stages error moving units space =
       let none : loaded_step D s ≡ None = ap (λ (o : Option (Comes Units)). o >>= λ x. came_to D x.state x.next) comes in
-      (none, t.0.standing_is, stays_at s standing.Stuck stages units space t.0.standing_is (moving, none))
-  stuck_told (Some (Goes us' memory' frames)) old h comes t stages moving units space = absurd t
-  stuck_told (Some (Asks entry args frames)) old h comes t stages moving units space = absurd t
-  stuck_told (Some (Loads which args frames)) old h comes t stages moving units space = absurd t
-  stuck_told (Some Ends) old h comes t stages moving units space = absurd t
-  stuck_told (Some (Traps why)) old h comes t stages moving units space = absurd t
+      (none, t.0.standing_is, stays_at s standing.Stuck stages error units space t.0.standing_is (moving, none))
+  stuck_told (Some (Goes us' memory' frames)) old h comes t stages error moving units space = absurd t
+  stuck_told (Some (Asks entry args frames)) old h comes t stages error moving units space = absurd t
+  stuck_told (Some (Loads which args frames)) old h comes t stages error moving units space = absurd t
+  stuck_told (Some Ends) old h comes t stages error moving units space = absurd t
+  stuck_told (Some (Traps why)) old h comes t stages error moving units space = absurd t
+
+  -- a function of the loader is called
+  pub loader_told : (which called : LoaderCall) (first second : ℕ) (args : List ℕ) (frames : List (Frame ℕ)) → D.view.has_loader ≡ true → ComesFrom (frame_at new.frames.items) (Some (Loads called args frames)) → b ≡ s
+      → StandsAt new.machine frames standing.Loading → which ≡ called → args ≡ loader_arguments called first second → s.loader.stages ≡ new.stages → s.loader.error ≡ new.error → s.run.status ≡ Moving → s.run.units ≡ us → s.run.memory ≡ memory
+      → Steps D (event.Loader which first second) s new us memory
+  loader_told which called first second args frames there comes here at same given stages error moving units space =
+      let at_s : loaded_next D s s.run.stack ≡ comes_to s (Some (Loads called args (marked_stack (frame_at new.frames.items) frames))) = comes ∙ ap (λ (x : LoadedState Units). comes_to x (Some (Loads called args (marked_stack (frame_at new.frames.items) frames)))) here in (
+        at.standing_is,
+        record {
+          stages = stages;
+          error = error;
+          units = units;
+          space = space;
+          call = record {
+            which = called;
+            args = args;
+            moving = moving;
+            comes = at_s ∙ ap (λ (fs : List (Frame ℕ)). comes_to s (Some (Loads called args (marked_stack (frame_at new.frames.items) fs)))) (sym at.frames_are);
+          };
+        },
+        record {
+          has_loader = there;
+          answer = ap (λ (o : Option (Comes Units)). o >>= λ x. answer_of D x.state x.next) at_s ∙ ap (λ (xs : List ℕ). D.answer called xs s.run.memory s.loader) given
+              ∙ ap (λ (m : MemoryInstance). D.answer called (loader_arguments called first second) m s.loader) space
+              ∙ ap (λ (w : LoaderCall). D.answer w (loader_arguments w first second) memory s.loader) (sym same);
+        },
+      )
 
   -- a step that isn't made
   pub deep_is : (next : Option (Next Units ℕ)) (old n : MachineState) (c : Changes Units) (h : ℕ → LoaderFrame) → ComesFrom h next → Told D.view event.Deep next old n c → loaded_too_deep D s ≡ true
@@ -133,9 +164,10 @@ module _ {Units : Type 0} (D : Loading Units) (s b : LoadedState Units) (new : C
   deep_told next old h comes t moving stays = (deep_is next old new.machine since h comes t, moving, stays)
 
   -- a step that leaves the code isn't followed by one that the run makes by itself
-  pub leaves_moving : D.view.has_loader ≡ false → (n : ℕ) (next : Option (Next Units ℕ)) (h : ℕ → LoaderFrame) → ComesFrom h next → LeavesCode next → IfSome next (KeepsUnder D.view n)
+  pub leaves_moving : next_answer D s ≡ None → (next : Option (Next Units ℕ)) (h : ℕ → LoaderFrame) → ComesFrom h next → LeavesCode next
       → (t : LoadedState Units) → loaded_step D s ≡ Some t → t.run.status ≡ Moving → ⊥
-  leaves_moving alone n next h comes leaves under t step moving = go next leaves under (sym (ap (λ (o : Option (Comes Units)). o >>= λ x. came_to D x.state x.next) comes) ∙ step)
+  leaves_moving none next h comes leaves t step moving =
+      go next leaves (sym (ap (λ (o : Option (Comes Units)). o >>= λ x. answer_of D x.state x.next) comes) ∙ none) (sym (ap (λ (o : Option (Comes Units)). o >>= λ x. came_to D x.state x.next) comes) ∙ step)
     where
       status_of : (u : LoadedState Units) → Some u ≡ Some t → u.run.status ≡ Moving
       status_of u e = ap (λ (x : LoadedState Units). x.run.status) (same_Some u t e) ∙ moving
@@ -144,26 +176,30 @@ module _ {Units : Type 0} (D : Loading Units) (s b : LoadedState Units) (new : C
       asked_host None args frames e = cc
       asked_host (Some h) args frames e = let waits = status_of (with_run b (stands b.run frames (Waits (record { host = h; args = args })))) e in cc
 
-      go : (o : Option (Next Units ℕ)) → LeavesCode o → IfSome o (KeepsUnder D.view n) → (comes_to b (option_map (marked_next h) o) >>= λ x. came_to D x.state x.next) ≡ Some t → ⊥
-      go None leaves under e = cc
-      go (Some (Goes us memory frames)) leaves under e = leaves
-      go (Some (Asks entry args frames)) leaves under e = asked_host (D.names entry) args (marked_stack h frames) e
-      go (Some (Loads which args frames)) leaves under e = let wrong : true ≡ false = sym under.0 ∙ alone in cc
-      go (Some Ends) leaves under e = let ended = status_of (with_run b (stands b.run [] Returned)) e in cc
-      go (Some (Traps why)) leaves under e = let ended = status_of (with_run b (stands b.run [] (Trapped why))) e in cc
+      unanswered : (o : Option LoaderAnswer) (under : List (Frame LoaderFrame)) → o ≡ None → (o >>= λ x. Some (answered b under x)) ≡ Some t → ⊥
+      unanswered None under n e = cc
+      unanswered (Some x) under n e = cc
+
+      go : (o : Option (Next Units ℕ)) → LeavesCode o → (comes_to b (option_map (marked_next h) o) >>= λ x. answer_of D x.state x.next) ≡ None → (comes_to b (option_map (marked_next h) o) >>= λ x. came_to D x.state x.next) ≡ Some t → ⊥
+      go None leaves n e = cc
+      go (Some (Goes us memory frames)) leaves n e = leaves
+      go (Some (Asks entry args frames)) leaves n e = asked_host (D.names entry) args (marked_stack h frames) e
+      go (Some (Loads which args frames)) leaves n e = unanswered (D.answer which args b.run.memory b.loader) (marked_stack h frames) n e
+      go (Some Ends) leaves n e = let ended = status_of (with_run b (stands b.run [] Returned)) e in cc
+      go (Some (Traps why)) leaves n e = let ended = status_of (with_run b (stands b.run [] (Trapped why))) e in cc
 
 -- ---- the machine after a step
 
-pub live_at : (k : ℕ) (n : MachineState) (frames : List (Frame ℕ)) (st : Standing) → StandsAt n frames st → IsLive st k frames → IsLive n.standing k n.stack.frames
-live_at k n frames st at h = subst (λ (x : Standing). IsLive x k n.stack.frames) (sym at.standing_is) (subst (λ (fs : List (Frame ℕ)). IsLive st k fs) (sym at.frames_are) h)
+pub live_at : (ps : List Pending) (n : MachineState) (frames : List (Frame ℕ)) (st : Standing) → StandsAt n frames st → IsLive st ps frames → IsLive n.standing ps n.stack.frames
+live_at ps n frames st at h = subst (λ (x : Standing). IsLive x ps n.stack.frames) (sym at.standing_is) (subst (λ (fs : List (Frame ℕ)). IsLive st ps fs) (sym at.frames_are) h)
 
-pub live_told : {Units : Type 0} (V : View Units) → V.has_loader ≡ false → (k : ℕ) (old n : MachineState) (c : Changes Units) (e : Event) (next : Option (Next Units ℕ))
-    → Told V e next old n c → IfSome next (KeepsUnder V k) → IsLive old.standing k old.stack.frames → IsLive n.standing k n.stack.frames
-live_told V alone k old n c event.Moved (Some (Goes us memory frames)) t under h = live_at k n frames standing.Moving t.0 under
-live_told V alone k old n c (event.Waits a) (Some (Asks entry args frames)) t under h = live_at k n frames (standing.Asking entry t.0) t.1 under
-live_told V alone k old n c (event.Loader which first second) (Some (Loads called args frames)) t under h = absurd (let wrong : true ≡ false = sym under.0 ∙ alone in cc)
-live_told V alone k old n c event.Returned (Some Ends) t under h = live_at k n [] standing.Returned t.0 tt
-live_told V alone k old n c (event.Trapped why) (Some (Traps cause)) t under h = live_at k n [] (standing.Trapped why) t.0 tt
-live_told V alone k old n c event.Stuck None t under h = live_at k n [] standing.Stuck t.0 tt
-live_told V alone k old n c event.Deep (Some (Goes us memory frames)) t under h = subst (λ (x : MachineState). IsLive x.standing k x.stack.frames) (sym t.1) h
-live_told V alone k old n c e next t under h = absurd t
+pub live_told : {Units : Type 0} (V : View Units) (ps : List Pending) (old n : MachineState) (c : Changes Units) (e : Event) (next : Option (Next Units ℕ))
+    → Told V e next old n c → IfSome next (KeepsOver (LiesUnder ps) V (length ps)) → IfSome next IsLoad → IsLive old.standing ps old.stack.frames → IsLive n.standing ps n.stack.frames
+live_told V ps old n c event.Moved (Some (Goes us memory frames)) t under load h = live_at ps n frames standing.Moving t.0 under
+live_told V ps old n c (event.Waits a) (Some (Asks entry args frames)) t under load h = live_at ps n frames (standing.Asking entry t.0) t.1 under
+live_told V ps old n c (event.Loader which first second) (Some (Loads called args frames)) t under load h = live_at ps n frames standing.Loading t.0 (under.1, load.0)
+live_told V ps old n c event.Returned (Some Ends) t under load h = live_at ps n [] standing.Returned t.0 tt
+live_told V ps old n c (event.Trapped why) (Some (Traps cause)) t under load h = live_at ps n [] (standing.Trapped why) t.0 tt
+live_told V ps old n c event.Stuck None t under load h = live_at ps n [] standing.Stuck t.0 tt
+live_told V ps old n c event.Deep (Some (Goes us memory frames)) t under load h = subst (λ (x : MachineState). IsLive x.standing ps x.stack.frames) (sym t.1) h
+live_told V ps old n c e next t under load h = absurd t

@@ -1,7 +1,9 @@
 -- The core of a run, and the state at which it stands.
-use Rattle.std.specs.Prelude.{◌≡◌, ◌≢◌, ◌<◌, ◌≤◌, ℕ, zero, suc, List, [], ◌∷◌, length, map, reverse, drop, slice_get, slice_set, ◌-◌, nat_lt, replicate, Option, Some, None, Bool, true, false, IfSome, IsTrue, Result, Ok, Err}
+use Rattle.std.specs.Prelude.{◌≡◌, ◌≢◌, ◌<◌, ◌+◌, ℕ, List, [], ◌∷◌, length, map, reverse, drop, take, slice_get, slice_set, ◌-◌, nat_lt, replicate, Option, Some, None, Bool, true, false, IfSome, IsTrue, Result, Ok, Err}
 use Rattle.std.specs.List.{All}
 use Rattle.spec_runs.specs.Systems.{Moving, Waits, Returned, Exited, Trapped}
+use Rattle.wasm_form.specs.declared.runtime.LoaderCall.{LoaderCall}
+use Rattle.wasm_form.specs.declared.runtime.LoaderCall.TheVariants.{Dlopen, Dlsym, Dlclose, Dlerror}
 use Rattle.wasm_form.specs.declared.runtime.Trap.{Trap}
 use Rattle.wasm_form.specs.declared.runtime.Ref.{Ref}
 use Rattle.wasm_form.specs.declared.runtime.Ref.TheVariants.{Own}
@@ -10,13 +12,13 @@ use Rattle.spec_runtime.specs.Memories.{MemoryInstance}
 use Rattle.spec_runtime.specs.Hosts.{HostCall, fits_results}
 use Rattle.spec_execution.specs.Views.{View}
 use Rattle.spec_execution.specs.Instances.{host_type}
-use Rattle.spec_execution.specs.Runs.{Frame, Marked, taken}
+use Rattle.spec_execution.specs.Runs.{Frame, Marked, Loads, is_running, taken}
 use Rattle.spec_execution.specs.Segments.{Performed}
 use Rattle.wasm_step.specs.declared.done.Done.{Done}
 use Rattle.wasm_step.specs.declared.done.Done.TheVariants as done
 use Rattle.wasm_view.specs.Seen.{Seen}
 use Rattle.wasm_machine.specs.Machines.{IsOver, IsMarked}
-use Rattle.wasm_machine.specs.Marks.{marked_stack, IsStack}
+use Rattle.wasm_machine.specs.Marks.{marked_stack, IsStackOver}
 use Rattle.wasm_machine.specs.declared.machine.Standing.{Standing}
 use Rattle.wasm_machine.specs.declared.machine.Standing.TheVariants as standing
 use Rattle.wasm_machine.specs.declared.event.Event.{Event}
@@ -25,11 +27,11 @@ use Rattle.spec_loading.specs.declared.task.Task.{Task}
 use Rattle.spec_loading.specs.declared.task.After.{After}
 use Rattle.spec_loading.specs.declared.task.After.TheVariants.{CallEntry, GiveHandle}
 use Rattle.spec_loading.specs.Phases.{LoaderFrame, stage_of}
-use Rattle.spec_loading.specs.Loading.{Loading, LoadedState, with_run, loaded_step, loaded_too_deep}
+use Rattle.spec_loading.specs.Loading.{Loading, LoadedState, LoaderAnswer, Gives, Opens, with_run, comes_to, loaded_next, loaded_step, loaded_too_deep}
 use Rattle.dyl_frames.specs.Tasks.{task_value, after_value}
 use Rattle.dyl_frames.specs.declared.frames.Pending.{Pending}
 use Rattle.dyl_frames.specs.declared.frames.Core.{Core}
-use Rattle.dyl_frames.specs.Steps.{TellsStatus, IsCodeNext}
+use Rattle.dyl_frames.specs.Steps.{TellsStatus, next_answer, IsCodeNext}
 
 -- ---- the frames
 
@@ -44,40 +46,49 @@ frame_in (Some p) = frame_of p
 abbrev pub frame_at : List Pending → ℕ → LoaderFrame
 frame_at frames tag = frame_in (slice_get frames tag)
 
--- the first is followed by the entry, and each other one by a handle
-abbrev pub IsFollowed : ℕ → After → Type 0
-IsFollowed zero CallEntry = Unit {0}
-IsFollowed zero (GiveHandle m) = ⊥
-IsFollowed (suc n) CallEntry = ⊥
-IsFollowed (suc n) (GiveHandle m) = Unit {0}
+-- what a frame lies over: nothing where the entry follows, and an activation that waits where a handle does
+abbrev pub LiesOver : After → List (Frame ℕ) → Type 0
+LiesOver CallEntry frames = frames ≡ []
+LiesOver (GiveHandle m) frames = is_running frames ≡ true
+
+-- what lies under the mark of each number
+abbrev pub LiesUnder : List Pending → ℕ → List (Frame ℕ) → Type 0
+LiesUnder frames tag under = LiesOver (frame_at frames tag).after under
+
+-- the handle of a member is a number of 32 bits
+abbrev pub IsHandle : After → Type 0
+IsHandle CallEntry = Unit {0}
+IsHandle (GiveHandle m) = m + 1 < 4294967296
 
 -- the members of its tasks are there
-pub record IsPending (members i : ℕ) (p : Pending) : Type 0 where
+pub record IsPending (members : ℕ) (p : Pending) : Type 0 where
   pub tasks : All (λ (t : Task). t.member < members) (frame_of p).tasks
-  pub followed : IsFollowed i (after_value p.after)
+  pub handle : IsHandle (after_value p.after)
 
 -- ---- what is so of it
 
+-- the call stack has a mark for each of the frames
+abbrev pub IsStacked : List Pending → List (Frame ℕ) → Type 0
+IsStacked pending frames = IsStackOver (LiesUnder pending) (length pending) frames
+
 -- it goes on or waits: the call stack is there
-abbrev pub IsLive : Standing → ℕ → List (Frame ℕ) → Type 0
-IsLive standing.Moving n frames = IsStack n frames
-IsLive (standing.Asking entry count) n frames = IsStack n frames
-IsLive standing.Loading n frames = ⊥
-IsLive standing.Lost n frames = ⊥
-IsLive _ n frames = Unit {0}
+abbrev pub IsLive : Standing → List Pending → List (Frame ℕ) → Type 0
+IsLive standing.Moving pending frames = IsStacked pending frames
+IsLive (standing.Asking entry count) pending frames = IsStacked pending frames
+IsLive standing.Loading pending frames = IsStacked pending frames × (is_running frames ≡ true)
+IsLive standing.Lost pending frames = ⊥
+IsLive _ pending frames = Unit {0}
 
 -- how the units of a view are loaded, whose host functions have names
 pub record IsLoaded {Units : Type 0} (D : Loading Units) (V : View Units) : Type 0 where
   pub view : D.view ≡ V
   pub hosts : (entry : ℕ) → D.view.host entry ≡ host_type (D.names entry)
 
--- The machine names only what there is, and so do the tasks. Code doesn't call the loader, so there is at most one frame.
+-- The machine names only what there is, and so do the tasks. The mark of a number stands for the frame of that number.
 pub record IsCore {Units : Type 0} (V : View Units) (us : Units) (c : Core) : Type 0 where
   pub over : IsOver V us c.machine
-  pub live : IsLive c.machine.standing (length c.frames.items) c.machine.stack.frames
-  pub pending : (i : ℕ) (p : Pending) → slice_get c.frames.items i ≡ Some p → IsPending (length c.stages) i p
-  pub alone : V.has_loader ≡ false
-  pub few : length c.frames.items ≤ 1
+  pub live : IsLive c.machine.standing c.frames.items c.machine.stack.frames
+  pub pending : (i : ℕ) (p : Pending) → slice_get c.frames.items i ≡ Some p → IsPending (length c.stages) p
 
 -- ---- where the run stands
 
@@ -98,16 +109,49 @@ StandsAs D c s standing.Lost = ⊥
 -- the run stands at this state
 pub record IsState {Units : Type 0} (D : Loading Units) (c : Core) (us : Units) (memory : MemoryInstance) (s : LoadedState Units) : Type 0 where
   pub stages : s.loader.stages ≡ c.stages
+  pub error : s.loader.error ≡ c.error
   pub units : s.run.units ≡ us
   pub space : s.run.memory ≡ memory
   pub standing : StandsAs D c s c.machine.standing
 
+-- ---- calls of the loader
+
+-- The step of a state calls a function of the loader. The machine is past the call already, and the state isn't.
+pub record IsCalling {Units : Type 0} (D : Loading Units) (c : Core) (s : LoadedState Units) : Type 0 where
+  pub which : LoaderCall
+  pub args : List ℕ
+  pub moving : s.run.status ≡ Moving
+  pub comes : loaded_next D s s.run.stack ≡ comes_to s (Some (Loads which args (stack_of c)))
+
+-- the run stands at such a state
+pub record IsAtCall {Units : Type 0} (D : Loading Units) (c : Core) (us : Units) (memory : MemoryInstance) (s : LoadedState Units) : Type 0 where
+  pub stages : s.loader.stages ≡ c.stages
+  pub error : s.loader.error ≡ c.error
+  pub units : s.run.units ≡ us
+  pub space : s.run.memory ≡ memory
+  pub call : IsCalling D c s
+
 -- ---- one step
 
--- A step was made from a state and is told, or there is none. Where it would be too deep the run stays.
+-- the arguments of a function of the loader, of which the first two are told
+abbrev pub loader_arguments : LoaderCall → ℕ → ℕ → List ℕ
+loader_arguments Dlopen first second = first ∷ second ∷ []
+loader_arguments Dlsym first second = first ∷ second ∷ []
+loader_arguments Dlclose first second = first ∷ []
+loader_arguments Dlerror first second = []
+
+-- a function of the loader is called next: the step comes to what the loader answers to these arguments
+pub record AsksLoader {Units : Type 0} (D : Loading Units) (which : LoaderCall) (first second : ℕ) (memory : MemoryInstance) (s : LoadedState Units) : Type 0 where
+  pub has_loader : D.view.has_loader ≡ true
+  pub answer : next_answer D s ≡ D.answer which (loader_arguments which first second) memory s.loader
+
+-- A step was made from a state and is told, or there is none. Where it would be too deep, or a function of the loader is called, the run
+-- stays.
 abbrev pub Steps : {Units : Type 0} → Loading Units → Event → LoadedState Units → Core → Units → MemoryInstance → Type 0
 Steps D event.Deep s new us memory = (loaded_too_deep D s ≡ true) × (new.machine.standing ≡ standing.Moving) × IsState D new us memory s
 Steps D event.Stuck s new us memory = (loaded_step D s ≡ None) × (new.machine.standing ≡ standing.Stuck) × IsState D new us memory s
+Steps D (event.Loader which first second) s new us memory =
+    (new.machine.standing ≡ standing.Loading) × IsAtCall D new us memory s × AsksLoader D which first second memory s
 Steps {Units} D e s new us memory =
     (loaded_too_deep D s ≡ false)
     × ((t : LoadedState Units) × (loaded_step D s ≡ Some t) × TellsStatus D.names e t.run.status × IsState D new us memory t)
@@ -130,6 +174,19 @@ StepsFrom {Units} D e old before new after =
 abbrev pub QuickStepsFrom : {Units : Type 0} → Loading Units → Done → Core → Seen Units → Core → Seen Units → Type 0
 QuickStepsFrom {Units} D d old before new after =
     (s : LoadedState Units) → IsState D old before.units before.memory s → QuickSteps D d s new after.units after.memory
+
+-- the step that calls a function of the loader was made, which came to this answer
+abbrev pub AnsweredFrom : {Units : Type 0} → Loading Units → Event → LoaderAnswer → Core → Seen Units → Core → Type 0
+AnsweredFrom {Units} D e answer old w new =
+    (s : LoadedState Units) → IsAtCall D old w.units w.memory s → next_answer D s ≡ Some answer → Steps D e s new w.units w.memory
+
+-- a number is given, the stages stay as they were, and the error is this
+abbrev pub gives_number : Core → ℕ → ℕ → LoaderAnswer
+gives_number c n error = Gives n (record { stages = c.stages; error = error })
+
+-- a member is opened with these tasks
+abbrev pub opens_member : List Task → ℕ → LoaderAnswer
+opens_member tasks m = Opens (record { tasks = tasks; after = GiveHandle m })
 
 -- an answer was taken
 abbrev pub TakenFrom : {Units : Type 0} → Loading Units → Answer → Core → Seen Units → Core → Seen Units → Type 0
@@ -154,6 +211,7 @@ is_deep_event _ = false
 abbrev pub is_made : Event → Bool
 is_made event.Deep = false
 is_made event.Stuck = false
+is_made (event.Loader which first second) = false
 is_made (event.Marked tag) = false
 is_made _ = true
 
@@ -191,8 +249,16 @@ pub record TakesTask (old new : Pending) : Type 0 where
 pub record Finishes (stages : List ℕ) (old new : Core) : Type 0 where
   pub machine : new.machine ≡ old.machine
   pub stages_are : new.stages ≡ stages
+  pub error : new.error ≡ old.error
   pub frames : (p q : Pending) × (slice_get old.frames.items (length old.frames.items - 1) ≡ Some p)
       × (new.frames.items ≡ slice_set old.frames.items (length old.frames.items - 1) q) × TakesTask p q
+
+-- the frame on top is taken away
+pub record Drops (old new : Core) : Type 0 where
+  pub machine : new.machine ≡ old.machine
+  pub stages : new.stages ≡ old.stages
+  pub error : new.error ≡ old.error
+  pub frames : new.frames.items ≡ take (length old.frames.items - 1) old.frames.items
 
 -- whether a member, by its stage, hasn't come so far
 abbrev pub is_below : Option ℕ → ℕ → Bool
@@ -225,6 +291,7 @@ PlacesFrom D m before result after = Places (D.placed m before.units before.memo
 -- the first frame has these tasks, and nothing was done
 pub record IsOpening {Units : Type 0} (members : ℕ) (tasks : List Task) (us : Units) (memory : MemoryInstance) (s : LoadedState Units) : Type 0 where
   pub stages : s.loader.stages ≡ replicate members 0
+  pub error : s.loader.error ≡ 0
   pub units : s.run.units ≡ us
   pub space : s.run.memory ≡ memory
   pub status : s.run.status ≡ Moving

@@ -1,5 +1,5 @@
 // The run without what is counted and recorded of it.
-ghost use Rattle.std.specs.Prelude.{◌≡◌, ◌≢◌, ◌<◌, ◌≤◌, [], length, reverse, map, true, false, Some, None, IfOk, OnOk, IfSome};
+ghost use Rattle.std.specs.Prelude.{◌≡◌, ◌≢◌, ◌<◌, ◌≤◌, ◌+◌, [], length, reverse, map, true, false, Some, None, IfOk, OnOk, IfSome, slice_get};
 ghost use Rattle.std.specs.List.{All};
 ghost use Rattle.std.specs.Option.{option_map};
 ghost use Rattle.spec_binary.specs.Indices.{nullary};
@@ -9,13 +9,16 @@ ghost use Rattle.wasm_view.specs.Seen.{Seen};
 ghost use Rattle.wasm_machine.specs.Machines.{IsMarked};
 ghost use Rattle.spec_loading.specs.Phases.{stage_of};
 ghost use Rattle.spec_loading.specs.declared.task.Phase.TheVariants as phases;
+ghost use Rattle.spec_loading.specs.declared.task.After.TheVariants as follows;
 ghost use Rattle.spec_loading.specs.Loading.{Loading};
-ghost use Rattle.dyl_frames.specs.Tasks.{phase_value, task_value};
+ghost use Rattle.spec_loading.specs.Loading as loading;
+ghost use Rattle.dyl_frames.specs.Tasks.{phase_value, task_value, after_value};
 ghost use Rattle.dyl_frames.specs.Cores.{IsCore, StepsFrom, QuickStepsFrom, TakenFrom, PlacesFrom, OpensAt, IsMarkTold, IsLoaded, is_begun, is_deep_event};
 ghost use Rattle.dyl_frames.specs.Cores.{AreFrames, first_task, top_frame, TakesTask, Finishes, is_behind, raised_stages, is_mark, IsOwn, FitsHost};
+ghost use Rattle.dyl_frames.specs.Cores.{AnsweredFrom, gives_number, opens_member, Drops};
 
 use crate::task::{After, Phase, Task};
-use dyl_world::Stages;
+use dyl_world::{Errors, Stages};
 use std::alloc::Global;
 use wasm_form::{Memory, Ref, Trap};
 use wasm_machine::{Answer, Done, Event, Machine, Standing, View};
@@ -27,12 +30,14 @@ pub(crate) struct Pending {
     pub after: After,
 }
 
-/// A machine, the frames of the loader on its call stack, the latest last, and how far each member has come.
+/// A machine, the frames of the loader on its call stack, the latest last, how far each member has come, and the last error of the
+/// loader.
 #[derive(Drop)]
 pub struct Core<'m> {
     pub(crate) machine: Machine<'m>,
     pub(crate) frames: Vec<Pending>,
     pub(crate) stages: Stages,
+    pub(crate) error: Errors,
 }
 
 // The stage of a member that has come through a phase.
@@ -70,6 +75,16 @@ fn take_task(frame: &mut Pending)
     let _ = frame.tasks.pop();
 }
 
+// The number of a mark. There is no memory for more frames than such numbers.
+fn as_tag(n: usize) -> Result<u32, Memory>
+    ensures { IfOk result (λ tag. tag ≡ n) }
+{
+    match u32::try_from(n) {
+        Ok(tag) => Ok(tag),
+        Err(_) => Err(Memory),
+    }
+}
+
 impl<'m> Core<'m> {
     /// A run whose first frame has these tasks, the next one last, and is followed by the entry.
     pub fn new<V: View<'m>>(
@@ -80,13 +95,13 @@ impl<'m> Core<'m> {
     ) -> Result<Core<'m>, Memory>
         requires whole { IsWhole (V.seen view.now).fixed }
         requires holds { HoldsAll (V.seen view.now).fixed (V.seen view.now).units }
-        requires alone { (V.seen view.now).fixed.has_loader ≡ false }
         requires tasks { All (λ t. t.member < members) tasks.items }
         ensures core { IfOk result (λ c. IsCore (V.seen view.now).fixed (V.seen view.now).units c) }
         ensures opened { IfOk result (λ c. (D : Loading V.Units) → OpensAt D members (map task_value (reverse tasks.items)) (V.seen view.now) c) }
         ensures moving { IfOk result (λ c. c.machine.standing ≡ Standing.Moving) }
     {
         let stages = Stages::new(alloc, members)?;
+        let error = Errors::new();
         let mut machine: Machine<'m> = Machine::new(alloc);
         machine.mark(alloc, view, 0)?;
         let mut frames = Vec::new(alloc);
@@ -98,6 +113,7 @@ impl<'m> Core<'m> {
             machine,
             frames,
             stages,
+            error,
         })
     }
 
@@ -108,7 +124,22 @@ impl<'m> Core<'m> {
         self.machine.standing()
     }
 
-    /// One step of the code on top, or the mark on top, with nothing changed.
+    /// The last error of the loader.
+    pub fn errors(&self) -> Errors
+        ensures { result ≡ self.now.error }
+    {
+        self.error.copied()
+    }
+
+    /// How far each member has come.
+    pub fn stages(&self) -> &Stages
+        ensures { result.now ≡ self.now.stages }
+    {
+        &self.stages
+    }
+
+    /// One step of the code on top, or the mark on top, with nothing changed. Where code calls a function of the loader `Loader`, and the
+    /// step is made by the answer.
     pub fn step<V: View<'m>>(&mut self, alloc: Global, view: &mut V) -> Result<Event, Memory>
         requires core { IsCore (V.seen view.old).fixed (V.seen view.old).units self.old }
         requires moving { self.old.machine.standing ≡ Standing.Moving }
@@ -157,6 +188,27 @@ impl<'m> Core<'m> {
         self.top_task()
     }
 
+    /// What follows the last task of the frame on top.
+    pub fn follows<V: View<'m>>(&self, view: &V) -> After
+        requires core { IsCore (V.seen view.now).fixed (V.seen view.now).units self.now }
+        requires marked { IsMarked self.now.machine }
+        ensures { after_value result ≡ (top_frame self.now).after }
+    {
+        let _view = view;
+        self.top_after()
+    }
+
+    // The same, without what is said of the view.
+    fn top_after(&self) -> After
+        requires { AreFrames self.now }
+        ensures { after_value result ≡ (top_frame self.now).after }
+    {
+        let Some(frame) = self.frames.last() else {
+            unreachable!();
+        };
+        frame.after
+    }
+
     // The same, without what is said of the view.
     fn top_task(&self) -> Option<Task>
         requires { AreFrames self.now }
@@ -178,6 +230,15 @@ impl<'m> Core<'m> {
     {
         let last = self.frames.len() - 1;
         take_task(&mut self.frames[last]);
+    }
+
+    // Takes the frame on top away.
+    fn drop_top(&mut self)
+        requires frames { AreFrames self.old }
+        ensures { Drops self.old self.new }
+    {
+        let last = self.frames.len() - 1;
+        self.frames.truncate(last);
     }
 
     // Takes the next task of the frame on top away, and puts its member at the stage of its phase.
@@ -285,6 +346,7 @@ impl<'m> Core<'m> {
         requires core { IsCore (V.seen view.now).fixed (V.seen view.now).units self.old }
         requires marked { IsMarked self.old.machine }
         requires last { (top_frame self.old).tasks ≡ [] }
+        requires entry { (top_frame self.old).after ≡ follows.CallEntry }
         requires nullary { type_seen (V.seen view.now).fixed r ≡ Some nullary }
         requires own { IsOwn r }
         ensures stepped { IfOk result (λ e. (D : Loading V.Units) → IsLoaded D (V.seen view.now).fixed → D.entry ≡ Some r → StepsFrom D e self.old (V.seen view.now) self.new (V.seen view.now)) }
@@ -330,5 +392,73 @@ impl<'m> Core<'m> {
             }
             Some(r) => self.call(alloc, view, task, r),
         }
+    }
+}
+
+// ---- the functions of the loader
+
+impl<'m> Core<'m> {
+    /// Gives a number to the code that called a function of the loader, and keeps this error.
+    pub fn give<V: View<'m>>(&mut self, view: &V, n: u32, errors: Errors)
+        requires core { IsCore (V.seen view.now).fixed (V.seen view.now).units self.old }
+        requires loading { self.old.machine.standing ≡ Standing.Loading }
+        ensures stepped { (D : Loading V.Units) → AnsweredFrom D Event.Moved (gives_number self.old n errors) self.old (V.seen view.now) self.new }
+        ensures core { IsCore (V.seen view.now).fixed (V.seen view.now).units self.new }
+        ensures members { length self.new.stages ≡ length self.old.stages }
+    {
+        self.machine.give(view, n);
+        self.error = errors;
+    }
+
+    /// Ends by a trap of a function of the loader.
+    pub fn trap<V: View<'m>>(&mut self, view: &V, why: Trap)
+        requires core { IsCore (V.seen view.now).fixed (V.seen view.now).units self.old }
+        requires loading { self.old.machine.standing ≡ Standing.Loading }
+        ensures stepped { (D : Loading V.Units) → AnsweredFrom D (Event.Trapped why) (loading.Traps why) self.old (V.seen view.now) self.new }
+        ensures core { IsCore (V.seen view.now).fixed (V.seen view.now).units self.new }
+        ensures members { length self.new.stages ≡ length self.old.stages }
+    {
+        let _view = view;
+        self.machine.trap(why);
+    }
+
+    /// Puts a frame over the code that called the loader, with these tasks, the next one last, which is followed by the handle of a member.
+    pub fn open<V: View<'m>>(
+        &mut self,
+        alloc: Global,
+        view: &V,
+        tasks: Vec<Task>,
+        member: u32,
+    ) -> Result<(), Memory>
+        requires core { IsCore (V.seen view.now).fixed (V.seen view.now).units self.old }
+        requires loading { self.old.machine.standing ≡ Standing.Loading }
+        requires tasks { All (λ t. t.member < length self.old.stages) tasks.items }
+        requires handle { member + 1 < 4294967296 }
+        ensures stepped { OnOk result ((D : Loading V.Units) → AnsweredFrom D Event.Moved (opens_member (map task_value (reverse tasks.items)) member) self.old (V.seen view.now) self.new) }
+        ensures core { OnOk result (IsCore (V.seen view.now).fixed (V.seen view.now).units self.new) }
+        ensures members { OnOk result (length self.new.stages ≡ length self.old.stages) }
+    {
+        let tag = as_tag(self.frames.len())?;
+        self.machine.mark(alloc, view, tag)?;
+        self.frames.push(Pending {
+            tasks,
+            after: After::GiveHandle(member),
+        })?;
+        Ok(())
+    }
+
+    /// What follows the last task of a frame that a call of `dlopen` put: the handle of the member is given to what called.
+    pub fn hand_over<V: View<'m>>(&mut self, view: &V, member: u32)
+        requires core { IsCore (V.seen view.now).fixed (V.seen view.now).units self.old }
+        requires marked { IsMarked self.old.machine }
+        requires last { (top_frame self.old).tasks ≡ [] }
+        requires handle { (top_frame self.old).after ≡ follows.GiveHandle member }
+        ensures stepped { (D : Loading V.Units) → StepsFrom D Event.Moved self.old (V.seen view.now) self.new (V.seen view.now) }
+        ensures core { IsCore (V.seen view.now).fixed (V.seen view.now).units self.new }
+        ensures members { length self.new.stages ≡ length self.old.stages }
+    {
+        self.machine.unmark(view);
+        self.machine.give(view, member + 1);
+        self.drop_top();
     }
 }

@@ -31,7 +31,7 @@ use Rattle.spec_linking.specs.declared.fault.SetFault.{SetFault}
 use Rattle.spec_linking.specs.declared.fault.SetFault.TheVariants as set
 use Rattle.spec_linking.specs.declared.fault.SetFault.TheVariants.{Missing, ReadFault, Decode, Record, Check, ModuleCount, SetSize}
 use Rattle.dyl_front.specs.declared.outcome.Outcome.{Outcome}
-use Rattle.dyl_front.specs.declared.outcome.Outcome.TheVariants.{Done, Ran, Usage, Set, Unbuilt, Link, Merge, Single, WriteFault, Memory}
+use Rattle.dyl_front.specs.declared.outcome.Outcome.TheVariants.{Done, Ran, Usage, Set, Link, Merge, Single, WriteFault, Memory}
 
 -- a lower-case hexadecimal digit
 abbrev pub hex_digit : ℕ → ℕ
@@ -175,7 +175,6 @@ outcome_text Done = None
 outcome_text (Ran ran) = end_text ran.end
 outcome_text (Usage kind) = Some (usage_text kind)
 outcome_text (Set fault) = Some (set_text fault)
-outcome_text Unbuilt = Some (codes "unbuilt")
 outcome_text (Link fault) = Some (link_text fault)
 outcome_text (Merge fault) = Some (merge_text fault)
 outcome_text (Single fault) = Some (single_text fault)

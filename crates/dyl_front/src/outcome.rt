@@ -50,8 +50,6 @@ pub enum Outcome {
     Usage(UsageKind),
     /// The order's files are no closed set. The fault is never `Memory`, nor is the fault of a member that it carries.
     Set(SetFault),
-    /// The input has a form that is not built yet.
-    Unbuilt,
     /// The set does not link. The fault is never `Memory`.
     Link(LinkFault),
     /// The merged module isn't written. The fault is never `Memory`.
@@ -89,11 +87,7 @@ pub fn status(outcome: &Outcome) -> u8
         Outcome::Ran(ran) => end_status(ran.end),
         Outcome::Usage(_) => 64,
         Outcome::Set(SetFault::ReadFault { .. }) => 66,
-        Outcome::Set(_)
-        | Outcome::Unbuilt
-        | Outcome::Link(_)
-        | Outcome::Merge(_)
-        | Outcome::Single(_) => 65,
+        Outcome::Set(_) | Outcome::Link(_) | Outcome::Merge(_) | Outcome::Single(_) => 65,
         Outcome::Memory => 71,
         Outcome::WriteFault => 74,
     }

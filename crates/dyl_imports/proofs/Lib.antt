@@ -1,3 +1,5 @@
+mod ByHost
+mod ByLoader
 mod ByNumber
 mod Counted
 mod EachOnce

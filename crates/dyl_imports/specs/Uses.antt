@@ -1,7 +1,6 @@
 -- What an import stands for.
-use Rattle.std.specs.Prelude.{bytes_eq, if◌then◌else◌}
+use Rattle.std.specs.Prelude.{Bool, true, false, bytes_eq, codes, if◌then◌else◌}
 use Rattle.wasm_form.specs.declared.module.Import.{Import}
-use Rattle.spec_linking.specs.Definitions.{env_name, got_mem_name, got_func_name}
 use Rattle.spec_linking.specs.Imports as imports
 use Rattle.dyl_imports.specs.declared.uses.Use.{Use}
 use Rattle.dyl_imports.specs.declared.uses.Use.TheVariants as code
@@ -19,9 +18,18 @@ use_value (code.EnvFunction t) = imports.EnvFunction t
 use_value (code.ModuleFunction t) = imports.ModuleFunction t
 use_value code.Other = imports.OtherUse
 
--- where it isn't one of the five names that all members share
-abbrev pub named_use : Import → imports.ImportUse
-named_use i =
-    if bytes_eq i.«module» got_mem_name then imports.DataCell
-    else if bytes_eq i.«module» got_func_name then imports.SlotCell
-    else imports.function_use (bytes_eq i.«module» env_name) i.desc
+-- an import of `env`
+abbrev pub env_use : Import → imports.ImportUse
+env_use i =
+    if bytes_eq i.field (codes "memory") then imports.SharedMemory
+    else if bytes_eq i.field (codes "__indirect_function_table") then imports.SharedTable
+    else if bytes_eq i.field (codes "__stack_pointer") then imports.StackPointer
+    else if bytes_eq i.field (codes "__memory_base") then imports.MemoryBase
+    else if bytes_eq i.field (codes "__table_base") then imports.TableBase
+    else imports.function_use true i.desc
+
+-- a function, or the slot of one, by a name that all members share
+abbrev pub shares_function : imports.ImportUse → Bool
+shares_function (imports.EnvFunction t) = true
+shares_function imports.SlotCell = true
+shares_function _ = false

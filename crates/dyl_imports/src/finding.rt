@@ -87,7 +87,7 @@ fn add_import(
     let name = i.field.as_str();
     match use_of(i) {
         Use::EnvFunction(t) => {
-            let found = known.definition(m, Kind::Function, name, 0);
+            let found = known.host_definition(m, Kind::Function, name);
             add_defined(
                 alloc,
                 hosts,
@@ -100,7 +100,7 @@ fn add_import(
             add_declared(alloc, hosts, known, i, wasm.types.items().get(t as usize))
         }
         Use::SlotCell => {
-            let found = known.definition(m, Kind::Func, name, 0);
+            let found = known.host_definition(m, Kind::Func, name);
             add_defined(alloc, hosts, found, name, known.declared.typed("env", name))
         }
         Use::SharedMemory

@@ -27,8 +27,9 @@ pub struct Known<'a> {
 }
 
 impl<'a> Known<'a> {
-    ghost use Rattle.std.specs.Prelude.{◌<◌, ℕ, length, slice_get, is_some, Some, IfOk};
+    ghost use Rattle.std.specs.Prelude.{◌<◌, ℕ, List, length, slice_get, is_some, Some, IfOk};
     ghost use Rattle.std.specs.Option.{option_copied};
+    ghost use Rattle.spec_runtime.specs.Names.{HostName};
     ghost use Rattle.spec_linking.specs.LinkedSets as linked;
     ghost use Rattle.spec_linking.specs.LinkedSets.{LinkedSet};
     ghost use Rattle.spec_linking.specs.Links.{type_in};
@@ -91,8 +92,8 @@ impl<'a> Known<'a> {
         }
     }
 
-    // The definition of a name for an import of member m which is of this kind. A host function has this number.
-    pub fn definition(&self, m: u32, kind: Kind, name: &str, number: u32) -> Def
+    // The definition of a name that no other than the host may give, or that is weak.
+    fn last_definition(&self, m: u32, kind: Kind, name: &str, number: u32) -> Def
         requires { m < length self.now.symbols.now.names }
         ensures meaning { (L : LinkedSet) → IsKnownOf L self.now → meaning_of result ≡ linked.definition L m kind name.now }
         ensures host { (n : ℕ) → result ≡ def.Host n → n ≡ number }
@@ -100,6 +101,32 @@ impl<'a> Known<'a> {
         let host = self.host_for(kind, name, number);
         let weak = self.is_weak(m, name);
         self.symbols.resolve(m, name, host, weak)
+    }
+
+    // The definition of a name for an import of member m which is of this kind. A host function has this number. The host and weak names
+    // are asked only where neither the loader nor a member defines the name.
+    pub fn definition(&self, m: u32, kind: Kind, name: &str, number: u32) -> Def
+        requires { m < length self.now.symbols.now.names }
+        ensures meaning { (L : LinkedSet) → IsKnownOf L self.now → meaning_of result ≡ linked.definition L m kind name.now }
+        ensures host { (n : ℕ) → result ≡ def.Host n → n ≡ number }
+    {
+        match self.symbols.resolve(m, name, None, false) {
+            Def::Nothing => self.last_definition(m, kind, name, number),
+            found => found,
+        }
+    }
+
+    // The same where the host declares the name, and else nothing: what is asked for is whether the definition is the host's.
+    #[tactic(auto, using(crate::proofs::ByHost::undeclared))]
+    pub fn host_definition(&self, m: u32, kind: Kind, name: &str) -> Def
+        requires { m < length self.now.symbols.now.names }
+        ensures { (L : LinkedSet) (hosts : List HostName) → IsKnownOf L self.now → linked.host_defined (meaning_of result) hosts ≡ linked.host_defined (linked.definition L m kind name.now) hosts }
+    {
+        if is_host_for(self.declared, &self.any, kind, name) {
+            self.definition(m, kind, name, 0)
+        } else {
+            Def::Nothing
+        }
     }
 
     // The type of function f of member m.

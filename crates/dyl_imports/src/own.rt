@@ -2,11 +2,12 @@
 ghost use Rattle.std.specs.Prelude.{◌≡◌, ◌++◌, length, map, OnOk};
 ghost use Rattle.std.specs.List.{range_with_len};
 ghost use Rattle.wasm_form.specs.declared.runtime.Ref.TheVariants.{Own};
+ghost use Rattle.spec_linking.specs.Definitions.{named_in, loader_names};
 ghost use Rattle.spec_loading.specs.Members as members;
-ghost use Rattle.dyl_scope.specs.Scopes.{meaning_of};
+ghost use Rattle.dyl_imports.specs.Uses.{use_value, shares_function};
 
 use crate::copies::as_number;
-use dyl_scope::Def;
+use crate::uses::Use;
 use wasm_form::{Memory, Ref};
 
 // So many functions of its own, numbered after those that are there.
@@ -21,18 +22,29 @@ pub(crate) fn add_own(refs: &mut Vec<Ref>, m: u32, count: usize) -> Result<(), M
     Ok(())
 }
 
-// Whether a definition is a function of the loader.
-pub(crate) fn is_loader(found: Def) -> bool
-    ensures { result ≡ members.is_loader (meaning_of found) }
+// Whether a name is that of a function of the loader.
+pub(crate) fn is_loader_name(name: &str) -> bool
+    ensures { result ≡ members.is_loader (named_in loader_names name.now) }
 {
-    match found {
-        Def::Loader(_) => true,
-        Def::HeapBase
-        | Def::HeapEnd
-        | Def::Function { .. }
-        | Def::Datum { .. }
-        | Def::Host(_)
-        | Def::Weak
-        | Def::Nothing => false,
+    match name {
+        "dlopen" | "dlsym" | "dlclose" | "dlerror" => true,
+        _ => false,
+    }
+}
+
+// Whether an import that stands for this is a function or the slot of one, by a name that all members share.
+pub(crate) fn shares_function(stands_for: Use) -> bool
+    ensures { result ≡ shares_function (use_value stands_for) }
+{
+    match stands_for {
+        Use::EnvFunction(_) | Use::SlotCell => true,
+        Use::SharedMemory
+        | Use::SharedTable
+        | Use::StackPointer
+        | Use::MemoryBase
+        | Use::TableBase
+        | Use::DataCell
+        | Use::ModuleFunction(_)
+        | Use::Other => false,
     }
 }

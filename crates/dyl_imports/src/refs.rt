@@ -1,7 +1,7 @@
 // The functions that the numbers of a member name.
 use crate::copies::as_number;
 use crate::imports::Imports;
-use crate::own::{add_own, is_loader};
+use crate::own::{add_own, is_loader_name, shares_function};
 use crate::uses::{Use, use_of};
 use dyl_scope::Def;
 use spec_linking::Kind;
@@ -105,24 +105,13 @@ impl<'a> Imports<'a> {
     }
 
     // Whether an import of member m names a function of the loader.
+    #[tactic(auto, using(crate::proofs::ByLoader::loader_by_name))]
     fn names_loader(&self, m: u32, i: &Import) -> bool
         requires { m < length self.now.known.symbols.now.names }
         ensures { (L : LinkedSet) → AreImportsOf L self.now → result ≡ members.loader_as L m i.now (use_of i.now) }
     {
-        match use_of(i) {
-            Use::EnvFunction(_) => {
-                is_loader(self.definition(m, Kind::Function, i.field.as_str()))
-            }
-            Use::SlotCell => is_loader(self.definition(m, Kind::Func, i.field.as_str())),
-            Use::SharedMemory
-            | Use::SharedTable
-            | Use::StackPointer
-            | Use::MemoryBase
-            | Use::TableBase
-            | Use::DataCell
-            | Use::ModuleFunction(_)
-            | Use::Other => false,
-        }
+        let _self = self;
+        is_loader_name(i.field.as_str()) && shares_function(use_of(i))
     }
 
     // Whether one of these imports of member m does.

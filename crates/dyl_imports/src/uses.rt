@@ -1,7 +1,7 @@
 // What an import stands for.
 ghost use Rattle.std.specs.Prelude.{◌≡◌};
 ghost use Rattle.spec_linking.specs.Imports as imports;
-ghost use Rattle.dyl_imports.specs.Uses.{use_value, named_use};
+ghost use Rattle.dyl_imports.specs.Uses.{use_value, env_use};
 
 use wasm_form::{Import, ImportDesc};
 
@@ -21,12 +21,6 @@ pub enum Use {
     Other,
 }
 
-fn is_import(i: &Import, from: &str, field: &str) -> bool
-    ensures { result ≡ imports.is_import from.now field.now i.now }
-{
-    i.module.as_str() == from && i.field.as_str() == field
-}
-
 fn function_use(of_env: bool, desc: ImportDesc) -> Use
     ensures { use_value result ≡ imports.function_use of_env desc }
 {
@@ -37,37 +31,28 @@ fn function_use(of_env: bool, desc: ImportDesc) -> Use
     }
 }
 
-// A cell, or a function.
-fn named_use(i: &Import) -> Use
-    ensures { use_value result ≡ named_use i.now }
+// What an import of `env` stands for.
+fn env_use(i: &Import) -> Use
+    ensures { use_value result ≡ env_use i.now }
 {
-    if i.module.as_str() == "GOT.mem" {
-        return Use::DataCell;
+    match i.field.as_str() {
+        "memory" => Use::SharedMemory,
+        "__indirect_function_table" => Use::SharedTable,
+        "__stack_pointer" => Use::StackPointer,
+        "__memory_base" => Use::MemoryBase,
+        "__table_base" => Use::TableBase,
+        _ => function_use(true, i.desc),
     }
-    if i.module.as_str() == "GOT.func" {
-        return Use::SlotCell;
-    }
-    function_use(i.module.as_str() == "env", i.desc)
 }
 
-// What an import stands for.
+/// What an import stands for.
 pub fn use_of(i: &Import) -> Use
     ensures { use_value result ≡ imports.use_of i.now }
 {
-    if is_import(i, "env", "memory") {
-        return Use::SharedMemory;
+    match i.module.as_str() {
+        "env" => env_use(i),
+        "GOT.mem" => Use::DataCell,
+        "GOT.func" => Use::SlotCell,
+        _ => function_use(false, i.desc),
     }
-    if is_import(i, "env", "__indirect_function_table") {
-        return Use::SharedTable;
-    }
-    if is_import(i, "env", "__stack_pointer") {
-        return Use::StackPointer;
-    }
-    if is_import(i, "env", "__memory_base") {
-        return Use::MemoryBase;
-    }
-    if is_import(i, "env", "__table_base") {
-        return Use::TableBase;
-    }
-    named_use(i)
 }

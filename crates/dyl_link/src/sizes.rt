@@ -38,9 +38,15 @@ pub(crate) struct Bounds {
 fn limits_in(shared: Shared, i: &Import) -> Option<Limits>
     ensures { listed result ≡ limits_as shared i.now }
 {
-    match (shared, use_of(i), i.desc) {
-        (Shared::Memory, Use::SharedMemory, ImportDesc::Space(limits)) => Some(limits),
-        (Shared::Table, Use::SharedTable, ImportDesc::Table(ty)) => Some(ty.limits),
+    match (shared, i.desc) {
+        (Shared::Memory, ImportDesc::Space(limits)) => match use_of(i) {
+            Use::SharedMemory => Some(limits),
+            _ => None,
+        },
+        (Shared::Table, ImportDesc::Table(ty)) => match use_of(i) {
+            Use::SharedTable => Some(ty.limits),
+            _ => None,
+        },
         _ => None,
     }
 }

@@ -21,7 +21,7 @@ use Rattle.dyl_search.specs.Gathers.{member_of}
 use Rattle.dyl_link.specs.Kept.{Kept}
 use Rattle.dyl_store.specs.declared.unit.Unit.{Unit}
 use Rattle.dyl_store.specs.Worlds.{set_in}
-use Rattle.dyl_store.specs.Stores.{IsOfSet}
+use Rattle.merge_start.specs.Listed.{IsOfSet}
 use Rattle.dyl_store.specs.Units.{IsUnit}
 use Rattle.dyl_store.specs.Opening.{AreNumbers, first_of}
 use Rattle.dyl_store.proofs.Views.{global_same}

@@ -9,6 +9,7 @@ pub mod Fitting
 pub mod Recording
 pub mod Addressed
 pub mod Offsets
+pub mod Calling
 pub mod Stepping
 pub mod Arguments
 pub mod Stopping

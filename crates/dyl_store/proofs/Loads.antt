@@ -64,8 +64,6 @@ core_kept V us us' c h holds = record {
   over = record { range = record { whole = h.over.range.whole; units = holds; stack = h.over.range.stack }; rooms = h.over.rooms; asked = h.over.asked };
   live = h.live;
   pending = h.pending;
-  alone = h.alone;
-  few = h.few;
 }
 
 pub placed_core : PlacedHolds → (x : Running) → IsRunning x → (m : ℕ) (r : Result (Unit {0}) Trap) (new : WorldState) → PlacesSo x.linked.now m x.world r new → IsCore (kept_view x.world.linked) new.store x.core

@@ -20,6 +20,7 @@ use Rattle.spec_execution.specs.Ranges.{AreInRange, Exists, IsWhole, HoldsAll}
 use Rattle.spec_linking.specs.Sets.{Member}
 use Rattle.spec_linking.specs.Plans.{Plan}
 use Rattle.spec_linking.specs.LinkedSets.{LinkedSet}
+use Rattle.spec_linking.specs.Orders.{closure, post_order}
 use Rattle.spec_linking.specs.Slots.{linked_plan}
 use Rattle.spec_linking.proofs.LinkedFacts.{linked_limits}
 use Rattle.spec_safety.specs.Laws.{AreThere, StoreIsWhole}
@@ -27,13 +28,13 @@ use Rattle.spec_safety.proofs.StepsInRange.{All-reverse}
 use Rattle.spec_loading.specs.declared.task.Task as loader
 use Rattle.spec_loading.specs.Texts.{error_texts}
 use Rattle.spec_loading.proofs.Rows.{texts_length}
-use Rattle.spec_loading.specs.Phases.{opening_tasks, startup_frame}
+use Rattle.spec_loading.specs.Phases.{opening_tasks, startup_frame, open_frame}
 use Rattle.spec_loading.specs.Members.{set_view, opening_store}
 use Rattle.spec_loading.specs.LoadedSet.{set_loading, set_opening, set_run, opening_memory}
 use Rattle.spec_loading.specs.Laws.{LinkedIsThere, OpeningHolds, SizesArePlanned}
 use Rattle.merge_start.specs.Points.{AreOf}
-use Rattle.merge_start.proofs.Linked.{members_count, startup_is}
-use Rattle.merge_start.proofs.Ranges.{of_startup}
+use Rattle.merge_start.proofs.Linked.{members_count}
+use Rattle.merge_start.proofs.Ranges.{of_open}
 use Rattle.dyl_scope.specs.Scopes.{list_at}
 use Rattle.dyl_frames.specs.declared.task.Task.{Task}
 use Rattle.dyl_frames.specs.Tasks.{task_value}
@@ -43,7 +44,7 @@ use Rattle.dyl_link.specs.Kept.{Kept, IsLinked}
 use Rattle.dyl_store.specs.declared.world.World.TheInside.{Inside}
 use Rattle.dyl_store.specs.declared.running.Running.{Running}
 use Rattle.dyl_store.specs.declared.store.Store.TheInside as kept
-use Rattle.dyl_store.specs.Stores.{IsOfSet}
+use Rattle.merge_start.specs.Listed.{IsOfSet}
 use Rattle.dyl_store.specs.Worlds.{WorldState, kept_instances, kept_view, HasSizes}
 use Rattle.dyl_store.specs.Units.{AreUnits, IsWorld, store_of}
 use Rattle.dyl_store.specs.Opened.{IsOpened}
@@ -106,16 +107,30 @@ inside : (L : LinkedSet) (ts : List Task) → AreOf L (map task_value ts) → Al
 inside L [] are = All-nil (IsOf (length L.set.members))
 inside L (t ∷ ts) are = All-cons (IsOf (length L.set.members)) t ts are.0 (inside L ts are.1)
 
-module _ (L : LinkedSet) (k : Kept) (h : IsLinked L k) (tasks : List Task) (breadth post : List ℕ)
-    (opens : map task_value (reverse tasks) ≡ opening_tasks breadth post) (starts : breadth ≡ k.set.startup) (order : post ≡ list_at k.symbols.orders 0) where
-  pub startup_tasks : map task_value (reverse tasks) ≡ (startup_frame L.set).tasks
-  startup_tasks = opens ∙ ap₂ opening_tasks (starts ∙ startup_is L k h) (order ∙ h.symbols.orders 0 h.shape.some)
+-- names are kept of each member
+pub names_count : (L : LinkedSet) (k : Kept) → IsLinked L k → (m : ℕ) → m < length k.set.members → m < length k.symbols.names
+names_count L k h m lt = subst (λ (n : ℕ). m < n) (sym (h.symbols.count ∙ members_count L k h)) lt
 
-  pub startup_members : All (λ (t : Task). t.member < length k.set.members) tasks
-  startup_members =
-      let there : All (IsOf (length L.set.members)) (reverse tasks) = inside L (reverse tasks) (subst (AreOf L) (sym startup_tasks) (of_startup L h.shape)) in
+module _ (L : LinkedSet) (k : Kept) (h : IsLinked L k) (m : ℕ) (lt : m < length k.set.members) (tasks : List Task) (breadth post : List ℕ)
+    (opens : map task_value (reverse tasks) ≡ opening_tasks breadth post) (starts : breadth ≡ closure L.set m) (order : post ≡ list_at k.symbols.orders m) where
+  within : m < length L.set.members
+  within = subst (λ (n : ℕ). m < n) (sym (members_count L k h)) lt
+
+  pub open_tasks : map task_value (reverse tasks) ≡ (open_frame L.set m).tasks
+  open_tasks = opens ∙ ap₂ opening_tasks starts (order ∙ h.symbols.orders m within)
+
+  pub open_members : All (λ (t : Task). t.member < length k.set.members) tasks
+  open_members =
+      let there : All (IsOf (length L.set.members)) (reverse tasks) = inside L (reverse tasks) (subst (AreOf L) (sym open_tasks) (of_open L h.shape m within)) in
       let here : All (IsOf (length k.set.members)) (reverse tasks) = subst (λ (n : ℕ). All (IsOf n) (reverse tasks)) (members_count L k h) there in
       subst (λ (ts : List Task). All (IsOf (length k.set.members)) ts) (reverse-reverse tasks) (All-reverse (IsOf (length k.set.members)) (reverse tasks) here)
+
+-- the first frame opens the main module
+pub startup_opens : (L : LinkedSet) (k : Kept) → IsLinked L k → (open_frame L.set 0).tasks ≡ (startup_frame L.set).tasks
+startup_opens L k h = ap (λ (breadth : List ℕ). opening_tasks breadth (post_order L.set 0)) (sym h.shape.startup)
+
+pub some_members : (L : LinkedSet) (k : Kept) → IsLinked L k → 0 < length k.set.members
+some_members L k h = subst (λ (n : ℕ). 0 < n) (members_count L k h) h.shape.some
 
 -- ---- the members
 
@@ -165,9 +180,6 @@ module _ (L : LinkedSet) (k : Kept) (h : IsLinked L k) (w : WorldState) (opened 
       subst (λ (us : ModuleParts). HoldsAll (kept_view w.linked) us) (sym (opened.store L h))
       (subst (λ (x : Kept). HoldsAll (kept_view x) (opening_store L)) (sym opened.linked) (opened_holds L k h law))
 
-  pub alone_over : k.uses_loader ≡ false → (kept_view w.linked).has_loader ≡ false
-  alone_over none = ap (λ (x : Kept). x.uses_loader) opened.linked ∙ none
-
 -- ---- the machine
 
 -- no member has come to a stage
@@ -180,6 +192,7 @@ pub core_at : (L : LinkedSet) (k : Kept) → IsLinked L k → (w : WorldState) �
 core_at L k h w opened count many tasks are c opens =
     opens (set_opening L) (record {
       stages = no_stages L.set.members ∙ ap (λ (n : ℕ). replicate n 0) (members_count L k h ∙ sym many);
+      error = refl;
       units = sym (opened.store L h);
       space = sym (opened.memory L h);
       status = refl;

@@ -27,7 +27,8 @@ use Rattle.dyl_store.specs.Worlds.{kept_view}
 use Rattle.dyl_store.specs.declared.running.Running.{Running}
 use Rattle.dyl_store.specs.declared.store.Store.TheInside.{Inside}
 use Rattle.dyl_store.specs.Stores.{StoreRun, recorded_of, Stands, has_ended, waits, IsAnswered, StepMade, RunStepped, ArgumentsFit}
-use Rattle.dyl_store.specs.Runs.{IsRunning, IsAt, StepsTo}
+use Rattle.dyl_store.specs.Runs.{IsRunning, IsSomewhere, IsAt, StepsTo}
+use Rattle.dyl_store.specs.Calls.{is_loader}
 use Rattle.dyl_store.specs.Steps.{event_of, steps_told}
 use Rattle.dyl_store.specs.Kept.{run_of, IsStore}
 use Rattle.dyl_store.proofs.Fitting.{asking_status, fits_host}
@@ -103,18 +104,18 @@ module _ (L : LinkedSet) where
     by_none : told ≡ 0 → i.steps + told ≡ i.steps
     by_none none = omega arith
 
-    stepped_at : (e : Event) → told ≡ steps_told e → Steps (set_loading L) e r.state new.core new.world.store new.world.memory → IsStepped L e (run_of i) (with_running i new (i.steps + told) i.answered)
-    stepped_at event.Moved count made = moved event.Moved i new (i.steps + told) r linked (by_one count) stands status refl made
-    stepped_at (event.Waits asked) count made = moved (event.Waits asked) i new (i.steps + told) r linked (by_one count) stands status refl made
-    stepped_at (event.Loader which first second) count made = moved (event.Loader which first second) i new (i.steps + told) r linked (by_one count) stands status refl made
-    stepped_at (event.Marked tag) count made = moved (event.Marked tag) i new (i.steps + told) r linked (by_one count) stands status refl made
-    stepped_at event.Returned count made = moved event.Returned i new (i.steps + told) r linked (by_one count) stands status refl made
-    stepped_at (event.Trapped why) count made = moved (event.Trapped why) i new (i.steps + told) r linked (by_one count) stands status refl made
-    stepped_at (event.Exited code) count made = moved (event.Exited code) i new (i.steps + told) r linked (by_one count) stands status refl made
-    stepped_at event.Deep count stayed =
+    stepped_at : (e : Event) → is_loader e ≡ false → told ≡ steps_told e → Steps (set_loading L) e r.state new.core new.world.store new.world.memory → IsStepped L e (run_of i) (with_running i new (i.steps + told) i.answered)
+    stepped_at event.Moved plain count made = moved event.Moved i new (i.steps + told) r linked (by_one count) stands status refl made
+    stepped_at (event.Waits asked) plain count made = moved (event.Waits asked) i new (i.steps + told) r linked (by_one count) stands status refl made
+    stepped_at (event.Loader which first second) plain count made = absurd cc
+    stepped_at (event.Marked tag) plain count made = moved (event.Marked tag) i new (i.steps + told) r linked (by_one count) stands status refl made
+    stepped_at event.Returned plain count made = moved event.Returned i new (i.steps + told) r linked (by_one count) stands status refl made
+    stepped_at (event.Trapped why) plain count made = moved (event.Trapped why) i new (i.steps + told) r linked (by_one count) stands status refl made
+    stepped_at (event.Exited code) plain count made = moved (event.Exited code) i new (i.steps + told) r linked (by_one count) stands status refl made
+    stepped_at event.Deep plain count stayed =
         let kept = stays i new (i.steps + told) r linked (by_none count) stands in
         record { stands = (r, kept.1, stayed.2); stepped = (r, stands, (status, stayed.0, kept.0)) }
-    stepped_at event.Stuck count stayed =
+    stepped_at event.Stuck plain count stayed =
         let kept = stays i new (i.steps + told) r linked (by_none count) stands in
         record { stands = (r, kept.1, stayed.2); stepped = (r, stands, (status, stayed.0, kept.0)) }
 
@@ -122,10 +123,17 @@ module _ (L : LinkedSet) where
   moving_status x s at moving = let k = subst (λ (st : Standing). StandsAs (set_loading L) x.core s st) moving at.standing in k.0
 
   stepped_from : (e : Event) (i : Inside) (new : Running) (told : ℕ) → IsStore i → i.lost ≡ false → i.running.core.machine.standing ≡ standing.Moving → IsLinked L i.running.linked.now
-      → StepsTo L e i.running new → new.linked ≡ i.running.linked → told ≡ steps_told e → IsStepped L e (run_of i) (with_running i new (i.steps + told) i.answered)
-  stepped_from e i new told h found moving of steps linked count =
+      → StepsTo L e i.running new → is_loader e ≡ false → new.linked ≡ i.running.linked → told ≡ steps_told e → IsStepped L e (run_of i) (with_running i new (i.steps + told) i.answered)
+  stepped_from e i new told h found moving of steps plain linked count =
       let r = h.stands found L of in
-      stepped_at i new told r.0 linked r.1 (moving_status i.running r.0.state r.2 moving) e count (steps r.0.state r.2)
+      stepped_at i new told r.0 linked r.1 (moving_status i.running r.0.state r.2 moving) e plain count (steps r.0.state r.2)
+
+-- it stands at a state
+pub somewhere : (i : Inside) → IsStore i → i.lost ≡ false → IsSomewhere i.running
+somewhere i h found =
+    let set = (h.running found).set in
+    let r = h.stands found set.0 set.1 in
+    (set.0, set.1, (r.0.state, r.2))
 
 -- a set of what is seen of a run is one of what is kept of it
 pub linked_of : (v : StoreRun) (i : Inside) (L : LinkedSet) → run_of i ≡ v → IsLinked L v.linked → IsLinked L i.running.linked.now
@@ -133,20 +141,20 @@ linked_of v i L is linked = subst (λ (s : StoreRun). IsLinked L s.linked) (sym 
 
 -- a step of what is running that goes on
 module _ (e : Event) (v : StoreRun) (i : Inside) (new : Running) (told : ℕ) (is : run_of i ≡ v) (h : IsStore i) (found : i.lost ≡ false) (moving : i.running.core.machine.standing ≡ standing.Moving)
-    (steps : (L : LinkedSet) → IsLinked L i.running.linked.now → StepsTo L e i.running new) (linked : new.linked ≡ i.running.linked) (count : told ≡ steps_told e) where
+    (steps : (L : LinkedSet) → IsLinked L i.running.linked.now → StepsTo L e i.running new) (plain : is_loader e ≡ false) (linked : new.linked ≡ i.running.linked) (count : told ≡ steps_told e) where
   pub moving_store : IsRunning new → IsStore (with_running i new (i.steps + told) i.answered)
   moving_store running = record {
     running = λ _. running;
     stands = λ _ L of.
         let before : IsLinked L i.running.linked.now = subst (IsLinked L) (linked_now i new linked) of in
-        (stepped_from L e i new told h found moving before (steps L before) linked count).stands;
+        (stepped_from L e i new told h found moving before (steps L before) plain linked count).stands;
   }
 
   pub moving_stepped : (L : LinkedSet) → IsLinked L v.linked → (r : Ran hosts SetState) × Stands L v r × RunStepped L e v r (run_of (with_running i new (i.steps + told) i.answered))
   moving_stepped L of =
       let before = linked_of v i L is of in
       let P : StoreRun → Type 0 = λ s. (r : Ran hosts SetState) × Stands L s r × RunStepped L e s r (run_of (with_running i new (i.steps + told) i.answered)) in
-      subst P is (stepped_from L e i new told h found moving before (steps L before) linked count).stepped
+      subst P is (stepped_from L e i new told h found moving before (steps L before) plain linked count).stepped
 
 -- ---- the answer that is recorded
 

@@ -3,6 +3,7 @@ pub mod Worlds
 pub mod Units
 pub mod Placements
 pub mod Runs
+pub mod Calls
 pub mod Steps
 pub mod Kept
 pub mod Opening

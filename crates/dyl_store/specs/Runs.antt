@@ -4,9 +4,9 @@ use Rattle.spec_linking.specs.LinkedSets.{LinkedSet}
 use Rattle.spec_loading.specs.LoadedSet.{SetState, set_loading}
 use Rattle.wasm_step.specs.declared.done.Done.{Done}
 use Rattle.wasm_machine.specs.declared.event.Event.{Event}
-use Rattle.dyl_link.specs.Kept.{Kept}
+use Rattle.dyl_link.specs.Kept.{Kept, IsLinked}
 use Rattle.dyl_frames.specs.Cores.{IsCore, IsState, StepsFrom, QuickStepsFrom}
-use Rattle.dyl_store.specs.Stores.{IsOfSet}
+use Rattle.merge_start.specs.Listed.{IsOfSet}
 use Rattle.dyl_store.specs.Worlds.{kept_view, seen_of}
 use Rattle.dyl_store.specs.Placements.{IsPlacement}
 use Rattle.dyl_store.specs.declared.placing.Placement.{Placement}
@@ -15,6 +15,10 @@ use Rattle.dyl_store.specs.declared.running.Running.{Running}
 -- the run stands at this state
 abbrev pub IsAt : LinkedSet → Running → SetState → Type 0
 IsAt L x s = IsState (set_loading L) x.core x.world.store x.world.memory s
+
+-- it is that of a linked set, and stands at a state
+abbrev pub IsSomewhere : Running → Type 0
+IsSomewhere x = (L : LinkedSet) × IsLinked L x.linked.now × ((s : SetState) × IsAt L x s)
 
 -- a step was made from wherever the run stands
 abbrev pub StepsTo : LinkedSet → Event → Running → Running → Type 0

@@ -33,10 +33,6 @@ recorded_of s = record { steps = s.steps; answers = s.answers; answered = s.answ
 abbrev pub Stands : LinkedSet → StoreRun → Ran hosts SetState → Type 0
 Stands L s r = recorded.Stands (set_system L) (set_opening L) (recorded_of s) r
 
--- what is kept is that of a set which links
-abbrev pub IsOfSet : Kept → Type 0
-IsOfSet k = (L : LinkedSet) × IsLinked L k
-
 -- ---- the opening
 
 -- the run of a loaded set that has made no step

@@ -8,7 +8,7 @@ ghost use Rattle.spec_loading.specs.declared.task.Phase.TheVariants as phases;
 ghost use Rattle.spec_loading.specs.LoadedSet.{set_loading};
 ghost use Rattle.dyl_link.specs.Kept.{IsLinked};
 ghost use Rattle.dyl_frames.specs.Tasks.{phase_value};
-ghost use Rattle.dyl_store.specs.Stores.{IsOfSet};
+ghost use Rattle.merge_start.specs.Listed.{IsOfSet};
 ghost use Rattle.dyl_store.specs.Worlds.{kept_view};
 
 use dyl_frames::{Phase, Task};

@@ -3,7 +3,7 @@ ghost use Rattle.std.specs.Prelude.{◌≡◌, ◌<◌, length, OnOk};
 ghost use Rattle.spec_linking.specs.Slots.{cell_of_import};
 ghost use Rattle.merge_index.specs.Kept.{numbers_in};
 ghost use Rattle.dyl_link.specs.Kept.{cell_in};
-ghost use Rattle.dyl_store.specs.Stores.{IsOfSet};
+ghost use Rattle.merge_start.specs.Listed.{IsOfSet};
 ghost use Rattle.dyl_store.specs.Opening.{AreNumbers, Adds, cell_globals, IsAtCells, with_cell, with_cells, with_imports};
 
 use crate::units::{end_of, is_global};

@@ -5,6 +5,7 @@
 mod callees;
 mod cells;
 mod contents;
+mod loader;
 mod names;
 mod opening;
 mod placements;
@@ -13,7 +14,6 @@ mod running;
 mod segments;
 mod shared;
 mod store;
-mod tables;
 mod tasks;
 mod unit;
 mod units;

@@ -1,15 +1,11 @@
 // A linked set in its opening state.
-ghost use Rattle.std.specs.Prelude.{◌≡◌, ◌≤◌, ◌<◌, ◌+◌, length, map, reverse, false, IfOk};
-ghost use Rattle.std.specs.List.{All};
+ghost use Rattle.std.specs.Prelude.{◌≡◌, ◌≤◌, ◌+◌, length, IfOk};
 ghost use Rattle.spec_runtime.specs.Memories.{new_memory, overwritten};
 ghost use Rattle.spec_linking.specs.LinkedSets.{LinkedSet};
-ghost use Rattle.spec_loading.specs.Texts.{error_texts};
-ghost use Rattle.spec_loading.specs.Phases.{startup_frame};
 ghost use Rattle.spec_loading.specs.LoadedSet.{set_loading, set_opening, opening_memory};
 ghost use Rattle.dyl_link.specs.Kept.{IsLinked};
-ghost use Rattle.dyl_frames.specs.Tasks.{task_value};
 ghost use Rattle.dyl_frames.specs.Cores.{IsCore, IsState};
-ghost use Rattle.dyl_store.specs.Stores.{IsOfSet};
+ghost use Rattle.merge_start.specs.Listed.{IsOfSet};
 ghost use Rattle.dyl_store.specs.Worlds.{kept_view};
 ghost use Rattle.dyl_store.specs.Opened.{IsOpened};
 ghost use Rattle.dyl_store.specs.Runs.{IsRunning, IsAt};
@@ -17,13 +13,13 @@ ghost use Rattle.dyl_store.specs.Runs.{IsRunning, IsAt};
 use crate::contents::{datas_of, elems_of, globals_of, tables_of};
 use crate::placements::placements_of;
 use crate::running::Running;
-use crate::tasks::opening_tasks;
+use crate::tasks::member_tasks;
 use crate::units::units_of;
 use crate::world::World;
-use dyl_frames::{Core, Task};
+use dyl_frames::Core;
 use dyl_link::Linked;
 use merge_index::Numbers;
-use spec_loading::{linked_code_is_there, slots_fit};
+use spec_loading::{error_texts, linked_code_is_there, slots_fit};
 use spec_safety::store_is_in_range;
 use std::alloc::Global;
 use wasm_form::Memory;
@@ -31,17 +27,6 @@ use wasm_space::Space;
 
 // The most pages of a memory (WebAssembly Core 2.0, section 3.2.5).
 const MOST_PAGES: u32 = 65_536;
-
-// The texts of the loader's errors, each with a zero byte after it.
-const ERROR_TEXTS: &[u8; 101] =
-    b"dlopen: bad flags\0dlopen: no such module\0dlsym: bad handle\0dlsym: no such symbol\0dlclose: bad handle\0";
-
-#[tactic(auto, unfolding(spec_loading::specs::Texts::error_texts))]
-fn error_texts() -> &'static [u8]
-    ensures { result.now ≡ error_texts }
-{
-    ERROR_TEXTS
-}
 
 // So many pages of zeros. There is no memory for more than there may be.
 fn new_memory(alloc: Global, pages: u32, most: u32) -> Result<Space, Memory>
@@ -76,31 +61,16 @@ fn memory_of(alloc: Global, linked: &Linked) -> Result<Space, Memory>
     Ok(memory)
 }
 
-// The tasks of opening the main module, of which the next one comes last.
-fn startup_tasks(alloc: Global, linked: &Linked) -> Result<Vec<Task>, Memory>
-    requires { IsOfSet linked.now }
-    ensures tasks { IfOk result (λ v. (L : LinkedSet) → IsLinked L linked.now → map task_value (reverse v.items) ≡ (startup_frame L.set).tasks) }
-    ensures members { IfOk result (λ v. All (λ t. t.member < length linked.now.set.members) v.items) }
-{
-    let tasks = opening_tasks(
-        alloc,
-        linked.set().startup.items(),
-        linked.construct_order(0),
-    )?;
-    Ok(tasks)
-}
-
 // The machine of a linked set, over its members as they begin.
 fn core_of<'m>(alloc: Global, linked: &Linked, world: &World<'m>) -> Result<Core<'m>, Memory>
     requires set { IsOfSet linked.now }
-    requires alone { linked.now.uses_loader ≡ false }
     requires opened { IsOpened linked.now world.now }
     ensures core { IfOk result (λ c. IsCore (kept_view world.now.linked) world.now.store c) }
     ensures opened { IfOk result (λ c. (L : LinkedSet) → IsLinked L linked.now → IsState (set_loading L) c world.now.store world.now.memory (set_opening L)) }
 {
     linked_code_is_there();
     store_is_in_range();
-    let tasks = startup_tasks(alloc, linked)?;
+    let tasks = member_tasks(alloc, linked, 0)?;
     let count = linked.set().members.items().len() as u32;
     let core = Core::new(alloc, world, count, tasks)?;
     Ok(core)
@@ -135,8 +105,7 @@ impl<'m> World<'m> {
 impl<'m> Running<'m> {
     // A linked set in its opening state.
     pub fn open(alloc: Global, linked: &'m Linked) -> Result<Running<'m>, Memory>
-        requires set { IsOfSet linked.now }
-        requires alone { linked.now.uses_loader ≡ false }
+        requires { IsOfSet linked.now }
         ensures running { IfOk result (λ x. IsRunning x) }
         ensures opened { IfOk result (λ x. (L : LinkedSet) → IsLinked L linked.now → IsAt L x (set_opening L)) }
         ensures linked { IfOk result (λ x. x.linked.now ≡ linked.now) }

@@ -5,7 +5,7 @@ ghost use Rattle.spec_execution.specs.Segments.{items_count, elem_effects, data_
 ghost use Rattle.wasm_form.specs.declared.instr.Expr.{Expr};
 ghost use Rattle.std.specs.Prelude.{ℕ, Option};
 ghost use Rattle.dyl_frames.specs.Cores.{Places};
-ghost use Rattle.dyl_store.specs.Stores.{IsOfSet};
+ghost use Rattle.merge_start.specs.Listed.{IsOfSet};
 ghost use Rattle.dyl_store.specs.Placements.{Performs, PerformsElems, PerformsDatas, PlacesSo, IsPlaceable, IsPlacement, elem_offset, data_offset, slots_put};
 ghost use Rattle.dyl_store.specs.Worlds.{kept_instances, kept_view};
 

@@ -1,6 +1,7 @@
 // A loaded set in its run, without what is counted and recorded of it.
 ghost use Rattle.std.specs.Prelude.{◌≡◌, ◌≢◌, ◌<◌, [], length, true, false, Some, IfOk, OnOk};
 ghost use Rattle.spec_loading.specs.declared.task.Phase.TheVariants as phases;
+ghost use Rattle.spec_loading.specs.declared.task.After.TheVariants as follows;
 ghost use Rattle.spec_loading.specs.LoadedSet.{set_loading};
 ghost use Rattle.spec_linking.specs.LinkedSets.{LinkedSet};
 ghost use Rattle.wasm_machine.specs.Machines.{IsMarked};
@@ -8,12 +9,13 @@ ghost use Rattle.dyl_link.specs.Kept.{IsLinked};
 ghost use Rattle.dyl_frames.specs.Tasks.{phase_value, task_value};
 ghost use Rattle.dyl_frames.specs.Cores.{is_mark, first_task, top_frame, FitsHost, TakenFrom};
 ghost use Rattle.dyl_store.specs.Worlds.{kept_view, seen_of};
-ghost use Rattle.dyl_store.specs.Runs.{IsRunning, StepsTo, QuickStepsTo};
+ghost use Rattle.dyl_store.specs.Runs.{IsRunning, IsSomewhere, StepsTo, QuickStepsTo};
+ghost use Rattle.dyl_store.specs.Calls.{is_loader};
 
 use crate::callees::callee;
 use crate::placing::Placement;
 use crate::world::World;
-use dyl_frames::{Core, Phase, Task};
+use dyl_frames::{After, Core, Phase, Task};
 use dyl_link::Linked;
 use spec_loading::{linked_code_is_there, linked_functions_are_typed};
 use std::alloc::Global;
@@ -47,6 +49,27 @@ fn is_place(phase: Phase) -> bool
 impl<'m> Running<'m> {
     // One step of a run that goes on by itself.
     pub fn step(&mut self, alloc: Global) -> Result<Event, Memory>
+        requires running { IsRunning self.old }
+        requires stands { IsSomewhere self.old }
+        requires moving { self.old.core.machine.standing ≡ Standing.Moving }
+        ensures stepped { IfOk result (λ e. (L : LinkedSet) → IsLinked L self.old.linked.now → StepsTo L e self.old self.new) }
+        ensures answered { IfOk result (λ e. is_loader e ≡ false) }
+        ensures running { OnOk result (IsRunning self.new) }
+        ensures linked { self.new.linked ≡ self.old.linked }
+    {
+        let event = self.next(alloc)?;
+        match event {
+            Event::Loader {
+                call,
+                first,
+                second,
+            } => self.answer(alloc, call, first, second),
+            event => Ok(event),
+        }
+    }
+
+    // The same up to a call of a function of the loader, which is still to be answered.
+    fn next(&mut self, alloc: Global) -> Result<Event, Memory>
         requires running { IsRunning self.old }
         requires moving { self.old.core.machine.standing ≡ Standing.Moving }
         ensures stepped { IfOk result (λ e. (L : LinkedSet) → IsLinked L self.old.linked.now → StepsTo L e self.old self.new) }
@@ -93,7 +116,25 @@ impl<'m> Running<'m> {
     {
         match self.core.next_task(&self.world) {
             Some(task) => self.work(alloc, task),
-            None => self.enter(alloc),
+            None => self.follow(alloc),
+        }
+    }
+
+    // What follows the last task of the frame on top.
+    fn follow(&mut self, alloc: Global) -> Result<Event, Memory>
+        requires running { IsRunning self.old }
+        requires marked { IsMarked self.old.core.machine }
+        requires last { (top_frame self.old.core).tasks ≡ [] }
+        ensures stepped { IfOk result (λ e. (L : LinkedSet) → IsLinked L self.old.linked.now → StepsTo L e self.old self.new) }
+        ensures running { OnOk result (IsRunning self.new) }
+        ensures linked { self.new.linked ≡ self.old.linked }
+    {
+        match self.core.follows(&self.world) {
+            After::CallEntry => self.enter(alloc),
+            After::GiveHandle(m) => {
+                self.core.hand_over(&self.world, m);
+                Ok(Event::Moved)
+            }
         }
     }
 
@@ -102,6 +143,7 @@ impl<'m> Running<'m> {
         requires running { IsRunning self.old }
         requires marked { IsMarked self.old.core.machine }
         requires last { (top_frame self.old.core).tasks ≡ [] }
+        requires entry { (top_frame self.old.core).after ≡ follows.CallEntry }
         ensures stepped { IfOk result (λ e. (L : LinkedSet) → IsLinked L self.old.linked.now → StepsTo L e self.old self.new) }
         ensures running { OnOk result (IsRunning self.new) }
         ensures linked { self.new.linked ≡ self.old.linked }

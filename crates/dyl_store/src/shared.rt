@@ -4,7 +4,7 @@ ghost use Rattle.spec_runtime.specs.Tables.{new_table, entries_overwritten};
 ghost use Rattle.spec_linking.specs.LinkedSets.{LinkedSet};
 ghost use Rattle.spec_loading.specs.Members.{opening_table};
 ghost use Rattle.dyl_link.specs.Kept.{IsLinked};
-ghost use Rattle.dyl_store.specs.Stores.{IsOfSet};
+ghost use Rattle.merge_start.specs.Listed.{IsOfSet};
 ghost use Rattle.dyl_store.specs.Opening.{outside_at};
 
 use dyl_link::Linked;

@@ -6,7 +6,8 @@ ghost use Rattle.spec_linking.specs.LinkedSets.{LinkedSet};
 ghost use Rattle.spec_loading.specs.LoadedSet.{SetState};
 ghost use Rattle.host_table.specs.Names.{host_name_of};
 ghost use Rattle.dyl_link.specs.Kept.{IsLinked};
-ghost use Rattle.dyl_store.specs.Stores.{Stands, new_run, has_ended, is_waiting, IsOfSet, IsAnswered, IsCodeNext, RunStepped, ArgumentsFit, Advances, Awaits};
+ghost use Rattle.merge_start.specs.Listed.{IsOfSet};
+ghost use Rattle.dyl_store.specs.Stores.{Stands, new_run, has_ended, is_waiting, IsAnswered, IsCodeNext, RunStepped, ArgumentsFit, Advances, Awaits};
 ghost use Rattle.dyl_store.specs.Runs.{IsRunning, IsAt};
 ghost use Rattle.dyl_store.specs.Steps.{event_of, steps_told, AreNumbers, Counted};
 
@@ -114,10 +115,9 @@ fn quick_step(running: &mut Running, alloc: Global, steps: &mut u64, lost: &mut 
 
 impl<'m> Store<'m> {
     /// A linked set in its opening state: the loader is to open the main module and then to call the entry. `Memory` where no memory could
-    /// be had. No member uses the functions of the loader.
+    /// be had.
     pub fn load(alloc: Global, linked: &'m Linked) -> Result<Store<'m>, Memory>
-        requires set { IsOfSet linked.now }
-        requires alone { linked.now.uses_loader ≡ false }
+        requires { IsOfSet linked.now }
         ensures { IfOk result (λ s. s ≡ new_run linked.now) }
     {
         let running = Running::open(alloc, linked)?;

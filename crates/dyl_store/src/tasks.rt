@@ -1,9 +1,14 @@
-// The tasks of opening the main module.
-ghost use Rattle.std.specs.Prelude.{◌≡◌, ◌++◌, map, reverse, IfOk, OnOk};
-ghost use Rattle.spec_loading.specs.Phases.{tasks_of, opening_tasks};
+// The tasks of opening a member.
+ghost use Rattle.std.specs.Prelude.{◌≡◌, ◌<◌, ◌++◌, length, map, reverse, IfOk, OnOk};
+ghost use Rattle.std.specs.List.{All};
+ghost use Rattle.spec_linking.specs.LinkedSets.{LinkedSet};
+ghost use Rattle.spec_loading.specs.Phases.{tasks_of, opening_tasks, open_frame};
+ghost use Rattle.dyl_link.specs.Kept.{IsLinked};
 ghost use Rattle.dyl_frames.specs.Tasks.{phase_value, task_value};
+ghost use Rattle.merge_start.specs.Listed.{IsOfSet};
 
 use dyl_frames::{Phase, Task};
+use dyl_link::Linked;
 use std::alloc::Global;
 use wasm_form::Memory;
 
@@ -30,14 +35,25 @@ fn tasks_in_order(alloc: Global, breadth: &[u32], post: &[u32]) -> Result<Vec<Ta
 }
 
 // The tasks of opening, of which the next one comes last.
-pub(crate) fn opening_tasks(
-    alloc: Global,
-    breadth: &[u32],
-    post: &[u32],
-) -> Result<Vec<Task>, Memory>
+fn opening_tasks(alloc: Global, breadth: &[u32], post: &[u32]) -> Result<Vec<Task>, Memory>
     ensures { IfOk result (λ v. map task_value (reverse v.items) ≡ opening_tasks breadth.now post.now) }
 {
     let mut tasks = tasks_in_order(alloc, breadth, post)?;
     tasks.reverse();
+    Ok(tasks)
+}
+
+// The tasks of opening a member over its closure, of which the next one comes last.
+pub(crate) fn member_tasks(alloc: Global, linked: &Linked, m: u32) -> Result<Vec<Task>, Memory>
+    requires set { IsOfSet linked.now }
+    requires member { m < length linked.now.set.members }
+    ensures tasks { IfOk result (λ v. (L : LinkedSet) → IsLinked L linked.now → map task_value (reverse v.items) ≡ (open_frame L.set m).tasks) }
+    ensures members { IfOk result (λ v. All (λ t. t.member < length linked.now.set.members) v.items) }
+{
+    let tasks = opening_tasks(
+        alloc,
+        linked.symbols().closure(m),
+        linked.construct_order(m),
+    )?;
     Ok(tasks)
 }

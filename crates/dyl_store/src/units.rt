@@ -2,7 +2,7 @@
 ghost use Rattle.std.specs.Prelude.{◌≡◌, ◌<◌, ◌≤◌, ◌+◌, length, IfOk};
 ghost use Rattle.spec_binary.specs.IndexSpaces.{imports_of, functions_in, globals_in, tables_in, global_space, table_space, imported_count};
 ghost use Rattle.merge_index.specs.Kept.{numbers_in};
-ghost use Rattle.dyl_store.specs.Stores.{IsOfSet};
+ghost use Rattle.merge_start.specs.Listed.{IsOfSet};
 ghost use Rattle.dyl_store.specs.Units.{IsUnit, AreUnits};
 ghost use Rattle.dyl_store.specs.Opening.{AreNumbers, first_of};
 

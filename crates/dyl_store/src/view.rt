@@ -1,9 +1,9 @@
 // The members of a linked set as a view.
-use crate::tables::copy_between;
 use crate::unit::code_of;
 use crate::world::World;
 use std::alloc::Global;
 use wasm_form::{Code, FuncType, Memory, Ref, Trap};
+use wasm_instance::copy_between;
 use wasm_runtime::Value;
 use wasm_space::{Slots, Space};
 use wasm_view::View;

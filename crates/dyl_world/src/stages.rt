@@ -1,5 +1,6 @@
 // The stages of members.
 ghost use Rattle.std.specs.Prelude.{◌≡◌, ◌<◌, ◌≤◌, length, replicate, slice_get, slice_set, Some, IfOk, IfSome};
+ghost use Rattle.spec_loading.specs.LoaderAnswers.{is_placed};
 
 use std::alloc::Global;
 use std::marker::Model;
@@ -36,6 +37,16 @@ impl Stages {
         ensures { slice_get self.now m ≡ Some result }
     {
         self.members[m as usize]
+    }
+
+    // Whether a member of this number has been placed.
+    pub(crate) fn is_placed(&self, m: u32) -> bool
+        ensures { result ≡ is_placed (slice_get self.now m) }
+    {
+        match self.members.get(m as usize) {
+            Some(stage) => *stage > 0,
+            None => false,
+        }
     }
 
     /// Member m has come through phase p, which is above its stage. No other stage changes.

@@ -1,19 +1,16 @@
 -- The cells of a member, import by import, and the numbers of its globals.
-use Rattle.std.proofs.Common.{◌≡◌, ◌<◌, ◌≤◌, ℕ, zero, suc, ◌+◌, ◌-◌, Bool, true, false, ◌||◌, cond, List, [], ◌∷◌, ◌++◌, length, map, slice_get, Option, Some, None, refl, sym, ap, ap₂, ◌∙◌, arith, append_assoc, append-nil, length-append}
-use Rattle.std.specs.List.{flat_map, list_any, position_from, range_with_len}
+use Rattle.std.proofs.Common.{◌≡◌, ℕ, zero, suc, ◌+◌, Bool, true, false, ◌||◌, cond, List, [], ◌∷◌, ◌++◌, length, map, slice_get, Some, refl, sym, ap, ap₂, ◌∙◌, append_assoc, append-nil, length-append}
+use Rattle.std.specs.List.{flat_map, list_any, position_from}
 use Rattle.std.proofs.lemmas.List.{length-map}
-use Rattle.std.proofs.lemmas.Option.{slice_get_past}
 use Rattle.wasm_form.specs.declared.module.ImportDesc.{ImportDesc}
 use Rattle.wasm_form.specs.declared.module.ImportDesc.TheVariants as imported
 use Rattle.wasm_form.specs.declared.module.Import.{Import}
-use Rattle.wasm_form.specs.declared.module.Module.{Module}
 use Rattle.spec_binary.specs.Options.{◌>>=◌}
 use Rattle.spec_binary.specs.IndexSpaces.{imports_of, globals_in}
-use Rattle.spec_binary.proofs.Lists.{slice_get-append-left, slice_get-append-right}
 use Rattle.spec_linking.specs.declared.fault.Kind.TheVariants as kind
 use Rattle.spec_linking.specs.Imports.{ImportUse, SharedMemory, SharedTable, StackPointer, MemoryBase, TableBase, DataCell, SlotCell, EnvFunction, ModuleFunction, OtherUse, use_of, importing}
-use Rattle.spec_linking.specs.Slots.{CellName, same_cell, cell_as, cell_of_import, first_cells, cells_of}
-use Rattle.merge_match.specs.Parts.{nowhere, number_of}
+use Rattle.spec_linking.specs.Slots.{CellName, same_cell, cell_as, cell_of_import, first_cells}
+use Rattle.merge_match.specs.Parts.{number_of}
 use Rattle.merge_index.specs.Globals.{CellKey, cell_named, cell_of_key, with_cells, cell_number, global_as, globals_from, cells_from}
 use Rattle.merge_index.proofs.Bytes.{same_bytes}
 

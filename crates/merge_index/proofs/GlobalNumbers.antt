@@ -1,20 +1,19 @@
 -- The numbers of globals are their addresses.
-use Rattle.std.proofs.Common.{◌≡◌, ◌<◌, ◌≤◌, ℕ, zero, suc, ◌+◌, ◌-◌, List, [], ◌∷◌, ◌++◌, length, map, slice_get, Option, Some, None, refl, sym, ap, ◌∙◌, arith}
+use Rattle.std.proofs.Common.{◌≡◌, ◌≤◌, ℕ, zero, suc, ◌+◌, ◌-◌, List, [], ◌∷◌, length, slice_get, Option, Some, None, refl, sym, ap, ◌∙◌, arith}
 use Rattle.std.specs.List.{range_with_len}
-use Rattle.std.proofs.lemmas.Option.{slice_get_past, slice_get_within}
+use Rattle.std.proofs.lemmas.Option.{slice_get_within}
 use Rattle.wasm_form.specs.declared.module.Import.{Import}
 use Rattle.wasm_form.specs.declared.module.Module.{Module}
 use Rattle.spec_binary.specs.Options.{◌>>=◌}
 use Rattle.spec_binary.specs.IndexSpaces.{imports_of, globals_in}
 use Rattle.spec_binary.proofs.Lists.{slice_get-append-left, slice_get-append-right}
-use Rattle.spec_linking.specs.declared.fault.Kind.TheVariants as kind
 use Rattle.spec_linking.specs.Sets.{Member}
 use Rattle.spec_linking.specs.Imports.{ImportUse, SharedMemory, SharedTable, StackPointer, MemoryBase, TableBase, DataCell, SlotCell, EnvFunction, ModuleFunction, OtherUse, use_of, importing}
-use Rattle.spec_linking.specs.LinkedSets.{LinkedSet, wasm_of}
+use Rattle.spec_linking.specs.LinkedSets.{LinkedSet}
 use Rattle.spec_linking.specs.Slots.{cells_of}
 use Rattle.spec_linking.proofs.Importing.{importing_length}
 use Rattle.spec_loading.specs.Addresses.{sum_before, globals_size, memory_base_address, import_address, address_with, global_address, item_address}
-use Rattle.merge_match.specs.Parts.{nowhere, number_of}
+use Rattle.merge_match.specs.Parts.{number_of}
 use Rattle.merge_index.specs.Kept.{number_at}
 use Rattle.merge_index.specs.Globals.{global_as, globals_from, cells_from, global_list, globals_end, global_lists}
 use Rattle.merge_index.proofs.Numbered.{wasms, range_item}

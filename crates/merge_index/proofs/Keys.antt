@@ -1,10 +1,10 @@
 -- The keys of cells, as cells.
-use Rattle.std.proofs.Common.{◌≡◌, ℕ, suc, ◌+◌, Bool, true, false, ◌||◌, not, cond, List, [], ◌∷◌, ◌++◌, map, length, Option, Some, None, ◌&&◌, refl, sym, ap, ap₂, ◌∙◌, arith, append-nil}
+use Rattle.std.proofs.Common.{◌≡◌, ℕ, ◌+◌, Bool, true, false, ◌||◌, not, cond, List, [], ◌∷◌, ◌++◌, Some, None, ◌&&◌, refl, sym, ap, ap₂, ◌∙◌, arith, append-nil}
 use Rattle.std.specs.Prelude.{bytes_eq, Result, Ok, Err, IfOk, OnOk}
 use Rattle.std.proofs.Math.Bool.{beq}
 use Rattle.std.specs.List.{list_any, position_from, position_or_len, prefix_len}
 use Rattle.indexmap.specs.IndexSet.{insert_key}
-use Rattle.spec_linking.specs.Slots.{CellName, same_cell, first_cells}
+use Rattle.spec_linking.specs.Slots.{same_cell}
 use Rattle.merge_match.specs.Parts.{number_of}
 use Rattle.merge_index.specs.Globals.{CellKey, cell_named, cell_of_key, cells_in, with_cells, cell_number}
 use Rattle.merge_index.proofs.Cells.{same_itself}

@@ -5,6 +5,7 @@ pub mod GlobalNumbers
 pub mod TableNumbers
 pub mod Refs
 pub mod Stubs
+pub mod StubNumbers
 pub mod FunctionNumbers
 pub mod Whole
 pub mod Distinct

@@ -1,5 +1,5 @@
 -- The lists of numbers are those of addresses.
-use Rattle.std.proofs.Common.{◌≡◌, ◌<◌, ◌≤◌, ℕ, zero, suc, ◌+◌, ◌-◌, Bool, true, false, List, [], ◌∷◌, ◌++◌, length, map, nat_lt, slice_get, Option, Some, None, if◌then◌else◌, refl, sym, ap, ◌∙◌, arith}
+use Rattle.std.proofs.Common.{◌≡◌, ◌<◌, ◌≤◌, ℕ, zero, suc, ◌+◌, Bool, true, false, List, [], ◌∷◌, ◌++◌, length, map, nat_lt, slice_get, Option, Some, None, if◌then◌else◌, refl, sym, ap, ◌∙◌, arith}
 use Rattle.std.specs.List.{range_with_len}
 use Rattle.std.proofs.lemmas.Bool.Decides.{nat_tests}
 use Rattle.std.proofs.lemmas.List.FromFn.{length-range_with_len, map-range_with_len_more}
@@ -8,7 +8,7 @@ use Rattle.wasm_form.specs.declared.module.Module.{Module}
 use Rattle.spec_binary.specs.Options.{◌>>=◌}
 use Rattle.spec_linking.specs.Sets.{Member}
 use Rattle.spec_loading.specs.Addresses.{sum_before, item_address}
-use Rattle.merge_match.specs.Parts.{nowhere, number_of}
+use Rattle.merge_match.specs.Parts.{number_of}
 use Rattle.merge_index.specs.Kept.{number_at}
 use Rattle.merge_index.specs.Lists.{numbered, total}
 

@@ -1,5 +1,5 @@
 -- How many stubs come before one.
-use Rattle.std.proofs.Common.{◌≡◌, ◌<◌, ◌≤◌, ℕ, zero, suc, ◌+◌, ◌-◌, Bool, true, false, cond, List, [], ◌∷◌, ◌++◌, length, take, slice_get, Option, Some, None, refl, sym, ap, ◌∙◌, arith, length-append}
+use Rattle.std.proofs.Common.{◌≡◌, ◌≤◌, ℕ, zero, suc, ◌+◌, Bool, true, false, cond, List, [], ◌∷◌, length, take, slice_get, Option, Some, None, refl, sym, ap, ◌∙◌, arith, length-append}
 use Rattle.std.specs.List.{filter, range_with_len}
 use Rattle.std.proofs.lemmas.List.{take_all}
 use Rattle.std.proofs.lemmas.Option.{slice_get_past}
@@ -14,7 +14,7 @@ use Rattle.spec_linking.specs.Sets.{Member}
 use Rattle.spec_linking.specs.LinkedSets.{LinkedSet, wasm_of, ref_with, function_ref}
 use Rattle.spec_loading.specs.Members.{from_members}
 use Rattle.merge_index.specs.Numbering.{is_stub, stubs_below, stubs_of, stubs_before}
-use Rattle.merge_index.specs.Lists.{stub_size, stubs_end}
+use Rattle.merge_index.specs.Lists.{stub_size, stubs_end, all_stubs_end}
 use Rattle.merge_index.proofs.Refs.{own_is_no_stub}
 
 -- ---- numbers that pass a test
@@ -152,3 +152,59 @@ module _ (L : LinkedSet) where
       (λ j y at. ap (wasm_of L) (omega arith) ∙ ap (λ (o : Option Member). o >>= λ z. Some z.wasm) at)
       (λ j le. ap (wasm_of L) (omega arith) ∙ ap (λ (o : Option Member). o >>= λ z. Some z.wasm) (slice_get_past L.set.members j le))
       few
+
+  -- ---- the number after all stubs
+
+  -- where nothing is named there is no stub
+  none_named : (m n : ℕ) → ((f : ℕ) → function_ref L m f ≡ None) → length (stubs_below L m n) ≡ 0
+  none_named m n none = none_passes (λ f. is_stub (function_ref L m f)) 0 n (λ f le. ap is_stub (none f))
+
+  ended_from : (s k : ℕ) (xs : List (List Ref)) (ms : List Member)
+      → ((j : ℕ) (x : List Ref) → slice_get xs j ≡ Some x → Reads (k + j) x)
+      → ((j f : ℕ) → length xs ≤ j → function_ref L (k + j) f ≡ None)
+      → ((j : ℕ) (y : Member) → slice_get ms j ≡ Some y → wasm_of L (k + j) ≡ Some y.wasm)
+      → ((j : ℕ) → length ms ≤ j → wasm_of L (k + j) ≡ None)
+      → all_stubs_end s xs ≡ s + length (from_members (stubs_of L) k ms)
+  ended_from s k [] [] reads unread there past = omega arith
+  ended_from s k [] (y ∷ ms) reads unread there past =
+      let none = none_named k (imported_count y.wasm) (λ f. ap (λ n. function_ref L n f) (omega arith) ∙ unread 0 f (omega arith)) in
+      let later = ended_from s (k + 1) [] ms
+      (λ j z at. absurd cc)
+      (λ j f le. ap (λ n. function_ref L n f) (omega arith) ∙ unread (suc j) f (omega arith))
+      (λ j z at. ap (wasm_of L) (omega arith) ∙ there (suc j) z at)
+      (λ j le. ap (wasm_of L) (omega arith) ∙ past (suc j) (omega arith)) in
+      let many = length-append (stubs_of L k y.wasm) (from_members (stubs_of L) (k + 1) ms) in
+      later ∙ omega arith
+  ended_from s k (x ∷ xs) [] reads unread there past =
+      let e : k + 0 ≡ k = omega arith in
+      let none : wasm_of L k ≡ None = ap (wasm_of L) (sym e) ∙ past 0 (omega arith) in
+      let empty : x ≡ [] = no_functions k x none (λ f. reads 0 x refl f ∙ ap (λ n. function_ref L n f) e) in
+      ap (λ l. all_stubs_end (stubs_end s l) xs) empty
+      ∙ ended_from s (k + 1) xs []
+      (λ j z at f. reads (suc j) z at f ∙ ap (λ n. function_ref L n f) (omega arith))
+      (λ j f le. ap (λ n. function_ref L n f) (omega arith) ∙ unread (suc j) f (omega arith))
+      (λ j z at. absurd cc)
+      (λ j le. ap (wasm_of L) (omega arith) ∙ past (suc j) (omega arith))
+  ended_from s k (x ∷ xs) (y ∷ ms) reads unread there past =
+      let e : k + 0 ≡ k = omega arith in
+      let reads_first : Reads k x = (λ f. reads 0 x refl f ∙ ap (λ n. function_ref L n f) e) in
+      let first : wasm_of L k ≡ Some y.wasm = ap (wasm_of L) (sym e) ∙ there 0 y refl in
+      let here = of_member s k x y.wasm reads_first first in
+      let later = ended_from (stubs_end s x) (k + 1) xs ms
+      (λ j z at f. reads (suc j) z at f ∙ ap (λ n. function_ref L n f) (omega arith))
+      (λ j f le. ap (λ n. function_ref L n f) (omega arith) ∙ unread (suc j) f (omega arith))
+      (λ j z at. ap (wasm_of L) (omega arith) ∙ there (suc j) z at)
+      (λ j le. ap (wasm_of L) (omega arith) ∙ past (suc j) (omega arith)) in
+      let many = length-append (stubs_of L k y.wasm) (from_members (stubs_of L) (k + 1) ms) in
+      later ∙ omega arith
+
+  pub ended : (s : ℕ) (xs : List (List Ref)) → ((m f : ℕ) → (slice_get xs m >>= λ x. slice_get x f) ≡ function_ref L m f)
+      → all_stubs_end s xs ≡ s + stubs_before L (length L.set.members)
+  ended s xs reads =
+      ended_from s 0 xs L.set.members
+      (λ j x at f. ap (λ (o : Option (List Ref)). o >>= λ y. slice_get y f) (sym at) ∙ reads j f ∙ ap (λ n. function_ref L n f) (omega arith))
+      (λ j f le. ap (λ n. function_ref L n f) (omega arith) ∙ sym (reads j f)
+      ∙ ap (λ (o : Option (List Ref)). o >>= λ y. slice_get y f) (slice_get_past xs j le))
+      (λ j y at. ap (wasm_of L) (omega arith) ∙ ap (λ (o : Option Member). o >>= λ z. Some z.wasm) at)
+      (λ j le. ap (wasm_of L) (omega arith) ∙ ap (λ (o : Option Member). o >>= λ z. Some z.wasm) (slice_get_past L.set.members j le))
+      ∙ ap (λ (ms : List Member). s + length (from_members (stubs_of L) 0 ms)) (sym (take_all (length L.set.members) L.set.members (omega arith)))

@@ -1,5 +1,5 @@
 -- The numbers of tables are their addresses.
-use Rattle.std.proofs.Common.{◌≡◌, ◌<◌, ◌≤◌, ℕ, zero, suc, ◌+◌, ◌-◌, Bool, true, false, List, [], ◌∷◌, ◌++◌, length, map, nat_lt, slice_get, Option, Some, None, if◌then◌else◌, refl, sym, ap, ◌∙◌, arith}
+use Rattle.std.proofs.Common.{◌≡◌, ◌<◌, ◌≤◌, ℕ, zero, suc, ◌+◌, ◌-◌, Bool, true, false, List, [], ◌∷◌, ◌++◌, length, map, nat_lt, slice_get, Option, Some, if◌then◌else◌, refl, ap, ◌∙◌, arith}
 use Rattle.std.specs.List.{range_with_len}
 use Rattle.std.proofs.lemmas.Bool.Decides.{nat_tests}
 use Rattle.std.proofs.lemmas.List.{length-map}
@@ -10,7 +10,7 @@ use Rattle.spec_binary.specs.IndexSpaces.{imports_of, tables_in}
 use Rattle.spec_binary.proofs.Lists.{slice_get-append-left, slice_get-append-right}
 use Rattle.spec_linking.specs.Sets.{Member}
 use Rattle.spec_loading.specs.Addresses.{sum_before, item_address, shared_table_address}
-use Rattle.merge_match.specs.Parts.{nowhere, number_of}
+use Rattle.merge_match.specs.Parts.{number_of}
 use Rattle.merge_index.specs.Kept.{number_at}
 use Rattle.merge_index.specs.Lists.{shared_tables, table_lists}
 use Rattle.merge_index.proofs.Numbered.{wasms, range_item}

@@ -1,6 +1,7 @@
 -- What is kept stands for the numbers of the set.
-use Rattle.std.proofs.Common.{◌≡◌, ℕ, ◌+◌, List, [], ◌∷◌, length, map, slice_get, Option, Some, None, refl, sym, ap, ap₂, ◌∙◌, subst, arith}
+use Rattle.std.proofs.Common.{◌≡◌, ℕ, ◌+◌, List, [], ◌∷◌, length, map, slice_get, Option, Some, None, refl, sym, ap, ap₂, ◌∙◌, arith}
 use Rattle.std.proofs.Math.Path.{fun_ext}
+use Rattle.std.proofs.lemmas.List.{length-map}
 use Rattle.wasm_form.specs.declared.module.Module.{Module}
 use Rattle.wasm_form.specs.declared.runtime.Ref.{Ref}
 use Rattle.wasm_form.specs.declared.runtime.Ref.TheVariants.{Own, Loader, Host, Stub}
@@ -8,20 +9,21 @@ use Rattle.spec_binary.specs.Options.{◌>>=◌}
 use Rattle.spec_linking.specs.Sets as sets
 use Rattle.spec_linking.specs.LinkedSets.{LinkedSet, wasm_of}
 use Rattle.spec_loading.specs.Addresses.{item_address, sum_before}
+use Rattle.spec_loading.specs.Members.{uses_loader}
 use Rattle.dyl_search.specs.declared.set.Member.{Member}
 use Rattle.dyl_search.specs.Gathers.{member_of}
 use Rattle.dyl_link.specs.Kept.{Kept, IsLinked}
 use Rattle.merge_match.specs.Renumbering.{Numbers}
 use Rattle.merge_match.specs.Parts.{number_of}
-use Rattle.merge_index.specs.Numbering.{host_count, first_stub, function_number, numbers_of}
-use Rattle.merge_index.specs.Kept.{KeptNumbers, number_at, stub_number, numbers_in, function_in}
-use Rattle.merge_index.specs.Globals.{global_lists}
-use Rattle.merge_index.specs.Lists.{module_of, size_in, numbered, total, named_lists, table_lists, kept_with, kept_of}
+use Rattle.merge_index.specs.Numbering.{host_count, first_stub, first_phase, loader_numbers, function_number, numbers_of}
+use Rattle.merge_index.specs.Kept.{KeptNumbers, number_at, stub_number, call_in, numbers_in, function_in}
+use Rattle.merge_index.specs.Lists.{module_of, size_in, numbered, total, named_lists, all_stubs_end, loader_where, kept_with, kept_of}
 use Rattle.merge_index.specs.declared.lists.Space.TheVariants.{Codes}
-use Rattle.merge_index.proofs.Numbered.{wasms, place_of, numbered_item, total_is}
+use Rattle.merge_index.proofs.Numbered.{wasms, numbered_item, total_is}
 use Rattle.merge_index.proofs.GlobalNumbers.{global_number}
 use Rattle.merge_index.proofs.TableNumbers.{place, table_number}
-use Rattle.merge_index.proofs.FunctionNumbers.{owns, imports, own_is, named, named_is, stub_number_is}
+use Rattle.merge_index.proofs.Stubs.{ended}
+use Rattle.merge_index.proofs.FunctionNumbers.{owns, imports, own_is, called, named_is, stub_number_is}
 
 modules_are : (xs : List Member) → map module_of xs ≡ wasms (map member_of xs)
 modules_are [] = refl
@@ -60,24 +62,44 @@ module _ (L : LinkedSet) (k : Kept) (h : IsLinked L k) where
   first_is = total_is (size_in Codes) (host_count L) L.set.members
 
   abbrev kept : KeptNumbers
-  kept = kept_with (host_count L) (wasms L.set.members) k.functions
+  kept = kept_with (host_count L) (wasms L.set.members) k.functions (uses_loader L)
+
+  phase_same : kept.first_phase ≡ first_phase L
+  phase_same = ap (λ n. all_stubs_end n k.functions) first_is ∙ ended L (first_stub L) k.functions h.functions
+
+  loader_same : kept.loader ≡ loader_numbers L
+  loader_same = ap₂ (λ a b. loader_where (uses_loader L) a b) phase_same (length-map L.set.members (λ x. x.wasm))
 
   named_same : (m f : ℕ) → number_at kept.functions m f ≡ (numbers_of L).named m f
   named_same m f =
-      ap (λ n. number_at (named_lists (owns L) (imports L) n k.functions) m f) first_is
+      ap₂ (λ l n. number_at (named_lists (record { owns = owns L; imported = imports L; loader = l }) n k.functions) m f) loader_same first_is
       ∙ named_is L k.functions h.functions m f
 
   function_same : (r : Ref) → function_in kept r ≡ function_number L r
   function_same (Own m f) = own_is L m f
-  function_same (Loader which) = refl
+  function_same (Loader which) = ap (λ l. call_in l which) loader_same ∙ called L which
   function_same (Host e) = refl
-  function_same (Stub m f) = ap₂ (λ a b. stub_number a b) first_is (named_same m f) ∙ stub_number_is L m f
+  function_same (Stub m f) =
+      ap₂ (λ a b. stub_number a b (number_at kept.functions m f)) first_is phase_same
+      ∙ ap (stub_number (first_stub L) (first_phase L)) (named_same m f)
+      ∙ stub_number_is L m f
+
+  kept_is : kept_of k ≡ kept
+  kept_is =
+      let set = ap (λ (S : sets.ClosedSet). S.members) h.set in
+      ap₂ (λ n ms. kept_with n ms k.functions k.uses_loader) (ap length h.hosts) (modules_are k.set.members ∙ ap wasms set)
+      ∙ ap (λ b. kept_with (host_count L) (wasms L.set.members) k.functions b) h.uses_loader
 
   pub numbers_are : numbers_in (kept_of k) ≡ numbers_of L
   numbers_are =
-      let set = ap (λ (S : sets.ClosedSet). S.members) h.set in
-      ap₂ (λ n ms. numbers_in (kept_with n ms k.functions)) (ap length h.hosts) (modules_are k.set.members ∙ ap wasms set)
+      ap numbers_in kept_is
       ∙ same_numbers (numbers_in kept) (numbers_of L) function_same named_same (plain (λ x. length x.types)) (global_number L)
       (λ m t. table_number 1 L.set.members m t
       ∙ ap number_of (sym (with_wasm (slice_get L.set.members m) (λ wasm. place (1 + sum_before (λ w. length w.tables) L.set.members m) wasm t))))
       (plain (λ x. length x.elems)) (plain (λ x. length x.datas))
+
+  pub first_phase_is : (kept_of k).first_phase ≡ first_phase L
+  first_phase_is = ap (λ (x : KeptNumbers). x.first_phase) kept_is ∙ phase_same
+
+  pub loader_is : (kept_of k).loader ≡ loader_numbers L
+  loader_is = ap (λ (x : KeptNumbers). x.loader) kept_is ∙ loader_same

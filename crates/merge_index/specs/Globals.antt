@@ -7,7 +7,7 @@ use Rattle.wasm_form.specs.declared.module.Module.{Module}
 use Rattle.spec_binary.specs.IndexSpaces.{globals_in}
 use Rattle.spec_linking.specs.declared.fault.Kind.TheVariants as kind
 use Rattle.spec_linking.specs.Imports.{ImportUse, StackPointer, MemoryBase, TableBase, DataCell, SlotCell, use_of}
-use Rattle.spec_linking.specs.Slots.{CellName, same_cell, cell_of_import, first_cells, cells_of}
+use Rattle.spec_linking.specs.Slots.{CellName, same_cell, cell_of_import, first_cells}
 use Rattle.merge_match.specs.Parts.{nowhere, number_of}
 
 -- a cell by whether it is of a slot, and its name

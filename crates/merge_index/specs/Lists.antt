@@ -1,18 +1,21 @@
 -- How the lists of numbers are made, member by member.
-use Rattle.std.specs.Prelude.{ℕ, ◌+◌, List, [], ◌∷◌, ◌++◌, length, map, slice_get, Option}
+use Rattle.std.specs.Prelude.{ℕ, ◌+◌, ◌*◌, List, [], ◌∷◌, ◌++◌, length, map, slice_get, Bool, Option, Some, None, if◌then◌else◌}
 use Rattle.std.specs.List.{range_with_len}
 use Rattle.wasm_form.specs.declared.module.Code.{Code}
 use Rattle.wasm_form.specs.declared.module.Module.{Module}
+use Rattle.wasm_form.specs.declared.runtime.LoaderCall.TheVariants.{Dlopen, Dlsym, Dlclose, Dlerror}
 use Rattle.wasm_form.specs.declared.runtime.Ref.{Ref}
 use Rattle.wasm_form.specs.declared.runtime.Ref.TheVariants.{Own, Loader, Host, Stub}
 use Rattle.spec_binary.specs.Options.{◌>>=◌}
 use Rattle.spec_binary.specs.IndexSpaces.{imports_of, tables_in, imported_count}
 use Rattle.dyl_search.specs.declared.set.Member.{Member}
 use Rattle.dyl_link.specs.Kept.{Kept}
-use Rattle.merge_match.specs.Parts.{nowhere}
+use Rattle.merge_index.specs.declared.functions.Known as declared
 use Rattle.merge_index.specs.declared.lists.Space.{Space}
 use Rattle.merge_index.specs.declared.lists.Space.TheVariants.{Types, Codes, Tables, Elems, Datas}
-use Rattle.merge_index.specs.Kept.{KeptNumbers, own_from}
+use Rattle.merge_index.specs.declared.numbers.LoaderNumbers.{LoaderNumbers}
+use Rattle.merge_index.specs.Numbering.{call_place}
+use Rattle.merge_index.specs.Kept.{KeptNumbers, own_from, call_in}
 use Rattle.merge_index.specs.Globals.{global_lists}
 
 abbrev pub module_of : Member → Module
@@ -55,40 +58,80 @@ stub_size (Loader which) = 0
 stub_size (Host e) = 0
 stub_size (Stub m f) = 1
 
+-- What stands for functions whatever their member: the numbers of those that each member defines, how many each imports, and the numbers
+-- of the functions of the loader.
+pub record Known : Type 0 where
+  pub owns : List (List ℕ)
+  pub imported : List ℕ
+  pub loader : Option LoaderNumbers
+
+abbrev pub known_of : declared.Known → Known
+known_of k = record { owns = k.owns.now; imported = k.imported.now; loader = k.loader }
+
 -- that of a function of the run, where a stub has this one
-abbrev pub ref_number : List (List ℕ) → List ℕ → ℕ → Ref → ℕ
-ref_number owns imported stub (Own m f) = own_from owns m (slice_get imported m) f
-ref_number owns imported stub (Loader which) = nowhere
-ref_number owns imported stub (Host e) = e
-ref_number owns imported stub (Stub m f) = stub
+abbrev pub ref_number : Known → ℕ → Ref → ℕ
+ref_number k stub (Own m f) = own_from k.owns m (slice_get k.imported m) f
+ref_number k stub (Loader which) = call_in k.loader which
+ref_number k stub (Host e) = e
+ref_number k stub (Stub m f) = stub
 
 -- those of the functions that a member names, where stubs have their numbers from one on
-abbrev pub named_from : List (List ℕ) → List ℕ → ℕ → List Ref → List ℕ
-named_from owns imported stub [] = []
-named_from owns imported stub (r ∷ rs) = ref_number owns imported stub r ∷ named_from owns imported (stub + stub_size r) rs
+abbrev pub named_from : Known → ℕ → List Ref → List ℕ
+named_from k stub [] = []
+named_from k stub (r ∷ rs) = ref_number k stub r ∷ named_from k (stub + stub_size r) rs
 
+-- the number after those of their stubs
 abbrev pub stubs_end : ℕ → List Ref → ℕ
 stubs_end stub [] = stub
 stubs_end stub (r ∷ rs) = stubs_end (stub + stub_size r) rs
 
-abbrev pub named_lists : List (List ℕ) → List ℕ → ℕ → List (List Ref) → List (List ℕ)
-named_lists owns imported stub [] = []
-named_lists owns imported stub (x ∷ xs) =
-    named_from owns imported stub x ∷ named_lists owns imported (stubs_end stub x) xs
+-- those of each member
+abbrev pub named_lists : Known → ℕ → List (List Ref) → List (List ℕ)
+named_lists k stub [] = []
+named_lists k stub (x ∷ xs) = named_from k stub x ∷ named_lists k (stubs_end stub x) xs
+
+abbrev pub all_stubs_end : ℕ → List (List Ref) → ℕ
+all_stubs_end stub [] = stub
+all_stubs_end stub (x ∷ xs) = all_stubs_end (stubs_end stub x) xs
+
+-- What there is for the functions of the loader comes behind the phases of so many members, which begin with a number, and the entry function.
+abbrev pub loader_behind : ℕ → ℕ → LoaderNumbers
+loader_behind first count =
+    let opening = first + 4 * count + 1 in
+    let find = opening + count + 1 in
+    let call = find + count in
+    record {
+      first_opening = opening;
+      length = opening + count;
+      first_find = find;
+      dlopen = call + call_place Dlopen;
+      dlsym = call + call_place Dlsym;
+      dlclose = call + call_place Dlclose;
+      dlerror = call + call_place Dlerror;
+    }
+
+-- it is there where the set uses the loader
+abbrev pub loader_where : Bool → ℕ → ℕ → Option LoaderNumbers
+loader_where uses first count = if uses then Some (loader_behind first count) else None
 
 -- ---- the whole
 
--- what is kept of the numbers of a set with so many host functions, by the modules of its members and the functions that these name
-abbrev pub kept_with : ℕ → List Module → List (List Ref) → KeptNumbers
-kept_with hosts wasms refs =
+-- What is kept of the numbers of a set with so many host functions, by the modules of its members and the functions that these name, and
+-- by whether it uses the loader.
+abbrev pub kept_with : ℕ → List Module → List (List Ref) → Bool → KeptNumbers
+kept_with hosts wasms refs uses =
     let owns = numbered (size_in Codes) hosts wasms in
     let imported = map imported_count wasms in
     let first = total (size_in Codes) hosts wasms in
+    let generated = all_stubs_end first refs in
+    let loader = loader_where uses generated (length wasms) in
     record {
-      functions = named_lists owns imported first refs;
+      functions = named_lists (record { owns = owns; imported = imported; loader = loader }) first refs;
       owns = owns;
       imported = imported;
       first_stub = first;
+      first_phase = generated;
+      loader = loader;
       types = numbered (size_in Types) 0 wasms;
       globals = global_lists 1 wasms;
       tables = table_lists 1 wasms;
@@ -97,4 +140,4 @@ kept_with hosts wasms refs =
     }
 
 abbrev pub kept_of : Kept → KeptNumbers
-kept_of k = kept_with (length k.hosts) (map module_of k.set.members) k.functions
+kept_of k = kept_with (length k.hosts) (map module_of k.set.members) k.functions k.uses_loader

@@ -4,6 +4,8 @@
 use Rattle.std.specs.Prelude.{ℕ, ◌+◌, ◌-◌, ◌*◌, List, length, take, Bool, true, false, Option, Some, None, option_map, if◌then◌else◌}
 use Rattle.std.specs.List.{filter, range_with_len}
 use Rattle.wasm_form.specs.declared.module.Module.{Module}
+use Rattle.wasm_form.specs.declared.runtime.LoaderCall.{LoaderCall}
+use Rattle.wasm_form.specs.declared.runtime.LoaderCall.TheVariants.{Dlopen, Dlsym, Dlclose, Dlerror}
 use Rattle.wasm_form.specs.declared.runtime.Ref.{Ref}
 use Rattle.wasm_form.specs.declared.runtime.Ref.TheVariants.{Own, Loader, Host, Stub}
 use Rattle.spec_binary.specs.IndexSpaces.{imported_count}
@@ -11,11 +13,12 @@ use Rattle.spec_linking.specs.LinkedSets.{LinkedSet, hosts_of, function_ref}
 use Rattle.spec_loading.specs.declared.task.Phase.{Phase}
 use Rattle.spec_loading.specs.Phases.{stage_of}
 use Rattle.spec_loading.specs.Addresses.{sum_before, globals_size, global_address, table_address, elem_address, data_address}
-use Rattle.spec_loading.specs.Members.{from_members}
+use Rattle.spec_loading.specs.Members.{from_members, uses_loader}
 use Rattle.merge_match.specs.Renumbering.{Numbers}
 use Rattle.merge_match.specs.Parts.{nowhere, number_of}
 use Rattle.merge_match.specs.Joined.{type_address, function_address}
 use Rattle.merge_start.specs.Words.{Starts}
+use Rattle.merge_index.specs.declared.numbers.LoaderNumbers.{LoaderNumbers}
 
 -- ---- how much there is
 
@@ -54,12 +57,64 @@ abbrev pub stub_address : LinkedSet → ℕ → ℕ → Option ℕ
 stub_address L m f =
     if is_stub (function_ref L m f) then Some (first_stub L + stubs_before L m + length (stubs_below L m f)) else None
 
+-- ---- what is generated
+
+-- the first function that is generated
+abbrev pub first_phase : LinkedSet → ℕ
+first_phase L = first_stub L + stubs_before L (length L.set.members)
+
+-- the functions of the four phases of member m are the four from this one on
+abbrev pub phase_number : LinkedSet → ℕ → Phase → ℕ
+phase_number L m p = first_phase L + 4 * m + (stage_of p - 1)
+
+-- behind the phases of all members comes the entry function
+abbrev pub entry_number : LinkedSet → ℕ
+entry_number L = first_phase L + 4 * length L.set.members
+
+-- Where the set uses the loader, there follow a function for each member that opens it, the one that gives the length of a string, one for
+-- each member that searches its names, and the functions of the loader.
+abbrev pub first_opening : LinkedSet → ℕ
+first_opening L = entry_number L + 1
+
+abbrev pub length_number : LinkedSet → ℕ
+length_number L = first_opening L + length L.set.members
+
+abbrev pub first_find : LinkedSet → ℕ
+first_find L = length_number L + 1
+
+abbrev pub first_call : LinkedSet → ℕ
+first_call L = first_find L + length L.set.members
+
+-- the place of a function of the loader among them
+abbrev pub call_place : LoaderCall → ℕ
+call_place Dlopen = 0
+call_place Dlsym = 1
+call_place Dlclose = 2
+call_place Dlerror = 3
+
+abbrev pub call_number : LinkedSet → LoaderCall → ℕ
+call_number L which = if uses_loader L then first_call L + call_place which else nowhere
+
+-- all of these, where the set uses the loader
+abbrev pub loader_numbers : LinkedSet → Option LoaderNumbers
+loader_numbers L =
+    if uses_loader L
+    then Some (record {
+      first_opening = first_opening L;
+      length = length_number L;
+      first_find = first_find L;
+      dlopen = first_call L + call_place Dlopen;
+      dlsym = first_call L + call_place Dlsym;
+      dlclose = first_call L + call_place Dlclose;
+      dlerror = first_call L + call_place Dlerror;
+    })
+    else None
+
 -- ---- functions
 
--- the functions of the loader have none
 abbrev pub function_number : LinkedSet → Ref → ℕ
 function_number L (Own m f) = number_of (function_address L (host_count L) m f)
-function_number L (Loader which) = nowhere
+function_number L (Loader which) = call_number L which
 function_number L (Host e) = e
 function_number L (Stub m f) = number_of (stub_address L m f)
 
@@ -79,23 +134,12 @@ numbers_of L = record {
   segment = λ m d. number_of (data_address L m d);
 }
 
--- ---- what is generated
-
--- the first function that is generated
-abbrev pub first_phase : LinkedSet → ℕ
-first_phase L = first_stub L + stubs_before L (length L.set.members)
-
--- the functions of the four phases of member m are the four from this one on
-abbrev pub phase_number : LinkedSet → ℕ → Phase → ℕ
-phase_number L m p = first_phase L + 4 * m + (stage_of p - 1)
-
--- Guards come behind the globals of the store, and the segments of fresh slots behind its element segments. Behind the phases of all members
--- comes the entry function. There are no functions yet that open a member.
+-- Guards come behind the globals of the store, and the segments of fresh slots behind its element segments.
 abbrev pub starts_of : LinkedSet → Starts
 starts_of L = record {
   guards = 1 + sum_of globals_size L;
   slots = sum_of (λ x. length x.elems) L;
   phase = phase_number L;
-  starting = first_phase L + 4 * length L.set.members;
-  opening = λ m. nowhere;
+  starting = entry_number L;
+  opening = λ m. first_opening L + m;
 }

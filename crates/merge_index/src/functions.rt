@@ -1,11 +1,20 @@
 // The numbers of functions.
 ghost use Rattle.std.specs.Prelude.{◌≡◌, IfOk};
-ghost use Rattle.merge_index.specs.Lists.{stub_size, ref_number, named_from, stubs_end, named_lists};
+ghost use Rattle.merge_index.specs.Lists.{stub_size, known_of, ref_number, named_from, stubs_end, named_lists, all_stubs_end, loader_behind};
 
 use crate::lists::end_of;
-use crate::numbers::{NOWHERE, count_at, own_from};
+use crate::numbers::{LoaderNumbers, call_in, count_at, own_from};
 use std::alloc::Global;
 use wasm_form::{List, Memory, Ref};
+
+// What stands for functions whatever member names them: the numbers of those that each member defines, how many each imports, and the numbers
+// of the functions of the loader.
+#[derive(Clone, Copy)]
+pub(crate) struct Known<'a> {
+    pub owns: &'a [List<u32>],
+    pub imported: &'a [u32],
+    pub loader: Option<LoaderNumbers>,
+}
 
 fn stub_size(r: Ref) -> usize
     ensures { result ≡ stub_size r }
@@ -17,32 +26,55 @@ fn stub_size(r: Ref) -> usize
 }
 
 // The number of a function of the run, where a stub has this one.
-fn ref_number(owns: &[List<u32>], imported: &[u32], stub: u32, r: Ref) -> u32
-    ensures { result ≡ ref_number owns.now imported.now stub r }
+fn ref_number(known: Known<'_>, stub: u32, r: Ref) -> u32
+    ensures { result ≡ ref_number (known_of known.entry) stub r }
 {
     match r {
-        Ref::Own { unit, func } => own_from(owns, unit, count_at(imported, unit), func),
-        Ref::Loader(_) => NOWHERE,
+        Ref::Own { unit, func } => {
+            own_from(known.owns, unit, count_at(known.imported, unit), func)
+        }
+        Ref::Loader(call) => call_in(known.loader, call),
         Ref::Host(entry) => entry,
         Ref::Stub { .. } => stub,
     }
 }
 
+// The number after those of the stubs among some functions.
+fn stubs_end(stub: u32, refs: &[Ref]) -> Result<u32, Memory>
+    ensures { IfOk result (λ end. end ≡ stubs_end stub refs.now) }
+{
+    let mut next = stub;
+    for r in refs {
+        next = end_of(next, stub_size(*r))?;
+    }
+    Ok(next)
+}
+
+// That after those of all members.
+pub(crate) fn all_stubs_end(stub: u32, refs: &[List<Ref>]) -> Result<u32, Memory>
+    ensures { IfOk result (λ end. end ≡ all_stubs_end stub refs.now) }
+{
+    let mut next = stub;
+    for named in refs {
+        next = stubs_end(next, named.items())?;
+    }
+    Ok(next)
+}
+
 // The numbers of the functions that a member names, where stubs have theirs from one on, and the number after these.
 fn named_from(
     alloc: Global,
-    owns: &[List<u32>],
-    imported: &[u32],
+    known: Known<'_>,
     stub: u32,
     refs: &[Ref],
 ) -> Result<(List<u32>, u32), Memory>
-    ensures named { IfOk result (λ x. x.0 ≡ named_from owns.now imported.now stub refs.now) }
+    ensures named { IfOk result (λ x. x.0 ≡ named_from (known_of known.entry) stub refs.now) }
     ensures end { IfOk result (λ x. x.1 ≡ stubs_end stub refs.now) }
 {
     let mut list = Vec::new(alloc);
     let mut next = stub;
     for r in refs {
-        list.push(ref_number(owns, imported, next, *r))?;
+        list.push(ref_number(known, next, *r))?;
         next = end_of(next, stub_size(*r))?;
     }
     Ok((List::of(list), next))
@@ -52,18 +84,41 @@ fn named_from(
 pub(crate) fn named_lists(
     alloc: Global,
     refs: &[List<Ref>],
-    owns: &[List<u32>],
-    imported: &[u32],
+    known: Known<'_>,
     stub: u32,
 ) -> Result<Vec<List<u32>>, Memory>
-    ensures { IfOk result (λ v. v.items ≡ named_lists owns.now imported.now stub refs.now) }
+    ensures { IfOk result (λ v. v.items ≡ named_lists (known_of known.entry) stub refs.now) }
 {
     let mut lists = Vec::new(alloc);
     let mut next = stub;
     for named in refs {
-        let (list, end) = named_from(alloc, owns, imported, next, named.items())?;
+        let (list, end) = named_from(alloc, known, next, named.items())?;
         lists.push(list)?;
         next = end;
     }
     Ok(lists)
+}
+
+// The numbers of what there is for the functions of the loader, where the phases of so many members begin with a number.
+pub(crate) fn loader_behind(first: u32, count: usize) -> Result<LoaderNumbers, Memory>
+    ensures { IfOk result (λ n. n ≡ loader_behind first count) }
+{
+    let members = end_of(0, count)?;
+    let entry = end_of(first, 4 * members as usize)?;
+    let first_opening = end_of(entry, 1)?;
+    let length = end_of(first_opening, count)?;
+    let first_find = end_of(length, 1)?;
+    let dlopen = end_of(first_find, count)?;
+    let dlsym = end_of(dlopen, 1)?;
+    let dlclose = end_of(dlopen, 2)?;
+    let dlerror = end_of(dlopen, 3)?;
+    Ok(LoaderNumbers {
+        first_opening,
+        length,
+        first_find,
+        dlopen,
+        dlsym,
+        dlclose,
+        dlerror,
+    })
 }

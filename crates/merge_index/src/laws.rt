@@ -1,9 +1,10 @@
 // Laws of numbers, which say nothing of code.
-ghost use Rattle.merge_index.specs.Laws.{FunctionsAreDistinct, TypesAreDistinct, SegmentsAreDistinct, PlacesHaveNumbers};
+ghost use Rattle.merge_index.specs.Laws.{FunctionsAreDistinct, GeneratedIsBeside, TypesAreDistinct, SegmentsAreDistinct, PlacesHaveNumbers};
 
-/// Distinct functions, types and segments have distinct numbers.
+/// Distinct functions, types and segments have distinct numbers, and what is generated stands beside them.
 pub fn numbers_are_distinct()
     ensures functions { FunctionsAreDistinct }
+    ensures generated { GeneratedIsBeside }
     ensures types { TypesAreDistinct }
     ensures segments { SegmentsAreDistinct }
 {}

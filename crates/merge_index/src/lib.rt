@@ -9,4 +9,4 @@ mod numbers;
 mod rename;
 
 pub use laws::{numbers_are_distinct, places_have_numbers};
-pub use numbers::Numbers;
+pub use numbers::{LoaderNumbers, Numbers};

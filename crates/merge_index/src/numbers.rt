@@ -1,18 +1,18 @@
 // Numbers of a linked set.
-ghost use Rattle.std.specs.Prelude.{◌≡◌, slice_get, IfOk};
+ghost use Rattle.std.specs.Prelude.{◌≡◌, length, slice_get, IfOk};
 ghost use Rattle.spec_linking.specs.LinkedSets.{LinkedSet};
 ghost use Rattle.dyl_link.specs.Kept.{IsLinked};
-ghost use Rattle.merge_index.specs.Numbering.{numbers_of};
-ghost use Rattle.merge_index.specs.Lists.{kept_of};
-ghost use Rattle.merge_index.specs.Kept.{number_at, own_from, stub_number, numbers_in};
+ghost use Rattle.merge_index.specs.Numbering.{first_phase, loader_numbers, numbers_of};
+ghost use Rattle.merge_index.specs.Lists.{loader_where, kept_of};
+ghost use Rattle.merge_index.specs.Kept.{number_at, own_from, stub_number, call_in, numbers_in};
 
-use crate::functions::named_lists;
+use crate::functions::{Known, all_stubs_end, loader_behind, named_lists};
 use crate::globals::global_lists;
 use crate::lists::{Space, end_of, imported_counts, numbered, table_lists, total};
 use dyl_link::Linked;
 use std::alloc::Global;
 use std::marker::Model;
-use wasm_form::{List, Memory, Ref};
+use wasm_form::{List, LoaderCall, Memory, Ref};
 
 // The number of what is out of range: no module has so many of anything.
 pub(crate) const NOWHERE: u32 = u32::MAX;
@@ -39,10 +39,45 @@ pub(crate) fn own_from(owns: &[List<u32>], m: u32, imported: Option<u32>, f: u32
     }
 }
 
-fn stub_number(first: u32, named: u32) -> u32
-    ensures { result ≡ stub_number first named }
+// The number of a stub, where the stubs have those from one on, up to another.
+fn stub_number(first: u32, end: u32, named: u32) -> u32
+    ensures { result ≡ stub_number first end named }
 {
-    if named < first { NOWHERE } else { named }
+    if first <= named && named < end {
+        named
+    } else {
+        NOWHERE
+    }
+}
+
+/// The numbers in the merged module of what it has for the functions of the loader.
+///
+/// `first_opening` is the function that opens the first member and `first_find` the one that searches its names; those of the other members
+/// follow each. `length` is the function that gives the length of a string.
+#[derive(Clone, Copy)]
+pub struct LoaderNumbers {
+    pub first_opening: u32,
+    pub length: u32,
+    pub first_find: u32,
+    pub dlopen: u32,
+    pub dlsym: u32,
+    pub dlclose: u32,
+    pub dlerror: u32,
+}
+
+// The number of a function of the loader.
+pub(crate) fn call_in(loader: Option<LoaderNumbers>, call: LoaderCall) -> u32
+    ensures { result ≡ call_in loader call }
+{
+    match loader {
+        None => NOWHERE,
+        Some(n) => match call {
+            LoaderCall::Dlopen => n.dlopen,
+            LoaderCall::Dlsym => n.dlsym,
+            LoaderCall::Dlclose => n.dlclose,
+            LoaderCall::Dlerror => n.dlerror,
+        },
+    }
 }
 
 pub(crate) fn count_at(counts: &[u32], m: u32) -> Option<u32>
@@ -59,6 +94,8 @@ pub struct Numbers {
     pub(crate) owns: Vec<List<u32>>,
     pub(crate) imported: Vec<u32>,
     pub(crate) first_stub: u32,
+    pub(crate) first_phase: u32,
+    pub(crate) loader: Option<LoaderNumbers>,
     pub(crate) types: Vec<List<u32>>,
     pub(crate) globals: Vec<List<u32>>,
     pub(crate) tables: Vec<List<u32>>,
@@ -76,12 +113,25 @@ impl Model for Numbers {
       owns = n.owns.items;
       imported = n.imported.items;
       first_stub = n.first_stub;
+      first_phase = n.first_phase;
+      loader = n.loader;
       types = n.types.items;
       globals = n.globals.items;
       tables = n.tables.items;
       elems = n.elems.items;
       segments = n.segments.items;
     } };
+}
+
+// What there is for the functions of the loader, where the set uses them and the phases begin with a number.
+fn loader_where(linked: &Linked, first: u32) -> Result<Option<LoaderNumbers>, Memory>
+    ensures { IfOk result (λ n. n ≡ loader_where linked.now.uses_loader first (length linked.now.set.members)) }
+{
+    if !linked.uses_loader() {
+        return Ok(None);
+    }
+    let numbers = loader_behind(first, linked.set().members.items().len())?;
+    Ok(Some(numbers))
 }
 
 // What is kept of a linked set.
@@ -93,13 +143,14 @@ fn kept(alloc: Global, linked: &Linked) -> Result<Numbers, Memory>
     let owns = numbered(alloc, members, Space::Codes, hosts)?;
     let imported = imported_counts(alloc, members)?;
     let first_stub = total(members, Space::Codes, hosts)?;
-    let functions = named_lists(
-        alloc,
-        linked.functions(),
-        owns.as_slice(),
-        imported.as_slice(),
-        first_stub,
-    )?;
+    let first_phase = all_stubs_end(first_stub, linked.functions())?;
+    let loader = loader_where(linked, first_phase)?;
+    let known = Known {
+        owns: owns.as_slice(),
+        imported: imported.as_slice(),
+        loader,
+    };
+    let functions = named_lists(alloc, linked.functions(), known, first_stub)?;
     let types = numbered(alloc, members, Space::Types, 0)?;
     let globals = global_lists(alloc, members, 1)?;
     let tables = table_lists(alloc, members, 1)?;
@@ -110,6 +161,8 @@ fn kept(alloc: Global, linked: &Linked) -> Result<Numbers, Memory>
         owns,
         imported,
         first_stub,
+        first_phase,
+        loader,
         types,
         globals,
         tables,
@@ -121,13 +174,15 @@ fn kept(alloc: Global, linked: &Linked) -> Result<Numbers, Memory>
 impl Numbers {
     /// The numbers of what the members of a linked set have. `Memory` where no memory could be had.
     pub fn of(alloc: Global, linked: &Linked) -> Result<Numbers, Memory>
-        ensures { IfOk result (λ n. (L : LinkedSet) → IsLinked L linked.now → numbers_in n ≡ numbers_of L) }
+        ensures numbers { IfOk result (λ n. (L : LinkedSet) → IsLinked L linked.now → numbers_in n ≡ numbers_of L) }
+        ensures phase { IfOk result (λ n. (L : LinkedSet) → IsLinked L linked.now → n.first_phase ≡ first_phase L) }
+        ensures loader { IfOk result (λ n. (L : LinkedSet) → IsLinked L linked.now → n.loader ≡ loader_numbers L) }
     {
         let numbers = kept(alloc, linked)?;
         Ok(numbers)
     }
 
-    /// The number of a function of the run. The functions of the loader have none.
+    /// The number of a function of the run. The functions of the loader have one where the set uses them.
     pub fn function(&self, r: Ref) -> u32
         ensures { result ≡ (numbers_in self.now).function r }
     {
@@ -138,15 +193,30 @@ impl Numbers {
                 count_at(self.imported.as_slice(), unit),
                 func,
             ),
-            Ref::Loader(_) => NOWHERE,
+            Ref::Loader(call) => call_in(self.loader, call),
             Ref::Host(entry) => entry,
             Ref::Stub { unit, func } => {
                 stub_number(
                     self.first_stub,
+                    self.first_phase,
                     number_at(self.functions.as_slice(), unit, func),
                 )
             }
         }
+    }
+
+    /// The number of the first function that is generated: that of the first phase of the first member.
+    pub fn first_phase(&self) -> u32
+        ensures { result ≡ self.now.first_phase }
+    {
+        self.first_phase
+    }
+
+    /// The numbers of what the merged module has for the functions of the loader, where the set uses them.
+    pub fn loader(&self) -> Option<LoaderNumbers>
+        ensures { result ≡ self.now.loader }
+    {
+        self.loader
     }
 
     /// The number of the function that number f of member m names.

@@ -5,11 +5,14 @@ use Rattle.wasm_form.specs.declared.runtime.Ref.TheVariants.{Loader}
 use Rattle.wasm_form.specs.declared.runtime.Trap.{Trap}
 use Rattle.wasm_runtime.specs.declared.Value.{Value}
 use Rattle.wasm_runtime.specs.declared.Answer.{Answer}
+use Rattle.wasm_runtime.specs.declared.Answer.TheVariants.{Reply}
+use Rattle.wasm_runtime.specs.declared.Write.{Write}
 use Rattle.spec_runs.specs.Systems.{Status, Moving, Waits, Returned, Exited, Trapped, System}
 use Rattle.spec_runs.specs.Agreement.{Silent}
 use Rattle.spec_binary.specs.Options.{◌>>=◌}
+use Rattle.spec_runtime.specs.Memories.{MemoryInstance}
 use Rattle.spec_runtime.specs.Names.{HostName}
-use Rattle.spec_runtime.specs.Hosts.{HostCall, answer_fits, hosts}
+use Rattle.spec_runtime.specs.Hosts.{HostCall, answer_fits, all_written, hosts}
 use Rattle.spec_execution.specs.Activations.{Activation, move}
 use Rattle.spec_execution.specs.Views.{View}
 use Rattle.spec_execution.specs.Runs.{Frame, Next, State, carried_out, call, calling, left_with, became, taken}
@@ -112,11 +115,13 @@ pub record Alike {Units Other Start : Type 0} (Same : Shared Units Other) (s : L
   pub units : Same s.loader s.run.units t.units
   pub memory : t.memory ≡ s.run.memory
 
--- What is left to say of the loader: of calls of its functions from an activation, and of the returns of an activation to what stands for a
--- frame of the loader or for the bottom.
-pub record PlacesMatch {Units Other Start : Type 0} (n : Numbers) (P : Places Start) (Same : Shared Units Other) (D : Loading Units)
-    (W : View Other) (others : ℕ → Option HostName) (next : Step Other Start) : Type 0 where
-  pub loader : (s : LoadedState Units) (t : State Other Start) → Alike Same s t → (a : Activation) (fs : List (Frame LoaderFrame))
+-- What is left to say of the loader: of calls of its functions from an activation, over a memory of which something is known, and of the
+-- returns of an activation to what stands for a frame of the loader or for the bottom.
+pub record PlacesMatch {Units Other Start : Type 0} (n : Numbers) (P : Places Start) (Same : Shared Units Other)
+    (Known : MemoryInstance → Type 0) (D : Loading Units) (W : View Other) (others : ℕ → Option HostName) (next : Step Other Start)
+    : Type 0 where
+  pub loader : (s : LoadedState Units) (t : State Other Start) → Alike Same s t → Known s.run.memory → (a : Activation)
+      (fs : List (Frame LoaderFrame))
       (gs : List (Frame Start)) → Below n P a.results fs gs → (which : LoaderCall)
       → Met n P Same next (call D.view s.run.units s.run.memory (calling a fs) a.values (Loader which) >>= went D s)
       (call W t.units s.run.memory (calling (activation n a) gs) (values n a.values) (reference n (Loader which)) >>= became others t)
@@ -139,3 +144,9 @@ pub record FramesMatch {Units Other Start : Type 0} (n : Numbers) (P : Places St
       → IsTrue (answer_fits asked s.run.memory answer)
       → (k : ℕ) × (u : State Other Start) × Silent (system_of next) k (taken answer t) u
       × Matches n P Same (with_run s (taken answer s.run)) u
+
+-- What is known of the memory stays so: each step of the loaded run keeps it, and each answer that fits.
+pub record StepsKeep {Units : Type 0} (Known : MemoryInstance → Type 0) (D : Loading Units) : Type 0 where
+  pub steps : (s s' : LoadedState Units) → Known s.run.memory → loaded_step D s ≡ Some s' → Known s'.run.memory
+  pub answers : (memory : MemoryInstance) (asked : HostCall) (results : List ℕ) (writes : List Write) → Known memory
+      → IsTrue (answer_fits asked memory (Reply results writes)) → Known (all_written writes memory)

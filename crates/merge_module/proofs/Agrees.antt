@@ -1,20 +1,39 @@
 -- The run of the merged module agrees with that of the loaded set.
-use Rattle.std.proofs.Common.{◌≡◌, ◌≤◌, false}
+use Rattle.std.proofs.Common.{◌≡◌, ◌≤◌, Bool, true, false, refl, arith}
 use Rattle.spec_runs.specs.Agreement.{Agree}
 use Rattle.spec_execution.specs.OneModule.{module_system, opened_state}
 use Rattle.spec_linking.specs.LinkedSets.{LinkedSet}
 use Rattle.spec_linking.specs.Slots.{linked_plan}
+use Rattle.spec_linking.proofs.LinkedFacts.{linked_limits}
 use Rattle.spec_loading.specs.Members.{uses_loader}
 use Rattle.spec_loading.specs.LoadedSet.{opening_memory, set_system, set_opening}
-use Rattle.merge_start.proofs.Opening.{sets_run_as_merged}
-use Rattle.merge_module.proofs.Known.{IsKnown}
-use Rattle.merge_module.proofs.Ready.{is_ready, start_ready}
+use Rattle.merge_match.specs.Bounded.{IsBounded}
+use Rattle.merge_start.specs.Laws.{CallsAreAnswered}
+use Rattle.merge_module.specs.MergedModule.{finders_of}
+use Rattle.merge_module.proofs.Known.{IsKnown, HasCodeLaws}
+use Rattle.merge_module.proofs.Ready.{is_ready, start_ready, loader_ready}
 use Rattle.merge_module.proofs.Opens.{N, X, M, has_parts, opened}
 use Rattle.merge_module.proofs.OpenedStore.{is_opened}
 
-pub runs_agree : (L : LinkedSet) (K : IsKnown L) (few : (linked_plan L).pages_max ≤ 16384) (none : uses_loader L ≡ false)
-    → Agree (set_system L) (module_system (M L K few none)) (set_opening L)
-    (opened_state (M L K few none) (X L K few none).starting (opened L K few none) (opening_memory L))
-runs_agree L K few none =
-    sets_run_as_merged L (N L K few none) (X L K few none) (M L K few none) (has_parts L K few none) (is_ready L K few) (start_ready L K.set) none K.set
-    (opened L K few none) (is_opened L K few none)
+module _ (laws : HasCodeLaws) (L : LinkedSet) (K : IsKnown L) (few : (linked_plan L).pages_max ≤ 16384) where
+  -- the memory that the set begins with ends before the last address
+  bounded : IsBounded (opening_memory L)
+  bounded =
+      let sized = K.memory in
+      let limits = linked_limits L K.links in
+      let pages = limits.pages in
+      record { most = omega arith; within = omega arith }
+
+  -- calls of the functions of the loader are answered, whether they are used or not
+  answered : CallsAreAnswered L (N L K few) (X L K few) (M L K few)
+  answered = go (uses_loader L) refl
+    where
+      go : (b : Bool) → uses_loader L ≡ b → CallsAreAnswered L (N L K few) (X L K few) (M L K few)
+      go true used =
+          laws.answered L (N L K few) (X L K few) (finders_of L (X L K few)) (M L K few) K.set K.links used (has_parts L K few) (loader_ready L K few used)
+      go false unused = laws.unused L (N L K few) (X L K few) (M L K few) (has_parts L K few) unused
+
+  pub runs_agree : Agree (set_system L) (module_system (M L K few)) (set_opening L) (opened_state (M L K few) (X L K few).starting (opened L K few) (opening_memory L))
+  runs_agree =
+      laws.runs L (N L K few) (X L K few) (M L K few) (has_parts L K few) (is_ready L K few) (start_ready L K.set) answered bounded K.set
+      (opened L K few) (is_opened L K few)

@@ -1,4 +1,4 @@
--- The active segments of the merged module are two: host functions that have slots, and the error texts.
+-- The active segments of the merged module are two: functions outside the members that have slots, and the error texts.
 use Rattle.std.proofs.Common.{◌≡◌, ℕ, suc, ◌+◌, true, List, [], ◌∷◌, ◌++◌, length, map, slice_get, slice_set, nat_le, Option, Some, refl, sym, ap, ap₂, ◌∙◌, arith, append_assoc}
 use Rattle.std.proofs.Math.Seq.{take-length}
 use Rattle.std.proofs.lemmas.Bool.Decides.{nat_tests}

@@ -18,12 +18,13 @@ use Rattle.wasm_form.specs.declared.runtime.Ref.{Ref}
 use Rattle.wasm_form.specs.declared.runtime.Ref.TheVariants.{Own, Loader, Host, Stub}
 use Rattle.spec_binary.specs.Options.{◌>>=◌}
 use Rattle.spec_binary.specs.SameTypes.{same_type}
-use Rattle.spec_binary.specs.Indices.{Function, function_type}
+use Rattle.spec_binary.specs.Indices.{Function, function_type, function_with}
 use Rattle.spec_binary.specs.IndexSpaces.{imports_of, globals_in, tables_in, type_of_global, global_space, table_space}
 use Rattle.spec_binary.proofs.Lists.{slice_get-append-left, slice_get-append-right}
 use Rattle.spec_runtime.specs.Names.{HostName}
 use Rattle.spec_validation.specs.Faults.{elem_of_table, item_type, type_of_elem}
-use Rattle.spec_execution.specs.Views.{View, type_of}
+use Rattle.spec_runs.specs.Systems.{only_if}
+use Rattle.spec_execution.specs.Views.{View, loader_type, type_of}
 use Rattle.spec_execution.specs.Instances.{global_value, segment_items}
 use Rattle.spec_execution.specs.Segments.{opened_items}
 use Rattle.spec_execution.specs.OneModule.{opened_parts}
@@ -47,17 +48,20 @@ use Rattle.merge_match.specs.Carrying.{Extends}
 use Rattle.merge_match.specs.Following.{trapping}
 use Rattle.merge_match.proofs.Joined.{item_there, member_within}
 use Rattle.merge_match.proofs.Lists.{length-slice_set}
+use Rattle.merge_dl.specs.Words.{call_body}
 use Rattle.merge_index.specs.Numbering.{function_number}
-use Rattle.merge_module.specs.MergedModule.{shared_table_type, renumbered_items, number_global, own_global, member_globals, guard_globals, merged_globals, merged_tables, passive_elem, outside_elem, declared_elem, merged_elems, passive_data, texts_segment, nullary_number}
+use Rattle.merge_module.specs.MergedModule.{finders_of, shared_table_type, renumbered_items, number_global, own_global, member_globals, guard_globals, merged_globals, merged_tables, passive_elem, outside_elem, declared_elem, merged_elems, passive_data, texts_segment}
 use Rattle.merge_module.proofs.Known.{IsKnown}
 use Rattle.merge_module.proofs.HostImports.{no_tables, no_globals}
 use Rattle.merge_module.proofs.ImportedGlobals.{global_import}
 use Rattle.merge_module.proofs.ImportedTables.{imported_table}
 use Rattle.merge_module.proofs.References.{function_typed}
-use Rattle.merge_module.proofs.MergedSpaces.{past_front, in_front, host_typed}
+use Rattle.merge_module.proofs.MergedSpaces.{first_host_type, past_front, in_front, host_typed}
 use Rattle.merge_module.proofs.Counted.{few_bytes, few_of}
 use Rattle.merge_module.proofs.GlobalValues.{one_type}
 use Rattle.merge_module.proofs.Applied.{slot_elems, outside_number}
+use Rattle.merge_module.proofs.OwnNumbers.{x}
+use Rattle.merge_module.proofs.LoaderFunctions.{call_there}
 use Rattle.merge_module.proofs.Opens.{N, X, M, has_parts}
 use Rattle.merge_module.proofs.OpenedStore.{member_globals_fit, globals_many, elems_many}
 
@@ -92,15 +96,15 @@ position_between {A} test k (x ∷ xs) n e = go (test x) e (position_between tes
     go true h later = (let same : k ≡ n = cc in (omega arith, omega arith))
     go false h later = (let le = (later h).0 in let lt = (later h).1 in (omega arith, omega arith))
 
-module _ (L : LinkedSet) (K : IsKnown L) (few : (linked_plan L).pages_max ≤ 16384) (none : uses_loader L ≡ false) where
+module _ (L : LinkedSet) (K : IsKnown L) (few : (linked_plan L).pages_max ≤ 16384) where
   abbrev V : View Store
   V = set_view L
 
   abbrev n : Numbers
-  n = N L K few none
+  n = N L K few
 
   abbrev merged : Module
-  merged = M L K few none
+  merged = M L K few
 
   -- ---- functions
 
@@ -108,14 +112,26 @@ module _ (L : LinkedSet) (K : IsKnown L) (few : (linked_plan L).pages_max ≤ 16
   ref_typed (Host e) ty h =
       let k = went_on (set_hosts L e) (λ (k : HostName). Some k.ty) ty h in
       let same : k.0.ty ≡ ty = (let q = k.2 in cc) in
-      host_typed L n (X L K few none) e k.0 k.1 (slice_get_within (hosts_of L) e k.0 k.1) ∙ ap Some same
+      host_typed L n (X L K few) e k.0 k.1 (slice_get_within (hosts_of L) e k.0 k.1) ∙ ap Some same
   ref_typed (Own m f) ty h =
       let y = went_on (V.code m f) (λ (y : Function). Some y.ty) ty h in
       let same : y.0.ty ≡ ty = (let q = y.2 in cc) in
-      function_typed merged (function_number L (Own m f)) (function n m y.0) ((has_parts L K few none).functions m f ∙ ap (option_map (function n m)) y.1) ∙ ap Some same
+      function_typed merged (function_number L (Own m f)) (function n m y.0) ((has_parts L K few).functions m f ∙ ap (option_map (function n m)) y.1) ∙ ap Some same
   ref_typed (Stub m f) ty h =
-      function_typed merged (function_number L (Stub m f)) (trapping ty) ((has_parts L K few none).stubs m f ∙ ap (option_map trapping) h)
-  ref_typed (Loader call) ty h = absurd (let q : type_of V (Loader call) ≡ None = rw none refl in cc)
+      function_typed merged (function_number L (Stub m f)) (trapping ty) ((has_parts L K few).stubs m f ∙ ap (option_map trapping) h)
+  ref_typed (Loader call) ty h = go (uses_loader L) refl h
+    where
+      go : (b : Bool) → uses_loader L ≡ b → only_if b (loader_type call) ≡ Some ty → function_type merged (function_number L (Loader call)) ≡ Some ty
+      go true used is =
+          let same : loader_type call ≡ ty = cc in
+          function_typed merged (function_number L (Loader call)) (function_with (loader_type call) (call_body L (x L K.set) (finders_of L (x L K.set)) call)) (call_there L K.set used call).code ∙ ap Some same
+      go false unused is = absurd cc
+
+  -- a global of the module, past its imports, of which none is one
+  pub global_at : (a : ℕ) (g : GlobalDef) → slice_get (merged_globals L n) a ≡ Some g → slice_get (global_space merged) a ≡ Some g.ty
+  global_at a g e =
+      ap (λ (l : List GlobalType). slice_get (l ++ map type_of_global (merged_globals L n)) a) (no_globals (first_host_type L) (hosts_of L))
+      ∙ slice_get-map type_of_global (merged_globals L n) a ∙ ap (option_map type_of_global) e
 
   module _ (m : ℕ) (member : Member) (at : slice_get L.set.members m ≡ Some member) where
     abbrev wasm : Module
@@ -131,17 +147,12 @@ module _ (L : LinkedSet) (K : IsKnown L) (few : (linked_plan L).pages_max ≤ 16
         ap (λ (o : Option Ref). function_type merged (number_of (option_map (function_number L) o))) is ∙ ref_typed r.0 ty r.2
 
     pub type_carried : (t : ℕ) → slice_get merged.types (n.ty m t) ≡ slice_get wasm.types t
-    type_carried t = (has_parts L K few none).types m t ∙ ap (λ (o : Option Module). o >>= λ y. slice_get y.types t) here
+    type_carried t = (has_parts L K few).types m t ∙ ap (λ (o : Option Module). o >>= λ y. slice_get y.types t) here
 
     -- ---- globals
 
-    pub global_at : (a : ℕ) (g : GlobalDef) → slice_get (merged_globals L n) a ≡ Some g → slice_get (global_space merged) a ≡ Some g.ty
-    global_at a g e =
-        ap (λ (l : List GlobalType). slice_get (l ++ map type_of_global (merged_globals L n)) a) (no_globals (nullary_number L + 1) (hosts_of L))
-        ∙ slice_get-map type_of_global (merged_globals L n) a ∙ ap (option_map type_of_global) e
-
     joined_few : length (from_members (member_globals L n) 0 L.set.members ++ guard_globals L) ≤ nowhere
-    joined_few = (let many = globals_many L K few none in let all = length-map (merged_globals L n) (global_value merged) in omega arith)
+    joined_few = (let many = globals_many L K few in let all = length-map (merged_globals L n) (global_value merged) in omega arith)
 
     member_global : (i : ℕ) (g : GlobalDef) → slice_get (member_globals L n m wasm) i ≡ Some g → slice_get (global_space merged) (memory_base_address L m + i) ≡ Some g.ty
     member_global i g e =
@@ -256,7 +267,7 @@ module _ (L : LinkedSet) (K : IsKnown L) (few : (linked_plan L).pages_max ≤ 16
     -- ---- tables
 
     pub table_at : (a : ℕ) (ty : TableType) → slice_get (merged_tables L) a ≡ Some ty → slice_get (table_space merged) a ≡ Some ty
-    table_at a ty e = ap (λ (l : List TableType). slice_get (l ++ merged_tables L) a) (no_tables (nullary_number L + 1) (hosts_of L)) ∙ e
+    table_at a ty e = ap (λ (l : List TableType). slice_get (l ++ merged_tables L) a) (no_tables (first_host_type L) (hosts_of L)) ∙ e
 
     tables_few : length (from_members (λ k (w : Module). w.tables) 0 L.set.members ++ []) ≤ nowhere
     tables_few =
@@ -296,7 +307,7 @@ module _ (L : LinkedSet) (K : IsKnown L) (few : (linked_plan L).pages_max ≤ 16
     -- ---- segments
 
     elems_few : length (merged_elems L n) ≤ nowhere
-    elems_few = (let many = elems_many L K few none in let one = length-slice_set (opened_parts merged).elems (outside_number L n) [] in let all = length-map (merged_elems L n) (opened_items (segment_items merged)) in omega arith)
+    elems_few = (let many = elems_many L K few in let one = length-slice_set (opened_parts merged).elems (outside_number L n) [] in let all = length-map (merged_elems L n) (opened_items (segment_items merged)) in omega arith)
 
     pub elem_carried : (e : ℕ) → Extends (slice_get wasm.elems e >>= type_of_elem) (slice_get merged.elems (n.elem m e) >>= type_of_elem)
     elem_carried e v h =

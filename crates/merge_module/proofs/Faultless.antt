@@ -82,6 +82,20 @@ members_none find of k (y ∷ ys) start each =
     let place : start + (length (of k y.wasm ++ from_members of (k + 1) (take j ys)) + i) ≡ start + length (of k y.wasm) + (length (from_members of (k + 1) (take j ys)) + i) = omega arith in
     subst (λ n. find n x ≡ None) place (each (suc j) z i x at later))))
 
+-- one of each member
+pub singles_none : {A : Type 0} (find : ℕ → A → Finding) (of : ℕ → Module → A) (k : ℕ) (xs : List Member) (start : ℕ)
+    → ((j : ℕ) (y : Member) → slice_get xs j ≡ Some y → find (start + j) (of (k + j) y.wasm) ≡ None)
+    → first_in find start (from_members (λ m wasm. of m wasm ∷ []) k xs) ≡ None
+singles_none find of k [] start each = refl
+singles_none find of k (y ∷ ys) start each =
+    let here : find start (of k y.wasm) ≡ None =
+    (let place : start + 0 ≡ start = omega arith in let same : k + 0 ≡ k = omega arith in subst (λ m. find start (of m y.wasm) ≡ None) same (subst (λ n. find n (of (k + 0) y.wasm) ≡ None) place (each 0 y refl))) in
+    both_none (find start (of k y.wasm)) (first_in find (start + 1) (from_members (λ m wasm. of m wasm ∷ []) (k + 1) ys)) here
+    (singles_none find of (k + 1) ys (start + 1) (λ j z at. (
+    let place : start + suc j ≡ start + 1 + j = omega arith in
+    let same : k + suc j ≡ k + 1 + j = omega arith in
+    subst (λ m. find (start + 1 + j) (of m z.wasm) ≡ None) same (subst (λ n. find n (of (k + suc j) z.wasm) ≡ None) place (each (suc j) z at)))))
+
 -- ---- tests of all
 
 pub all_pass : {A : Type 0} (test : A → Bool) (xs : List A) → list_all test xs ≡ true → All (λ x. test x ≡ true) xs

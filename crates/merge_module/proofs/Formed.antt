@@ -1,8 +1,8 @@
 -- The merged module is well formed.
-use Rattle.std.proofs.Common.{◌≡◌, ◌≤◌, ◌<◌, ◌^◌, ℕ, zero, suc, ◌+◌, ◌*◌, true, false, List, [], ◌∷◌, ◌++◌, length, map, replicate, slice_get, refl, ap, subst, arith, length-append}
+use Rattle.std.proofs.Common.{◌≡◌, ◌≤◌, ◌<◌, ◌^◌, ℕ, zero, suc, ◌+◌, true, false, List, [], ◌∷◌, ◌++◌, length, map, replicate, slice_get, refl, ap, subst, arith, length-append}
 use Rattle.std.specs.Prelude.{unwrap_or, codes}
 use Rattle.std.specs.List.{All, flat_map}
-use Rattle.std.proofs.lemmas.List.{length-map, length-replicate}
+use Rattle.std.proofs.lemmas.List.{length-map}
 use Rattle.std.proofs.lemmas.Option.{slice_get_within}
 use Rattle.spec_execution.specs.Instances.{global_value, segment_items}
 use Rattle.spec_execution.specs.Segments.{opened_items}
@@ -19,35 +19,38 @@ use Rattle.wasm_form.specs.declared.module.ExportDesc.{ExportDesc}
 use Rattle.wasm_form.specs.declared.module.Module.{Module}
 use Rattle.spec_binary.specs.Indices.{nullary}
 use Rattle.spec_binary.specs.IndexSpaces.{function_space}
-use Rattle.spec_binary.specs.WellFormed.{IsShort, IsFormedType, IsFormedTable, IsFormedImport, IsFormedGlobal, IsFormedExport, IsFormedElem, IsFormedCode, IsFormedData, ArePlaced, IsWellFormed}
+use Rattle.spec_binary.specs.WellFormed.{IsFormedType, IsFormedTable, IsFormedImport, IsFormedGlobal, IsFormedExport, IsFormedElem, IsFormedCode, IsFormedData, IsWellFormed}
 use Rattle.spec_binary.specs.WellFormed as formed
 use Rattle.spec_runtime.specs.Names.{HostName}
 use Rattle.spec_linking.specs.Sets.{Member}
 use Rattle.spec_linking.specs.LinkedSets.{LinkedSet, hosts_of}
 use Rattle.spec_linking.specs.Slots.{linked_plan, memory_base, table_base, cells_of, cell_value, fresh_functions, outside_slots, table_entries}
-use Rattle.spec_loading.specs.declared.task.Phase.TheVariants.{Place, Start, Relocate, Construct}
-use Rattle.spec_loading.specs.Members.{from_members, uses_loader, opened_global}
+use Rattle.spec_loading.specs.Members.{from_members, opened_global}
 use Rattle.spec_loading.specs.LoadedSet.{own_functions}
 use Rattle.spec_loading.proofs.Rows.{texts_length}
 use Rattle.spec_execution.specs.OneModule.{opened_parts}
 use Rattle.merge_match.specs.Renumbering.{Numbers}
 use Rattle.merge_match.specs.Joined.{renumbered_code}
-use Rattle.merge_start.specs.Words.{Starts, phase_code, entry_code}
+use Rattle.merge_start.specs.Words.{Starts}
+use Rattle.merge_dl.specs.Words.{handle_type, unary_type, binary_type, search_type}
 use Rattle.merge_index.specs.Numbering.{stubs_of, starts_of}
-use Rattle.merge_module.specs.MergedModule.{members_types, nullary_number, host_imports, stub_types, generated_types, stub_codes, phase_codes, trap_code, plain_code, shared_table_type, number_global, constant_instr, own_global, member_globals, guard_globals, merged_globals, passive_elem, slots_elem, outside_elem, named_functions, exported_functions, declared_elem, merged_elems, passive_data, texts_segment, merged_module}
+use Rattle.merge_module.specs.MergedModule.{with_loader, members_types, generated_functions_types, host_imports, stub_types, generated_types, stub_codes, trap_code, shared_table_type, number_global, constant_instr, own_global, member_globals, guard_globals, merged_globals, passive_elem, slots_elem, outside_elem, named_functions, exported_functions, declared_elem, merged_elems, passive_data, texts_segment, merged_module}
 use Rattle.merge_module.specs.Laws.{IsWritable, IsFunction, HasShape}
 use Rattle.merge_module.proofs.Known.{IsKnown}
+use Rattle.merge_module.proofs.WithLoader.{with_all}
 use Rattle.merge_module.proofs.SetMembers.{member_formed}
 use Rattle.spec_linking.specs.Gathering.{IsMember, IsSet}
 use Rattle.merge_module.proofs.Counted.{few_bytes, few_of, few_hosts}
 use Rattle.merge_module.proofs.StubLists.{lengths_same}
-use Rattle.merge_module.proofs.MergedSpaces.{few_types, few_funcs, few_codes, phases_many, own_funcs, own_codes}
+use Rattle.merge_module.proofs.MergedSpaces.{first_host_type, few_types, few_funcs, few_codes, own_funcs, own_codes, generated_codes, generated_codes_many}
 use Rattle.merge_module.proofs.OpenedStore.{globals_many, elems_many}
 use Rattle.merge_module.proofs.Generated.{entry_typed}
-use Rattle.merge_module.proofs.PlannedWords.{table_within}
+use Rattle.merge_dl.proofs.SlotWords.{table_within}
 use Rattle.merge_module.proofs.Opens.{N, X, M}
 use Rattle.merge_module.proofs.Faultless.{all_of}
-use Rattle.merge_module.proofs.FormedModule.{alone, constant_flat, trap_formed, phase_formed, entry_formed, code_formed, elem_formed, data_formed, number_formed, map_all, always}
+use Rattle.merge_module.proofs.Pieces.{constant_step}
+use Rattle.merge_module.proofs.GeneratedBodies.{stubs_all, generated_all}
+use Rattle.merge_module.proofs.FormedModule.{alone, code_formed, elem_formed, data_formed, number_formed, map_all, always}
 
 named_one : (d : ExportDesc) → length (named_functions d) ≤ 1
 named_one (exported.Func f) = omega arith
@@ -89,15 +92,15 @@ same_lengths of like P each k (x ∷ xs) all =
     let two = length-append (like k x.wasm) (from_members like (k + 1) xs) in
     omega arith
 
-module _ (L : LinkedSet) (K : IsKnown L) (few : (linked_plan L).pages_max ≤ 16384) (none : uses_loader L ≡ false) where
+module _ (L : LinkedSet) (K : IsKnown L) (few : (linked_plan L).pages_max ≤ 16384) where
   abbrev n : Numbers
-  n = N L K few none
+  n = N L K few
 
   abbrev x : Starts
-  x = X L K few none
+  x = X L K few
 
   abbrev merged : Module
-  merged = M L K few none
+  merged = M L K few
 
   abbrev members : List Member
   members = L.set.members
@@ -115,7 +118,7 @@ module _ (L : LinkedSet) (K : IsKnown L) (few : (linked_plan L).pages_max ≤ 16
   table_short = (let within = table_within L K.links in omega arith)
 
   own_formed : (m : ℕ) (g : GlobalDef) → IsFormedGlobal (own_global L n m g)
-  own_formed m g = alone (constant_instr n g.ty.value (opened_global L m g)) (constant_flat n g.ty.value (opened_global L m g))
+  own_formed m g = alone (constant_instr n g.ty.value (opened_global L m g)) (constant_step n g.ty.value (opened_global L m g))
 
   globals_formed : (m : ℕ) (wasm : Module) → All IsFormedGlobal (member_globals L n m wasm)
   globals_formed m wasm =
@@ -135,36 +138,24 @@ module _ (L : LinkedSet) (K : IsKnown L) (few : (linked_plan L).pages_max ≤ 16
       let short = table_short in
       record { mode = tt; items = omega (arith, length-map (own_functions L m) n.function) }
 
-  phases_formed : (m : ℕ) (wasm : Module) → All IsFormedCode (phase_codes L n x m wasm)
-  phases_formed m wasm =
-      let place = plain_code (phase_code L n x m wasm Place) in
-      let start = plain_code (phase_code L n x m wasm Start) in
-      let relocate = plain_code (phase_code L n x m wasm Relocate) in
-      let construct = plain_code (phase_code L n x m wasm Construct) in
-      All-cons IsFormedCode place (start ∷ relocate ∷ construct ∷ []) (phase_formed L n x m wasm Place)
-      (All-cons IsFormedCode start (relocate ∷ construct ∷ []) (phase_formed L n x m wasm Start)
-      (All-cons IsFormedCode relocate (construct ∷ []) (phase_formed L n x m wasm Relocate)
-      (All-cons IsFormedCode construct [] (phase_formed L n x m wasm Construct) (All-nil IsFormedCode))))
-
   -- ---- the parts
 
   codes_formed : All IsFormedCode merged.codes
   codes_formed =
       let own = from_members (λ m wasm. map (renumbered_code n m) wasm.codes) 0 members in
       let stubs = from_members (stub_codes L) 0 members in
-      let phases = from_members (phase_codes L n x) 0 members in
-      let last = plain_code (entry_code L n x) in
-      All-append IsFormedCode own (stubs ++ (phases ++ last ∷ []))
+      All-append IsFormedCode own (stubs ++ generated_codes L n x)
       (each_formed IsFormedCode (λ m wasm. map (renumbered_code n m) wasm.codes) (λ m y lt is. map_all IsFormedCode IsFormedCode (renumbered_code n m) (code_formed n m) y.wasm.codes is.codes.1))
-      (All-append IsFormedCode stubs (phases ++ last ∷ []) (each_formed IsFormedCode (stub_codes L) (λ m y lt is. always IsFormedCode (λ f. trap_code) (λ f. trap_formed) (stubs_of L m y.wasm)))
-      (All-append IsFormedCode phases (last ∷ []) (each_formed IsFormedCode (phase_codes L n x) (λ m y lt is. phases_formed m y.wasm))
-      (All-cons IsFormedCode last [] (entry_formed L n x) (All-nil IsFormedCode))))
+      (All-append IsFormedCode stubs (generated_codes L n x) (each_formed IsFormedCode (stub_codes L) (λ m y lt is. stubs_all IsFormedCode (λ size c is. is.formed) L m y.wasm))
+      (generated_all IsFormedCode (λ size c is. is.formed) L K.set n x))
 
   globals_all : All IsFormedGlobal merged.globals
   globals_all =
       All-cons IsFormedGlobal (number_global true (linked_plan L).stack_top) (from_members (member_globals L n) 0 members ++ guard_globals L) (number_formed (linked_plan L).stack_top)
       (All-append IsFormedGlobal (from_members (member_globals L n) 0 members) (guard_globals L) (each_formed IsFormedGlobal (member_globals L n) (λ m y lt is. globals_formed m y.wasm))
-      (always IsFormedGlobal (λ y. number_global true 0) (λ y. number_formed 0) members))
+      (All-append IsFormedGlobal (map (λ (y : Member). number_global true 0) members) (with_loader L (number_global true 0 ∷ []))
+      (always IsFormedGlobal (λ y. number_global true 0) (λ y. number_formed 0) members)
+      (with_all L IsFormedGlobal (number_global true 0 ∷ []) (λ used. All-cons IsFormedGlobal (number_global true 0) [] (number_formed 0) (All-nil IsFormedGlobal)))))
 
   outside_formed : IsFormedElem (outside_elem L n)
   outside_formed =
@@ -195,10 +186,20 @@ module _ (L : LinkedSet) (K : IsKnown L) (few : (linked_plan L).pages_max ≤ 16
       (each_formed IsFormedData (λ m wasm. map passive_data wasm.datas) (λ m y lt is. map_all IsFormedData IsFormedData passive_data data_formed y.wasm.datas is.datas.1))
       (All-cons IsFormedData (texts_segment L) [] texts_formed (All-nil IsFormedData))
 
+  generated_formed : All IsFormedType (generated_functions_types L)
+  generated_formed =
+      All-cons IsFormedType nullary (with_loader L (handle_type ∷ unary_type ∷ binary_type ∷ search_type ∷ [])) (omega arith, omega arith)
+      (with_all L IsFormedType (handle_type ∷ unary_type ∷ binary_type ∷ search_type ∷ []) (λ used.
+      All-cons IsFormedType handle_type (unary_type ∷ binary_type ∷ search_type ∷ []) (omega arith, omega arith)
+      (All-cons IsFormedType unary_type (binary_type ∷ search_type ∷ []) (omega arith, omega arith)
+      (All-cons IsFormedType binary_type (search_type ∷ []) (omega arith, omega arith)
+      (All-cons IsFormedType search_type [] (omega arith, omega arith) (All-nil IsFormedType))))))
+
   types_formed : All IsWritable (hosts_of L) → All IsFormedType merged.types
   types_formed hosts =
-      All-append IsFormedType (members_types L) (nullary ∷ map (λ (h : HostName). h.ty) (hosts_of L)) (each_formed IsFormedType (λ m wasm. wasm.types) (λ m y lt is. is.types.1))
-      (All-cons IsFormedType nullary (map (λ (h : HostName). h.ty) (hosts_of L)) (omega arith, omega arith)
+      let own = map (λ (h : HostName). h.ty) (hosts_of L) in
+      All-append IsFormedType (members_types L) (generated_functions_types L ++ own) (each_formed IsFormedType (λ m wasm. wasm.types) (λ m y lt is. is.types.1))
+      (All-append IsFormedType (generated_functions_types L) own generated_formed
       (map_all IsWritable IsFormedType (λ (h : HostName). h.ty) (λ h is. is.0) (hosts_of L) hosts))
 
   tables_formed : All IsFormedTable merged.tables
@@ -222,19 +223,19 @@ module _ (L : LinkedSet) (K : IsKnown L) (few : (linked_plan L).pages_max ≤ 16
 
   elems_few : length merged.elems < 2 ^ 32
   elems_few =
-      let many = elems_many L K few none in
+      let many = elems_many L K few in
       let one = length-slice_set (opened_parts merged).elems (outside_number L n) [] in
       let all = length-map (merged_elems L n) (opened_items (segment_items merged)) in
       omega arith
 
   globals_few : length merged.globals < 2 ^ 32
-  globals_few = (let many = globals_many L K few none in let all = length-map (merged_globals L n) (global_value merged) in omega arith)
+  globals_few = (let many = globals_many L K few in let all = length-map (merged_globals L n) (global_value merged) in omega arith)
 
   imports_few : length merged.imports < 2 ^ 32
   imports_few =
       let hosts = few_hosts L K.set in
       let bytes = few_bytes L K.set in
-      let same = hosts_long (nullary_number L + 1) (hosts_of L) in
+      let same = hosts_long (first_host_type L) (hosts_of L) in
       omega arith
 
   bodies_same : length merged.codes ≡ length merged.funcs
@@ -242,11 +243,9 @@ module _ (L : LinkedSet) (K : IsKnown L) (few : (linked_plan L).pages_max ≤ 16
       let own = same_lengths (λ m wasm. map (renumbered_code n m) wasm.codes) (λ m wasm. map (n.ty m) wasm.funcs) IsMember
       (λ k y is. (let e = (member_formed y is).counts.bodies in omega (arith, length-map y.wasm.codes (renumbered_code n k), length-map y.wasm.funcs (n.ty k)))) 0 members K.set.members in
       let stubs = lengths_same (stub_codes L) (stub_types L n) (λ m wasm. omega (arith, length-map (stubs_of L m wasm) (λ f. trap_code), length-map (stubs_of L m wasm) (λ f. n.ty m (unwrap_or (slice_get (function_space wasm) f) 0)))) 0 members in
-      let phases = phases_many L n x members 0 in
-      let generated = length-replicate (4 * length members + 1) (nullary_number L) in
-      let one = length-append (own_codes L n x) (from_members (stub_codes L) 0 members ++ (from_members (phase_codes L n x) 0 members ++ plain_code (entry_code L n x) ∷ [])) in
-      let two = length-append (from_members (stub_codes L) 0 members) (from_members (phase_codes L n x) 0 members ++ plain_code (entry_code L n x) ∷ []) in
-      let three = length-append (from_members (phase_codes L n x) 0 members) (plain_code (entry_code L n x) ∷ []) in
+      let generated = generated_codes_many L n x in
+      let one = length-append (own_codes L n x) (from_members (stub_codes L) 0 members ++ generated_codes L n x) in
+      let two = length-append (from_members (stub_codes L) 0 members) (generated_codes L n x) in
       let four = length-append (own_funcs L n x) (from_members (stub_types L n) 0 members ++ generated_types L) in
       let five = length-append (from_members (stub_types L n) 0 members) (generated_types L) in
       omega arith
@@ -258,7 +257,7 @@ module _ (L : LinkedSet) (K : IsKnown L) (few : (linked_plan L).pages_max ≤ 16
       let bodies = few_codes L n x K.set in
       record {
         types = (omega arith, types_formed hosts);
-        imports = (imports_few, hosts_formed (nullary_number L + 1) (hosts_of L) hosts);
+        imports = (imports_few, hosts_formed (first_host_type L) (hosts_of L) hosts);
         funcs = omega arith;
         tables = (tables_few, tables_formed);
         memories = omega arith;
@@ -282,7 +281,7 @@ hosts_functions t (h ∷ hs) =
 
 pub merged_shaped : (L : LinkedSet) → IsSet L.set → HasShape L (merged_module L)
 merged_shaped L set = record {
-  imports = hosts_functions (nullary_number L + 1) (hosts_of L);
+  imports = hosts_functions (first_host_type L) (hosts_of L);
   table = refl;
   memory = refl;
   entry = (starts_of L).starting;

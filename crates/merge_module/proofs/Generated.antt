@@ -3,10 +3,10 @@ use Rattle.std.proofs.Common.{◌≡◌, ℕ, zero, suc, ◌+◌, ◌-◌, ◌*�
 use Rattle.std.proofs.Math.Seq.{take-length}
 use Rattle.std.proofs.lemmas.List.{length-map}
 use Rattle.wasm_form.specs.declared.types.FuncType.{FuncType}
-use Rattle.wasm_form.specs.declared.instr.Instr.{Instr}
+use Rattle.wasm_form.specs.declared.module.Code.{Code}
 use Rattle.wasm_form.specs.declared.runtime.Ref.TheVariants.{Own}
 use Rattle.spec_binary.specs.Options.{◌>>=◌}
-use Rattle.spec_binary.specs.Indices.{nullary, function_type, function_at}
+use Rattle.spec_binary.specs.Indices.{nullary, function_type, function_with, function_at}
 use Rattle.spec_execution.specs.Instances.{function_named, module_target}
 use Rattle.spec_linking.specs.Sets.{Member}
 use Rattle.spec_linking.specs.Gathering.{IsSet}
@@ -19,9 +19,9 @@ use Rattle.merge_match.specs.Renumbering.{Numbers}
 use Rattle.merge_match.proofs.JoinedParts.{named_own}
 use Rattle.merge_start.specs.Words.{Starts, phase_code, entry_code, nullary_function}
 use Rattle.merge_index.specs.Numbering.{sum_of, stubs_of, stubs_before}
-use Rattle.merge_module.specs.MergedModule.{nullary_number, stub_types, generated_types, stub_codes, phase_codes, plain_code}
+use Rattle.merge_module.specs.MergedModule.{with_loader, nullary_number, stub_types, loader_funcs, generated_types, stub_codes, phase_codes, loader_codes, plain_code}
 use Rattle.merge_module.proofs.StubLists.{lengths_same}
-use Rattle.merge_module.proofs.MergedSpaces.{past_front, in_front, host_many, own_funcs, own_codes, type_at, code_at, nullary_there, phases_many}
+use Rattle.merge_module.proofs.MergedSpaces.{past_front, in_front, host_many, own_funcs, own_codes, type_at, code_at, nullary_there, phases_many, generated_codes}
 use Rattle.merge_module.proofs.OwnNumbers.{n, x, merged, own_funcs_many, own_codes_many}
 
 pub repeated_at : {A : Type 0} (count i : ℕ) (a : A) → i < count → slice_get (replicate count a) i ≡ Some a
@@ -66,43 +66,52 @@ module _ (L : LinkedSet) (set : IsSet L.set) where
   stubs_all : stubs_before L (length members) ≡ length (from_members (stubs_of L) 0 members)
   stubs_all = ap (λ xs. length (from_members (stubs_of L) 0 xs)) (take-length members)
 
-  -- ---- the i-th generated function
+  -- ---- the i-th generated function, of the type of this number
 
-  module _ (f i : ℕ) (number : f ≡ length (hosts_of L) + (codes + (stubs_before L (length members) + i))) (low : i < 4 * length members + 1) where
+  module _ (f i : ℕ) (number : f ≡ length (hosts_of L) + (codes + (stubs_before L (length members) + i))) (t : ℕ) (ty : FuncType)
+      (listed : slice_get (generated_types L) i ≡ Some t) (named : slice_get (merged L set).types t ≡ Some ty) where
     abbrev k : ℕ
     k = codes + (stubs_before L (length members) + i)
 
-    pub generated_typed : function_type (merged L set) f ≡ Some nullary
+    pub generated_typed : function_type (merged L set) f ≡ Some ty
     generated_typed =
         let own = own_funcs_many L set in
         let all = stubs_all in
         let types = lengths_same (stub_types L (n L set)) (stubs_of L) (λ m w. length-map (stubs_of L m w) _) 0 members in
         let place : k ≡ length (own_funcs L (n L set) (x L set)) + (stubs_before L (length members) + i) = omega arith in
         let second : stubs_before L (length members) + i ≡ length (from_members (stub_types L (n L set)) 0 members) + i = omega arith in
-        let func : slice_get (merged L set).funcs k ≡ Some (nullary_number L) =
+        let func : slice_get (merged L set).funcs k ≡ Some t =
         ap (slice_get (merged L set).funcs) place ∙ past_front (own_funcs L (n L set) (x L set)) _ (stubs_before L (length members) + i)
         ∙ ap (slice_get (from_members (stub_types L (n L set)) 0 members ++ generated_types L)) second
-        ∙ past_front (from_members (stub_types L (n L set)) 0 members) (generated_types L) i ∙ repeated_at (4 * length members + 1) i (nullary_number L) low in
-        type_at L (n L set) (x L set) f k number ∙ ap (λ (o : Option ℕ). o >>= slice_get (merged L set).types) func ∙ nullary_there L (n L set) (x L set)
+        ∙ past_front (from_members (stub_types L (n L set)) 0 members) (generated_types L) i ∙ listed in
+        type_at L (n L set) (x L set) f k number ∙ ap (λ (o : Option ℕ). o >>= slice_get (merged L set).types) func ∙ named
 
     pub generated_target : module_target (merged L set) f ≡ Some (Own 0 f)
     generated_target =
         let many = host_many L (n L set) (x L set) in
         ap (λ (o : Option FuncType). o >>= λ ty. Some (function_named (merged L set) f)) generated_typed ∙ ap Some (named_own (merged L set) f (omega arith))
 
-    generated_at : (code : List Instr)
-        → slice_get (from_members (phase_codes L (n L set) (x L set)) 0 members ++ plain_code (entry_code L (n L set) (x L set)) ∷ []) i ≡ Some (plain_code code)
-        → function_at (merged L set) f ≡ Some (nullary_function code)
+    pub generated_at : (code : Code) → slice_get (generated_codes L (n L set) (x L set)) i ≡ Some code → function_at (merged L set) f ≡ Some (function_with ty code)
     generated_at code at =
         let own = own_codes_many L set in
         let all = stubs_all in
         let stubs = lengths_same (stub_codes L) (stubs_of L) (λ m w. length-map (stubs_of L m w) _) 0 members in
         let place : k ≡ length (own_codes L (n L set) (x L set)) + (stubs_before L (length members) + i) = omega arith in
         let second : stubs_before L (length members) + i ≡ length (from_members (stub_codes L) 0 members) + i = omega arith in
-        let there : slice_get (merged L set).codes k ≡ Some (plain_code code) =
+        let there : slice_get (merged L set).codes k ≡ Some code =
         ap (slice_get (merged L set).codes) place ∙ past_front (own_codes L (n L set) (x L set)) _ (stubs_before L (length members) + i)
-        ∙ ap (slice_get (from_members (stub_codes L) 0 members ++ _)) second ∙ past_front (from_members (stub_codes L) 0 members) _ i ∙ at in
-        code_at L (n L set) (x L set) f k (plain_code code) nullary number there generated_typed
+        ∙ ap (slice_get (from_members (stub_codes L) 0 members ++ generated_codes L (n L set) (x L set))) second
+        ∙ past_front (from_members (stub_codes L) 0 members) (generated_codes L (n L set) (x L set)) i ∙ at in
+        code_at L (n L set) (x L set) f k code ty number there generated_typed
+
+  -- the phases and the entry function take and give nothing
+  pub nullary_listed : (i : ℕ) → i < 4 * length members + 1 → slice_get (generated_types L) i ≡ Some (nullary_number L)
+  nullary_listed i low =
+      in_front (replicate (4 * length members + 1) (nullary_number L)) (with_loader L (loader_funcs L)) i (nullary_number L)
+      (repeated_at (4 * length members + 1) i (nullary_number L) low)
+
+  nullary_is : slice_get (merged L set).types (nullary_number L) ≡ Some nullary
+  nullary_is = nullary_there L (n L set) (x L set)
 
   -- ---- phases
 
@@ -120,34 +129,39 @@ module _ (L : LinkedSet) (set : IsSet L.set) where
     phase_number_is = omega arith
 
     pub phase_typed : function_type (merged L set) phase ≡ Some nullary
-    phase_typed = generated_typed phase place_in phase_number_is phase_low
+    phase_typed = generated_typed phase place_in phase_number_is (nullary_number L) nullary (nullary_listed place_in phase_low) nullary_is
 
     pub phase_target : module_target (merged L set) phase ≡ Some (Own 0 phase)
-    phase_target = generated_target phase place_in phase_number_is phase_low
+    phase_target = generated_target phase place_in phase_number_is (nullary_number L) nullary (nullary_listed place_in phase_low) nullary_is
 
     pub phase_there : function_at (merged L set) phase ≡ Some (nullary_function (phase_code L (n L set) (x L set) m member.wasm p))
     phase_there =
-        generated_at phase place_in phase_number_is phase_low (phase_code L (n L set) (x L set) m member.wasm p)
-        (in_front (from_members (phase_codes L (n L set) (x L set)) 0 members) _ place_in _ (phase_at L (n L set) (x L set) members 0 m m member at (omega arith) p))
+        let code = plain_code (phase_code L (n L set) (x L set) m member.wasm p) in
+        generated_at phase place_in phase_number_is (nullary_number L) nullary (nullary_listed place_in phase_low) nullary_is code
+        (in_front (from_members (phase_codes L (n L set) (x L set)) 0 members) _ place_in code (phase_at L (n L set) (x L set) members 0 m m member at (omega arith) p))
 
   -- ---- the entry function
 
   abbrev entry : ℕ
   entry = (x L set).starting
 
-  entry_number_is : entry ≡ length (hosts_of L) + (codes + (stubs_before L (length members) + 4 * length members))
+  abbrev last : ℕ
+  last = 4 * length members
+
+  entry_number_is : entry ≡ length (hosts_of L) + (codes + (stubs_before L (length members) + last))
   entry_number_is = omega arith
 
   pub entry_typed : function_type (merged L set) entry ≡ Some nullary
-  entry_typed = generated_typed entry (4 * length members) entry_number_is (omega arith)
+  entry_typed = generated_typed entry last entry_number_is (nullary_number L) nullary (nullary_listed last (omega arith)) nullary_is
 
   pub entry_target : module_target (merged L set) entry ≡ Some (Own 0 entry)
-  entry_target = generated_target entry (4 * length members) entry_number_is (omega arith)
+  entry_target = generated_target entry last entry_number_is (nullary_number L) nullary (nullary_listed last (omega arith)) nullary_is
 
   pub entry_there : function_at (merged L set) entry ≡ Some (nullary_function (entry_code L (n L set) (x L set)))
   entry_there =
       let many = phases_many L (n L set) (x L set) members 0 in
-      let place : 4 * length members ≡ length (from_members (phase_codes L (n L set) (x L set)) 0 members) + 0 = omega arith in
-      generated_at entry (4 * length members) entry_number_is (omega arith) (entry_code L (n L set) (x L set))
-      (ap (slice_get (from_members (phase_codes L (n L set) (x L set)) 0 members ++ plain_code (entry_code L (n L set) (x L set)) ∷ [])) place
-      ∙ past_front (from_members (phase_codes L (n L set) (x L set)) 0 members) (plain_code (entry_code L (n L set) (x L set)) ∷ []) 0)
+      let code = plain_code (entry_code L (n L set) (x L set)) in
+      let place : last ≡ length (from_members (phase_codes L (n L set) (x L set)) 0 members) + 0 = omega arith in
+      generated_at entry last entry_number_is (nullary_number L) nullary (nullary_listed last (omega arith)) nullary_is code
+      (ap (slice_get (generated_codes L (n L set) (x L set))) place
+      ∙ past_front (from_members (phase_codes L (n L set) (x L set)) 0 members) (code ∷ with_loader L (loader_codes L (n L set) (x L set))) 0)

@@ -7,11 +7,12 @@ use Rattle.wasm_form.specs.declared.module.Module.{Module}
 use Rattle.wasm_form.specs.declared.runtime.LoaderCall.{LoaderCall}
 use Rattle.wasm_form.specs.declared.runtime.Ref.{Ref}
 use Rattle.wasm_form.specs.declared.runtime.Ref.TheVariants.{Own, Loader, Host, Stub}
+use Rattle.spec_runs.specs.Systems.{only_if}
 use Rattle.spec_binary.specs.Options.{◌>>=◌}
-use Rattle.spec_binary.specs.Indices.{function_type, function_at}
+use Rattle.spec_binary.specs.Indices.{Function, function_type, function_at}
 use Rattle.spec_binary.specs.IndexSpaces.{functions_in, imported_count}
 use Rattle.spec_runtime.specs.Names.{HostName}
-use Rattle.spec_execution.specs.Views.{View, type_of}
+use Rattle.spec_execution.specs.Views.{View, loader_type, type_of}
 use Rattle.spec_execution.specs.Ranges.{Exists}
 use Rattle.spec_execution.specs.Instances.{module_view}
 use Rattle.spec_linking.specs.Sets.{Member}
@@ -22,18 +23,18 @@ use Rattle.spec_safety.proofs.Lookups.{went_on}
 use Rattle.spec_loading.specs.Members.{Store, stub_type, uses_loader, set_view}
 use Rattle.spec_loading.specs.Addresses.{sum_before, item_address}
 use Rattle.merge_match.specs.Renumbering.{reference}
-use Rattle.merge_match.specs.Parts.{number_of}
+use Rattle.merge_match.specs.Parts.{nowhere, number_of}
 use Rattle.merge_match.specs.Following.{trapping}
 use Rattle.merge_match.specs.Joined.{own_address, function_address, IsPlaced, IsJoined}
-use Rattle.merge_index.specs.Numbering.{is_stub, stubs_below, stubs_before, first_stub, function_number}
-use Rattle.merge_module.specs.MergedModule.{nullary_number}
+use Rattle.merge_index.specs.Numbering.{is_stub, stubs_below, stubs_before, first_stub, first_call, call_place, call_number, function_number}
 use Rattle.merge_module.proofs.Known.{IsKnown}
 use Rattle.merge_module.proofs.SetMembers.{is_sound}
 use Rattle.merge_module.proofs.HostImports.{hosts_are}
 use Rattle.merge_module.proofs.Counted.{few_bytes, few_hosts}
-use Rattle.merge_module.proofs.MergedSpaces.{host_many, host_types, host_typed, few_types, few_funcs, few_codes, no_function}
-use Rattle.merge_module.proofs.References.{stub_there, IsDefined, defined_there}
+use Rattle.merge_module.proofs.MergedSpaces.{first_host_type, host_many, host_types, host_typed, few_types, few_funcs, few_codes, no_function}
+use Rattle.merge_module.proofs.References.{stub_there, IsDefined, defined_there, function_typed}
 use Rattle.merge_module.proofs.OwnNumbers.{n, x, merged, own_typed, stub_typed, stub_at}
+use Rattle.merge_module.proofs.LoaderFunctions.{call_there}
 
 -- what has a type has been found
 found_some : {A B : Type 0} (o : Option A) (f : A → Option B) → IsTrue (is_some (o >>= f)) → (a : A) × (o ≡ Some a) × IsTrue (is_some (f a))
@@ -103,81 +104,100 @@ module _ (L : LinkedSet) (K : IsKnown L) where
       go true = omega arith
       go false = (let few = few_h in omega arith)
 
-  module _ (none : uses_loader L ≡ false) where
-    no_loader : (call : LoaderCall) → Exists V (Loader call) → ⊥
-    no_loader call exists = (let q : false ≡ true = subst (λ b. IsTrue (is_some (type_of (record V { has_loader = b }) (Loader call)))) none exists in cc)
+  loader_past : (call : LoaderCall) → h ≤ call_number L call
+  loader_past call = go (uses_loader L)
+    where
+      go : (b : Bool) → h ≤ (if b then first_call L + call_place call else nowhere)
+      go true = omega arith
+      go false = (let few = few_h in omega arith)
 
-    placed : (m f : ℕ) (r : Ref) → function_ref L m f ≡ Some r → IsPlaced (n L set) (merged L set) r
-    placed m f (Host e) q =
-        let there = host_there e (ref_exists m f (Host e) q) in
-        let many = host_many L (n L set) (x L set) in
-        let lt = there.2 in
-        omega arith
-    placed m f (Own k g) q = (let many = host_many L (n L set) (x L set) in let past = own_past k g in omega arith)
-    placed m f (Loader call) q = (let many = host_many L (n L set) (x L set) in let few = few_h in omega arith)
-    placed m f (Stub k g) q = (let many = host_many L (n L set) (x L set) in let past = stub_past k g in omega arith)
+  -- a function of the loader is there only where a member imports one
+  used_loader : (call : LoaderCall) → Exists V (Loader call) → uses_loader L ≡ true
+  used_loader call exists = go (uses_loader L) refl exists
+    where
+      go : (b : Bool) → uses_loader L ≡ b → IsTrue (is_some (only_if b (loader_type call))) → uses_loader L ≡ true
+      go true q there = q
+      go false q there = absurd (let no : false ≡ true = there in cc)
 
-    -- ---- types
+  placed : (m f : ℕ) (r : Ref) → function_ref L m f ≡ Some r → IsPlaced (n L set) (merged L set) r
+  placed m f (Host e) q =
+      let there = host_there e (ref_exists m f (Host e) q) in
+      let many = host_many L (n L set) (x L set) in
+      let lt = there.2 in
+      omega arith
+  placed m f (Own k g) q = (let many = host_many L (n L set) (x L set) in let past = own_past k g in omega arith)
+  placed m f (Loader call) q = (let many = host_many L (n L set) (x L set) in let past = loader_past call in omega arith)
+  placed m f (Stub k g) q = (let many = host_many L (n L set) (x L set) in let past = stub_past k g in omega arith)
 
-    pub typed : (m f : ℕ) (r : Ref) → function_ref L m f ≡ Some r → (ty : FuncType) × (function_type (merged L set) (function_number L r) ≡ Some ty)
-    typed m f (Host e) q =
-        let there = host_there e (ref_exists m f (Host e) q) in
-        (there.0.ty, host_typed L (n L set) (x L set) e there.0 there.1 there.2)
-    typed m f (Own k g) q =
-        let there = own_defined k g (ref_exists m f (Own k g) q) in
-        (there.2.ty, own_typed L set k g there.0 there.1 there.2)
-    typed m f (Loader call) q = absurd (no_loader call (ref_exists m f (Loader call) q))
-    typed m f (Stub a b) q =
-        let there = stub_there L m f a b q in
-        let member = member_of m there.1.wasm there.1.here in
-        let same : function_number L (Stub m f) ≡ function_number L (Stub a b) = (let one = there.0.0 in let two = there.0.1 in cc) in
-        (there.1.ty, ap (function_type (merged L set)) (sym same) ∙ stub_typed L set m f a b q there.1 member.0 member.1 member.2)
+  -- ---- types
 
-    -- ---- stubs
+  pub typed : (m f : ℕ) (r : Ref) → function_ref L m f ≡ Some r → (ty : FuncType) × (function_type (merged L set) (function_number L r) ≡ Some ty)
+  typed m f (Host e) q =
+      let there = host_there e (ref_exists m f (Host e) q) in
+      (there.0.ty, host_typed L (n L set) (x L set) e there.0 there.1 there.2)
+  typed m f (Own k g) q =
+      let there = own_defined k g (ref_exists m f (Own k g) q) in
+      (there.2.ty, own_typed L set k g there.0 there.1 there.2)
+  typed m f (Loader call) q =
+      let there = call_there L set (used_loader call (ref_exists m f (Loader call) q)) call in
+      (loader_type call, function_typed (merged L set) (call_number L call) _ there.code)
+  typed m f (Stub a b) q =
+      let there = stub_there L m f a b q in
+      let member = member_of m there.1.wasm there.1.here in
+      let same : function_number L (Stub m f) ≡ function_number L (Stub a b) = (let one = there.0.0 in let two = there.0.1 in cc) in
+      (there.1.ty, ap (function_type (merged L set)) (sym same) ∙ stub_typed L set m f a b q there.1 member.0 member.1 member.2)
 
-    stubs : (m f : ℕ) → function_at (merged L set) (function_number L (Stub m f)) ≡ option_map trapping (stub_type L m f)
-    stubs m f = go (function_ref L m f) refl
-      where
-        nothing : is_stub (function_ref L m f) ≡ false → stub_type L m f ≡ None → function_at (merged L set) (function_number L (Stub m f)) ≡ option_map trapping (stub_type L m f)
-        nothing q e = rw (q, e) (no_function L (n L set) (x L set) set)
+  -- ---- stubs
 
-        go : (o : Option Ref) → function_ref L m f ≡ o → function_at (merged L set) (function_number L (Stub m f)) ≡ option_map trapping (stub_type L m f)
-        go None q = nothing (ap is_stub q) (rw q refl)
-        go (Some (Own k g)) q = nothing (ap is_stub q) (rw q refl)
-        go (Some (Loader call)) q = nothing (ap is_stub q) (rw q refl)
-        go (Some (Host e)) q = nothing (ap is_stub q) (rw q refl)
-        go (Some (Stub a b)) q =
-            let there = stub_there L m f a b q in
-            let member = member_of m there.1.wasm there.1.here in
-            let ty : function_type there.1.wasm f ≡ Some there.1.ty = ap (λ (o : Option ℕ). o >>= slice_get there.1.wasm.types) there.1.space ∙ there.1.typed in
-            let is : stub_type L m f ≡ Some there.1.ty = rw (q, there.1.here) ty in
-            stub_at L set m f a b q there.1 member.0 member.1 member.2 ∙ ap (option_map trapping) (sym is)
+  stubs : (m f : ℕ) → function_at (merged L set) (function_number L (Stub m f)) ≡ option_map trapping (stub_type L m f)
+  stubs m f = go (function_ref L m f) refl
+    where
+      nothing : is_stub (function_ref L m f) ≡ false → stub_type L m f ≡ None → function_at (merged L set) (function_number L (Stub m f)) ≡ option_map trapping (stub_type L m f)
+      nothing q e = rw (q, e) (no_function L (n L set) (x L set) set)
 
-    loader : (call : LoaderCall) → type_of (module_view (merged L set)) (reference (n L set) (Loader call)) ≡ type_of V (Loader call)
-    loader call = rw (no_function L (n L set) (x L set) set, none) refl
+      go : (o : Option Ref) → function_ref L m f ≡ o → function_at (merged L set) (function_number L (Stub m f)) ≡ option_map trapping (stub_type L m f)
+      go None q = nothing (ap is_stub q) (rw q refl)
+      go (Some (Own k g)) q = nothing (ap is_stub q) (rw q refl)
+      go (Some (Loader call)) q = nothing (ap is_stub q) (rw q refl)
+      go (Some (Host e)) q = nothing (ap is_stub q) (rw q refl)
+      go (Some (Stub a b)) q =
+          let there = stub_there L m f a b q in
+          let member = member_of m there.1.wasm there.1.here in
+          let ty : function_type there.1.wasm f ≡ Some there.1.ty = ap (λ (o : Option ℕ). o >>= slice_get there.1.wasm.types) there.1.space ∙ there.1.typed in
+          let is : stub_type L m f ≡ Some there.1.ty = rw (q, there.1.here) ty in
+          stub_at L set m f a b q there.1 member.0 member.1 member.2 ∙ ap (option_map trapping) (sym is)
 
-    pub is_joined : IsJoined L (n L set) (merged L set)
-    is_joined = record {
-      more_types = _;
-      types = refl;
-      more_funcs = _;
-      funcs = refl;
-      more_codes = _;
-      codes = refl;
-      paired = λ m w e. sym (is_sound L m w set e).bodies;
-      few_types = (let few = few_types L (n L set) (x L set) set in omega arith);
-      few_functions = (let few = few_codes L (n L set) (x L set) set in let many = host_many L (n L set) (x L set) in let hosts = few_h in omega arith);
-      few_funcs = (let few = few_funcs L (n L set) (x L set) set in let many = host_many L (n L set) (x L set) in let hosts = few_h in omega arith);
-      type_numbers = λ m t. refl;
-      function_numbers = λ m f. ap (λ k. number_of (function_address L k m f)) (sym (host_many L (n L set) (x L set)));
-      named_numbers = λ m f. refl;
-      globals = λ m g. refl;
-      tables = λ m t. refl;
-      elems = λ m e. refl;
-      datas = λ m d. refl;
-      placed = placed;
-      typed = typed;
-      stubs = stubs;
-      loader = loader;
-      hosts = λ e. ap (λ l. slice_get l e) (hosts_are (merged L set) (nullary_number L + 1) (hosts_of L) (host_types L (n L set) (x L set)));
-    }
+  loader : (call : LoaderCall) → type_of (module_view (merged L set)) (reference (n L set) (Loader call)) ≡ type_of V (Loader call)
+  loader call = go (uses_loader L) refl
+    where
+      go : (b : Bool) → uses_loader L ≡ b → type_of (module_view (merged L set)) (reference (n L set) (Loader call)) ≡ type_of V (Loader call)
+      go true used = ap (λ (o : Option Function). o >>= λ y. Some y.ty) (call_there L set used call).code ∙ ap (λ c. only_if c (loader_type call)) (sym used)
+      go false unused =
+          ap (λ c. type_of (module_view (merged L set)) (Own 0 (if c then first_call L + call_place call else nowhere))) unused
+          ∙ ap (λ (o : Option Function). o >>= λ y. Some y.ty) (no_function L (n L set) (x L set) set) ∙ ap (λ c. only_if c (loader_type call)) (sym unused)
+
+  pub is_joined : IsJoined L (n L set) (merged L set)
+  is_joined = record {
+    more_types = _;
+    types = refl;
+    more_funcs = _;
+    funcs = refl;
+    more_codes = _;
+    codes = refl;
+    paired = λ m w e. sym (is_sound L m w set e).bodies;
+    few_types = (let few = few_types L (n L set) (x L set) set in omega arith);
+    few_functions = (let few = few_codes L (n L set) (x L set) set in let many = host_many L (n L set) (x L set) in let hosts = few_h in omega arith);
+    few_funcs = (let few = few_funcs L (n L set) (x L set) set in let many = host_many L (n L set) (x L set) in let hosts = few_h in omega arith);
+    type_numbers = λ m t. refl;
+    function_numbers = λ m f. ap (λ k. number_of (function_address L k m f)) (sym (host_many L (n L set) (x L set)));
+    named_numbers = λ m f. refl;
+    globals = λ m g. refl;
+    tables = λ m t. refl;
+    elems = λ m e. refl;
+    datas = λ m d. refl;
+    placed = placed;
+    typed = typed;
+    stubs = stubs;
+    loader = loader;
+    hosts = λ e. ap (λ l. slice_get l e) (hosts_are (merged L set) (first_host_type L) (hosts_of L) (host_types L (n L set) (x L set)));
+  }

@@ -18,6 +18,10 @@ use Rattle.spec_loading.specs.declared.task.Phase.{Phase}
 use Rattle.spec_loading.specs.Members.{set_instances, set_view, opening_table, opening_store}
 use Rattle.spec_loading.specs.LoadedSet.{first_slot, own_functions, set_loading, opening_memory}
 use Rattle.spec_loading.specs.Laws.{LinkedIsThere, LinkedIsTyped, IsCallable, CalleesAreThere, EntryIsThere, OpeningHolds, SizesArePlanned, SlotsFit}
+use Rattle.merge_start.specs.Laws.{SetsRunAsMerged, UnusedIsAnswered}
+use Rattle.merge_start.specs.Typed.{GeneratedIsTyped}
+use Rattle.merge_dl.specs.Laws.{LoaderIsAnswered}
+use Rattle.merge_dl.specs.Typed.{LoaderIsTyped}
 
 pub record IsKnown (L : LinkedSet) : Type 0 where
   pub set : IsSet L.set
@@ -55,3 +59,11 @@ known laws L set links = record {
   table = (laws.sizes L).1;
   slots = laws.slots L;
 }
+
+-- the laws of generated code
+pub record HasCodeLaws : Type 0 where
+  pub runs : SetsRunAsMerged
+  pub unused : UnusedIsAnswered
+  pub answered : LoaderIsAnswered
+  pub generated : GeneratedIsTyped
+  pub loader : LoaderIsTyped

@@ -1,5 +1,5 @@
 -- The function space of a merged module: the host functions, those of the members, stubs, and what is generated.
-use Rattle.std.proofs.Common.{◌≡◌, ℕ, zero, suc, ◌+◌, ◌-◌, ◌*◌, ◌<◌, ◌≤◌, List, [], ◌∷◌, ◌++◌, length, map, slice_get, Option, Some, None, refl, sym, ap, ◌∙◌, arith, length-append}
+use Rattle.std.proofs.Common.{◌≡◌, ℕ, zero, suc, ◌+◌, ◌-◌, ◌*◌, ◌<◌, ◌≤◌, List, [], ◌∷◌, ◌++◌, length, map, replicate, slice_get, Option, Some, None, refl, sym, ap, ◌∙◌, arith, length-append}
 use Rattle.std.specs.Prelude.{unwrap_or}
 use Rattle.std.proofs.lemmas.List.{length-map, length-replicate}
 use Rattle.std.proofs.lemmas.Option.{slice_get-map, slice_get_past}
@@ -19,9 +19,11 @@ use Rattle.merge_match.specs.Renumbering.{Numbers}
 use Rattle.merge_match.specs.Parts.{nowhere}
 use Rattle.merge_match.specs.Joined.{renumbered_code}
 use Rattle.merge_match.proofs.JoinedParts.{own_type, own_at}
-use Rattle.merge_start.specs.Words.{Starts, entry_code}
+use Rattle.merge_start.specs.Words.{Starts, entry_code, open_code}
+use Rattle.merge_dl.specs.Words.{handle_type, unary_type, binary_type, search_type, length_body, find_body}
 use Rattle.merge_index.specs.Numbering.{stubs_of}
-use Rattle.merge_module.specs.MergedModule.{members_types, nullary_number, stub_types, generated_types, stub_codes, phase_codes, plain_code, trap_code, module_with}
+use Rattle.merge_module.specs.MergedModule.{with_loader, members_types, nullary_number, handle_number, unary_number, binary_number, search_number, generated_functions_types, stub_types, loader_funcs, generated_types, stub_codes, phase_codes, open_codes, find_codes, call_codes, loader_codes, plain_code, trap_code, module_with}
+use Rattle.merge_module.proofs.WithLoader.{with_few, with_many}
 use Rattle.merge_module.proofs.HostImports.{functions_of, numbered_types, HasTypes}
 use Rattle.merge_module.proofs.Counted.{few_bytes, few_members, few_hosts, few_of, stubs_within}
 
@@ -37,30 +39,69 @@ in_front [] rest i x e = absurd cc
 in_front (y ∷ front) rest zero x e = e
 in_front (y ∷ front) rest (suc i) x e = in_front front rest i x e
 
+-- one of each member
+pub one_each : {A : Type 0} (f : ℕ → Module → A) (k : ℕ) (xs : List Member) → length (from_members (λ m w. f m w ∷ []) k xs) ≡ length xs
+one_each f k [] = refl
+one_each f k (x ∷ xs) = ap suc (one_each f (k + 1) xs)
+
+pub loader_many : (L : LinkedSet) → length (loader_funcs L) ≡ 2 * length L.set.members + 5
+loader_many L =
+    let members = length L.set.members in
+    let opens = length-replicate members (handle_number L) in
+    let finds = length-replicate members (search_number L) in
+    let calls = binary_number L ∷ binary_number L ∷ unary_number L ∷ handle_number L ∷ [] in
+    let one = length-append (replicate members (handle_number L)) (unary_number L ∷ (replicate members (search_number L) ++ calls)) in
+    let two = length-append (replicate members (search_number L)) calls in
+    omega arith
+
+pub generated_many : (L : LinkedSet) → length (generated_types L) ≤ 6 * length L.set.members + 6
+generated_many L =
+    let first = length-replicate (4 * length L.set.members + 1) (nullary_number L) in
+    let some = with_few L (loader_funcs L) in
+    let many = loader_many L in
+    omega (arith, length-append (replicate (4 * length L.set.members + 1) (nullary_number L)) (with_loader L (loader_funcs L)))
+
+-- the number of the type of the first host function
+abbrev pub first_host_type : LinkedSet → ℕ
+first_host_type L = nullary_number L + length (generated_functions_types L)
+
+-- there are as many types of generated functions
+pub few_generated_types : (L : LinkedSet) → length (generated_functions_types L) ≤ 5
+few_generated_types L = (let few = with_few L (handle_type ∷ unary_type ∷ binary_type ∷ search_type ∷ []) in omega arith)
+
 module _ (L : LinkedSet) (n : Numbers) (x : Starts) where
   abbrev pub merged : Module
   merged = module_with L n x
 
   pub host_many : imported_count merged ≡ length (hosts_of L)
-  host_many = functions_of (nullary_number L + 1) (hosts_of L)
+  host_many = functions_of (first_host_type L) (hosts_of L)
 
   -- ---- types
+
+  abbrev host_function_types : List FuncType
+  host_function_types = map (λ (h : HostName). h.ty) (hosts_of L)
+
+  -- a type of generated functions, by its place among these
+  pub generated_type_there : (i : ℕ) (ty : FuncType) → slice_get (generated_functions_types L) i ≡ Some ty → slice_get merged.types (nullary_number L + i) ≡ Some ty
+  generated_type_there i ty at =
+      past_front (members_types L) (generated_functions_types L ++ host_function_types) i ∙ in_front (generated_functions_types L) host_function_types i ty at
 
   pub nullary_there : slice_get merged.types (nullary_number L) ≡ Some nullary
   nullary_there =
       let place : nullary_number L + 0 ≡ nullary_number L = omega arith in
-      ap (slice_get merged.types) (sym place) ∙ past_front (members_types L) (nullary ∷ map (λ (h : HostName). h.ty) (hosts_of L)) 0
+      ap (slice_get merged.types) (sym place) ∙ generated_type_there 0 nullary refl
 
-  pub host_types : HasTypes merged (nullary_number L + 1) (hosts_of L)
+  pub host_types : HasTypes merged (first_host_type L) (hosts_of L)
   host_types e h at =
-      let place : nullary_number L + suc e ≡ nullary_number L + 1 + e = omega arith in
-      let there : slice_get (map (λ (h : HostName). h.ty) (hosts_of L)) e ≡ Some h.ty = slice_get-map (λ (h : HostName). h.ty) (hosts_of L) e ∙ rw at refl in
-      ap (slice_get merged.types) (sym place) ∙ past_front (members_types L) (nullary ∷ map (λ (h : HostName). h.ty) (hosts_of L)) (suc e) ∙ there
+      let place : nullary_number L + (length (generated_functions_types L) + e) ≡ first_host_type L + e = omega arith in
+      let there : slice_get host_function_types e ≡ Some h.ty = slice_get-map (λ (h : HostName). h.ty) (hosts_of L) e ∙ rw at refl in
+      ap (slice_get merged.types) (sym place) ∙ past_front (members_types L) (generated_functions_types L ++ host_function_types) (length (generated_functions_types L) + e)
+      ∙ past_front (generated_functions_types L) host_function_types e ∙ there
 
   -- a host function by its number
   pub host_typed : (e : ℕ) (h : HostName) → slice_get (hosts_of L) e ≡ Some h → e < length (hosts_of L) → function_type merged e ≡ Some h.ty
   host_typed e h at lt =
-      let t = nullary_number L + 1 in
+      let t = first_host_type L in
       let there = in_front (imports_of functions_in merged.imports) merged.funcs e (t + e) (numbered_types t (hosts_of L) e lt) in
       ap (λ (o : Option ℕ). o >>= slice_get merged.types) there ∙ host_types e h at
 
@@ -91,15 +132,40 @@ module _ (L : LinkedSet) (n : Numbers) (x : Starts) where
   phases_many [] k = refl
   phases_many (y ∷ ys) k = (let later = phases_many ys (k + 1) in omega (arith, length-append (phase_codes L n x k y.wasm) (from_members (phase_codes L n x) (k + 1) ys)))
 
+  -- what is generated, and of it what is there for the loader
+  pub loader_codes_many : length (loader_codes L n x) ≡ length (loader_funcs L)
+  loader_codes_many =
+      let members = length L.set.members in
+      let opens = one_each (λ m y. plain_code (open_code L n x m)) 0 L.set.members in
+      let finds = one_each (find_body L) 0 L.set.members in
+      let one = length-append (open_codes L n x) (length_body ∷ (find_codes L ++ call_codes L x)) in
+      let two = length-append (find_codes L) (call_codes L x) in
+      let three = loader_many L in
+      omega arith
+
+  abbrev pub generated_codes : List Code
+  generated_codes = from_members (phase_codes L n x) 0 L.set.members ++ plain_code (entry_code L n x) ∷ with_loader L (loader_codes L n x)
+
+  pub generated_codes_many : length generated_codes ≡ length (generated_types L)
+  generated_codes_many =
+      let phases = phases_many L.set.members 0 in
+      let same = with_many L (loader_codes L n x) (loader_funcs L) loader_codes_many in
+      let one = length-append (from_members (phase_codes L n x) 0 L.set.members) (plain_code (entry_code L n x) ∷ with_loader L (loader_codes L n x)) in
+      let first = length-replicate (4 * length L.set.members + 1) (nullary_number L) in
+      let two = length-append (replicate (4 * length L.set.members + 1) (nullary_number L)) (with_loader L (loader_funcs L)) in
+      omega arith
+
   -- ---- there is nothing at the number of what is out of range
 
   module _ (set : IsSet L.set) where
-    pub few_types : length merged.types ≤ 33554433
+    pub few_types : length merged.types ≤ 33554437
     few_types =
         let own = few_of L set (λ m wasm. wasm.types) (λ k y few. (let all = few.all in omega arith)) in
         let hosts = few_hosts L set in
         let bytes = few_bytes L set in
-        omega (arith, length-append (members_types L) (nullary ∷ map (λ (h : HostName). h.ty) (hosts_of L)), length-map (hosts_of L) (λ (h : HostName). h.ty))
+        let generated = few_generated_types L in
+        let rest = length-append (generated_functions_types L) host_function_types in
+        omega (arith, length-append (members_types L) (generated_functions_types L ++ host_function_types), length-map (hosts_of L) (λ (h : HostName). h.ty))
 
     stub_types_many : length (from_members (stub_types L n) 0 L.set.members) ≤ 16777216
     stub_types_many =
@@ -113,26 +179,26 @@ module _ (L : LinkedSet) (n : Numbers) (x : Starts) where
         let bytes = few_bytes L set in
         omega arith
 
-    pub few_funcs : length merged.funcs ≤ 33555457
+    pub few_funcs : length merged.funcs ≤ 33555974
     few_funcs =
         let own = few_of L set (λ m wasm. map (n.ty m) wasm.funcs) (λ k y few. (let all = few.all in omega (arith, length-map y.wasm.funcs (n.ty k)))) in
         let stubs = stub_types_many in
         let bytes = few_bytes L set in
         let members = few_members L set in
         let rest = length-append (from_members (stub_types L n) 0 L.set.members) (generated_types L) in
-        let generated = length-replicate (4 * length L.set.members + 1) (nullary_number L) in
+        let generated = generated_many L in
         omega (arith, length-append own_funcs (from_members (stub_types L n) 0 L.set.members ++ generated_types L))
 
-    pub few_codes : length merged.codes ≤ 33555457
+    pub few_codes : length merged.codes ≤ 33555974
     few_codes =
         let own = few_of L set (λ m wasm. map (renumbered_code n m) wasm.codes) (λ k y few. (let all = few.all in omega (arith, length-map y.wasm.codes (renumbered_code n k)))) in
         let stubs = stub_codes_many in
         let bytes = few_bytes L set in
         let members = few_members L set in
-        let phases = phases_many L.set.members 0 in
-        let last = length-append (from_members (phase_codes L n x) 0 L.set.members) (plain_code (entry_code L n x) ∷ []) in
-        let rest = length-append (from_members (stub_codes L) 0 L.set.members) (from_members (phase_codes L n x) 0 L.set.members ++ plain_code (entry_code L n x) ∷ []) in
-        omega (arith, length-append own_codes (from_members (stub_codes L) 0 L.set.members ++ (from_members (phase_codes L n x) 0 L.set.members ++ plain_code (entry_code L n x) ∷ [])))
+        let rest = length-append (from_members (stub_codes L) 0 L.set.members) generated_codes in
+        let types = generated_many L in
+        let same = generated_codes_many in
+        omega (arith, length-append own_codes (from_members (stub_codes L) 0 L.set.members ++ generated_codes))
 
     pub no_type : function_type merged nowhere ≡ None
     no_type =

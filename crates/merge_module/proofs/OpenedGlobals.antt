@@ -22,8 +22,9 @@ use Rattle.spec_linking.specs.LinkedSets.{LinkedSet}
 use Rattle.spec_linking.specs.Slots.{linked_plan, memory_base, table_base, CellName, cells_of, cell_value}
 use Rattle.spec_loading.specs.Members.{opened_global, opened_globals, opening_store, from_members}
 use Rattle.merge_match.specs.Renumbering.{Numbers, reference, value}
-use Rattle.merge_module.specs.MergedModule.{number_global, own_global, member_globals, guard_globals, merged_globals}
+use Rattle.merge_module.specs.MergedModule.{with_loader, number_global, own_global, member_globals, guard_globals, merged_globals}
 use Rattle.merge_module.proofs.Known.{IsKnown}
+use Rattle.merge_module.proofs.WithLoader.{with_map}
 use Rattle.merge_module.proofs.SetMembers.{member_spelled}
 use Rattle.merge_module.proofs.SpelledConstants.{Fit, constants_fit}
 use Rattle.merge_module.proofs.PlannedWords.{stack_within}
@@ -73,13 +74,22 @@ module _ (L : LinkedSet) (K : IsKnown L) (few : (linked_plan L).pages_max ≤ 16
   guards_opened [] = refl
   guards_opened (y ∷ ys) = (let here = number_opened true 0 (omega arith) in let rest = guards_opened ys in cc)
 
-  pub globals_opened : map (global_value merged) (merged_globals L n) ≡ map (value n) (opening_store L).globals ++ map (λ m. Num 0) L.set.members
+  -- and of the error, where there is one
+  error_opened : map (global_value merged) (with_loader L (number_global true 0 ∷ [])) ≡ with_loader L (Num 0 ∷ [])
+  error_opened = with_map L (global_value merged) (number_global true 0 ∷ []) ∙ ap (λ v. with_loader L (v ∷ [])) (number_opened true 0 (omega arith))
+
+  all_guards_opened : map (global_value merged) (guard_globals L) ≡ map (λ m. Num 0) L.set.members ++ with_loader L (Num 0 ∷ [])
+  all_guards_opened =
+      map-append (global_value merged) (map (λ m. number_global true 0) L.set.members) (with_loader L (number_global true 0 ∷ []))
+      ∙ ap₂ (λ a b. a ++ b) (guards_opened L.set.members) error_opened
+
+  pub globals_opened : map (global_value merged) (merged_globals L n) ≡ map (value n) (opening_store L).globals ++ (map (λ m. Num 0) L.set.members ++ with_loader L (Num 0 ∷ []))
   globals_opened =
       let all = members_mapped (global_value merged) (value n) (member_globals L n) (opened_globals L) 0 L.set.members
       (λ i y at. (let place : i ≡ 0 + i = omega arith in subst (λ m. map (global_value merged) (member_globals L n m y.wasm) ≡ map (value n) (opened_globals L m y.wasm)) place (member_opened i y at))) in
       let stack = stack_within L K.links few in
       let first = number_opened true (linked_plan L).stack_top (omega arith) in
       let rest : map (global_value merged) (from_members (member_globals L n) 0 L.set.members ++ guard_globals L)
-      ≡ map (value n) (from_members (opened_globals L) 0 L.set.members) ++ map (λ m. Num 0) L.set.members =
-      map-append (global_value merged) (from_members (member_globals L n) 0 L.set.members) (guard_globals L) ∙ ap₂ (λ a b. a ++ b) all (guards_opened L.set.members) in
-      cc
+      ≡ map (value n) (from_members (opened_globals L) 0 L.set.members) ++ (map (λ m. Num 0) L.set.members ++ with_loader L (Num 0 ∷ [])) =
+      map-append (global_value merged) (from_members (member_globals L n) 0 L.set.members) (guard_globals L) ∙ ap₂ (λ a b. a ++ b) all all_guards_opened in
+      ap₂ (λ a l. a ∷ l) first rest

@@ -10,6 +10,7 @@ use Rattle.wasm_form.specs.declared.module.Data.{Data}
 use Rattle.wasm_form.specs.declared.module.Module.{Module}
 use Rattle.wasm_form.specs.declared.runtime.Ref.{Ref}
 use Rattle.wasm_form.specs.declared.runtime.Ref.TheVariants.{Own}
+use Rattle.wasm_runtime.specs.declared.Value.{Value}
 use Rattle.wasm_runtime.specs.declared.Value.TheVariants.{Num}
 use Rattle.spec_binary.specs.Options.{◌>>=◌}
 use Rattle.spec_runtime.specs.Tables.{TableInstance}
@@ -22,7 +23,7 @@ use Rattle.spec_linking.specs.Imports.{ImportUse, DataCell, SlotCell, use_of}
 use Rattle.spec_linking.specs.LinkedSets.{LinkedSet, wasm_of}
 use Rattle.spec_linking.specs.Slots.{linked_plan, CellName, cell_as, cell_of_import, same_cell, first_cells, cells_of, cell_value, fresh_of, member_items}
 use Rattle.spec_loading.specs.Addresses.{globals_size}
-use Rattle.spec_loading.specs.Members.{uses_loader, from_members, opened_global, opened_globals, opening_table, opening_store}
+use Rattle.spec_loading.specs.Members.{from_members, opened_global, opened_globals, opening_table, opening_store}
 use Rattle.merge_match.specs.Renumbering.{Numbers, entry, table_instance}
 use Rattle.merge_match.specs.Parts.{nowhere, extended}
 use Rattle.merge_match.proofs.Lists.{length-slice_set}
@@ -30,11 +31,12 @@ use Rattle.merge_match.proofs.JoinedParts.{named_own}
 use Rattle.merge_start.specs.Words.{Starts}
 use Rattle.merge_start.specs.Started.{slot_items, IsOpened}
 use Rattle.merge_index.specs.Numbering.{function_number}
-use Rattle.merge_module.specs.MergedModule.{passive_elem, slots_elem, outside_elem, declared_elem, merged_elems, passive_data, texts_segment, merged_datas, merged_globals, member_globals, guard_globals, own_global, number_global, merged_tables}
+use Rattle.merge_module.specs.MergedModule.{with_loader, passive_elem, slots_elem, outside_elem, declared_elem, merged_elems, passive_data, texts_segment, merged_datas, merged_globals, member_globals, guard_globals, own_global, number_global, merged_tables}
 use Rattle.merge_module.proofs.Known.{IsKnown}
+use Rattle.merge_module.proofs.WithLoader.{with_used, with_few}
 use Rattle.merge_module.proofs.SetMembers.{AreFew as AreFewParts, is_sound, member_few, total_cons}
 use Rattle.merge_module.proofs.Counted.{joined_length, few_bytes, few_members, few_of}
-use Rattle.merge_module.proofs.MergedSpaces.{in_front, host_many}
+use Rattle.merge_module.proofs.MergedSpaces.{in_front, one_each, host_many}
 use Rattle.merge_module.proofs.OwnNumbers.{own_number, own_typed}
 use Rattle.merge_module.proofs.OpenedItems.{members_mapped, elems_same}
 use Rattle.merge_module.proofs.OpenedGlobals.{globals_opened}
@@ -108,15 +110,22 @@ module _ (L : LinkedSet) where
       let both = length-append (map (λ c. number_global true (cell_value L k c)) (cells_of w)) (map (own_global L n k) w.globals) in
       omega arith
 
-module _ (L : LinkedSet) (K : IsKnown L) (few : (linked_plan L).pages_max ≤ 16384) (none : uses_loader L ≡ false) where
+-- a guard for each member, and the error
+pub guards_few : (L : LinkedSet) → length (guard_globals L) ≤ length L.set.members + 1
+guards_few L =
+    let guards = length-map L.set.members (λ (y : Member). number_global true 0) in
+    let error = with_few L (number_global true 0 ∷ []) in
+    omega (arith, length-append (map (λ (y : Member). number_global true 0) L.set.members) (with_loader L (number_global true 0 ∷ [])))
+
+module _ (L : LinkedSet) (K : IsKnown L) (few : (linked_plan L).pages_max ≤ 16384) where
   abbrev n : Numbers
-  n = N L K few none
+  n = N L K few
 
   abbrev x : Starts
-  x = X L K few none
+  x = X L K few
 
   abbrev m : Module
-  m = M L K few none
+  m = M L K few
 
   abbrev store : ModuleParts
   store = opening_store L
@@ -138,12 +147,10 @@ module _ (L : LinkedSet) (K : IsKnown L) (few : (linked_plan L).pages_max ≤ 16
       → map (module_target m) (map n.function (map (Own k) fs)) ≡ map (entry n) (map Some (map (Own k) fs))
   own_items k w here [] all = refl
   own_items k w here (f ∷ fs) all =
-      let one = own_target k w here f (All-head (IsOwnIn w) f fs all) in
-      let rest = own_items k w here fs (All-tail (IsOwnIn w) f fs all) in
-      cc
+      ap₂ (λ a l. a ∷ l) (own_target k w here f (All-head (IsOwnIn w) f fs all)) (own_items k w here fs (All-tail (IsOwnIn w) f fs all))
 
   slots_at : (k : ℕ) (ys : List Member) (i j : ℕ) → ((l : ℕ) (y : Member) → slice_get ys l ≡ Some y → wasm_of L (k + l) ≡ Some y.wasm) → i < length ys → j ≡ k + i
-      → slice_get (map (items_of L K few none) (from_members (λ m wasm. slots_elem L n m ∷ []) k ys)) i ≡ Some (slot_items L n j)
+      → slice_get (map (items_of L K few) (from_members (λ m wasm. slots_elem L n m ∷ []) k ys)) i ≡ Some (slot_items L n j)
   slots_at k [] i j there lt q = absurd (omega arith)
   slots_at k (y ∷ ys) zero j there lt q =
       let place : k + 0 ≡ k = omega arith in
@@ -156,104 +163,101 @@ module _ (L : LinkedSet) (K : IsKnown L) (few : (linked_plan L).pages_max ≤ 16
   -- ---- what is behind the store
 
   abbrev last_elems : List (List (Option Ref))
-  last_elems = map (items_of L K few none) (slots L K few none) ++ [] ∷ [] ∷ []
+  last_elems = map (items_of L K few) (slots L K few) ++ [] ∷ [] ∷ []
 
   abbrev behind : ModuleParts
-  behind = record { globals = map (λ y. Num 0) members; tables = []; elems = last_elems; datas = [] ∷ [] }
+  behind = record { globals = map (λ y. Num 0) members ++ with_loader L (Num 0 ∷ []); tables = []; elems = last_elems; datas = [] ∷ [] }
 
   tables_of_member : (ts : List TableType) → map (table_instance n) (map opened_table ts) ≡ map opened_table ts
   tables_of_member [] = refl
-  tables_of_member (t ∷ ts) = ap₂ (λ a l. a ∷ l) (nulls_same L K few none _ _) (tables_of_member ts)
+  tables_of_member (t ∷ ts) = ap₂ (λ a l. a ∷ l) (nulls_same L K few _ _) (tables_of_member ts)
 
   abbrev own_tables : List TableInstance
   own_tables = from_members (λ k wasm. map opened_table wasm.tables) 0 members
 
-  tables_whole : (opened L K few none).tables ≡ map (table_instance n) store.tables ++ []
+  tables_whole : (opened L K few).tables ≡ map (table_instance n) store.tables ++ []
   tables_whole =
       let one = made_of opened_table (λ k wasm. wasm.tables) 0 members in
       let two : map (table_instance n) own_tables ≡ own_tables = made_of (table_instance n) (λ k wasm. map opened_table wasm.tables) 0 members
       ∙ each_same (λ k wasm. map (table_instance n) (map opened_table wasm.tables)) (λ k wasm. map opened_table wasm.tables) (λ k w. tables_of_member w.tables) 0 members in
       ap (λ l. table_instance n (opening_table L) ∷ l) (one ∙ sym two) ∙ sym (append-nil (map (table_instance n) store.tables))
 
-  elems_mapped : map (items_of L K few none) (own L K few none) ≡ map (map (entry n)) store.elems
+  elems_mapped : map (items_of L K few) (own L K few) ≡ map (map (entry n)) store.elems
   elems_mapped =
-      members_mapped (items_of L K few none) (map (entry n)) (λ k wasm. map (passive_elem n k) wasm.elems) (λ k wasm. map (opened_items (member_items L k)) wasm.elems) 0 members
-      (λ i y at. elems_same L n m (has_parts L K few none).targets (0 + i) y.wasm.elems)
+      members_mapped (items_of L K few) (map (entry n)) (λ k wasm. map (passive_elem n k) wasm.elems) (λ k wasm. map (opened_items (member_items L k)) wasm.elems) 0 members
+      (λ i y at. elems_same L n m (has_parts L K few).targets (0 + i) y.wasm.elems)
 
-  elems_whole : (opened L K few none).elems ≡ map (map (entry n)) store.elems ++ last_elems
+  elems_whole : (opened L K few).elems ≡ map (map (entry n)) store.elems ++ last_elems
   elems_whole =
-      let front = map (items_of L K few none) (own L K few none) in
-      let mid = map (items_of L K few none) (slots L K few none) in
-      let rest = items_of L K few none (outside_elem L n) ∷ [] ∷ [] in
-      ap₂ (λ l i. slice_set l i []) (elems_apart L K few none) (number_is L K few none)
+      let front = map (items_of L K few) (own L K few) in
+      let mid = map (items_of L K few) (slots L K few) in
+      let rest = items_of L K few (outside_elem L n) ∷ [] ∷ [] in
+      ap₂ (λ l i. slice_set l i []) (elems_apart L K few) (number_is L K few)
       ∙ set_past front (mid ++ rest) (length mid + 0) []
       ∙ ap (λ l. front ++ l) (set_past mid rest 0 [])
       ∙ ap (λ l. l ++ last_elems) elems_mapped
 
-  datas_whole : (opened L K few none).datas ≡ store.datas ++ [] ∷ []
+  datas_whole : (opened L K few).datas ≡ store.datas ++ [] ∷ []
   datas_whole =
-      let front = map (bytes_of L K few none) (own_datas L n) in
-      ap₂ (λ l i. slice_set l i []) (datas_apart L K few none) (texts_is L K few none)
+      let front = map (bytes_of L K few) (own_datas L n) in
+      ap₂ (λ l i. slice_set l i []) (datas_apart L K few) (texts_is L K few)
       ∙ set_past front _ 0 []
-      ∙ ap (λ l. l ++ [] ∷ []) (made_of (bytes_of L K few none) (λ k wasm. map passive_data wasm.datas) 0 members
-      ∙ each_same (λ k wasm. map (bytes_of L K few none) (map passive_data wasm.datas)) (λ k wasm. map (λ (d : Data). d.bytes) wasm.datas) (λ k w. passive_bytes w.datas) 0 members)
+      ∙ ap (λ l. l ++ [] ∷ []) (made_of (bytes_of L K few) (λ k wasm. map passive_data wasm.datas) 0 members
+      ∙ each_same (λ k wasm. map (bytes_of L K few) (map passive_data wasm.datas)) (λ k wasm. map (λ (d : Data). d.bytes) wasm.datas) (λ k w. passive_bytes w.datas) 0 members)
 
-  parts_whole : opened L K few none ≡ extended n store behind
+  parts_whole : opened L K few ≡ extended n store behind
   parts_whole =
-      let globals = globals_opened L K few n m (named_target L K few none) in
+      let globals = globals_opened L K few n m (named_target L K few) in
       λ i. record { globals = globals i; tables = tables_whole i; elems = elems_whole i; datas = datas_whole i }
 
   -- ---- there is little
 
-  pub globals_many : length (opened L K few none).globals ≤ nowhere
+  pub globals_many : length (opened L K few).globals ≤ nowhere
   globals_many =
       let all = two_each (member_globals L n) (λ k y is. (let fit = member_globals_fit L n k y.wasm in let cells = cells_few y.wasm in let all = is.all in omega arith)) 0 members K.set.members in
       let bytes = few_bytes L K.set in
       let count = few_members L K.set in
       let both = length-append (from_members (member_globals L n) 0 members) (guard_globals L) in
-      let guards = length-map members (λ (y : Member). number_global true 0) in
+      let guards = guards_few L in
       omega (arith, length-map (merged_globals L n) (global_value m))
 
-  pub tables_many : length (opened L K few none).tables ≤ nowhere
+  pub tables_many : length (opened L K few).tables ≤ nowhere
   tables_many =
       let all = few_of L K.set (λ k w. w.tables) (λ k y is. (let all = is.all in omega arith)) in
       let bytes = few_bytes L K.set in
-      omega (arith, length-slice_set (us L K few none).tables 0 (table_instance n (opening_table L)), length-map (merged_tables L) opened_table)
+      omega (arith, length-slice_set (us L K few).tables 0 (table_instance n (opening_table L)), length-map (merged_tables L) opened_table)
 
-  slots_many : length (slots L K few none) ≡ length members
-  slots_many = one_each (λ k. slots_elem L n k) 0 members
-    where
-      one_each : {A : Type 0} (f : ℕ → A) (k : ℕ) (xs : List Member) → length (from_members (λ i w. f i ∷ []) k xs) ≡ length xs
-      one_each f k [] = refl
-      one_each f k (y ∷ ys) = ap suc (one_each f (k + 1) ys)
+  slots_many : length (slots L K few) ≡ length members
+  slots_many = one_each (λ k w. slots_elem L n k) 0 members
 
-  pub elems_many : length (opened L K few none).elems ≤ nowhere
+  pub elems_many : length (opened L K few).elems ≤ nowhere
   elems_many =
       let all = few_of L K.set (λ k w. map (passive_elem n k) w.elems) (λ k y is. (let all = is.all in omega (arith, length-map y.wasm.elems (passive_elem n k)))) in
       let bytes = few_bytes L K.set in
       let count = few_members L K.set in
       let mid = slots_many in
-      let rest = length-append (slots L K few none) (outside_elem L n ∷ declared_elem L n ∷ []) in
-      let both = length-append (own L K few none) (slots L K few none ++ outside_elem L n ∷ declared_elem L n ∷ []) in
-      omega (arith, length-slice_set (us L K few none).elems (outside_number L n) [], length-map (merged_elems L n) (items_of L K few none))
+      let rest = length-append (slots L K few) (outside_elem L n ∷ declared_elem L n ∷ []) in
+      let both = length-append (own L K few) (slots L K few ++ outside_elem L n ∷ declared_elem L n ∷ []) in
+      omega (arith, length-slice_set (us L K few).elems (outside_number L n) [], length-map (merged_elems L n) (items_of L K few))
 
-  pub datas_many : length (opened L K few none).datas ≤ nowhere
+  pub datas_many : length (opened L K few).datas ≤ nowhere
   datas_many =
       let all = few_of L K.set (λ k w. map passive_data w.datas) (λ k y is. (let all = is.all in omega (arith, length-map y.wasm.datas passive_data))) in
       let bytes = few_bytes L K.set in
       let both = length-append (own_datas L n) (texts_segment L ∷ []) in
-      omega (arith, length-slice_set (us L K few none).datas (texts_number L n) [], length-map (merged_datas L) (bytes_of L K few none))
+      omega (arith, length-slice_set (us L K few).datas (texts_number L n) [], length-map (merged_datas L) (bytes_of L K few))
 
   -- ---- all of it
 
-  pub is_opened : IsOpened L n x (opened L K few none)
+  pub is_opened : IsOpened L n x (opened L K few)
   is_opened = record {
     more = behind;
     whole = parts_whole;
     few = record { globals = globals_many; tables = tables_many; elems = elems_many; datas = datas_many };
-    others = [];
-    guards = sym (append-nil (map (λ y. Num 0) members));
-    slots = λ k lt. in_front (map (items_of L K few none) (slots L K few none)) ([] ∷ [] ∷ []) k (slot_items L n k)
+    others = with_loader L (Num 0 ∷ []);
+    guards = refl;
+    error = λ used. ap (λ (l : List Value). slice_get l 0) (with_used L (Num 0 ∷ []) used);
+    slots = λ k lt. in_front (map (items_of L K few) (slots L K few)) ([] ∷ [] ∷ []) k (slot_items L n k)
         (slots_at 0 members k k (λ l y at. (let place : l ≡ 0 + l = omega arith in subst (λ a. wasm_of L a ≡ Some y.wasm) place (ap (λ (o : Option Member). o >>= λ z. Some z.wasm) at))) lt (omega arith));
     first_guard = (let all = joined_length (opened_globals L) globals_size (globals_fit L) 0 members in omega arith);
     first_slots = joined_length (λ k wasm. map (opened_items (member_items L k)) wasm.elems) (λ w. length w.elems) (λ k w. length-map w.elems (opened_items (member_items L k))) 0 members;

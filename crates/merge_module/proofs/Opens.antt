@@ -1,5 +1,5 @@
 -- The merged module opens: its host functions are declared, it has an entry, and its active segments leave what the set begins with.
-use Rattle.std.proofs.Common.{◌≡◌, ℕ, suc, ◌+◌, ◌*◌, ◌^◌, ◌<◌, ◌≤◌, min, true, false, List, [], ◌∷◌, ◌++◌, length, map, slice_get, slice_set, nat_le, Option, Some, None, option_map, refl, sym, ap, ap₂, ◌∙◌, arith, length-append}
+use Rattle.std.proofs.Common.{◌≡◌, ℕ, suc, ◌+◌, ◌*◌, ◌^◌, ◌<◌, ◌≤◌, min, true, List, [], ◌∷◌, ◌++◌, length, map, slice_get, slice_set, nat_le, Option, Some, None, option_map, refl, sym, ap, ap₂, ◌∙◌, arith, length-append}
 use Rattle.std.specs.Prelude.{Ok, unwrap_or}
 use Rattle.std.specs.List.{All}
 use Rattle.std.proofs.lemmas.Bool.{lt-ltb, le-ltb, le-leb}
@@ -24,7 +24,7 @@ use Rattle.spec_execution.specs.OneModule.{module_entry, opened_table, opened_pa
 use Rattle.spec_linking.specs.LinkedSets.{LinkedSet, hosts_of}
 use Rattle.spec_linking.specs.Slots.{linked_plan, fresh_functions, outside_slots, table_entries, table_most}
 use Rattle.spec_loading.specs.Texts.{error_texts}
-use Rattle.spec_loading.specs.Members.{uses_loader, opening_table}
+use Rattle.spec_loading.specs.Members.{opening_table}
 use Rattle.spec_loading.specs.LoadedSet.{opening_memory}
 use Rattle.spec_safety.proofs.Lookups.{went_on, got}
 use Rattle.merge_match.specs.Renumbering.{Numbers, reference, entry, table_instance}
@@ -35,18 +35,20 @@ use Rattle.merge_match.proofs.Spaces.{initialized_same}
 use Rattle.merge_match.proofs.JoinedParts.{named_host, joined_has_parts}
 use Rattle.merge_start.specs.Words.{Starts}
 use Rattle.merge_index.specs.Numbering.{function_number}
-use Rattle.merge_module.specs.MergedModule.{nullary_number, shared_table_type, outside_elem, declared_elem, texts_segment}
+use Rattle.merge_module.specs.MergedModule.{shared_table_type, outside_elem, declared_elem, texts_segment}
 use Rattle.merge_module.proofs.Known.{IsKnown}
-use Rattle.merge_module.proofs.PlannedWords.{table_within, most_within, stack_within, texts_within}
+use Rattle.merge_dl.proofs.SlotWords.{table_within}
+use Rattle.merge_module.proofs.PlannedWords.{most_within, stack_within, texts_within}
 use Rattle.spec_loading.proofs.Rows.{texts_length}
 use Rattle.merge_module.proofs.HostsMatch.{hosts_met, are_met}
-use Rattle.merge_module.proofs.MergedSpaces.{past_front, host_many, host_types, host_typed}
+use Rattle.merge_module.proofs.MergedSpaces.{first_host_type, past_front, host_many, host_types, host_typed}
 use Rattle.merge_module.proofs.OwnNumbers.{n, x, merged}
+use Rattle.merge_module.proofs.LoaderFunctions.{call_there}
 use Rattle.merge_module.proofs.Joins.{is_joined}
 use Rattle.merge_module.proofs.Generated.{entry_typed}
 use Rattle.merge_module.proofs.GlobalValues.{IsNamed}
 use Rattle.merge_module.proofs.Constants.{number_offset}
-use Rattle.merge_module.proofs.SlotFunctions.{IsHostBelow, slots_below}
+use Rattle.merge_module.proofs.SlotFunctions.{IsOutsideSet, slots_outside}
 use Rattle.merge_module.proofs.Applied.{own_elems, slot_elems, own_datas, outside_number, texts_number, outside_at, merged_effects, whole_table, whole_memory, four_performed}
 
 -- ---- lists
@@ -57,7 +59,7 @@ set_past (x ∷ xs) ys k v =
     let place : suc (length xs) + k ≡ suc (length xs + k) = omega arith in
     ap (λ i. slice_set (x ∷ (xs ++ ys)) i v) place ∙ ap (λ l. x ∷ l) (set_past xs ys k v)
 
-module _ (L : LinkedSet) (K : IsKnown L) (few : (linked_plan L).pages_max ≤ 16384) (none : uses_loader L ≡ false) where
+module _ (L : LinkedSet) (K : IsKnown L) (few : (linked_plan L).pages_max ≤ 16384) where
   abbrev pub N : Numbers
   N = n L K.set
 
@@ -68,7 +70,7 @@ module _ (L : LinkedSet) (K : IsKnown L) (few : (linked_plan L).pages_max ≤ 16
   M = merged L K.set
 
   pub has_parts : HasParts L N M
-  has_parts = joined_has_parts L N M (is_joined L K none)
+  has_parts = joined_has_parts L N M (is_joined L K)
 
   pub named_target : (r : Ref) → IsNamed L r → module_target M (N.function r) ≡ Some (reference N r)
   named_target r named =
@@ -96,18 +98,20 @@ module _ (L : LinkedSet) (K : IsKnown L) (few : (linked_plan L).pages_max ≤ 16
       let many = host_many L N X in
       ap (λ (o : Option FuncType). o >>= λ ty. Some (function_named M e)) (host_typed L N X e h.0 h.1 lt) ∙ ap Some (named_host M e (omega arith))
 
-  hosts_targets : (rs : List Ref) → All (IsHostBelow (length (hosts_of L))) rs → map (module_target M) (map N.function rs) ≡ map (entry N) (map Some rs)
-  hosts_targets [] all = refl
-  hosts_targets (Host e ∷ rs) all =
-      let here = host_target e (All-head (IsHostBelow (length (hosts_of L))) (Host e) rs all) in
-      let rest = hosts_targets rs (All-tail (IsHostBelow (length (hosts_of L))) (Host e) rs all) in
-      cc
-  hosts_targets (Own m f ∷ rs) all = absurd (All-head (IsHostBelow (length (hosts_of L))) (Own m f) rs all)
-  hosts_targets (Loader call ∷ rs) all = absurd (All-head (IsHostBelow (length (hosts_of L))) (Loader call) rs all)
-  hosts_targets (Stub m f ∷ rs) all = absurd (All-head (IsHostBelow (length (hosts_of L))) (Stub m f) rs all)
+  -- a function outside the members that has a slot
+  pub outside_target : (r : Ref) → IsOutsideSet L r → module_target M (N.function r) ≡ Some (reference N r)
+  outside_target (Host e) lt = host_target e lt
+  outside_target (Loader which) used = (call_there L K.set used which).target
+  outside_target (Own m f) is = absurd is
+  outside_target (Stub m f) is = absurd is
+
+  outside_targets : (rs : List Ref) → All (IsOutsideSet L) rs → map (module_target M) (map N.function rs) ≡ map (entry N) (map Some rs)
+  outside_targets [] all = refl
+  outside_targets (r ∷ rs) all =
+      ap₂ (λ a l. a ∷ l) (outside_target r (All-head (IsOutsideSet L) r rs all)) (outside_targets rs (All-tail (IsOutsideSet L) r rs all))
 
   outside_items : opened_items (segment_items M) (outside_elem L N) ≡ map (entry N) (map Some (outside_slots L))
-  outside_items = hosts_targets (outside_slots L) (slots_below L none)
+  outside_items = outside_targets (outside_slots L) (slots_outside L)
 
   pub nulls_same : (k most : ℕ) → table_instance N (new_table k most) ≡ new_table k most
   unfolding nulls
@@ -126,7 +130,7 @@ module _ (L : LinkedSet) (K : IsKnown L) (few : (linked_plan L).pages_max ≤ 16
   abbrev pub outside_entries : List (Option Ref)
   outside_entries = map Some (outside_slots L)
 
-  -- the slots of the host functions, in the table of the set
+  -- the slots of functions outside the members, in the table of the set
   slots_written : entries_initialized (new_table (table_entries L) (table_most L)) (outside_at L N) outside_entries 0 (length outside_entries) ≡ Some (opening_table L)
   slots_written =
       let many = nulls_many (table_entries L) in
@@ -230,4 +234,4 @@ module _ (L : LinkedSet) (K : IsKnown L) (few : (linked_plan L).pages_max ≤ 16
   -- the module opens
   pub module_opens : module_opening M L.names ≡ Ok (opened_state M X.starting opened (opening_memory L))
   module_opens =
-      rw (are_met L M (nullary_number L + 1) (hosts_of L) (host_types L N X) (hosts_met L K.links), entry_found, segments_opened) refl
+      rw (are_met L M (first_host_type L) (hosts_of L) (host_types L N X) (hosts_met L K.links), entry_found, segments_opened) refl

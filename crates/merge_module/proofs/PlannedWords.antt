@@ -6,6 +6,7 @@ use Rattle.spec_linking.specs.Slots.{linked_plan, memory_base, table_base, table
 use Rattle.spec_linking.specs.Links.{Links}
 use Rattle.spec_linking.proofs.LinkedFacts.{linked_limits}
 use Rattle.spec_linking.proofs.Placing.{above, end_above}
+use Rattle.merge_dl.proofs.SlotWords.{least_within, table_within}
 
 base_within : (size align : Region → ℕ) (end : ℕ) (rs : List Region) (m b : ℕ) → slice_get (bases size align end rs) m ≡ Some b
     → b ≤ end_of size align end rs
@@ -15,10 +16,6 @@ base_within size align end (r ∷ rs) zero b e =
     let later = end_above size align (rounded_up (2 ^ align r) end + size r) rs in
     omega arith
 base_within size align end (r ∷ rs) (suc m) b e = base_within size align (rounded_up (2 ^ align r) end + size r) rs m b e
-
-pub least_within : (bound : ℕ) (ns : List ℕ) → least_of bound ns ≤ bound
-least_within bound [] = omega arith
-least_within bound (n ∷ ns) = let later = least_within bound ns in omega arith
 
 -- no more than a bound, no more than the least of the same
 pub least_above : (low bound more : ℕ) (ns : List ℕ) → low ≤ least_of bound ns → low ≤ more → low ≤ least_of more ns
@@ -36,18 +33,11 @@ texts_within L =
     omega arith
 
 module _ (L : LinkedSet) (links : Links L) where
-  pub table_within : table_entries L ≤ most_table
-  table_within =
-      let limits = linked_limits L links in
-      let most = least_within most_table (maxima (limits_in table_limits L.set.members)) in
-      let entries = limits.entries in
-      omega arith
-
   -- the table's most entries are a number that tables may have, and no fewer than its first ones
   pub most_within : table_most L ≤ most_table + table_growth
   most_within =
       let most = least_within (table_entries L + table_growth) (maxima (limits_in table_limits L.set.members)) in
-      let few = table_within in
+      let few = table_within L links in
       omega arith
 
   pub entries_within : table_entries L ≤ table_most L

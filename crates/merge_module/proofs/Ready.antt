@@ -1,5 +1,5 @@
 -- The members of a linked set, its entry and its merged module are ready for the generated code.
-use Rattle.std.proofs.Common.{◌≡◌, ℕ, ◌<◌, ◌≤◌, length, slice_get, Option, Some, None, refl, sym, ap, ◌∙◌, subst, arith}
+use Rattle.std.proofs.Common.{◌≡◌, ℕ, ◌<◌, ◌≤◌, true, length, slice_get, Option, Some, None, refl, sym, ap, ◌∙◌, subst, arith}
 use Rattle.std.specs.Prelude.{IfSome, is_some, IsTrue}
 use Rattle.wasm_form.specs.declared.module.Module.{Module}
 use Rattle.wasm_form.specs.declared.runtime.Ref.{Ref}
@@ -21,11 +21,16 @@ use Rattle.wasm_form.specs.declared.types.FuncType.{FuncType}
 use Rattle.spec_safety.proofs.Lookups.{went_on}
 use Rattle.spec_loading.specs.declared.task.Phase.{Phase}
 use Rattle.spec_loading.specs.Phases.{phase_function}
-use Rattle.spec_loading.specs.Members.{set_view}
+use Rattle.spec_loading.specs.Members.{uses_loader, set_view}
 use Rattle.spec_loading.specs.LoadedSet.{callee_of, phase_callee}
 use Rattle.spec_loading.specs.Laws.{IsCallable}
-use Rattle.merge_start.specs.Started.{MemberReady, EntryReady, StartReady, IsReady}
-use Rattle.merge_module.proofs.PlannedWords.{table_within}
+use Rattle.merge_start.specs.Started.{MemberReady, EntryReady, StartReady, OpenReady, IsReady}
+use Rattle.merge_dl.specs.Words.{search_type, find_body}
+use Rattle.merge_dl.specs.Ready.{HasFunction, LoaderReady}
+use Rattle.merge_module.specs.MergedModule.{finders_of}
+use Rattle.merge_dl.proofs.SlotWords.{table_within}
+use Rattle.merge_module.proofs.PlannedWords.{stack_within}
+use Rattle.merge_module.proofs.Counted.{few_members}
 use Rattle.merge_module.proofs.Known.{IsKnown}
 use Rattle.merge_module.proofs.References.{IsDefined}
 use Rattle.merge_module.proofs.SpelledConstants.{constants_fit}
@@ -34,6 +39,7 @@ use Rattle.merge_module.proofs.Joins.{own_defined}
 use Rattle.merge_module.proofs.MemberEffects.{segments_ready}
 use Rattle.merge_module.proofs.OwnNumbers.{n, x, merged}
 use Rattle.merge_module.proofs.Generated as generated
+use Rattle.merge_module.proofs.LoaderFunctions.{open_there, length_there, find_there, call_there}
 
 module _ (L : LinkedSet) (K : IsKnown L) (few : (linked_plan L).pages_max ≤ 16384) where
   abbrev set : IsSet L.set
@@ -94,3 +100,28 @@ module _ (L : LinkedSet) (K : IsKnown L) (few : (linked_plan L).pages_max ≤ 16
 
 pub start_ready : (L : LinkedSet) (set : IsSet L.set) → StartReady L (n L set) (x L set) (merged L set)
 start_ready L set = record { start = refl; target = generated.entry_target L set; code = generated.entry_there L set }
+
+-- what the functions of the loader stand on, where they are used
+module _ (L : LinkedSet) (K : IsKnown L) (few : (linked_plan L).pages_max ≤ 16384) (used : uses_loader L ≡ true) where
+  open_ready : (m : ℕ) → m < length L.set.members → OpenReady L (n L K.set) (x L K.set) (merged L K.set) m
+  open_ready m lt =
+      let found = got L.set.members m lt in
+      let there = open_there L K.set used m found.0 found.1 in
+      let count = few_members L K.set in
+      record { target = there.target; code = there.code; word = omega arith }
+
+  find_ready : (m : ℕ) (wasm : Module) → wasm_of L m ≡ Some wasm → HasFunction (merged L K.set) ((finders_of L (x L K.set)).find m) search_type (find_body L m wasm)
+  find_ready m wasm here =
+      let y = went_on (slice_get L.set.members m) (λ (y : Member). Some y.wasm) wasm here in
+      let same : y.0.wasm ≡ wasm = (let e = y.2 in cc) in
+      subst (λ w. HasFunction (merged L K.set) ((finders_of L (x L K.set)).find m) search_type (find_body L m w)) same (find_there L K.set used m y.0 y.1)
+
+  pub loader_ready : LoaderReady L (n L K.set) (x L K.set) (finders_of L (x L K.set)) (merged L K.set)
+  loader_ready = record {
+    texts = (let within = stack_within L K.links few in omega arith);
+    error = refl;
+    lengths = length_there L K.set used;
+    finds = find_ready;
+    calls = call_there L K.set used;
+    opens = open_ready;
+  }

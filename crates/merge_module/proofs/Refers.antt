@@ -35,7 +35,7 @@ use Rattle.spec_linking.specs.LinkedSets.{LinkedSet, wasm_of, function_ref}
 use Rattle.spec_linking.specs.Slots.{linked_plan, imported_base}
 use Rattle.spec_safety.proofs.Lookups.{went_on}
 use Rattle.spec_safety.proofs.Spaces.{function_has_type}
-use Rattle.spec_loading.specs.Members.{uses_loader, from_members, opened_global}
+use Rattle.spec_loading.specs.Members.{from_members, opened_global}
 use Rattle.merge_match.specs.Renumbering.{Numbers, index_in, renumbered, instr, expr}
 use Rattle.merge_match.specs.Parts.{number_of}
 use Rattle.merge_match.proofs.OneLevel.{inside as with_numbers, out_instr}
@@ -123,13 +123,13 @@ constant_refers n F64 r k e = eq-eqb (n.function r) k e
 constant_refers n FuncRef r k e = eq-eqb (n.function r) k e
 constant_refers n ExternRef r k e = eq-eqb (n.function r) k e
 
-module _ (L : LinkedSet) (K : IsKnown L) (few : (linked_plan L).pages_max ≤ 16384) (none : uses_loader L ≡ false) (m : ℕ) (member : Member)
+module _ (L : LinkedSet) (K : IsKnown L) (few : (linked_plan L).pages_max ≤ 16384) (m : ℕ) (member : Member)
     (at : slice_get L.set.members m ≡ Some member) where
   abbrev n : Numbers
-  n = N L K few none
+  n = N L K few
 
   abbrev merged : Module
-  merged = M L K few none
+  merged = M L K few
 
   abbrev wasm : Module
   wasm = member.wasm
@@ -140,7 +140,7 @@ module _ (L : LinkedSet) (K : IsKnown L) (few : (linked_plan L).pages_max ≤ 16
   pub function_too : (f : ℕ) → is_function wasm f ≡ true → is_function merged (n.named m f) ≡ true
   function_too f e =
       let ty = function_has_type wasm (parts_fit wasm (is_sound L m wasm K.set here).valid) f (ltb-true f (length (function_space wasm)) e) in
-      let typed = function_carried L K few none m member at f ty.0 ty.1 in
+      let typed = function_carried L K few m member at f ty.0 ty.1 in
       let t = went_on (slice_get (function_space merged) (n.named m f)) (slice_get merged.types) ty.0 typed in
       lt-ltb (n.named m f) (length (function_space merged)) (slice_get_within (function_space merged) (n.named m f) t.0 t.1)
 

@@ -50,7 +50,7 @@ value_type_long (types.reference ref) = ref_type_long ref
 type_long : (x : FuncType) (w : List ℕ) → SpellsFuncType x w → 1 ≤ length w
 type_long x _ (types.function {w = w} {v = v} params results) = omega arith
 
-import_long : (x : Import) (w : List ℕ) → SpellsImport x w → 1 ≤ length w
+pub import_long : (x : Import) (w : List ℕ) → SpellsImport x w → 1 ≤ length w
 import_long x _ (parts.import {w = w} {v = v} {u = u} from field desc) = (let long = name_long from in omega (arith, length-append w (v ++ u)))
 
 table_long : (x : TableType) (w : List ℕ) → SpellsTableType x w → 1 ≤ length w

@@ -1,37 +1,30 @@
 -- The sections of imports, tables, memory, globals and exports of the merged module are short however they are spelled.
-use Rattle.std.proofs.Common.{◌≡◌, ℕ, ◌+◌, ◌*◌, ◌≤◌, ◌<◌, ◌^◌, true, false, List, [], ◌∷◌, ◌++◌, length, map, Some, None, refl, arith, length-append}
+use Rattle.std.proofs.Common.{◌≡◌, ℕ, ◌+◌, ◌*◌, ◌≤◌, ◌<◌, ◌^◌, true, false, List, [], ◌∷◌, ◌++◌, length, map, refl, arith, length-append}
 use Rattle.std.specs.Prelude.{unwrap_or}
-use Rattle.std.specs.Int.{cast_signed, w32, w64}
-use Rattle.std.proofs.lemmas.List.{length-map}
-use Rattle.wasm_form.specs.declared.types.ValType.{ValType}
-use Rattle.wasm_form.specs.declared.types.ValType.TheVariants.{I32, I64, F32, F64, FuncRef, ExternRef}
 use Rattle.wasm_form.specs.declared.types.Limits.{Limits}
 use Rattle.wasm_form.specs.declared.types.TableType.{TableType}
-use Rattle.wasm_form.specs.declared.instr.Instr.{Index, I64Const, RefNull}
-use Rattle.wasm_form.specs.declared.instr.Instr.TheOpen as Open
-use Rattle.wasm_form.specs.declared.instr.Instr.TheVariants.{rolls-Index, rolls-I32Const, rolls-I64Const, rolls-RefNull}
 use Rattle.wasm_form.specs.declared.module.GlobalDef.{GlobalDef}
 use Rattle.wasm_form.specs.declared.module.Module.{Module}
-use Rattle.wasm_runtime.specs.declared.Value.{Value}
-use Rattle.wasm_runtime.specs.declared.Value.TheVariants.{Num, Func}
 use Rattle.wasm_form.specs.Sequence.{SpellsVec, vec}
 use Rattle.spec_binary.specs.Types.{SpellsLimits, SpellsTableType, SpellsMutability, SpellsGlobalType}
 use Rattle.spec_binary.specs.Types as types
-use Rattle.spec_binary.specs.Parts.{SpellsImportDesc, SpellsImport, SpellsGlobal, SpellsExportDesc, SpellsExport}
+use Rattle.spec_binary.specs.Parts.{SpellsGlobal}
 use Rattle.spec_binary.specs.Parts as parts
 use Rattle.spec_linking.specs.Sets.{Member}
 use Rattle.spec_linking.specs.LinkedSets.{LinkedSet}
 use Rattle.spec_linking.specs.Slots.{linked_plan, memory_base, table_base, cells_of, cell_value}
-use Rattle.spec_loading.specs.Members.{from_members, uses_loader, opened_global}
+use Rattle.spec_loading.specs.Members.{from_members, opened_global}
 use Rattle.merge_match.specs.Renumbering.{Numbers}
 use Rattle.merge_start.specs.Words.{number}
-use Rattle.merge_module.specs.MergedModule.{number_global, constant_instr, own_global, member_globals, guard_globals}
+use Rattle.merge_module.specs.MergedModule.{with_loader, number_global, own_global, member_globals, guard_globals}
 use Rattle.merge_module.proofs.Known.{IsKnown}
+use Rattle.merge_module.proofs.WithLoader.{with_either}
 use Rattle.merge_module.proofs.Counted.{few_bytes, few_members, few_of}
-use Rattle.merge_module.proofs.OpenedStore.{two_each, cells_few, member_globals_fit}
+use Rattle.merge_module.proofs.OpenedStore.{two_each, cells_few, member_globals_fit, guards_few}
 use Rattle.merge_module.proofs.Opens.{N, M}
-use Rattle.merge_module.proofs.Units.{units, units_rolled, IsAbout, number_short, value_type_one, items_short}
+use Rattle.merge_module.proofs.Units.{IsAbout, number_short, value_type_one, items_short}
 use Rattle.merge_module.proofs.Weights.{sum_of, sum_then, vec_about, expr_weight, constant_about}
+use Rattle.merge_module.proofs.Pieces.{number_step, constant_step}
 
 vec_short : {A : Type 0} (Spells : A → List ℕ → Type 0) (k : ℕ) → ((x : A) (w : List ℕ) → Spells x w → length w ≤ k) → {xs : List A} {w : List ℕ} → SpellsVec Spells xs w → length w ≤ 5 + k * length xs
 vec_short Spells k short (vec {xs} {count} {w} number each) =
@@ -73,43 +66,11 @@ global_about g _ (parts.global {w = w} {v = v} ty init) =
     let sum = length-append w v in
     record { least = omega arith; most = omega arith }
 
-number_one : (k : ℕ) → units (number k) ≡ 1
-number_one k = units_rolled (Open.I32Const (cast_signed w32 k)) (number k) (rolls-I32Const (cast_signed w32 k))
-
-long_one : (k : ℕ) → units (I64Const (cast_signed w64 k)) ≡ 1
-long_one k = units_rolled (Open.I64Const (cast_signed w64 k)) (I64Const (cast_signed w64 k)) (rolls-I64Const (cast_signed w64 k))
-
-null_one : units (RefNull FuncRef) ≡ 1
-null_one = units_rolled (Open.RefNull FuncRef) (RefNull FuncRef) (rolls-RefNull FuncRef)
-
-reference_one : (k : ℕ) → units (Index 0xD2 k) ≡ 1
-reference_one k = units_rolled (Open.Index 0xD2 k) (Index 0xD2 k) (rolls-Index 0xD2 k)
-
-constant_one : (n : Numbers) (t : ValType) (v : Value) → units (constant_instr n t v) ≡ 1
-constant_one n I32 (Num k) = number_one k
-constant_one n I64 (Num k) = long_one k
-constant_one n F32 (Num k) = number_one k
-constant_one n F64 (Num k) = number_one k
-constant_one n FuncRef (Num k) = number_one k
-constant_one n ExternRef (Num k) = number_one k
-constant_one n I32 (Func None) = null_one
-constant_one n I64 (Func None) = null_one
-constant_one n F32 (Func None) = null_one
-constant_one n F64 (Func None) = null_one
-constant_one n FuncRef (Func None) = null_one
-constant_one n ExternRef (Func None) = null_one
-constant_one n I32 (Func (Some r)) = reference_one (n.function r)
-constant_one n I64 (Func (Some r)) = reference_one (n.function r)
-constant_one n F32 (Func (Some r)) = reference_one (n.function r)
-constant_one n F64 (Func (Some r)) = reference_one (n.function r)
-constant_one n FuncRef (Func (Some r)) = reference_one (n.function r)
-constant_one n ExternRef (Func (Some r)) = reference_one (n.function r)
-
 abbrev AreFours : List GlobalDef → Type 0
 AreFours gs = sum_of global_weight gs ≡ 4 * length gs
 
 four : (k : ℕ) (may : _) → global_weight (number_global may k) ≡ 4
-four k may = (let one = number_one k in omega arith)
+four k may = (let one = (number_step k).one in omega arith)
 
 map_fours : {A : Type 0} (f : A → GlobalDef) → ((a : A) → global_weight (f a) ≡ 4) → (xs : List A) → AreFours (map f xs)
 map_fours f each [] = refl
@@ -123,7 +84,7 @@ member_fours L n m wasm =
     let cells = map (λ c. number_global true (cell_value L m c)) (cells_of wasm) in
     let own = map (own_global L n m) wasm.globals in
     let rest = then_fours cells own (map_fours (λ c. number_global true (cell_value L m c)) (λ c. four (cell_value L m c) true) (cells_of wasm))
-    (map_fours (own_global L n m) (λ g. (let one = constant_one n g.ty.value (opened_global L m g) in omega arith)) wasm.globals) in
+    (map_fours (own_global L n m) (λ g. (let one = (constant_step n g.ty.value (opened_global L m g)).one in omega arith)) wasm.globals) in
     let memory = four (unwrap_or (memory_base L m) 0) false in
     let table = four (unwrap_or (table_base L m) 0) false in
     omega arith
@@ -132,12 +93,18 @@ members_fours : (L : LinkedSet) (n : Numbers) (k : ℕ) (xs : List Member) → A
 members_fours L n k [] = refl
 members_fours L n k (x ∷ xs) = then_fours (member_globals L n k x.wasm) (from_members (member_globals L n) (k + 1) xs) (member_fours L n k x.wasm) (members_fours L n (k + 1) xs)
 
-module _ (L : LinkedSet) (K : IsKnown L) (few : (linked_plan L).pages_max ≤ 16384) (none : uses_loader L ≡ false) where
+guards_fours : (L : LinkedSet) → AreFours (guard_globals L)
+guards_fours L =
+    then_fours (map (λ (y : Member). number_global true 0) L.set.members) (with_loader L (number_global true 0 ∷ []))
+    (map_fours (λ (y : Member). number_global true 0) (λ y. four 0 true) L.set.members)
+    (with_either L AreFours (number_global true 0 ∷ []) refl (λ used. (let one = four 0 true in omega arith)))
+
+module _ (L : LinkedSet) (K : IsKnown L) (few : (linked_plan L).pages_max ≤ 16384) where
   abbrev n : Numbers
-  n = N L K few none
+  n = N L K few
 
   abbrev merged : Module
-  merged = M L K few none
+  merged = M L K few
 
   abbrev members : List Member
   members = L.set.members
@@ -147,9 +114,9 @@ module _ (L : LinkedSet) (K : IsKnown L) (few : (linked_plan L).pages_max ≤ 16
       let all = two_each (member_globals L n) (λ k y is. (let fit = member_globals_fit L n k y.wasm in let cells = cells_few y.wasm in let all = is.all in omega arith)) 0 members K.set.members in
       let bytes = few_bytes L K.set in
       let count = few_members L K.set in
-      let guards = length-map members (λ (y : Member). number_global true 0) in
+      let guards = guards_few L in
       let own = members_fours L n 0 members in
-      let last = map_fours (λ (y : Member). number_global true 0) (λ y. four 0 true) members in
+      let last = guards_fours L in
       let both = sum_then global_weight (from_members (member_globals L n) 0 members) (guard_globals L) in
       let first = four (linked_plan L).stack_top true in
       omega arith

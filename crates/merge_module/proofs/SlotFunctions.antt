@@ -1,8 +1,8 @@
--- The functions that have fresh slots: of a member they are its own, and outside the members they are host functions.
-use Rattle.std.proofs.Common.{◌≡◌, ℕ, suc, ◌+◌, ◌-◌, ◌<◌, Bool, true, false, ◌||◌, List, [], ◌∷◌, ◌++◌, length, map, Option, Some, None, refl, sym, subst, arith, cond, if◌then◌else◌, length-append}
+-- The functions that have fresh slots: of a member they are its own, and outside the members they are host functions, or the loader's.
+use Rattle.std.proofs.Common.{◌≡◌, ℕ, ◌+◌, ◌-◌, ◌<◌, Bool, true, false, ◌||◌, List, [], ◌∷◌, ◌++◌, length, map, Option, Some, None, refl, sym, subst, arith, cond, if◌then◌else◌, length-append}
 use Rattle.std.specs.Prelude.{is_none, nat_lt, not}
-use Rattle.std.specs.List.{All, list_any, filter, filter_map, cons_option, position_from}
-use Rattle.std.proofs.lemmas.Bool.{and_parts, ltb-true, ltb-false}
+use Rattle.std.specs.List.{All, list_any, filter, filter_map, cons_option}
+use Rattle.std.proofs.lemmas.Bool.{and_parts, or_left, or_right, ltb-true, ltb-false}
 use Rattle.std.proofs.lemmas.List.Elements.{All-nil, All-cons, All-head, All-tail, All-append, All-filter}
 use Rattle.wasm_form.specs.declared.module.ExportDesc.{ExportDesc}
 use Rattle.wasm_form.specs.declared.module.ExportDesc.TheVariants as desc
@@ -27,6 +27,7 @@ use Rattle.spec_linking.specs.Slots.{same_ref, segment_slot, with_function, func
 use Rattle.spec_safety.proofs.Lookups.{went_on, got}
 use Rattle.spec_safety.proofs.Spaces.{function_has_type}
 use Rattle.spec_loading.specs.Members.{is_loader, loader_as, loader_from, uses_loader}
+use Rattle.merge_dl.proofs.SlotWords.{position_within}
 use Rattle.merge_module.proofs.SetMembers.{IsSound}
 use Rattle.merge_module.proofs.References.{IsDefined}
 
@@ -113,107 +114,103 @@ own_is_defined wasm sound f own =
 
 -- ---- outside the members
 
--- one of so many host functions
-abbrev pub IsHostBelow : ℕ → Ref → Type 0
-IsHostBelow count (Host e) = e < count
-IsHostBelow count _ = ⊥
-
-position_below : {A : Type 0} (test : A → Bool) (k : ℕ) (xs : List A) (n : ℕ) → position_from test k xs ≡ Some n → n < k + length xs
-position_below test k [] n e = absurd cc
-position_below {A} test k (x ∷ xs) n e = go (test x) e (position_below test (k + 1) xs n)
-  where
-    go : (b : Bool) → cond b (Some k) (position_from test (k + 1) xs) ≡ Some n → (position_from test (k + 1) xs ≡ Some n → n < k + 1 + length xs) → n < k + suc (length xs)
-    go true h later = (let same : k ≡ n = cc in omega arith)
-    go false h later = (let lt = later h in omega arith)
+-- one of so many host functions, or one of the loader, where these are used
+abbrev pub IsOutside : ℕ → Bool → Ref → Type 0
+IsOutside count used (Host e) = e < count
+IsOutside count used (Loader which) = used ≡ true
+IsOutside count used _ = ⊥
 
 module _ (L : LinkedSet) where
-  abbrev IsBelow : Ref → Type 0
-  IsBelow = IsHostBelow (length (hosts_of L))
+  abbrev pub IsOutsideSet : Ref → Type 0
+  IsOutsideSet = IsOutside (length (hosts_of L)) (uses_loader L)
 
-  host_below : (from name : List ℕ) (r : Ref) → host_ref L from name ≡ Some r → IsBelow r
+  abbrev Used : Bool → Type 0
+  Used b = b ≡ true → uses_loader L ≡ true
+
+  host_below : (from name : List ℕ) (r : Ref) → host_ref L from name ≡ Some r → IsOutsideSet r
   host_below from name r e =
       let n = went_on (host_entry L from name) (λ k. Some (Host k)) r e in
-      let lt = position_below (is_named from name) 0 (hosts_of L) n.0 n.1 in
+      let lt = position_within (is_named from name) 0 (hosts_of L) n.0 n.1 in
       let same : Host n.0 ≡ r = (let h = n.2 in cc) in
-      let below : IsBelow (Host n.0) = omega arith in
-      subst IsBelow same below
+      let below : IsOutsideSet (Host n.0) = omega arith in
+      subst IsOutsideSet same below
 
-  outside_below : (name : List ℕ) (d : Definition) (r : Ref) → outside_ref L name d ≡ Some r → is_loader d ≡ false → IsBelow r
-  outside_below name (LoaderFunction call) r e unused = absurd cc
-  outside_below name HostFunction r e unused = host_below env_name name r e
-  outside_below name HeapBase r e unused = absurd cc
-  outside_below name HeapEnd r e unused = absurd cc
-  outside_below name (MemberFunction k g) r e unused = absurd cc
-  outside_below name (MemberData k place) r e unused = absurd cc
-  outside_below name WeakSymbol r e unused = absurd cc
-  outside_below name Undefined r e unused = absurd cc
+  outside_below : (name : List ℕ) (d : Definition) (r : Ref) → outside_ref L name d ≡ Some r → Used (is_loader d) → IsOutsideSet r
+  outside_below name (LoaderFunction call) r e used = (let same : Loader call ≡ r = cc in subst IsOutsideSet same (used refl))
+  outside_below name HostFunction r e used = host_below env_name name r e
+  outside_below name HeapBase r e used = absurd cc
+  outside_below name HeapEnd r e used = absurd cc
+  outside_below name (MemberFunction k g) r e used = absurd cc
+  outside_below name (MemberData k place) r e used = absurd cc
+  outside_below name WeakSymbol r e used = absurd cc
+  outside_below name Undefined r e used = absurd cc
 
-  import_below : (m : ℕ) (i : Import) (u : ImportUse) (r : Ref) → outside_as L m i u ≡ Some r → loader_as L m i u ≡ false → IsBelow r
-  import_below m i SlotCell r e unused = outside_below i.field (definition L m kind.Func i.field) r e unused
-  import_below m i SharedMemory r e unused = absurd cc
-  import_below m i SharedTable r e unused = absurd cc
-  import_below m i StackPointer r e unused = absurd cc
-  import_below m i MemoryBase r e unused = absurd cc
-  import_below m i TableBase r e unused = absurd cc
-  import_below m i DataCell r e unused = absurd cc
-  import_below m i (EnvFunction t) r e unused = absurd cc
-  import_below m i (ModuleFunction t) r e unused = absurd cc
-  import_below m i OtherUse r e unused = absurd cc
+  import_below : (m : ℕ) (i : Import) (u : ImportUse) (r : Ref) → outside_as L m i u ≡ Some r → Used (loader_as L m i u) → IsOutsideSet r
+  import_below m i SlotCell r e used = outside_below i.field (definition L m kind.Func i.field) r e used
+  import_below m i SharedMemory r e used = absurd cc
+  import_below m i SharedTable r e used = absurd cc
+  import_below m i StackPointer r e used = absurd cc
+  import_below m i MemoryBase r e used = absurd cc
+  import_below m i TableBase r e used = absurd cc
+  import_below m i DataCell r e used = absurd cc
+  import_below m i (EnvFunction t) r e used = absurd cc
+  import_below m i (ModuleFunction t) r e used = absurd cc
+  import_below m i OtherUse r e used = absurd cc
 
-  neither : (a b : Bool) → (a || b) ≡ false → (a ≡ false) × (b ≡ false)
-  neither true b e = absurd cc
-  neither false b e = (refl, e)
-
-  imports_below : (m : ℕ) (is : List Import) → list_any (λ j. loader_as L m j (use_of j)) is ≡ false → All IsBelow (filter_map (outside_of_import L m) is)
-  imports_below m [] unused = All-nil IsBelow
-  imports_below m (i ∷ is) unused =
-      let both = neither (loader_as L m i (use_of i)) (list_any (λ j. loader_as L m j (use_of j)) is) unused in
-      go (outside_of_import L m i) refl both.0 (imports_below m is both.1)
+  imports_below : (m : ℕ) (is : List Import) → Used (list_any (λ j. loader_as L m j (use_of j)) is) → All IsOutsideSet (filter_map (outside_of_import L m) is)
+  imports_below m [] used = All-nil IsOutsideSet
+  imports_below m (i ∷ is) used =
+      let one = loader_as L m i (use_of i) in
+      let rest = list_any (λ j. loader_as L m j (use_of j)) is in
+      go (outside_of_import L m i) refl (λ h. used (or_left one rest h)) (imports_below m is (λ h. used (or_right one rest h)))
     where
-      go : (o : Option Ref) → outside_of_import L m i ≡ o → loader_as L m i (use_of i) ≡ false → All IsBelow (filter_map (outside_of_import L m) is)
-          → All IsBelow (cons_option o (filter_map (outside_of_import L m) is))
-      go None q none later = later
-      go (Some r) q none later = All-cons IsBelow r _ (import_below m i (use_of i) r q none) later
+      go : (o : Option Ref) → outside_of_import L m i ≡ o → Used (loader_as L m i (use_of i)) → All IsOutsideSet (filter_map (outside_of_import L m) is)
+          → All IsOutsideSet (cons_option o (filter_map (outside_of_import L m) is))
+      go None q here later = later
+      go (Some r) q here later = All-cons IsOutsideSet r _ (import_below m i (use_of i) r q here) later
 
-  members_below : (k : ℕ) (xs : List Member) → loader_from L k xs ≡ false → All IsBelow (outside_from L k xs)
-  members_below k [] unused = All-nil IsBelow
-  members_below k (x ∷ xs) unused =
-      let both = neither (list_any (λ j. loader_as L k j (use_of j)) x.wasm.imports) (loader_from L (k + 1) xs) unused in
-      All-append IsBelow (filter_map (outside_of_import L k) x.wasm.imports) (outside_from L (k + 1) xs) (imports_below k x.wasm.imports both.0) (members_below (k + 1) xs both.1)
+  members_below : (k : ℕ) (xs : List Member) → Used (loader_from L k xs) → All IsOutsideSet (outside_from L k xs)
+  members_below k [] used = All-nil IsOutsideSet
+  members_below k (x ∷ xs) used =
+      let one = list_any (λ j. loader_as L k j (use_of j)) x.wasm.imports in
+      let rest = loader_from L (k + 1) xs in
+      All-append IsOutsideSet (filter_map (outside_of_import L k) x.wasm.imports) (outside_from L (k + 1) xs)
+      (imports_below k x.wasm.imports (λ h. used (or_left one rest h))) (members_below (k + 1) xs (λ h. used (or_right one rest h)))
 
-  -- a function of the loader isn't among them
-  no_loader : (call : LoaderCall) (rs : List Ref) → All IsBelow rs → list_any (same_ref (Loader call)) rs ≡ true → ⊥
-  no_loader call [] all e = cc
-  no_loader call (r ∷ rs) all e = go r (All-head IsBelow r rs all) e (no_loader call rs (All-tail IsBelow r rs all))
+  -- a function of the loader is among them only where these are used
+  listed_used : (call : LoaderCall) (rs : List Ref) → All IsOutsideSet rs → Used (list_any (same_ref (Loader call)) rs)
+  listed_used call [] all e = absurd cc
+  listed_used call (r ∷ rs) all e = go r (All-head IsOutsideSet r rs all) e (listed_used call rs (All-tail IsOutsideSet r rs all))
     where
-      go : (r : Ref) → IsBelow r → (same_ref (Loader call) r || list_any (same_ref (Loader call)) rs) ≡ true → (list_any (same_ref (Loader call)) rs ≡ true → ⊥) → ⊥
+      go : (r : Ref) → IsOutsideSet r → (same_ref (Loader call) r || list_any (same_ref (Loader call)) rs) ≡ true → Used (list_any (same_ref (Loader call)) rs) → uses_loader L ≡ true
       go (Host n) below h later = later h
-      go (Own m f) below h later = below
+      go (Own m f) below h later = absurd below
       go (Loader other) below h later = below
-      go (Stub m f) below h later = below
+      go (Stub m f) below h later = absurd below
 
-  first_below : (known rs : List Ref) → All IsBelow rs → All IsBelow (first_refs known rs)
-  first_below known [] all = All-nil IsBelow
-  first_below known (r ∷ rs) all = go (list_any (same_ref r) known) (first_below known rs (All-tail IsBelow r rs all)) (first_below (known ++ r ∷ []) rs (All-tail IsBelow r rs all))
+  first_below : (known rs : List Ref) → All IsOutsideSet rs → All IsOutsideSet (first_refs known rs)
+  first_below known [] all = All-nil IsOutsideSet
+  first_below known (r ∷ rs) all =
+      go (list_any (same_ref r) known) (first_below known rs (All-tail IsOutsideSet r rs all)) (first_below (known ++ r ∷ []) rs (All-tail IsOutsideSet r rs all))
     where
-      go : (b : Bool) → All IsBelow (first_refs known rs) → All IsBelow (first_refs (known ++ r ∷ []) rs)
-          → All IsBelow (if b then first_refs known rs else r ∷ first_refs (known ++ r ∷ []) rs)
+      go : (b : Bool) → All IsOutsideSet (first_refs known rs) → All IsOutsideSet (first_refs (known ++ r ∷ []) rs)
+          → All IsOutsideSet (if b then first_refs known rs else r ∷ first_refs (known ++ r ∷ []) rs)
       go true one other = one
-      go false one other = All-cons IsBelow r _ (All-head IsBelow r rs all) other
+      go false one other = All-cons IsOutsideSet r _ (All-head IsOutsideSet r rs all) other
 
-  kept_below : (rs : List Ref) → All IsBelow rs → (calls : List LoaderCall) → All IsBelow (filter (λ r. list_any (same_ref r) rs) (map Loader calls))
-  kept_below rs all [] = All-nil IsBelow
+  kept_below : (rs : List Ref) → All IsOutsideSet rs → (calls : List LoaderCall) → All IsOutsideSet (filter (λ r. list_any (same_ref r) rs) (map Loader calls))
+  kept_below rs all [] = All-nil IsOutsideSet
   kept_below rs all (call ∷ calls) = go (list_any (same_ref (Loader call)) rs) refl (kept_below rs all calls)
     where
-      go : (b : Bool) → list_any (same_ref (Loader call)) rs ≡ b → All IsBelow (filter (λ r. list_any (same_ref r) rs) (map Loader calls))
-          → All IsBelow (cond b (Loader call ∷ filter (λ r. list_any (same_ref r) rs) (map Loader calls)) (filter (λ r. list_any (same_ref r) rs) (map Loader calls)))
-      go true q later = absurd (no_loader call rs all q)
+      go : (b : Bool) → list_any (same_ref (Loader call)) rs ≡ b → All IsOutsideSet (filter (λ r. list_any (same_ref r) rs) (map Loader calls))
+          → All IsOutsideSet (cond b (Loader call ∷ filter (λ r. list_any (same_ref r) rs) (map Loader calls)) (filter (λ r. list_any (same_ref r) rs) (map Loader calls)))
+      go true q later = All-cons IsOutsideSet (Loader call) _ (listed_used call rs all q) later
       go false q later = later
 
-  -- the functions outside the members that have slots are host functions
-  pub slots_below : uses_loader L ≡ false → All IsBelow (outside_slots L)
-  slots_below unused =
-      let refs = members_below 0 L.set.members unused in
-      All-append IsBelow (filter (λ r. list_any (same_ref r) (outside_refs L)) all_loaders) (first_refs [] (filter is_host_ref (outside_refs L)))
+  -- the functions outside the members that have slots are host functions, or the loader's
+  pub slots_outside : All IsOutsideSet (outside_slots L)
+  slots_outside =
+      let refs = members_below 0 L.set.members (λ h. h) in
+      All-append IsOutsideSet (filter (λ r. list_any (same_ref r) (outside_refs L)) all_loaders) (first_refs [] (filter is_host_ref (outside_refs L)))
       (kept_below (outside_refs L) refs (Dlopen ∷ Dlsym ∷ Dlclose ∷ Dlerror ∷ []))
-      (first_below [] (filter is_host_ref (outside_refs L)) (All-filter is_host_ref IsBelow (outside_refs L) refs))
+      (first_below [] (filter is_host_ref (outside_refs L)) (All-filter is_host_ref IsOutsideSet (outside_refs L) refs))

@@ -65,3 +65,13 @@ module _ {X Y : Type 0} (of : ℕ → Module → List X) (like : ℕ → Module 
       slice_get-append-right (of k y.wasm) (from_members of (k + 1) ys) (length (like k y.wasm ++ from_members like (k + 1) (take m ys)) + i) (omega arith)
       ∙ ap (slice_get (from_members of (k + 1) ys)) place
       ∙ member_at (k + 1) ys m j x i e (omega arith) lt
+
+-- the one of a member
+pub one_there : {A : Type 0} (f : ℕ → Module → A) (k : ℕ) (xs : List Member) (m j : ℕ) (x : Member) → slice_get xs m ≡ Some x → j ≡ k + m
+    → slice_get (from_members (λ i w. f i w ∷ []) k xs) m ≡ Some (f j x.wasm)
+one_there f k [] m j x e q = absurd cc
+one_there f k (y ∷ ys) zero j x e q =
+    let is : y ≡ x = cc in
+    let first : j ≡ k = omega arith in
+    rw (first, ← is) refl
+one_there f k (y ∷ ys) (suc m) j x e q = one_there f (k + 1) ys m j x e (omega arith)

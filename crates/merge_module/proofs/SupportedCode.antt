@@ -1,4 +1,4 @@
--- Renumbered code is supported where the code is, and so is the generated code.
+-- Renumbered code is supported where the code is.
 use Rattle.std.proofs.Common.{◌≡◌, ℕ, Bool, true, nat_le, ◌+◌, List, [], ◌∷◌, map, Some, None, refl, sym, ap, ◌∙◌, subst}
 use Rattle.std.specs.Prelude.{not}
 use Rattle.std.specs.List.{list_all}

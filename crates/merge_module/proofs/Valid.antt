@@ -48,34 +48,39 @@ use Rattle.spec_linking.specs.LinkedSets.{LinkedSet, wasm_of, hosts_of, function
 use Rattle.spec_linking.specs.Slots.{linked_plan, memory_base, table_base, cells_of, cell_value, fresh_of, outside_slots, table_entries, table_most}
 use Rattle.spec_linking.proofs.LinkedFacts.{linked_limits}
 use Rattle.spec_safety.proofs.Lookups.{went_on, got, holds_at}
-use Rattle.spec_loading.specs.declared.task.Phase.TheVariants.{Place, Start, Relocate, Construct}
 use Rattle.spec_loading.specs.Members.{uses_loader, from_members, opened_global}
 use Rattle.merge_match.specs.Renumbering.{Numbers, index_in, renumbered, expr, reference}
 use Rattle.merge_match.specs.Joined.{renumbered_code}
 use Rattle.merge_match.proofs.OneLevel.{inside as with_numbers, out_instr}
-use Rattle.merge_start.specs.Words.{Starts, phase_code, entry_code}
+use Rattle.merge_start.specs.Words.{Starts}
+use Rattle.merge_start.specs.Typed.{GeneratedIsTyped}
+use Rattle.merge_dl.specs.Words.{handle_type, unary_type, binary_type, search_type}
+use Rattle.merge_dl.specs.Typed.{LoaderIsTyped}
 use Rattle.merge_index.specs.Numbering.{is_stub, stubs_of}
-use Rattle.merge_module.specs.MergedModule.{nullary_number, host_imports, stub_types, generated_types, stub_codes, phase_codes, trap_code, plain_code, shared_table_type, number_expr, number_global, constant_instr, own_global, member_globals, guard_globals, passive_mode, renumbered_items, passive_elem, slots_elem, outside_elem, declared_elem, named_functions, exported_functions, passive_data, texts_segment}
+use Rattle.merge_module.specs.MergedModule.{with_loader, nullary_number, handle_number, unary_number, binary_number, search_number, host_imports, stub_types, loader_funcs, generated_types, stub_codes, shared_table_type, number_expr, number_global, constant_instr, own_global, member_globals, guard_globals, passive_mode, renumbered_items, passive_elem, slots_elem, outside_elem, declared_elem, named_functions, exported_functions, passive_data, texts_segment}
 use Rattle.merge_module.proofs.Known.{IsKnown}
+use Rattle.merge_module.proofs.WithLoader.{with_all}
+use Rattle.merge_module.proofs.LoaderFunctions.{handle_there, unary_there, binary_there, search_there}
 use Rattle.merge_module.proofs.HostImports.{HasTypes, later_types, no_tables}
 use Rattle.merge_module.proofs.SetMembers.{is_sound}
-use Rattle.merge_module.proofs.PlannedWords.{table_within, entries_within}
+use Rattle.merge_dl.proofs.SlotWords.{table_within}
+use Rattle.merge_module.proofs.PlannedWords.{entries_within}
 use Rattle.merge_module.proofs.References.{stub_there}
-use Rattle.merge_module.proofs.MergedSpaces.{host_types, nullary_there}
+use Rattle.merge_module.proofs.MergedSpaces.{first_host_type, host_types, nullary_there, generated_codes}
 use Rattle.merge_module.proofs.Generated.{entry_typed}
 use Rattle.merge_module.proofs.GlobalValues.{base_is_number, IsNamed, IsValue, of_type, opened_is}
 use Rattle.merge_module.proofs.SpelledConstants.{Fit, constants_fit}
 use Rattle.merge_module.proofs.SetMembers.{member_spelled}
-use Rattle.merge_module.proofs.SlotFunctions.{IsOwnIn, fresh_own, IsHostBelow, slots_below}
+use Rattle.merge_module.proofs.SlotFunctions.{IsOwnIn, fresh_own, IsOutsideSet, slots_outside}
 use Rattle.merge_module.proofs.Applied.{outside_at}
-use Rattle.merge_module.proofs.Opens.{N, X, M, named_target, host_target}
+use Rattle.merge_module.proofs.Opens.{N, X, M, named_target, outside_target}
 use Rattle.merge_module.proofs.OpenedStore.{own_target}
 use Rattle.merge_module.proofs.Carries.{type_carried}
 use Rattle.merge_module.proofs.Refers.{function_too}
 use Rattle.merge_module.proofs.ValidBodies.{memory_is, mapped_there, filter_holds}
-use Rattle.merge_module.proofs.ValidGenerated.{bodies_none}
+use Rattle.merge_module.proofs.ValidLoader.{bodies_none}
 use Rattle.merge_module.proofs.SupportedCode.{body_kept}
-use Rattle.merge_module.proofs.SupportedGenerated.{trap_supported, phase_supported, entry_supported}
+use Rattle.merge_module.proofs.GeneratedBodies.{stubs_all, generated_all}
 use Rattle.merge_module.proofs.Faultless.{all_pass, pass_all, all_both, all_mapped, all_of, ImportFits, TypeFits, GlobalFits, ElemFits, SupportedBody, TableFits, fits_valid, IsSupported, valid_supported}
 
 -- ---- lists
@@ -130,21 +135,21 @@ value_constant m L n there F32 v is = absurd is
 value_constant m L n there F64 v is = absurd is
 value_constant m L n there ExternRef v is = absurd is
 
-module _ (L : LinkedSet) (K : IsKnown L) (few : (linked_plan L).pages_max ≤ 16384) (none : uses_loader L ≡ false) where
+module _ (L : LinkedSet) (K : IsKnown L) (few : (linked_plan L).pages_max ≤ 16384) where
   abbrev n : Numbers
-  n = N L K few none
+  n = N L K few
 
   abbrev x : Starts
-  x = X L K few none
+  x = X L K few
 
   abbrev merged : Module
-  merged = M L K few none
+  merged = M L K few
 
   abbrev members : List Member
   members = L.set.members
 
   named_there : (r : Ref) → IsNamed L r → is_function merged (n.function r) ≡ true
-  named_there r named = target_is merged (n.function r) (reference n r) (named_target L K few none r named)
+  named_there r named = target_is merged (n.function r) (reference n r) (named_target L K few r named)
 
   -- ---- imports
 
@@ -176,13 +181,13 @@ module _ (L : LinkedSet) (K : IsKnown L) (few : (linked_plan L).pages_max ≤ 16
     type_too t s = go (slice_get wasm.types t) refl
       where
         go : (o : Option FuncType) → slice_get wasm.types t ≡ o → type_supported merged (n.ty m t) ≡ true
-        go None q = supported_past merged (n.ty m t) (type_carried L K few none m member at t ∙ q)
-        go (Some ty) q = supported_at merged (n.ty m t) ty (type_carried L K few none m member at t ∙ q) (supported_type wasm t ty q s)
+        go None q = supported_past merged (n.ty m t) (type_carried L K few m member at t ∙ q)
+        go (Some ty) q = supported_at merged (n.ty m t) ty (type_carried L K few m member at t ∙ q) (supported_type wasm t ty q s)
 
     type_fits : (t : ℕ) → type_supported wasm t ≡ true → is_type wasm t ≡ true → TypeFits merged (n.ty m t)
     type_fits t s is =
         let ty = got wasm.types t (ltb-true t (length wasm.types) is) in
-        (type_too t s, is_type_at merged (n.ty m t) ty.0 (type_carried L K few none m member at t ∙ ty.1))
+        (type_too t s, is_type_at merged (n.ty m t) ty.0 (type_carried L K few m member at t ∙ ty.1))
 
     funcs_fit : All (TypeFits merged) (map (n.ty m) wasm.funcs)
     funcs_fit =
@@ -260,14 +265,14 @@ module _ (L : LinkedSet) (K : IsKnown L) (few : (linked_plan L).pages_max ≤ 16
     functions_too [] e = refl
     functions_too (f ∷ fs) e =
         let both = and_parts (is_function wasm f) (list_all (is_function wasm) fs) e in
-        and_from (is_function merged (n.named m f)) (list_all (is_function merged) (map (n.named m) fs)) (function_too L K few none m member at f both.0) (functions_too fs both.1)
+        and_from (is_function merged (n.named m f)) (list_all (is_function merged) (map (n.named m) fs)) (function_too L K few m member at f both.0) (functions_too fs both.1)
 
     index_too : (op k : ℕ) (form : Option IndexForm) → index_form op ≡ form → constant_step wasm (Open.Index op k) ≡ Some FuncRef
         → is_of_type FuncRef (constant_step merged (Open.Index op (index_in n m (index_form op) k))) ≡ true
     index_too op k (Some index.RefFunc) q e = (let h = rw q at e in rw q (function_case (is_function wasm k) refl h))
       where
         function_case : (b : Bool) → is_function wasm k ≡ b → (if b then Some FuncRef else None) ≡ Some FuncRef → is_of_type FuncRef (if is_function merged (n.named m k) then Some FuncRef else None) ≡ true
-        function_case true r h = rw (function_too L K few none m member at k r) refl
+        function_case true r h = rw (function_too L K few m member at k r) refl
         function_case false r h = absurd cc
     index_too op k (Some index.GlobalGet) q e =
         let h : (slice_get (imports_of globals_in wasm.imports) k >>= immutable) ≡ Some FuncRef = rw q at e in
@@ -341,7 +346,7 @@ module _ (L : LinkedSet) (K : IsKnown L) (few : (linked_plan L).pages_max ≤ 16
     fresh_there [] all = refl
     fresh_there (f ∷ fs) all =
         and_from (is_function merged (n.function (Own m f))) (list_all (is_function merged) (map n.function (map (Own m) fs)))
-        (target_is merged (n.function (Own m f)) (Own 0 (n.function (Own m f))) (own_target L K few none m wasm here f (All-head (IsOwnIn wasm) f fs all)))
+        (target_is merged (n.function (Own m f)) (Own 0 (n.function (Own m f))) (own_target L K few m wasm here f (All-head (IsOwnIn wasm) f fs all)))
         (fresh_there fs (All-tail (IsOwnIn wasm) f fs all))
 
     slots_fit : All (ElemFits merged) (slots_elem L n m ∷ [])
@@ -352,7 +357,7 @@ module _ (L : LinkedSet) (K : IsKnown L) (few : (linked_plan L).pages_max ≤ 16
 
     export_there : (d : ExportDesc) (fs : List ℕ) → is_there wasm d ≡ true → All (λ f. is_function merged f ≡ true) (map (n.named m) fs)
         → All (λ f. is_function merged f ≡ true) (map (n.named m) (named_functions d ++ fs))
-    export_there (exported.Func f) fs fits later = All-cons (λ f. is_function merged f ≡ true) (n.named m f) (map (n.named m) fs) (function_too L K few none m member at f fits) later
+    export_there (exported.Func f) fs fits later = All-cons (λ f. is_function merged f ≡ true) (n.named m f) (map (n.named m) fs) (function_too L K few m member at f fits) later
     export_there (exported.Table t) fs fits later = later
     export_there (exported.Space t) fs fits later = later
     export_there (exported.Global t) fs fits later = later
@@ -374,33 +379,38 @@ module _ (L : LinkedSet) (K : IsKnown L) (few : (linked_plan L).pages_max ≤ 16
         all_mapped (λ c. (k : ℕ) × (body_supported wasm k c ≡ None)) (SupportedBody merged) (renumbered_code n m)
         (λ c h k. body_kept n m wasm merged type_too h.0 k c h.1) wasm.codes supported.codes
 
-    phases_fit : All (SupportedBody merged) (phase_codes L n x m wasm)
-    phases_fit =
-        let place = plain_code (phase_code L n x m wasm Place) in
-        let start = plain_code (phase_code L n x m wasm Start) in
-        let relocate = plain_code (phase_code L n x m wasm Relocate) in
-        let construct = plain_code (phase_code L n x m wasm Construct) in
-        All-cons (SupportedBody merged) place (start ∷ relocate ∷ construct ∷ []) (phase_supported merged L n x m wasm Place)
-        (All-cons (SupportedBody merged) start (relocate ∷ construct ∷ []) (phase_supported merged L n x m wasm Start)
-        (All-cons (SupportedBody merged) relocate (construct ∷ []) (phase_supported merged L n x m wasm Relocate)
-        (All-cons (SupportedBody merged) construct [] (phase_supported merged L n x m wasm Construct) (All-nil (SupportedBody merged)))))
-
-    stub_codes_fit : All (SupportedBody merged) (stub_codes L m wasm)
-    stub_codes_fit =
-        all_by (SupportedBody merged) (stub_codes L m wasm) (λ i c e. (let found = mapped_there (λ f. trap_code) (stubs_of L m wasm) i c e in subst (SupportedBody merged) found.2 (trap_supported merged)))
-
   -- ---- the whole
 
   of_each : {A : Type 0} (P : A → Type 0) (of : ℕ → Module → List A) → ((m : ℕ) (member : Member) → slice_get members m ≡ Some member → All P (of m member.wasm)) → All P (from_members of 0 members)
   of_each P of each = all_of P of 0 members (λ j y at. (let place : j ≡ 0 + j = omega arith in subst (λ m. All P (of m y.wasm)) place (each j y at)))
 
+  type_there : (t : ℕ) (ty : FuncType) → slice_get merged.types t ≡ Some ty → is_function_supported ty ≡ true → TypeFits merged t
+  type_there t ty there s = (supported_at merged t ty there s, is_type_at merged t ty there)
+
+  loader_funcs_fit : uses_loader L ≡ true → All (TypeFits merged) (loader_funcs L)
+  loader_funcs_fit used =
+      let handle = type_there (handle_number L) handle_type (handle_there L K.set used) refl in
+      let unary = type_there (unary_number L) unary_type (unary_there L K.set used) refl in
+      let binary = type_there (binary_number L) binary_type (binary_there L K.set used) refl in
+      let search = type_there (search_number L) search_type (search_there L K.set used) refl in
+      let finds = replicate (length members) (search_number L) in
+      let calls = binary_number L ∷ binary_number L ∷ unary_number L ∷ handle_number L ∷ [] in
+      All-append (TypeFits merged) (replicate (length members) (handle_number L)) (unary_number L ∷ (finds ++ calls)) (all_repeated (TypeFits merged) (length members) (handle_number L) handle)
+      (All-cons (TypeFits merged) (unary_number L) (finds ++ calls) unary
+      (All-append (TypeFits merged) finds calls (all_repeated (TypeFits merged) (length members) (search_number L) search)
+      (All-cons (TypeFits merged) (binary_number L) (binary_number L ∷ unary_number L ∷ handle_number L ∷ []) binary
+      (All-cons (TypeFits merged) (binary_number L) (unary_number L ∷ handle_number L ∷ []) binary
+      (All-cons (TypeFits merged) (unary_number L) (handle_number L ∷ []) unary
+      (All-cons (TypeFits merged) (handle_number L) [] handle (All-nil (TypeFits merged))))))))
+
   funcs_all : All (TypeFits merged) merged.funcs
   funcs_all =
-      let plain = nullary_there L n x in
       All-append (TypeFits merged) (from_members (λ m wasm. map (n.ty m) wasm.funcs) 0 members) (from_members (stub_types L n) 0 members ++ generated_types L)
       (of_each (TypeFits merged) (λ m wasm. map (n.ty m) wasm.funcs) funcs_fit)
       (All-append (TypeFits merged) (from_members (stub_types L n) 0 members) (generated_types L) (of_each (TypeFits merged) (stub_types L n) stubs_fit)
-      (all_repeated (TypeFits merged) (4 * length members + 1) (nullary_number L) (supported_at merged (nullary_number L) nullary plain refl, is_type_at merged (nullary_number L) nullary plain)))
+      (All-append (TypeFits merged) (replicate (4 * length members + 1) (nullary_number L)) (with_loader L (loader_funcs L))
+      (all_repeated (TypeFits merged) (4 * length members + 1) (nullary_number L) (type_there (nullary_number L) nullary (nullary_there L n x) refl))
+      (with_all L (TypeFits merged) (loader_funcs L) loader_funcs_fit)))
 
   shared_fits : TableFits (shared_table_type L)
   shared_fits =
@@ -422,32 +432,33 @@ module _ (L : LinkedSet) (K : IsKnown L) (few : (linked_plan L).pages_max ≤ 16
 
   globals_all : All (GlobalFits merged) merged.globals
   globals_all =
+      let guards = map (λ (y : Member). number_global true 0) members in
+      let zero_fits : GlobalFits merged (number_global true 0) = (refl, number_constant merged 0) in
       All-cons (GlobalFits merged) (number_global true (linked_plan L).stack_top) (from_members (member_globals L n) 0 members ++ guard_globals L) (refl, number_constant merged (linked_plan L).stack_top)
       (All-append (GlobalFits merged) (from_members (member_globals L n) 0 members) (guard_globals L) (of_each (GlobalFits merged) (member_globals L n) globals_fit)
-      (all_by (GlobalFits merged) (guard_globals L) (λ i g e. (let found = mapped_there (λ y. number_global true 0) members i g e in subst (GlobalFits merged) found.2 (refl, number_constant merged 0)))))
+      (All-append (GlobalFits merged) guards (with_loader L (number_global true 0 ∷ []))
+      (all_by (GlobalFits merged) guards (λ i g e. (let found = mapped_there (λ y. number_global true 0) members i g e in subst (GlobalFits merged) found.2 zero_fits)))
+      (with_all L (GlobalFits merged) (number_global true 0 ∷ []) (λ used. All-cons (GlobalFits merged) (number_global true 0) [] zero_fits (All-nil (GlobalFits merged))))))
 
   exports_fit : list_all (export_fits merged) merged.exports ≡ true
   exports_fit =
       let start = function_is merged x.starting nullary (entry_typed L K.set) in
-      rw (start, memory_is L K few none) refl
+      rw (start, memory_is L K few) refl
 
-  -- the host functions that have slots
-  hosts_there : (rs : List Ref) → All (IsHostBelow (length (hosts_of L))) rs → list_all (is_function merged) (map n.function rs) ≡ true
-  hosts_there [] all = refl
-  hosts_there (Host e ∷ rs) all =
-      and_from (is_function merged e) (list_all (is_function merged) (map n.function rs))
-      (target_is merged e (Host e) (host_target L K few none e (All-head (IsHostBelow (length (hosts_of L))) (Host e) rs all)))
-      (hosts_there rs (All-tail (IsHostBelow (length (hosts_of L))) (Host e) rs all))
-  hosts_there (Own m f ∷ rs) all = absurd (All-head (IsHostBelow (length (hosts_of L))) (Own m f) rs all)
-  hosts_there (Loader call ∷ rs) all = absurd (All-head (IsHostBelow (length (hosts_of L))) (Loader call) rs all)
-  hosts_there (Stub m f ∷ rs) all = absurd (All-head (IsHostBelow (length (hosts_of L))) (Stub m f) rs all)
+  -- the functions outside the members that have slots
+  outside_there : (rs : List Ref) → All (IsOutsideSet L) rs → list_all (is_function merged) (map n.function rs) ≡ true
+  outside_there [] all = refl
+  outside_there (r ∷ rs) all =
+      and_from (is_function merged (n.function r)) (list_all (is_function merged) (map n.function rs))
+      (target_is merged (n.function r) (reference n r) (outside_target L K few r (All-head (IsOutsideSet L) r rs all)))
+      (outside_there rs (All-tail (IsOutsideSet L) r rs all))
 
   table_is : table_space merged ≡ merged.tables
-  table_is = ap (λ l. l ++ merged.tables) (no_tables (nullary_number L + 1) (hosts_of L))
+  table_is = ap (λ l. l ++ merged.tables) (no_tables (first_host_type L) (hosts_of L))
 
   outside_fits : ElemFits merged (outside_elem L n)
   outside_fits =
-      let items = hosts_there (outside_slots L) (slots_below L none) in
+      let items = outside_there (outside_slots L) (slots_outside L) in
       let mode : elem_mode_fits merged (elem_mode.Active 0 (number_expr (outside_at L n))) ≡ true = rw (table_is, number_constant merged (outside_at L n)) refl in
       (refl, and_from (elem_mode_fits merged (elem_mode.Active 0 (number_expr (outside_at L n)))) (list_all (is_function merged) (map n.function (outside_slots L))) mode items)
 
@@ -467,7 +478,7 @@ module _ (L : LinkedSet) (K : IsKnown L) (few : (linked_plan L).pages_max ≤ 16
       (All-cons (ElemFits merged) (outside_elem L n) (declared_elem L n ∷ []) outside_fits (All-cons (ElemFits merged) (declared_elem L n) [] declared_fits (All-nil (ElemFits merged)))))
 
   texts_fit : data_fits merged (texts_segment L) ≡ true
-  texts_fit = rw (memory_is L K few none, number_constant merged (linked_plan L).stack_top) refl
+  texts_fit = rw (memory_is L K few, number_constant merged (linked_plan L).stack_top) refl
 
   datas_all : list_all (data_fits merged) merged.datas ≡ true
   datas_all =
@@ -480,19 +491,17 @@ module _ (L : LinkedSet) (K : IsKnown L) (few : (linked_plan L).pages_max ≤ 16
   codes_all =
       let own = from_members (λ m wasm. map (renumbered_code n m) wasm.codes) 0 members in
       let stubs = from_members (stub_codes L) 0 members in
-      let phases = from_members (phase_codes L n x) 0 members in
-      let last = plain_code (entry_code L n x) in
-      All-append (SupportedBody merged) own (stubs ++ (phases ++ last ∷ [])) (of_each (SupportedBody merged) (λ m wasm. map (renumbered_code n m) wasm.codes) codes_fit)
-      (All-append (SupportedBody merged) stubs (phases ++ last ∷ []) (of_each (SupportedBody merged) (stub_codes L) stub_codes_fit)
-      (All-append (SupportedBody merged) phases (last ∷ []) (of_each (SupportedBody merged) (phase_codes L n x) phases_fit)
-      (All-cons (SupportedBody merged) last [] (entry_supported merged L n x) (All-nil (SupportedBody merged)))))
+      All-append (SupportedBody merged) own (stubs ++ generated_codes L n x) (of_each (SupportedBody merged) (λ m wasm. map (renumbered_code n m) wasm.codes) codes_fit)
+      (All-append (SupportedBody merged) stubs (generated_codes L n x)
+      (of_each (SupportedBody merged) (stub_codes L) (λ m y at. stubs_all (SupportedBody merged) (λ size c is. is.supported merged) L m y.wasm))
+      (generated_all (SupportedBody merged) (λ size c is. is.supported merged) L K.set n x))
 
-  pub merged_valid : All (λ (h : HostName). IsTrue (is_function_supported h.ty)) (hosts_of L) → fault merged ≡ None
-  merged_valid hosts = fits_valid merged (record {
-    imports = hosts_fit (nullary_number L + 1) (hosts_of L) (host_types L n x) hosts;
+  pub merged_valid : GeneratedIsTyped → LoaderIsTyped → All (λ (h : HostName). IsTrue (is_function_supported h.ty)) (hosts_of L) → fault merged ≡ None
+  merged_valid typing loader_typing hosts = fits_valid merged (record {
+    imports = hosts_fit (first_host_type L) (hosts_of L) (host_types L n x) hosts;
     funcs = funcs_all;
     tables = tables_all;
-    one_memory = rw (memory_is L K few none) refl;
+    one_memory = rw (memory_is L K few) refl;
     memories = memory_fits;
     globals = globals_all;
     names = refl;
@@ -501,5 +510,5 @@ module _ (L : LinkedSet) (K : IsKnown L) (few : (linked_plan L).pages_max ≤ 16
     elems = elems_all;
     datas = datas_all;
     supported = codes_all;
-    typed = bodies_none L K few none;
+    typed = bodies_none L K few typing loader_typing;
   })

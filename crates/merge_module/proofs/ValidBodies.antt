@@ -26,20 +26,20 @@ use Rattle.spec_linking.specs.Sets.{Member}
 use Rattle.spec_linking.specs.LinkedSets.{LinkedSet, wasm_of, hosts_of, function_ref}
 use Rattle.spec_linking.specs.Slots.{linked_plan}
 use Rattle.spec_loading.specs.Addresses.{sum_before}
-use Rattle.spec_loading.specs.Members.{uses_loader, from_members}
+use Rattle.spec_loading.specs.Members.{from_members}
 use Rattle.merge_match.specs.Renumbering.{Numbers}
 use Rattle.merge_match.specs.Joined.{renumbered_code}
 use Rattle.merge_match.specs.Laws.{CarriesMember}
 use Rattle.merge_match.proofs.JoinedBodies.{bodies_are_typed}
 use Rattle.merge_start.specs.Words.{Starts}
 use Rattle.merge_index.specs.Numbering.{is_stub, stubs_of}
-use Rattle.merge_module.specs.MergedModule.{nullary_number, stub_types, generated_types, stub_codes, trap_code}
+use Rattle.merge_module.specs.MergedModule.{stub_types, generated_types, stub_codes, trap_code}
 use Rattle.merge_module.proofs.Known.{IsKnown}
 use Rattle.merge_module.proofs.HostImports.{no_memories}
 use Rattle.merge_module.proofs.SetMembers.{is_sound}
 use Rattle.merge_module.proofs.References.{stub_there}
 use Rattle.merge_module.proofs.StubLists.{member_at}
-use Rattle.merge_module.proofs.MergedSpaces.{past_front, in_front, own_funcs, own_codes}
+use Rattle.merge_module.proofs.MergedSpaces.{first_host_type, past_front, in_front, own_funcs, own_codes}
 use Rattle.merge_module.proofs.OwnNumbers.{own_funcs_many, own_codes_many}
 use Rattle.merge_module.proofs.Joins.{is_joined}
 use Rattle.merge_module.proofs.Opens.{N, X, M}
@@ -94,32 +94,32 @@ some_is : {A : Type 0} (o : Option A) → is_some o ≡ true → (a : A) × (o �
 some_is None e = absurd cc
 some_is (Some a) e = (a, refl)
 
-module _ (L : LinkedSet) (K : IsKnown L) (few : (linked_plan L).pages_max ≤ 16384) (none : uses_loader L ≡ false) where
+module _ (L : LinkedSet) (K : IsKnown L) (few : (linked_plan L).pages_max ≤ 16384) where
   abbrev n : Numbers
-  n = N L K few none
+  n = N L K few
 
   abbrev x : Starts
-  x = X L K few none
+  x = X L K few
 
   abbrev merged : Module
-  merged = M L K few none
+  merged = M L K few
 
   abbrev members : List Member
   members = L.set.members
 
   pub memory_is : memory_space merged ≡ merged.memories
-  memory_is = ap (λ l. l ++ merged.memories) (no_memories (nullary_number L + 1) (hosts_of L))
+  memory_is = ap (λ l. l ++ merged.memories) (no_memories (first_host_type L) (hosts_of L))
 
   pub carries : (m : ℕ) (member : Member) → slice_get members m ≡ Some member → CarriesMember n m member.wasm merged
   carries m member at f c = record {
-    types = λ t ty e. type_carried L K few none m member at t ∙ e;
-    functions = function_carried L K few none m member at;
-    globals = global_carried L K few none m member at;
-    tables = table_carried L K few none m member at;
-    elems = elem_carried L K few none m member at;
+    types = λ t ty e. type_carried L K few m member at t ∙ e;
+    functions = function_carried L K few m member at;
+    globals = global_carried L K few m member at;
+    tables = table_carried L K few m member at;
+    elems = elem_carried L K few m member at;
     memory = λ e. rw memory_is refl;
-    datas = data_carried L K few none m member at;
-    refers = refers_too L K few none m member at;
+    datas = data_carried L K few m member at;
+    refers = refers_too L K few m member at;
     locals = refl;
     results = refl;
   }
@@ -139,7 +139,7 @@ module _ (L : LinkedSet) (K : IsKnown L) (few : (linked_plan L).pages_max ≤ 16
   own_body m member at i c there =
       let here : wasm_of L m ≡ Some member.wasm = ap (λ (o : Option Member). o >>= λ y. Some y.wasm) at in
       let high = some_is (body_height member.wasm i c) (body_fits member.wasm (is_sound L m member.wasm K.set here).valid i c there) in
-      let kept = bodies_are_typed L n merged (is_joined L K none) m member.wasm here (carries m member at) i c there high.0 high.1 in
+      let kept = bodies_are_typed L n merged (is_joined L K) m member.wasm here (carries m member at) i c there high.0 high.1 in
       so_none (is_some (body_height merged (sum_before (λ y. length y.codes) members m + i) (renumbered_code n m c))) (BadBody _)
       (some_so (body_height merged (sum_before (λ y. length y.codes) members m + i) (renumbered_code n m c)) high.0 kept)
 
@@ -175,7 +175,7 @@ module _ (L : LinkedSet) (K : IsKnown L) (few : (linked_plan L).pages_max ≤ 16
           let typed : slice_get member.wasm.types there.number ≡ Some there.ty = subst (λ (w : Module). slice_get w.types there.number ≡ Some there.ty) same there.typed in
           let mapped : slice_get (stub_types L n m member.wasm) i ≡ Some (g f) = slice_get-map g (stubs_of L m member.wasm) i ∙ ap (option_map g) e in
           let value : g f ≡ n.ty m there.number = ap (λ (o : Option ℕ). n.ty m (unwrap_or o 0)) space in
-          (n.ty m there.number, there.ty, mapped ∙ ap Some value, type_carried L K few none m member at there.number ∙ typed)
+          (n.ty m there.number, there.ty, mapped ∙ ap Some value, type_carried L K few m member at there.number ∙ typed)
 
   pub stubs_none : first_in find (0 + length (own_codes L n x)) (from_members (stub_codes L) 0 members) ≡ None
   stubs_none =

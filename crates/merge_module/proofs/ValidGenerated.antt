@@ -1,5 +1,5 @@
 -- The generated bodies are well typed in the merged module, and so all its bodies are.
-use Rattle.std.proofs.Common.{◌≡◌, ◌≤◌, ◌<◌, ℕ, zero, suc, ◌+◌, ◌*◌, true, false, List, [], ◌∷◌, ◌++◌, length, map, slice_get, nat_lt, Option, Some, None, option_map, refl, sym, ap, ◌∙◌, subst, arith}
+use Rattle.std.proofs.Common.{◌≡◌, ◌≤◌, ◌<◌, ℕ, zero, suc, ◌+◌, ◌*◌, true, List, [], ◌∷◌, ◌++◌, length, map, slice_get, nat_lt, Option, Some, None, option_map, refl, sym, ap, ◌∙◌, subst, arith}
 use Rattle.std.specs.Prelude.{is_some, take}
 use Rattle.std.specs.List.{list_all}
 use Rattle.std.proofs.lemmas.Bool.{and_parts, lt-ltb}
@@ -12,6 +12,8 @@ use Rattle.wasm_form.specs.declared.module.ElemMode.{ElemMode}
 use Rattle.wasm_form.specs.declared.module.ElemMode.TheVariants as elem_mode
 use Rattle.wasm_form.specs.declared.module.ElemItems.{ElemItems}
 use Rattle.wasm_form.specs.declared.module.ElemItems.TheVariants as elem_items
+use Rattle.wasm_form.specs.declared.types.FuncType.{FuncType}
+use Rattle.wasm_form.specs.declared.module.GlobalDef.{GlobalDef}
 use Rattle.wasm_form.specs.declared.module.Elem.{Elem}
 use Rattle.wasm_form.specs.declared.module.Code.{Code}
 use Rattle.wasm_form.specs.declared.module.DataMode.{DataMode}
@@ -23,10 +25,10 @@ use Rattle.wasm_form.specs.declared.runtime.Ref.TheVariants.{Own}
 use Rattle.spec_binary.specs.Options.{◌>>=◌}
 use Rattle.spec_binary.specs.SameTypes.{same_type}
 use Rattle.spec_binary.specs.Indices.{nullary, function_type}
-use Rattle.spec_binary.specs.IndexSpaces.{table_space}
+use Rattle.spec_binary.specs.IndexSpaces.{global_space, table_space}
 use Rattle.spec_validation.specs.Context.{Context}
 use Rattle.spec_validation.specs.Typing.{height}
-use Rattle.spec_validation.specs.Faults.{first_in, is_constant, has_functions, elem_of_table, type_of_elem, item_type, items_fit, elem_mode_fits, elem_fits, body_context, type_of_body, body_typed}
+use Rattle.spec_validation.specs.Faults.{first_in, is_constant, has_functions, elem_of_table, type_of_elem, item_type, items_fit, elem_mode_fits, elem_fits, body_context, type_of_body}
 use Rattle.spec_validation.proofs.Parts.{parts_fit}
 use Rattle.spec_execution.specs.Activations.{Effect, TableInit, ElemDrop, MemoryInit, DataDrop}
 use Rattle.spec_execution.specs.Segments.{items_count, effects_at, elem_effects, data_effects, all_effects, segment_effects}
@@ -44,35 +46,30 @@ use Rattle.merge_match.specs.Renumbering.{Numbers}
 use Rattle.merge_match.specs.Parts.{number_of}
 use Rattle.merge_start.specs.Words.{Starts, slots_effect, phase_code, entry_code}
 use Rattle.merge_start.specs.Points.{AreOf}
-use Rattle.merge_start.specs.Typed.{IsEffectTyped, AreEffectsTyped, IsPhaseTyped, AreTasksTyped, IsEntryTyped}
+use Rattle.merge_start.specs.Typed.{IsEffectTyped, AreEffectsTyped, IsPhaseTyped, AreTasksTyped, IsEntryTyped, GeneratedIsTyped}
 use Rattle.merge_start.proofs.Ranges.{of_startup}
-use Rattle.merge_start.proofs.Typed.{generated_is_typed}
 use Rattle.merge_index.specs.Numbering.{stubs_of, function_number}
-use Rattle.merge_module.specs.MergedModule.{nullary_number, number_global, member_globals, guard_globals, merged_globals, shared_table_type, passive_elem, slots_elem, outside_elem, declared_elem, stub_types, generated_types, stub_codes, phase_codes, plain_code}
+use Rattle.merge_module.specs.MergedModule.{with_loader, nullary_number, number_global, member_globals, guard_globals, merged_globals, shared_table_type, passive_elem, slots_elem, outside_elem, declared_elem, stub_types, generated_types, stub_codes, phase_codes, plain_code}
 use Rattle.merge_module.proofs.Known.{IsKnown}
+use Rattle.merge_module.proofs.WithLoader.{with_used}
 use Rattle.merge_module.proofs.SetMembers.{is_sound}
-use Rattle.merge_module.proofs.StubLists.{lengths_same, member_at}
+use Rattle.merge_module.proofs.StubLists.{lengths_same, member_at, one_there}
 use Rattle.merge_module.proofs.Counted.{joined_length}
 use Rattle.merge_module.proofs.MergedSpaces.{past_front, in_front, own_funcs, own_codes, nullary_there, phases_many}
 use Rattle.merge_module.proofs.OwnNumbers.{own_funcs_many, own_codes_many}
-use Rattle.merge_module.proofs.Generated.{repeated_at, phase_typed}
+use Rattle.merge_module.proofs.Generated.{nullary_listed, phase_typed}
 use Rattle.merge_module.proofs.Ready.{callable, entry_ready}
 use Rattle.merge_module.proofs.GlobalValues.{one_type}
 use Rattle.merge_module.proofs.Applied.{own_elems, slot_elems}
 use Rattle.merge_module.proofs.Opens.{N, X, M}
 use Rattle.merge_module.proofs.OpenedStore.{member_globals_fit}
 use Rattle.merge_module.proofs.Carries.{ref_typed, global_at, table_at, table_carried, elem_carried, data_carried}
-use Rattle.merge_module.proofs.ValidBodies.{memory_is, find, body_none, some_so, own_none, stubs_none}
-use Rattle.merge_module.proofs.Faultless.{none_append, members_none, both_none}
+use Rattle.merge_module.proofs.ValidBodies.{memory_is, find, body_none, some_so}
+use Rattle.merge_module.proofs.Faultless.{members_none}
 
 typed_append : (c : Context) (n : Numbers) (m : ℕ) (xs ys : List Effect) → AreEffectsTyped c n m xs → AreEffectsTyped c n m ys → AreEffectsTyped c n m (xs ++ ys)
 typed_append c n m [] ys a b = b
 typed_append c n m (x ∷ xs) ys a b = (a.0, typed_append c n m xs ys a.1 b)
-
-one_at : {A : Type 0} (f : ℕ → A) (k : ℕ) (xs : List Member) (m j : ℕ) → m < length xs → j ≡ k + m → slice_get (from_members (λ i w. f i ∷ []) k xs) m ≡ Some (f j)
-one_at f k [] m j lt q = absurd (omega arith)
-one_at f k (y ∷ ys) zero j lt q = (let same : k ≡ j = omega arith in ap (λ i. Some (f i)) same)
-one_at f k (y ∷ ys) (suc m) j lt q = one_at f (k + 1) ys m j (omega arith) (omega arith)
 
 functions_only : (t : Option TableType) → has_functions t ≡ true → (t >>= elem_of_table) ≡ Some FuncRef
 functions_only None e = absurd cc
@@ -83,15 +80,15 @@ module _ (wasm : Module) where
   items_functions (elem_items.Funcs fs) e = refl
   items_functions (elem_items.Exprs t es) e = one_type t FuncRef (and_parts (same_type t FuncRef) (list_all (is_constant wasm FuncRef) es) e).0
 
-module _ (L : LinkedSet) (K : IsKnown L) (few : (linked_plan L).pages_max ≤ 16384) (none : uses_loader L ≡ false) where
+module _ (L : LinkedSet) (K : IsKnown L) (few : (linked_plan L).pages_max ≤ 16384) (typing : GeneratedIsTyped) where
   abbrev n : Numbers
-  n = N L K few none
+  n = N L K few
 
   abbrev x : Starts
-  x = X L K few none
+  x = X L K few
 
   abbrev merged : Module
-  merged = M L K few none
+  merged = M L K few
 
   abbrev members : List Member
   members = L.set.members
@@ -99,6 +96,29 @@ module _ (L : LinkedSet) (K : IsKnown L) (few : (linked_plan L).pages_max ≤ 16
   -- the context of a generated body
   abbrev plain : List Instr → Context
   plain is = body_context merged nullary (plain_code is)
+
+  -- ---- what code names
+
+  guards_at : (i : ℕ) (g : GlobalDef) → slice_get (guard_globals L) i ≡ Some g → slice_get (global_space merged) (x.guards + i) ≡ Some g.ty
+  guards_at i g at =
+      let many = joined_length (member_globals L n) globals_size (member_globals_fit L n) 0 members in
+      let place : x.guards + i ≡ suc (length (from_members (member_globals L n) 0 members) + i) = omega arith in
+      global_at L K few (x.guards + i) g
+      (ap (slice_get (merged_globals L n)) place ∙ past_front (from_members (member_globals L n) 0 members) (guard_globals L) i ∙ at)
+
+  pub guard_typed : (m : ℕ) → m < length members → slice_get (global_space merged) (x.guards + m) ≡ Some (record { value = I32; mutable = true })
+  guard_typed m lt =
+      let found = got members m lt in
+      let there : slice_get (map (λ y. number_global true 0) members) m ≡ Some (number_global true 0) = slice_get-map (λ y. number_global true 0) members m ∙ ap (option_map (λ y. number_global true 0)) found.1 in
+      guards_at m (number_global true 0) (in_front (map (λ y. number_global true 0) members) (with_loader L (number_global true 0 ∷ [])) m (number_global true 0) there)
+
+  pub error_typed : uses_loader L ≡ true → slice_get (global_space merged) (x.guards + length members) ≡ Some (record { value = I32; mutable = true })
+  error_typed used =
+      let many = length-map members (λ (y : Member). number_global true 0) in
+      let place : length members ≡ length (map (λ (y : Member). number_global true 0) members) + 0 = omega arith in
+      guards_at (length members) (number_global true 0)
+      (ap (slice_get (guard_globals L)) place ∙ past_front (map (λ (y : Member). number_global true 0) members) (with_loader L (number_global true 0 ∷ [])) 0
+      ∙ ap (λ (l : List GlobalDef). slice_get l 0) (with_used L (number_global true 0 ∷ []) used))
 
   -- ---- a member
 
@@ -112,22 +132,13 @@ module _ (L : LinkedSet) (K : IsKnown L) (few : (linked_plan L).pages_max ≤ 16
     lt_m : m < length members
     lt_m = slice_get_within members m member at
 
-    guard_typed : c.globals (x.guards + m) ≡ Some (record { value = I32; mutable = true })
-    guard_typed =
-        let many = joined_length (member_globals L n) globals_size (member_globals_fit L n) 0 members in
-        let found = got members m lt_m in
-        let there : slice_get (guard_globals L) m ≡ Some (number_global true 0) = slice_get-map (λ y. number_global true 0) members m ∙ ap (option_map (λ y. number_global true 0)) found.1 in
-        let place : x.guards + m ≡ suc (length (from_members (member_globals L n) 0 members) + m) = omega arith in
-        global_at L K few none m member at (x.guards + m) (number_global true 0)
-        (ap (slice_get (merged_globals L n)) place ∙ past_front (from_members (member_globals L n) 0 members) (guard_globals L) m ∙ there)
-
     elem_typed : (k : ℕ) (e : Elem) → slice_get wasm.elems k ≡ Some e → elem_fits wasm e ≡ true → AreEffectsTyped c n m (elem_effects (member_number L m) k e)
     elem_typed k e there fits = go e.mode refl
       where
         items : c.elems (n.elem m k) ≡ Some FuncRef
         items =
             let is = items_functions wasm e.items (and_parts (elem_mode_fits wasm e.mode) (items_fit wasm e.items) fits).1 in
-            elem_carried L K few none m member at k FuncRef (ap (λ (o : Option Elem). o >>= type_of_elem) there ∙ ap Some is)
+            elem_carried L K few m member at k FuncRef (ap (λ (o : Option Elem). o >>= type_of_elem) there ∙ ap Some is)
 
         at_typed : (t : ℕ) (o : Option ℕ) → c.tables (n.table m t) ≡ Some FuncRef
             → AreEffectsTyped c n m (effects_at (λ at. TableInit k t at 0 (items_count e.items) ∷ ElemDrop k ∷ []) o)
@@ -138,7 +149,7 @@ module _ (L : LinkedSet) (K : IsKnown L) (few : (linked_plan L).pages_max ≤ 16
         go (elem_mode.Active t offset) q =
             let mode : elem_mode_fits wasm (elem_mode.Active t offset) ≡ true = ap (elem_mode_fits wasm) (sym q) ∙ (and_parts (elem_mode_fits wasm e.mode) (items_fit wasm e.items) fits).0 in
             let table = functions_only (slice_get (table_space wasm) t) (and_parts (has_functions (slice_get (table_space wasm) t)) (is_constant wasm I32 offset) mode).0 in
-            rw q (at_typed t (member_number L m offset) (table_carried L K few none m member at t FuncRef table))
+            rw q (at_typed t (member_number L m offset) (table_carried L K few m member at t FuncRef table))
         go elem_mode.Passive q = rw q tt
         go elem_mode.Declarative q = rw q tt
 
@@ -156,10 +167,10 @@ module _ (L : LinkedSet) (K : IsKnown L) (few : (linked_plan L).pages_max ≤ 16
     data_typed k d lt = go d.mode refl
       where
         low : nat_lt (n.segment m k) c.datas ≡ true
-        low = data_carried L K few none m member at k (lt-ltb k (length wasm.datas) lt)
+        low = data_carried L K few m member at k (lt-ltb k (length wasm.datas) lt)
 
         memory : c.memory ≡ true
-        memory = rw (memory_is L K few none) refl
+        memory = rw (memory_is L K few) refl
 
         at_typed : (o : Option ℕ) → AreEffectsTyped c n m (effects_at (λ at. MemoryInit k at 0 (length d.bytes) ∷ DataDrop k ∷ []) o)
         at_typed None = tt
@@ -188,63 +199,67 @@ module _ (L : LinkedSet) (K : IsKnown L) (few : (linked_plan L).pages_max ≤ 16
         let place : x.slots + m ≡ length (own_elems L n) + m = omega arith in
         let there : slice_get merged.elems (x.slots + m) ≡ Some (slots_elem L n m) =
         ap (slice_get merged.elems) place ∙ past_front (own_elems L n) (slot_elems L n ++ outside_elem L n ∷ declared_elem L n ∷ []) m
-        ∙ in_front (slot_elems L n) (outside_elem L n ∷ declared_elem L n ∷ []) m (slots_elem L n m) (one_at (slots_elem L n) 0 members m m lt_m (omega arith)) in
-        (ap (λ (o : Option Elem). o >>= type_of_elem) there, ap (λ (o : Option TableType). o >>= elem_of_table) (table_at L K few none m member at 0 (shared_table_type L) refl))
+        ∙ in_front (slot_elems L n) (outside_elem L n ∷ declared_elem L n ∷ []) m (slots_elem L n m) (one_there (λ k w. slots_elem L n k) 0 members m m member at (omega arith)) in
+        (ap (λ (o : Option Elem). o >>= type_of_elem) there, ap (λ (o : Option TableType). o >>= elem_of_table) (table_at L K few m member at 0 (shared_table_type L) refl))
 
     called_typed : (p : Phase) (f : ℕ) → phase_function p m wasm ≡ Some f → c.functions (n.named m f) ≡ Some nullary
     called_typed p f e =
         let r = callable L K few m member at lt_m p f e in
         let is : function_ref L m f ≡ Some r.0 = r.1 in
-        ap (λ (o : Option Ref). function_type merged (number_of (option_map (function_number L) o))) is ∙ ref_typed L K few none r.0 nullary r.2
+        ap (λ (o : Option Ref). function_type merged (number_of (option_map (function_number L) o))) is ∙ ref_typed L K few r.0 nullary r.2
 
     is_phase_typed : IsPhaseTyped c L n x m wasm
-    is_phase_typed = record { guard = guard_typed; effects = effects_typed; slots = slots_typed; called = called_typed }
+    is_phase_typed = record { guard = guard_typed m lt_m; effects = effects_typed; slots = slots_typed; called = called_typed }
 
   phase_high : (m : ℕ) (member : Member) → slice_get members m ≡ Some member → (p : Phase)
       → is_some (height (plain (phase_code L n x m member.wasm p)) (phase_code L n x m member.wasm p)) ≡ true
   phase_high m member at p =
       let code = phase_code L n x m member.wasm p in
-      let typed = (generated_is_typed L n x (plain code)).phases refl m member.wasm (is_phase_typed m member at code) p in
+      let typed = (typing L n x (plain code)).phases refl m member.wasm (is_phase_typed m member at code) p in
       some_so (height (plain code) code) typed.0 typed.1
 
   -- ---- the entry function
 
-  tasks_typed : (code : List Instr) (tasks : List Task) → AreOf L tasks → AreTasksTyped (plain code) x tasks
-  tasks_typed code [] all = tt
-  tasks_typed code (task ∷ tasks) all =
+  pub tasks_typed : (ty : FuncType) (code : Code) (tasks : List Task) → AreOf L tasks → AreTasksTyped (body_context merged ty code) x tasks
+  tasks_typed ty code [] all = tt
+  tasks_typed ty code (task ∷ tasks) all =
       let member = got members task.member all.0 in
-      (phase_typed L K.set task.member member.0 member.1 all.0 task.phase, tasks_typed code tasks all.1)
+      (phase_typed L K.set task.member member.0 member.1 all.0 task.phase, tasks_typed ty code tasks all.1)
 
   entry_called : (code : List Instr) → IsEntryTyped (plain code) L n
   entry_called code f e =
       let entry = entry_ready L K few in
       let same : entry.function ≡ f = (let q = sym entry.entry ∙ e in cc) in
       let typed : function_type merged (n.named 0 entry.function) ≡ Some nullary =
-      ap (λ (o : Option Ref). function_type merged (number_of (option_map (function_number L) o))) entry.target ∙ ref_typed L K few none (Own 0 entry.function) nullary entry.callable in
+      ap (λ (o : Option Ref). function_type merged (number_of (option_map (function_number L) o))) entry.target ∙ ref_typed L K few (Own 0 entry.function) nullary entry.callable in
       subst (λ k. function_type merged (n.named 0 k) ≡ Some nullary) same typed
 
   entry_high : is_some (height (plain (entry_code L n x)) (entry_code L n x)) ≡ true
   entry_high =
       let code = entry_code L n x in
-      let typed = (generated_is_typed L n x (plain code)).entry refl (tasks_typed code (startup_frame L.set).tasks (of_startup L K.set)) (entry_called code) in
+      let typed = (typing L n x (plain code)).entry refl (tasks_typed nullary (plain_code code) (startup_frame L.set).tasks (of_startup L K.set)) (entry_called code) in
       some_so (height (plain code) code) typed.0 typed.1
 
   -- ---- all bodies
 
-  abbrev start : ℕ
+  abbrev pub start : ℕ
   start = 0 + length (own_codes L n x) + length (from_members (stub_codes L) 0 members)
 
-  generated_type : (q : ℕ) → q < 4 * length members + 1 → type_of_body merged (start + q) ≡ Some nullary
-  generated_type q lt =
+  -- the type of the q-th generated body
+  pub generated_type : (q t : ℕ) (ty : FuncType) → slice_get (generated_types L) q ≡ Some t → slice_get merged.types t ≡ Some ty → type_of_body merged (start + q) ≡ Some ty
+  generated_type q t ty listed there =
       let own = own_funcs_many L K.set in
       let codes = own_codes_many L K.set in
       let types = lengths_same (stub_types L n) (stubs_of L) (λ m w. length-map (stubs_of L m w) _) 0 members in
       let bodies = lengths_same (stub_codes L) (stubs_of L) (λ m w. length-map (stubs_of L m w) _) 0 members in
       let place : start + q ≡ length (own_funcs L n x) + (length (from_members (stub_types L n) 0 members) + q) = omega arith in
-      let func : slice_get merged.funcs (start + q) ≡ Some (nullary_number L) =
+      let func : slice_get merged.funcs (start + q) ≡ Some t =
       ap (slice_get merged.funcs) place ∙ past_front (own_funcs L n x) (from_members (stub_types L n) 0 members ++ generated_types L) (length (from_members (stub_types L n) 0 members) + q)
-      ∙ past_front (from_members (stub_types L n) 0 members) (generated_types L) q ∙ repeated_at (4 * length members + 1) q (nullary_number L) lt in
-      ap (λ (o : Option ℕ). o >>= slice_get merged.types) func ∙ nullary_there L n x
+      ∙ past_front (from_members (stub_types L n) 0 members) (generated_types L) q ∙ listed in
+      ap (λ (o : Option ℕ). o >>= slice_get merged.types) func ∙ there
+
+  nullary_typed : (q : ℕ) → q < 4 * length members + 1 → type_of_body merged (start + q) ≡ Some nullary
+  nullary_typed q lt = generated_type q (nullary_number L) nullary (nullary_listed L K.set q lt) (nullary_there L n x)
 
   four_bodies : (m : ℕ) (member : Member) → slice_get members m ≡ Some member → (i : ℕ) (b : Code) → slice_get (phase_codes L n x m member.wasm) i ≡ Some b
       → is_some (height (body_context merged nullary b) b.body.list) ≡ true
@@ -254,26 +269,19 @@ module _ (L : LinkedSet) (K : IsKnown L) (few : (linked_plan L).pages_max ≤ 16
   four_bodies m member at (suc (suc (suc zero))) b e = (let same : plain_code (phase_code L n x m member.wasm Construct) ≡ b = cc in subst (λ (d : Code). is_some (height (body_context merged nullary d) d.body.list) ≡ true) same (phase_high m member at Construct))
   four_bodies m member at (suc (suc (suc (suc i)))) b e = absurd cc
 
-  phases_none : first_in (find L K few none) start (from_members (phase_codes L n x) 0 members) ≡ None
+  pub phases_none : first_in (find L K few) start (from_members (phase_codes L n x) 0 members) ≡ None
   phases_none =
-      members_none (find L K few none) (phase_codes L n x) 0 members start (λ j y i b at there. (
+      members_none (find L K few) (phase_codes L n x) 0 members start (λ j y i b at there. (
       let zero_j : 0 + j ≡ j = omega arith in
       let mine : slice_get (phase_codes L n x j y.wasm) i ≡ Some b = subst (λ k. slice_get (phase_codes L n x k y.wasm) i ≡ Some b) zero_j there in
       let q = length (from_members (phase_codes L n x) 0 (take j members)) + i in
       let listed = member_at (phase_codes L n x) (phase_codes L n x) (λ m w. refl) 0 members j j y i at (omega arith) (slice_get_within (phase_codes L n x j y.wasm) i b mine) ∙ mine in
       let within = slice_get_within (from_members (phase_codes L n x) 0 members) q b listed in
       let many = phases_many L n x members 0 in
-      body_none L K few none (start + q) b nullary (generated_type q (omega arith)) (four_bodies j y at i b mine)))
+      body_none L K few (start + q) b nullary (nullary_typed q (omega arith)) (four_bodies j y at i b mine)))
 
-  entry_none : find L K few none (start + length (from_members (phase_codes L n x) 0 members)) (plain_code (entry_code L n x)) ≡ None
+  pub entry_none : find L K few (start + length (from_members (phase_codes L n x) 0 members)) (plain_code (entry_code L n x)) ≡ None
   entry_none =
       let many = phases_many L n x members 0 in
-      body_none L K few none (start + length (from_members (phase_codes L n x) 0 members)) (plain_code (entry_code L n x)) nullary
-      (generated_type (length (from_members (phase_codes L n x) 0 members)) (omega arith)) entry_high
-
-  pub bodies_none : first_in (body_typed merged) 0 merged.codes ≡ None
-  bodies_none =
-      none_append (body_typed merged) 0 (own_codes L n x) _ (own_none L K few none)
-      (none_append (body_typed merged) (0 + length (own_codes L n x)) (from_members (stub_codes L) 0 members) _ (stubs_none L K few none)
-      (none_append (body_typed merged) start (from_members (phase_codes L n x) 0 members) (plain_code (entry_code L n x) ∷ []) phases_none
-      (both_none (find L K few none (start + length (from_members (phase_codes L n x) 0 members)) (plain_code (entry_code L n x))) None entry_none refl)))
+      body_none L K few (start + length (from_members (phase_codes L n x) 0 members)) (plain_code (entry_code L n x)) nullary
+      (nullary_typed (length (from_members (phase_codes L n x) 0 members)) (omega arith)) entry_high

@@ -8,16 +8,20 @@ use Rattle.wasm_form.specs.declared.module.ElemMode.TheVariants as elem_mode
 use Rattle.wasm_form.specs.declared.module.ElemItems.{ElemItems}
 use Rattle.wasm_form.specs.declared.module.ElemItems.TheVariants as elem_items
 use Rattle.wasm_form.specs.declared.module.Elem.{Elem}
+use Rattle.wasm_form.specs.declared.module.ExportDesc.{ExportDesc}
+use Rattle.wasm_form.specs.declared.module.Export.{Export}
 use Rattle.wasm_form.specs.declared.module.Group.{Group}
 use Rattle.wasm_form.specs.declared.module.Code.{Code}
 use Rattle.wasm_form.specs.declared.module.DataMode.{DataMode}
 use Rattle.wasm_form.specs.declared.module.DataMode.TheVariants as data_mode
 use Rattle.wasm_form.specs.declared.module.Data.{Data}
+use Rattle.wasm_form.specs.Name.{SpellsName}
+use Rattle.wasm_form.specs.Name as names
 use Rattle.wasm_form.specs.Number.{SpellsUnsigned}
 use Rattle.wasm_form.specs.Sequence.{SpellsEach, SpellsVec, none, next, vec}
 use Rattle.spec_binary.specs.Types.{SpellsFuncType}
 use Rattle.spec_binary.specs.Types as types
-use Rattle.spec_binary.specs.Parts.{SpellsByte, SpellsConstant, SpellsElemMode, SpellsElemItems, SpellsElem, SpellsGroup, SpellsFunc, SpellsCode, SpellsDataMode, SpellsData}
+use Rattle.spec_binary.specs.Parts.{SpellsByte, SpellsConstant, SpellsElemMode, SpellsElemItems, SpellsElem, SpellsGroup, SpellsFunc, SpellsCode, SpellsDataMode, SpellsData, SpellsExportDesc, SpellsExport}
 use Rattle.spec_binary.specs.Parts as parts
 use Rattle.merge_match.specs.Renumbering.{Numbers, expr}
 use Rattle.merge_match.specs.Joined.{renumbered_code}
@@ -37,6 +41,11 @@ pub weighs_at : {A : Type 0} (weight : A → ℕ) (xs : List A) (i : ℕ) (x : A
 weighs_at weight [] i x e = absurd cc
 weighs_at weight (y ∷ ys) zero x e = (let same : y ≡ x = cc in subst (λ z. weight z ≤ weight y + sum_of weight ys) same (omega arith))
 weighs_at weight (y ∷ ys) (suc i) x e = (let later = weighs_at weight ys i x e in omega arith)
+
+-- where each weighs something, there are no more of them
+pub counted : {A : Type 0} (weight : A → ℕ) → ((a : A) → 1 ≤ weight a) → (xs : List A) → length xs ≤ sum_of weight xs
+counted weight some [] = omega arith
+counted weight some (x ∷ xs) = (let here = some x in let later = counted weight some xs in omega arith)
 
 -- what each of some weighs the same as, all do
 pub sum_same : {A B : Type 0} (f : A → B) (one : A → ℕ) (other : B → ℕ) → ((a : A) → other (f a) ≤ one a) → (xs : List A) → sum_of other (map f xs) ≤ sum_of one xs
@@ -248,3 +257,34 @@ data_about d _ (parts.segment {w = w} {v = v} {u = u} flags mode bytes) =
 
 pub data_weighs : (d : Data) → data_weight (passive_data d) ≤ data_weight d
 data_weighs d = omega arith
+
+-- ---- names and exports
+
+pub record IsNamed (text w : List ℕ) : Type 0 where
+  pub least : suc (length text) ≤ length w
+  pub most : length w ≤ 5 + length text
+
+pub name_about : {text w : List ℕ} → SpellsName text w → IsNamed text w
+name_about (names.name {text} {count} number utf8) =
+    let long = number_long number in
+    let short = number_short number in
+    let sum = length-append count text in
+    record { least = omega arith; most = omega arith }
+
+export_desc_short : (d : ExportDesc) (w : List ℕ) → SpellsExportDesc d w → length w ≤ 6
+export_desc_short _ _ (parts.function s) = (let short = number_short s in omega arith)
+export_desc_short _ _ (parts.table s) = (let short = number_short s in omega arith)
+export_desc_short _ _ (parts.memory s) = (let short = number_short s in omega arith)
+export_desc_short _ _ (parts.global s) = (let short = number_short s in omega arith)
+
+abbrev pub export_weight : Export → ℕ
+export_weight e = 1 + length e.name
+
+pub export_about : (e : Export) (w : List ℕ) → SpellsExport e w → IsAbout (export_weight e) w
+export_about e _ (parts.export {w = w} {v = v} named desc) =
+    let one = name_about named in
+    let short = export_desc_short e.desc v desc in
+    let least = one.least in
+    let most = one.most in
+    let sum = length-append w v in
+    record { least = omega arith; most = omega arith }

@@ -1,5 +1,5 @@
 -- What is so of the merged module of a linked set.
-use Rattle.std.specs.Prelude.{◌≡◌, ℕ, ◌+◌, ◌≤◌, ◌<◌, ◌^◌, false, List, [], ◌∷◌, length, slice_get, Some, None, IsTrue}
+use Rattle.std.specs.Prelude.{◌≡◌, ℕ, ◌+◌, ◌≤◌, ◌<◌, ◌^◌, List, [], ◌∷◌, length, slice_get, Some, None, IsTrue}
 use Rattle.std.specs.List.{All}
 use Rattle.wasm_form.specs.declared.module.ImportDesc.{ImportDesc}
 use Rattle.wasm_form.specs.declared.module.ImportDesc.TheVariants as imported
@@ -11,16 +11,15 @@ use Rattle.wasm_form.specs.Number.{SpellsUnsigned}
 use Rattle.wasm_form.specs.Sequence.{SpellsVec}
 use Rattle.spec_binary.specs.Types.{SpellsFuncType, SpellsTableType, SpellsLimits}
 use Rattle.spec_binary.specs.Parts.{SpellsImport, SpellsGlobal, SpellsExport, SpellsElem, SpellsFunc, SpellsCode, SpellsData}
-use Rattle.spec_loading.specs.Phases.{startup_frame}
 use Rattle.spec_binary.specs.Modules.{SpellsModule}
 use Rattle.spec_binary.specs.WellFormed.{IsShort, IsFormedType, IsWellFormed}
 use Rattle.spec_runtime.specs.Names.{HostName}
 use Rattle.spec_validation.specs.Faults.{is_function_supported}
+use Rattle.spec_linking.specs.Sets.{Member}
 use Rattle.spec_linking.specs.Gathering.{IsSet}
 use Rattle.spec_linking.specs.LinkedSets.{LinkedSet, hosts_of}
 use Rattle.spec_linking.specs.Slots.{linked_plan}
 use Rattle.spec_linking.specs.Links.{Links}
-use Rattle.spec_loading.specs.Members.{uses_loader}
 use Rattle.spec_loading.specs.Merged.{Merged}
 use Rattle.merge_module.specs.MergedModule.{shared_table_type, shared_memory_type, entry_exports, merged_module}
 
@@ -32,13 +31,12 @@ IsSupported h = IsTrue (is_function_supported h.ty)
 abbrev pub IsWritable : HostName → Type 0
 IsWritable h = IsFormedType h.ty × (IsShort h.module_name × IsShort h.name)
 
--- A set that links, within the limit of pages, over host functions of types that modules may use. No member uses the loader.
+-- A set that links, within the limit of pages, over host functions of types that modules may use.
 pub record IsMergeable (L : LinkedSet) : Type 0 where
   pub shape : IsSet L.set
   pub links : Links L
   pub pages : (linked_plan L).pages_max ≤ 16384
   pub hosts : All IsSupported (hosts_of L)
-  pub loader : uses_loader L ≡ false
 
 -- bytes that spell the merged module merge the set
 abbrev pub SpelledMerges : Type 0
@@ -77,10 +75,15 @@ abbrev pub hosts_bulk : List HostName → ℕ
 hosts_bulk [] = 0
 hosts_bulk (h ∷ hs) = 2 + (length h.module_name + length h.name) + (length h.ty.params + length h.ty.results) + hosts_bulk hs
 
--- A set whose host functions have short names and types, and whose entry has few tasks.
+-- how many bytes the names of members have
+abbrev pub names_bulk : List Member → ℕ
+names_bulk [] = 0
+names_bulk (m ∷ ms) = length m.name + names_bulk ms
+
+-- A set whose host functions have short names and types, and whose members have short names.
 pub record IsBrief (L : LinkedSet) : Type 0 where
   pub hosts : hosts_bulk (hosts_of L) ≤ 33554432
-  pub tasks : length (startup_frame L.set).tasks ≤ 1048576
+  pub names : names_bulk L.set.members ≤ 16777216
 
 -- The contents of each section take fewer than 2^32 bytes, however they are spelled, and so does each body.
 pub record AreShort (m : Module) : Type 0 where

@@ -1,5 +1,5 @@
--- The module that is written for a linked set whose members don't use the loader, part by part.
-use Rattle.std.specs.Prelude.{ℕ, ◌+◌, ◌*◌, true, false, List, [], ◌∷◌, ◌++◌, length, map, replicate, slice_get, Bool, Some, None, unwrap_or, codes}
+-- The module that is written for a linked set, part by part.
+use Rattle.std.specs.Prelude.{ℕ, ◌+◌, ◌*◌, true, false, List, [], ◌∷◌, ◌++◌, length, map, replicate, slice_get, Bool, Some, None, unwrap_or, codes, if◌then◌else◌}
 use Rattle.std.specs.Int.{cast_signed, w64}
 use Rattle.std.specs.List.{flat_map}
 use Rattle.wasm_form.specs.declared.types.ValType.{ValType}
@@ -25,6 +25,7 @@ use Rattle.wasm_form.specs.declared.module.Code.{Code}
 use Rattle.wasm_form.specs.declared.module.DataMode.TheVariants as data_mode
 use Rattle.wasm_form.specs.declared.module.Data.{Data}
 use Rattle.wasm_form.specs.declared.module.Module.{Module}
+use Rattle.wasm_form.specs.declared.runtime.LoaderCall.TheVariants.{Dlopen, Dlsym, Dlclose, Dlerror}
 use Rattle.wasm_form.specs.declared.runtime.Ref.{Ref}
 use Rattle.wasm_runtime.specs.declared.Value.{Value}
 use Rattle.wasm_runtime.specs.declared.Value.TheVariants.{Num, Func}
@@ -35,28 +36,52 @@ use Rattle.spec_linking.specs.LinkedSets.{LinkedSet, hosts_of}
 use Rattle.spec_linking.specs.Slots.{linked_plan, memory_base, table_base, cells_of, cell_value, fresh_functions, outside_slots, table_entries, table_most}
 use Rattle.spec_loading.specs.Texts.{error_texts}
 use Rattle.spec_loading.specs.declared.task.Phase.TheVariants.{Place, Start, Relocate, Construct}
-use Rattle.spec_loading.specs.Members.{from_members, opened_global}
+use Rattle.spec_loading.specs.Members.{from_members, uses_loader, opened_global}
 use Rattle.spec_loading.specs.LoadedSet.{own_functions}
 use Rattle.merge_match.specs.Renumbering.{Numbers, expr}
 use Rattle.merge_match.specs.Joined.{renumbered_code}
-use Rattle.merge_start.specs.Words.{Starts, number, phase_code, entry_code}
-use Rattle.merge_index.specs.Numbering.{stubs_of, numbers_of, starts_of}
+use Rattle.merge_start.specs.Words.{Starts, number, phase_code, entry_code, open_code}
+use Rattle.merge_dl.specs.Words.{Finders, handle_type, unary_type, binary_type, search_type, length_body, find_body, call_body}
+use Rattle.merge_index.specs.Numbering.{stubs_of, length_number, first_find, numbers_of, starts_of}
 
 -- what each member has, one after the other
 abbrev of_members : {X : Type 0} → LinkedSet → (ℕ → Module → List X) → List X
 of_members L of = from_members of 0 L.set.members
+
+-- what is there where a member uses the loader
+abbrev pub with_loader : {X : Type 0} → LinkedSet → List X → List X
+with_loader L xs = if uses_loader L then xs else []
 
 -- ---- types and imports
 
 abbrev pub members_types : LinkedSet → List FuncType
 members_types L = of_members L (λ m wasm. wasm.types)
 
--- the type of generated functions comes behind those of the members, and then those of the host functions
+-- behind those of the members come the types of generated functions, and then those of the host functions
 abbrev pub nullary_number : LinkedSet → ℕ
 nullary_number L = length (members_types L)
 
+-- those of the functions of the loader, and of what they call
+abbrev pub loader_types : LinkedSet → List FuncType
+loader_types L = with_loader L (handle_type ∷ unary_type ∷ binary_type ∷ search_type ∷ [])
+
+abbrev pub handle_number : LinkedSet → ℕ
+handle_number L = nullary_number L + 1
+
+abbrev pub unary_number : LinkedSet → ℕ
+unary_number L = nullary_number L + 2
+
+abbrev pub binary_number : LinkedSet → ℕ
+binary_number L = nullary_number L + 3
+
+abbrev pub search_number : LinkedSet → ℕ
+search_number L = nullary_number L + 4
+
+abbrev pub generated_functions_types : LinkedSet → List FuncType
+generated_functions_types L = nullary ∷ loader_types L
+
 abbrev pub merged_types : LinkedSet → List FuncType
-merged_types L = members_types L ++ nullary ∷ map (λ (h : HostName). h.ty) (hosts_of L)
+merged_types L = members_types L ++ (generated_functions_types L ++ map (λ (h : HostName). h.ty) (hosts_of L))
 
 -- host functions, whose types have the numbers from t on
 abbrev pub host_imports : ℕ → List HostName → List Import
@@ -64,7 +89,7 @@ host_imports t [] = []
 host_imports t (h ∷ hs) = record { «module» = h.module_name; field = h.name; desc = imported.Func t } ∷ host_imports (t + 1) hs
 
 abbrev pub merged_imports : LinkedSet → List Import
-merged_imports L = host_imports (nullary_number L + 1) (hosts_of L)
+merged_imports L = host_imports (nullary_number L + length (generated_functions_types L)) (hosts_of L)
 
 -- ---- functions
 
@@ -72,9 +97,16 @@ merged_imports L = host_imports (nullary_number L + 1) (hosts_of L)
 abbrev pub stub_types : LinkedSet → Numbers → ℕ → Module → List ℕ
 stub_types L n m wasm = map (λ f. n.ty m (unwrap_or (slice_get (function_space wasm) f) 0)) (stubs_of L m wasm)
 
--- the four phases of each member, and the entry function
+-- What opens each member, what gives the length of a string, what searches each member, and dlopen, dlsym, dlclose and dlerror.
+abbrev pub loader_funcs : LinkedSet → List ℕ
+loader_funcs L =
+    replicate (length L.set.members) (handle_number L)
+    ++ unary_number L ∷ (replicate (length L.set.members) (search_number L)
+    ++ binary_number L ∷ binary_number L ∷ unary_number L ∷ handle_number L ∷ [])
+
+-- the four phases of each member, and the entry function, and those of the loader
 abbrev pub generated_types : LinkedSet → List ℕ
-generated_types L = replicate (4 * length L.set.members + 1) (nullary_number L)
+generated_types L = replicate (4 * length L.set.members + 1) (nullary_number L) ++ with_loader L (loader_funcs L)
 
 abbrev pub merged_funcs : LinkedSet → Numbers → List ℕ
 merged_funcs L n = of_members L (λ m wasm. map (n.ty m) wasm.funcs) ++ (of_members L (stub_types L n) ++ generated_types L)
@@ -95,10 +127,33 @@ phase_codes L n x m wasm =
     plain_code (phase_code L n x m wasm Place) ∷ plain_code (phase_code L n x m wasm Start)
     ∷ plain_code (phase_code L n x m wasm Relocate) ∷ plain_code (phase_code L n x m wasm Construct) ∷ []
 
+-- the number of the error comes behind the guards
+abbrev pub finders_of : LinkedSet → Starts → Finders
+finders_of L x = record {
+  error = x.guards + length L.set.members;
+  length = length_number L;
+  find = λ m. first_find L + m;
+}
+
+abbrev pub open_codes : LinkedSet → Numbers → Starts → List Code
+open_codes L n x = of_members L (λ m wasm. plain_code (open_code L n x m) ∷ [])
+
+abbrev pub find_codes : LinkedSet → List Code
+find_codes L = of_members L (λ m wasm. find_body L m wasm ∷ [])
+
+abbrev pub call_codes : LinkedSet → Starts → List Code
+call_codes L x =
+    call_body L x (finders_of L x) Dlopen ∷ call_body L x (finders_of L x) Dlsym ∷ call_body L x (finders_of L x) Dlclose
+    ∷ call_body L x (finders_of L x) Dlerror ∷ []
+
+abbrev pub loader_codes : LinkedSet → Numbers → Starts → List Code
+loader_codes L n x = open_codes L n x ++ length_body ∷ (find_codes L ++ call_codes L x)
+
 abbrev pub merged_codes : LinkedSet → Numbers → Starts → List Code
 merged_codes L n x =
     of_members L (λ m wasm. map (renumbered_code n m) wasm.codes)
-    ++ (of_members L (stub_codes L) ++ (of_members L (phase_codes L n x) ++ plain_code (entry_code L n x) ∷ []))
+    ++ (of_members L (stub_codes L)
+    ++ (of_members L (phase_codes L n x) ++ plain_code (entry_code L n x) ∷ with_loader L (loader_codes L n x)))
 
 -- ---- tables and memory
 
@@ -137,9 +192,9 @@ member_globals L n m wasm =
     number_global false (unwrap_or (memory_base L m) 0) ∷ number_global false (unwrap_or (table_base L m) 0)
     ∷ (map (λ c. number_global true (cell_value L m c)) (cells_of wasm) ++ map (own_global L n m) wasm.globals)
 
--- the guards begin with 0
+-- the guards begin with 0, and so does the number of the error
 abbrev pub guard_globals : LinkedSet → List GlobalDef
-guard_globals L = map (λ m. number_global true 0) L.set.members
+guard_globals L = map (λ m. number_global true 0) L.set.members ++ with_loader L (number_global true 0 ∷ [])
 
 abbrev pub merged_globals : LinkedSet → Numbers → List GlobalDef
 merged_globals L n = number_global true (linked_plan L).stack_top ∷ (of_members L (member_globals L n) ++ guard_globals L)
@@ -172,7 +227,7 @@ functions_elem n mode rs = record { mode = mode; items = elem_items.Funcs (map n
 abbrev pub slots_elem : LinkedSet → Numbers → ℕ → Elem
 slots_elem L n m = functions_elem n elem_mode.Passive (own_functions L m)
 
--- the host functions that have slots stand in the table from the beginning
+-- functions outside the members that have slots stand in the table from the beginning
 abbrev pub outside_elem : LinkedSet → Numbers → Elem
 outside_elem L n =
     functions_elem n (elem_mode.Active 0 (number_expr ((linked_plan L).table_end + length (fresh_functions L)))) (outside_slots L)
@@ -233,6 +288,7 @@ module_with L n x = record {
 -- The merged module of a linked set. It imports the set's host functions. Functions, types, globals, tables and segments of the members
 -- come one after the other, by their numbers; segments are passive, for they are applied when their member is placed. Behind them come what
 -- stands for imports that nothing defines, a function for each phase of each member and one that calls these for main and then the entry,
--- a guard for each member, which says how far it has come, and the segments of fresh slots.
+-- a guard for each member, which says how far it has come, and the segments of fresh slots. Where a member uses the loader, there are its
+-- functions, with what they call and the number of the last error.
 abbrev pub merged_module : LinkedSet → Module
 merged_module L = module_with L (numbers_of L) (starts_of L)

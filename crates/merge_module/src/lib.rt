@@ -3,6 +3,8 @@
 
 ghost use Rattle.merge_module.specs.Laws.{SpelledMerges, MergedIsFormed, MergedHasShape, MergedIsShort};
 
+use merge_dl::{loader_calls_are_answered, loader_code_is_typed};
+use merge_start::{generated_code_is_typed, sets_run_as_merged, unused_loader_is_not_called};
 use spec_loading::{linked_code_is_there, linked_functions_are_typed, slots_fit};
 
 /// Bytes that spell the merged module of a linked set merge the set: the module is valid, it opens under the host names of the set, and its
@@ -13,6 +15,11 @@ pub fn spelled_modules_merge()
     linked_code_is_there();
     linked_functions_are_typed();
     slots_fit();
+    sets_run_as_merged();
+    unused_loader_is_not_called();
+    loader_calls_are_answered();
+    generated_code_is_typed();
+    loader_code_is_typed();
 }
 
 /// The merged module of a linked set has a form that can be written, and imports functions alone; it has the planned table and memory, and

@@ -37,6 +37,8 @@ opened_same L n x parts is = record {
       low = low L.set.members;
       others = is.others;
       guards = is.guards ∙ ap (λ (l : List Value). l ++ is.others) (zeros L.set.members);
+      error = is.error;
+      few = omega arith;
       slots = is.slots;
     };
     inside = opening_is_inside L;

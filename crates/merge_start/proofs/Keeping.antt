@@ -1,5 +1,6 @@
--- What is the same is kept: by the members' code, by a stage that is raised with its guard, and by the shared table that is written.
-use Rattle.std.proofs.Common.{◌≡◌, ℕ, zero, suc, ◌+◌, ◌<◌, ◌≤◌, List, [], ◌∷◌, ◌++◌, length, map, slice_get, slice_set, Some, option_map, refl, sym, ap, ◌∙◌, subst, arith}
+-- What is the same is kept: by the members' code, by a stage that is raised with its guard, by the number of the error, and by the shared
+-- table that is written.
+use Rattle.std.proofs.Common.{◌≡◌, ℕ, zero, suc, ◌+◌, ◌<◌, ◌≤◌, List, [], ◌∷◌, ◌++◌, length, map, slice_get, slice_set, Some, true, option_map, refl, sym, ap, ◌∙◌, subst, arith}
 use Rattle.std.proofs.lemmas.List.{length-map}
 use Rattle.std.proofs.lemmas.Option.{slice_get-map, slice_get_within}
 use Rattle.wasm_form.specs.declared.module.Module.{Module}
@@ -9,7 +10,8 @@ use Rattle.spec_runtime.specs.Tables.{TableInstance}
 use Rattle.spec_execution.specs.Instances.{ModuleParts, Instances, module_hosts, module_view}
 use Rattle.spec_linking.specs.LinkedSets.{LinkedSet, set_hosts}
 use Rattle.spec_loading.specs.Loading.{LoaderState, stage_in}
-use Rattle.spec_loading.specs.Members.{set_instances, set_view, shared_table}
+use Rattle.spec_loading.specs.LoaderAnswers.{with_error}
+use Rattle.spec_loading.specs.Members.{set_instances, set_view, uses_loader, shared_table}
 use Rattle.spec_loading.specs.LoadedSet.{with_shared_table}
 use Rattle.merge_match.specs.Renumbering.{Numbers, entry, value, table_instance}
 use Rattle.merge_match.specs.Following.{FollowsState, Follows}
@@ -42,6 +44,10 @@ module _ {A : Type 0} where
   all_set P (x ∷ xs) zero new is all (suc k) y e = all (suc k) y e
   all_set P (x ∷ xs) (suc i) new is all zero y e = all zero y e
   all_set P (x ∷ xs) (suc i) new is all (suc k) y e = all_set P xs i new is (λ j z h. all (suc j) z h) k y e
+
+  set_first : (xs : List A) (old new : A) → slice_get xs 0 ≡ Some old → slice_get (slice_set xs 0 new) 0 ≡ Some new
+  set_first [] old new e = absurd cc
+  set_first (x ∷ xs) old new e = refl
 
 module _ (L : LinkedSet) (n : Numbers) (x : Starts) where
   abbrev I : Instances
@@ -193,6 +199,8 @@ module _ (L : LinkedSet) (n : Numbers) (x : Starts) where
               guards = ap (λ l. slice_set l m (Num new)) kept.guards
                   ∙ slice_set-append (map Num loader.stages) kept.others m (Num new) inside
                   ∙ ap (λ l. l ++ kept.others) (slice_set-map Num loader.stages m new);
+              error = kept.error;
+              few = kept.few;
               slots = kept.slots;
             };
             inside = same.store.inside;
@@ -205,3 +213,62 @@ module _ (L : LinkedSet) (n : Numbers) (x : Starts) where
           };
           sized = same.sized;
         }
+
+    -- ---- the number of the error
+
+    -- it comes behind the guards
+    module _ (used : uses_loader L ≡ true) where
+      abbrev error_number : ℕ
+      error_number = x.guards + length L.set.members
+
+      whole_globals : parts.globals ≡ map (value n) us.globals ++ more.globals
+      whole_globals = ap (λ (p : ModuleParts). p.globals) same.store.whole
+
+      behind_store : error_number ≡ length (map (value n) us.globals) + length L.set.members
+      behind_store = ap (λ k. k + length L.set.members) (sym (length-map us.globals (value n) ∙ same.sized.globals))
+
+      behind_guards : length L.set.members ≡ length (map Num loader.stages) + 0
+      behind_guards = (let sized = same.store.kept.sized in let held = length-map loader.stages Num in omega (arith, sized, held))
+
+      pub error_there : slice_get parts.globals error_number ≡ Some (Num loader.error)
+      error_there =
+          ap (λ l. slice_get l error_number) whole_globals
+          ∙ get_behind (map (value n) us.globals) more.globals (length L.set.members) error_number behind_store
+          ∙ ap (λ l. slice_get l (length L.set.members)) same.store.kept.guards
+          ∙ get_behind (map Num loader.stages) same.store.kept.others 0 (length L.set.members) behind_guards
+          ∙ same.store.kept.error used
+
+      pub error_same : (e : ℕ) → e ≤ 5
+          → Same L n x (with_error loader e) us (record parts { globals = slice_set parts.globals error_number (Num e) })
+      error_same e small =
+          let kept = same.store.kept in
+          let few = same.store.few in
+          let globals : slice_set parts.globals error_number (Num e)
+          ≡ map (value n) us.globals ++ slice_set more.globals (length L.set.members) (Num e) =
+          ap (λ l. slice_set l error_number (Num e)) whole_globals
+          ∙ set_behind (map (value n) us.globals) more.globals (length L.set.members) error_number (Num e) behind_store in
+          record {
+            store = record {
+              more = record more { globals = slice_set more.globals (length L.set.members) (Num e) };
+              whole = ap (λ (p : ModuleParts). record p { globals = slice_set parts.globals error_number (Num e) }) same.store.whole
+                  ∙ ap (λ l. record (extended n us more) { globals = l }) globals;
+              kept = record {
+                sized = kept.sized;
+                low = kept.low;
+                others = slice_set kept.others 0 (Num e);
+                guards = ap (λ l. slice_set l (length L.set.members) (Num e)) kept.guards
+                    ∙ set_behind (map Num loader.stages) kept.others 0 (length L.set.members) (Num e) behind_guards;
+                error = λ used. set_first kept.others (Num loader.error) (Num e) (kept.error used);
+                few = small;
+                slots = kept.slots;
+              };
+              inside = same.store.inside;
+              few = record {
+                globals = rw (length-slice_set parts.globals error_number (Num e)) few.globals;
+                tables = few.tables;
+                elems = few.elems;
+                datas = few.datas;
+              };
+            };
+            sized = same.sized;
+          }

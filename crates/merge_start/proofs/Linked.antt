@@ -61,13 +61,16 @@ module _ (L : LinkedSet) (k : Kept) (h : IsLinked L k) where
   inside_is_few ms all =
       All-weaker (λ m. m < length L.set.members) (λ m. m < 2 ^ 16) (λ m lt. (let few = few_members in let same = members_count in omega arith)) ms all
 
+  pub closure_few : (m : ℕ) → m < length L.set.members → AreFew (closure L.set m)
+  closure_few m lt = inside_is_few (closure L.set m) (closure_inside L.set h.shape m lt)
+
   pub startup_few : AreFew k.set.startup
   startup_few =
       let same : k.set.startup ≡ closure L.set 0 = ap (λ (S : sets.ClosedSet). S.startup) h.set ∙ h.shape.startup in
-      inside_is_few k.set.startup (All-same (λ m. m < length L.set.members) k.set.startup (closure L.set 0) same (closure_inside L.set h.shape 0 h.shape.some))
+      All-same (λ m. m < 2 ^ 16) k.set.startup (closure L.set 0) same (closure_few 0 h.shape.some)
 
-  pub post_few : AreFew (post_order L.set 0)
-  post_few = inside_is_few (post_order L.set 0) (post_inside L.set h.shape 0 h.shape.some)
+  pub post_few : (m : ℕ) → m < length L.set.members → AreFew (post_order L.set m)
+  post_few m lt = inside_is_few (post_order L.set m) (post_inside L.set h.shape m lt)
 
 -- what stands at an index within
 pub at_index : {A : Type 0} (xs : List A) (i : ℕ) (x : A) → i < length xs → x ≡ get_or xs i x → slice_get xs i ≡ Some x

@@ -36,7 +36,7 @@ module _ (S : ClosedSet) (set : IsSet S) where
       (λ name lt. subst (λ k. number name < k) (length-map S.members (λ (y : Member). y.name)) lt) member.dylink.needed numbered.there in
       All-same IsInside member.needed (map number member.dylink.needed) numbered.numbers (All-map IsInside number member.dylink.needed there)
 
-  needs_inside : (m : ℕ) → AllInside (needs S m)
+  pub needs_inside : (m : ℕ) → AllInside (needs S m)
   needs_inside m = needed_inside m (slice_get S.members m) refl
 
   -- ---- breadth first

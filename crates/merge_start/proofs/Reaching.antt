@@ -111,17 +111,17 @@ module _ {wasm : Module} where
     runs = λ x. one_step refl (let q : cast_unsigned w32 (cast_signed w32 k) ≡ k = of_z-to_z w32 k small in rw q refl);
   }
 
-  does_global : {c : Changing} (g : ℕ) (v : Value) (vs : List Value) → slice_get c.units.globals g ≡ Some v
+  pub does_global : {c : Changing} (g : ℕ) (v : Value) (vs : List Value) → slice_get c.units.globals g ≡ Some v
       → Does wasm (Index 0x23 g ∷ []) c vs c (v ∷ vs) None
   unfolding out-Instr out
   does_global g v vs e = record { runs = λ x. one_step refl (rw e refl) }
 
-  does_set : {c : Changing} (g : ℕ) (v old : Value) (vs : List Value) → slice_get c.units.globals g ≡ Some old
+  pub does_set : {c : Changing} (g : ℕ) (v old : Value) (vs : List Value) → slice_get c.units.globals g ≡ Some old
       → Does wasm (Index 0x24 g ∷ []) c (v ∷ vs) (with_global c g v) vs None
   unfolding out-Instr out
   does_set g v old vs e = record { runs = λ x. one_step refl (rw e refl) }
 
-  does_less : {c : Changing} (a b : ℕ) (vs : List Value)
+  pub does_less : {c : Changing} (a b : ℕ) (vs : List Value)
       → Does wasm (Plain 0x49 ∷ []) c (Num b ∷ Num a ∷ vs) c (Num (one_if (nat_lt (low W32 a) (low W32 b))) ∷ vs) None
   unfolding out-Instr out
   does_less a b vs = record { runs = λ x. one_step refl refl }

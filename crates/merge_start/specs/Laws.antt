@@ -2,23 +2,27 @@
 use Rattle.std.specs.Prelude.{◌≡◌, ℕ, ◌<◌, List, [], ◌∷◌, length, Option, Some, false}
 use Rattle.wasm_form.specs.declared.instr.Instr.{Instr, Index}
 use Rattle.wasm_form.specs.declared.module.Module.{Module}
+use Rattle.wasm_form.specs.declared.runtime.LoaderCall.{LoaderCall}
+use Rattle.wasm_form.specs.declared.runtime.Ref.TheVariants.{Loader}
 use Rattle.spec_runs.specs.Systems.{Moving}
 use Rattle.spec_runs.specs.Agreement.{StepLaw, Agree}
+use Rattle.spec_binary.specs.Options.{◌>>=◌}
 use Rattle.spec_runtime.specs.Memories.{MemoryInstance}
 use Rattle.spec_execution.specs.Activations.{Activation}
 use Rattle.spec_execution.specs.Segments.{Performed}
-use Rattle.spec_execution.specs.Runs.{Frame}
+use Rattle.spec_execution.specs.Runs.{Frame, call, calling, became}
 use Rattle.spec_execution.specs.Runs as frames
-use Rattle.spec_execution.specs.Instances.{ModuleParts}
+use Rattle.spec_execution.specs.Instances.{ModuleParts, module_hosts, module_view}
 use Rattle.spec_execution.specs.OneModule.{Starting, ModuleState, module_step, module_system, opened_state}
 use Rattle.spec_linking.specs.Gathering.{IsSet}
 use Rattle.spec_linking.specs.LinkedSets.{LinkedSet}
 use Rattle.spec_loading.specs.Phases.{LoaderFrame, open_frame}
-use Rattle.spec_loading.specs.Loading.{LoaderState, goes_on}
-use Rattle.spec_loading.specs.Members.{Store, uses_loader}
+use Rattle.spec_loading.specs.Loading.{LoaderState, goes_on, went}
+use Rattle.spec_loading.specs.Members.{Store, set_view, uses_loader}
 use Rattle.spec_loading.specs.LoadedSet.{SetState, member_placed, set_loading, set_system, set_opening}
-use Rattle.merge_match.specs.Renumbering.{Numbers}
-use Rattle.merge_match.specs.Matching.{Below, FramesMatch}
+use Rattle.merge_match.specs.Renumbering.{Numbers, activation, reference, values}
+use Rattle.merge_match.specs.Bounded.{IsBounded}
+use Rattle.merge_match.specs.Matching.{Below, Alike, Met, FramesMatch}
 use Rattle.merge_match.specs.Laws.{HasParts}
 use Rattle.merge_start.specs.Words.{Starts, place_code}
 use Rattle.merge_start.specs.Running.{Does}
@@ -64,15 +68,36 @@ MembersOpenAsMerged = (L : LinkedSet) (n : Numbers) (x : Starts) (merged : Modul
     → (u : ModuleState) × (module_step merged (calls_opening x m b hs parts s.run.memory) ≡ Some u)
     × Matched L n x (goes_on s (frames.Marked (open_frame L.set m) ∷ fs)) u
 
--- ---- no member uses the loader
+-- ---- the functions of the loader
+
+-- Where code calls a function of the loader, the module's function of its number leads to what the set's step leads to, and has no step
+-- where the set has none.
+abbrev pub CallsAreAnswered : LinkedSet → Numbers → Starts → Module → Type 0
+CallsAreAnswered L n x merged = (s : SetState) (t : ModuleState) → Alike (Same L n x) s t → IsBounded s.run.memory → (a : Activation)
+    (fs : List (Frame LoaderFrame)) (gs : List (Frame Starting)) → Below n (places L n x) a.results fs gs → (which : LoaderCall)
+    → Met n (places L n x) (Same L n x) (module_step merged)
+    (call (set_view L) s.run.units s.run.memory (calling a fs) a.values (Loader which) >>= went (set_loading L) s)
+    (call (module_view merged) t.units s.run.memory (calling (activation n a) gs) (values n a.values) (reference n (Loader which))
+    >>= became (module_hosts merged) t)
+
+abbrev pub UnusedIsAnswered : Type 0
+UnusedIsAnswered = (L : LinkedSet) (n : Numbers) (x : Starts) (merged : Module) → HasParts L n merged → uses_loader L ≡ false
+    → CallsAreAnswered L n x merged
+
+-- ---- the whole
+
+-- matching states, over a memory that ends before the last address
+abbrev pub MatchedWithin : LinkedSet → Numbers → Starts → SetState → ModuleState → Type 0
+MatchedWithin L n x s t = Matched L n x s t × IsBounded s.run.memory
 
 abbrev pub SetsStepAsMerged : Type 0
 SetsStepAsMerged = (L : LinkedSet) (n : Numbers) (x : Starts) (merged : Module) → HasParts L n merged → IsReady L n x merged
-    → uses_loader L ≡ false → StepLaw (set_system L) (module_system merged) (Matched L n x)
+    → CallsAreAnswered L n x merged → StepLaw (set_system L) (module_system merged) (MatchedWithin L n x)
 
 -- The runs agree from the opening states on, where the module has the parts of the members and the generated code, and begins with what
 -- they begin with.
 abbrev pub SetsRunAsMerged : Type 0
 SetsRunAsMerged = (L : LinkedSet) (n : Numbers) (x : Starts) (merged : Module) → HasParts L n merged → IsReady L n x merged
-    → StartReady L n x merged → uses_loader L ≡ false → IsSet L.set → (parts : ModuleParts) → IsOpened L n x parts
+    → StartReady L n x merged → CallsAreAnswered L n x merged → IsBounded (set_opening L).run.memory → IsSet L.set → (parts : ModuleParts)
+    → IsOpened L n x parts
     → Agree (set_system L) (module_system merged) (set_opening L) (opened_state merged x.starting parts (set_opening L).run.memory)

@@ -1,5 +1,6 @@
 -- The numbers that generated code names, as lists, and what is made by them.
 use Rattle.std.specs.Prelude.{◌≡◌, ℕ, All, ◌+◌, ◌-◌, ◌*◌, ◌<◌, ◌^◌, IsTrue, List, [], ◌∷◌, ◌++◌, length, map, slice_get, nat_lt, Option, Some, None, option_map, if◌then◌else◌}
+use Rattle.wasm_form.specs.declared.types.ValType.{ValType}
 use Rattle.wasm_form.specs.declared.types.ValType.TheVariants.{I32}
 use Rattle.wasm_form.specs.declared.instr.Instr.{Instr, Index}
 use Rattle.wasm_form.specs.declared.instr.Instr.TheOpen as Open
@@ -15,7 +16,6 @@ use Rattle.wasm_form.specs.declared.module.Module.{Module}
 use Rattle.wasm_opcode.specs.declared.index.IndexForm.{IndexForm}
 use Rattle.wasm_opcode.specs.declared.index.IndexForm.TheVariants.{GlobalGet}
 use Rattle.spec_binary.specs.Options.{◌>>=◌}
-use Rattle.spec_binary.specs.Indices.{nullary}
 use Rattle.spec_binary.specs.IndexSpaces.{globals_in, table_space}
 use Rattle.spec_validation.specs.Faults.{is_constant}
 use Rattle.spec_runtime.specs.Constants.{instruction_constant, constant_number, number_in}
@@ -33,7 +33,7 @@ use Rattle.dyl_search.specs.declared.set.Member.{Member}
 use Rattle.dyl_link.specs.Kept.{Kept, fresh_in, IsLinked}
 use Rattle.merge_match.specs.Renumbering.{Numbers}
 use Rattle.merge_match.specs.Parts.{nowhere, number_of}
-use Rattle.merge_start.specs.Words.{Starts, effect_code, effects_code, call_code, guarded, phase_code}
+use Rattle.merge_start.specs.Words.{Starts, effect_code, effects_code, call_code, guarded, phase_code, open_code}
 use Rattle.merge_start.specs.declared.numbers.StartNumbers.{StartNumbers}
 use Rattle.merge_start.specs.declared.numbers.Span.{Span}
 use Rattle.merge_start.specs.declared.numbers.Spans.{Spans}
@@ -157,8 +157,16 @@ elems_total start (x ∷ xs) = elems_total (start + length x.elems) xs
 
 -- ---- parts
 
+-- a function without parameters and locals
+abbrev pub part_of : List ValType → List Instr → Part
+part_of results is = record { ty = record { params = []; results = results }; code = record { locals = []; body = record { list = is } } }
+
 abbrev pub nullary_part : List Instr → Part
-nullary_part is = record { ty = nullary; code = record { locals = []; body = record { list = is } } }
+nullary_part is = part_of [] is
+
+-- a function that gives a handle
+abbrev pub handle_part : List Instr → Part
+handle_part is = part_of (I32 ∷ []) is
 
 -- the code that places a member, by where its numbers stand
 abbrev pub placed_with : StartNumbers → Spans → List (Option ℕ) → ℕ → ℕ → ℕ → Module → List Instr
@@ -217,11 +225,16 @@ IsMadeOf k s m spans slots parts = (L : LinkedSet) → IsLinked L k → (wasm : 
 abbrev pub phase_calls : StartNumbers → ℕ → List ℕ → List Instr
 phase_calls s before ms = map (λ m. Index 0x10 (s.first_function + 4 * m + before)) ms
 
--- the entry function: the phases of some members, the last of them in an order of its own, and then the entry
-abbrev pub entry_with : StartNumbers → List ℕ → List ℕ → List Instr
-entry_with s startup post =
-    phase_calls s 0 startup ++ (phase_calls s 1 startup ++ (phase_calls s 2 startup ++ (phase_calls s 3 post ++ Index 0x10 s.entry ∷ [])))
+-- the functions of the phases of some members, the last of them in an order of its own, and then an instruction
+abbrev pub opening_with : StartNumbers → List ℕ → List ℕ → Instr → List Instr
+opening_with s breadth post last =
+    phase_calls s 0 breadth ++ (phase_calls s 1 breadth ++ (phase_calls s 2 breadth ++ (phase_calls s 3 post ++ last ∷ [])))
 
 -- numbers of members
 abbrev pub AreFew : List ℕ → Type 0
 AreFew ms = All (λ m. m < 2 ^ 16) ms
+
+-- ---- what opens a member
+
+abbrev pub open_parts : LinkedSet → Numbers → Starts → ℕ → Module → List Part
+open_parts L n x m wasm = handle_part (open_code L n x m) ∷ []

@@ -1,5 +1,5 @@
 -- What a merged module must have for its code to do the loader's work, and what is the same of the loader's state.
-use Rattle.std.specs.Prelude.{◌≡◌, ℕ, ◌+◌, ◌<◌, ◌≤◌, ◌^◌, List, [], ◌∷◌, ◌++◌, length, map, Option, Some, None, slice_get}
+use Rattle.std.specs.Prelude.{◌≡◌, ℕ, ◌+◌, ◌<◌, ◌≤◌, ◌^◌, List, [], ◌∷◌, ◌++◌, length, map, Option, Some, None, slice_get, true}
 use Rattle.wasm_form.specs.declared.module.Module.{Module}
 use Rattle.wasm_form.specs.declared.runtime.Ref.{Ref}
 use Rattle.wasm_form.specs.declared.runtime.Ref.TheVariants.{Own}
@@ -16,7 +16,7 @@ use Rattle.spec_loading.specs.declared.task.Phase.{Phase}
 use Rattle.spec_loading.specs.Phases.{phase_function}
 use Rattle.spec_loading.specs.Loading.{LoaderState, stage_in}
 use Rattle.spec_loading.specs.Addresses.{table_address, elem_address, data_address}
-use Rattle.spec_loading.specs.Members.{Store, set_instances, set_view, opening_store}
+use Rattle.spec_loading.specs.Members.{Store, set_instances, set_view, uses_loader, opening_store}
 use Rattle.spec_loading.specs.LoadedSet.{first_slot, own_functions}
 use Rattle.spec_loading.specs.Laws.{IsCallable}
 use Rattle.merge_match.specs.Renumbering.{Numbers, entry}
@@ -29,12 +29,15 @@ use Rattle.merge_start.specs.Words.{Starts, phase_code, entry_code, open_code, n
 abbrev pub slot_items : LinkedSet → Numbers → ℕ → List (Option Ref)
 slot_items L n m = map (entry n) (map Some (own_functions L m))
 
--- What the merger adds: the guards hold the stages, and the first of the segments are those of the fresh slots.
+-- What the merger adds: the guards hold the stages, behind them, where the set uses the loader, a global holds the number of the last error,
+-- and the first of the segments are those of the fresh slots.
 pub record Started (L : LinkedSet) (n : Numbers) (loader : LoaderState) (more : ModuleParts) : Type 0 where
   pub sized : length loader.stages ≡ length L.set.members
   pub low : (m stage : ℕ) → stage_in loader m ≡ Some stage → stage ≤ 4
   pub others : List Value
   pub guards : more.globals ≡ map Num loader.stages ++ others
+  pub error : uses_loader L ≡ true → slice_get others 0 ≡ Some (Num loader.error)
+  pub few : loader.error ≤ 5
   pub slots : (m : ℕ) → m < length L.set.members → slice_get more.elems m ≡ Some (slot_items L n m)
 
 -- what is added has its numbers behind those of the store, which has the shared table
@@ -47,13 +50,14 @@ pub record Same (L : LinkedSet) (n : Numbers) (x : Starts) (loader : LoaderState
   pub store : SameStore n (set_instances L) (Started L n) loader us parts
   pub sized : IsSized x us
 
--- what the module's parts are in the beginning: what the members begin with, guards that hold 0, and the segments of fresh slots
+-- what the module's parts are in the beginning: what the members begin with, guards and an error that hold 0, and the segments of fresh slots
 pub record IsOpened (L : LinkedSet) (n : Numbers) (x : Starts) (parts : ModuleParts) : Type 0 where
   pub more : ModuleParts
   pub whole : parts ≡ extended n (opening_store L) more
   pub few : AreFew parts
   pub others : List Value
   pub guards : more.globals ≡ map (λ m. Num 0) L.set.members ++ others
+  pub error : uses_loader L ≡ true → slice_get others 0 ≡ Some (Num 0)
   pub slots : (m : ℕ) → m < length L.set.members → slice_get more.elems m ≡ Some (slot_items L n m)
   pub first_guard : length (opening_store L).globals ≡ x.guards
   pub first_slots : length (opening_store L).elems ≡ x.slots

@@ -47,8 +47,8 @@ pub fn bases_from(
     Ok(bases)
 }
 
-// The bases that the imported globals of a member are, by their numbers.
-pub(crate) fn bases_of(alloc: Global, linked: &Linked, m: u32) -> Result<Vec<Option<u32>>, Memory>
+/// The bases that the imported globals of a member are, by their numbers. `Memory` where no memory could be had.
+pub fn bases_of(alloc: Global, linked: &Linked, m: u32) -> Result<Vec<Option<u32>>, Memory>
     requires set { IsOfSet linked.now }
     requires member { m < length linked.now.set.members }
     ensures { IfOk result (λ v. (L : LinkedSet) → IsLinked L linked.now → AreBases L m v.items) }

@@ -6,22 +6,23 @@
 #![tactic(auto)]
 
 mod bases;
-mod entry;
 mod functions;
 mod numbers;
+mod openings;
 mod part;
 mod phases;
 mod segments;
 mod words;
 
-ghost use Rattle.merge_start.specs.Laws.{FramesStepAsMerged, MembersOpenAsMerged, PlacingIsDone, SetsRunAsMerged, SetsStepAsMerged};
+ghost use Rattle.merge_start.specs.Laws.{FramesStepAsMerged, MembersOpenAsMerged, PlacingIsDone, SetsRunAsMerged, SetsStepAsMerged, UnusedIsAnswered};
 ghost use Rattle.merge_start.specs.Typed.{GeneratedIsTyped};
 
-pub use bases::bases_from;
-pub use entry::entry_function;
+pub use bases::{bases_from, bases_of};
 pub use functions::phase_functions;
 pub use numbers::StartNumbers;
+pub use openings::{entry_function, open_functions};
 pub use part::Part;
+pub use segments::offset;
 
 /// The code that places a member leaves the store and the memory that the loader's placing leaves, where a trap ends both too.
 pub fn generated_code_places()
@@ -39,7 +40,13 @@ pub fn members_open_as_merged()
     ensures { MembersOpenAsMerged }
 {}
 
-/// A linked set that doesn't use the loader steps as its merged module does, and the two runs agree from the opening states on.
+/// Where no member uses the loader, a call of one of its functions has no step, in the set or in the module.
+pub fn unused_loader_is_not_called()
+    ensures { UnusedIsAnswered }
+{}
+
+/// A linked set steps as its merged module does, where this answers calls of the loader's functions as the set does; and the two runs agree
+/// from the opening states on.
 pub fn sets_run_as_merged()
     ensures step { SetsStepAsMerged }
     ensures runs { SetsRunAsMerged }

@@ -36,8 +36,8 @@ fn instruction_number(bases: &[Option<u32>], i: &Instr) -> Option<u32>
     }
 }
 
-// The number of a constant expression of type i32, where imported globals are these bases.
-fn offset(bases: &[Option<u32>], e: &Expr) -> Option<u32>
+/// The number of a constant expression of type i32, where imported globals are these bases; none where it isn't one constant.
+pub fn offset(bases: &[Option<u32>], e: &Expr) -> Option<u32>
     requires { IsOffset e.now }
     ensures { result ≡ number_with bases.now e.now }
 {

@@ -9,7 +9,7 @@ use crate::numbers::{Spans, StartNumbers, item};
 use std::alloc::Global;
 use wasm_form::{BlockType, Expr, Instr, List, Memory};
 
-fn number(k: u32) -> Instr
+pub(crate) fn number(k: u32) -> Instr
     ensures { result ≡ number k }
 {
     Instr::I32Const(k.cast_signed())

@@ -1,22 +1,29 @@
 -- Types, imports, functions and bodies of the merged module, by what is kept of a linked set, are those of the set.
-use Rattle.std.proofs.Common.{◌≡◌, ℕ, zero, suc, ◌+◌, ◌*◌, Bool, true, false, cond, if◌then◌else◌, List, [], ◌∷◌, ◌++◌, length, map, replicate, slice_get, unwrap_or, Some, refl, sym, ap, ap₂, ◌∙◌, arith, append_assoc}
+use Rattle.std.proofs.Common.{◌≡◌, ℕ, zero, suc, ◌+◌, ◌*◌, Bool, true, false, cond, if◌then◌else◌, List, [], ◌∷◌, ◌++◌, length, map, replicate, slice_get, unwrap_or, Option, Some, None, refl, sym, ap, ap₂, subst, ◌∙◌, arith, append_assoc, append-nil}
 use Rattle.std.specs.List.{filter, range_with_len}
+use Rattle.std.proofs.lemmas.List.{map-append}
+use Rattle.wasm_form.specs.declared.types.FuncType.{FuncType}
 use Rattle.wasm_form.specs.declared.module.Code.{Code}
 use Rattle.wasm_form.specs.declared.module.Module.{Module}
 use Rattle.spec_binary.specs.Indices.{nullary}
 use Rattle.spec_binary.specs.IndexSpaces.{function_space}
 use Rattle.spec_linking.specs.Sets as sets
 use Rattle.spec_linking.specs.LinkedSets.{LinkedSet, function_ref}
-use Rattle.spec_loading.specs.Members.{from_members}
+use Rattle.spec_loading.specs.Members.{from_members, uses_loader}
 use Rattle.dyl_search.specs.declared.set.Member.{Member}
 use Rattle.dyl_link.specs.Kept.{Kept, IsLinked}
 use Rattle.merge_match.specs.Renumbering.{Numbers}
 use Rattle.merge_start.specs.Words.{Starts, entry_code}
-use Rattle.merge_start.specs.Listed.{phase_parts}
+use Rattle.merge_start.specs.Listed.{phase_parts, open_parts}
+use Rattle.merge_start.specs.declared.part.Part.{Part}
 use Rattle.merge_start.proofs.Linked.{members_count}
+use Rattle.merge_dl.specs.Words.{length_body}
+use Rattle.merge_dl.specs.Listed.{AreDlNumbers, loader_types, find_parts, call_parts}
+use Rattle.merge_dl.specs.declared.numbers.DlNumbers.{DlNumbers}
 use Rattle.merge_index.specs.Numbering.{is_stub}
-use Rattle.merge_module.specs.MergedModule.{merged_types, nullary_number, host_imports, merged_imports, stub_types, merged_funcs, trap_code, plain_code, stub_codes, phase_codes, merged_codes}
-use Rattle.merge_whole.specs.Built.{joined, types_of, host_type, types_in, nullary_in, imports_in, funcs_of, stubs_at, imported_types, stub_types_of, four_of, funcs_in, bodies_of, traps_of, code_of}
+use Rattle.merge_module.specs.MergedModule.{with_loader, generated_functions_types, merged_types, nullary_number, host_imports, merged_imports, stub_types, loader_funcs, generated_types, merged_funcs, trap_code, plain_code, stub_codes, phase_codes, finders_of, open_codes, find_codes, call_codes, loader_codes, merged_codes}
+use Rattle.merge_whole.specs.Built.{joined, types_of, host_type, where_used, generated_in, types_in, nullary_in, imports_in, funcs_of, stubs_at, imported_types, stub_types_of, four_of, one_of, funcs_for_loader, generated_funcs_in, funcs_in, bodies_of, traps_of, code_of, generated_codes}
+use Rattle.merge_whole.specs.Given.{HasLoader}
 use Rattle.merge_whole.proofs.Joins.{members_are}
 
 -- ---- lists
@@ -32,6 +39,27 @@ four_are t m (x ∷ xs) =
     let e : 4 * length (x ∷ xs) + 1 ≡ suc (suc (suc (suc (4 * length xs + 1)))) = omega arith in
     rw e (ap (λ l. t ∷ t ∷ t ∷ t ∷ l) (four_are t (m + 1) xs))
 
+ones_are : (t m : ℕ) (xs : List Member) → joined (one_of t) m xs ≡ replicate (length xs) t
+ones_are t m [] = refl
+ones_are t m (x ∷ xs) = ap (λ l. t ∷ l) (ones_are t (m + 1) xs)
+
+-- the functions of the loader are put one after the other
+pub funcs_put : (t : ℕ) (ms : List Member) (handle unary binary search : ℕ) → handle ≡ t + 1 → unary ≡ t + 2 → binary ≡ t + 3 → search ≡ t + 4
+    → (to one two three all : List ℕ) → one ≡ to ++ joined (one_of handle) 0 ms → two ≡ one ++ unary ∷ []
+    → three ≡ two ++ joined (one_of search) 0 ms → all ≡ three ++ (binary ∷ binary ∷ unary ∷ handle ∷ []) → all ≡ to ++ funcs_for_loader t ms
+funcs_put t ms handle unary binary search h u b s to one two three all p q r e =
+    let opens = joined (one_of handle) 0 ms in
+    let finds = joined (one_of search) 0 ms in
+    let calls = binary ∷ binary ∷ unary ∷ handle ∷ [] in
+    let shape : ℕ → ℕ → ℕ → ℕ → List ℕ = λ x y z v. joined (one_of x) 0 ms ++ y ∷ (joined (one_of v) 0 ms ++ z ∷ z ∷ y ∷ x ∷ []) in
+    e
+    ∙ ap (λ l. l ++ calls) (r ∙ ap (λ l. l ++ finds) (q ∙ ap (λ l. l ++ unary ∷ []) p))
+    ∙ append_assoc ((to ++ opens) ++ unary ∷ []) finds calls
+    ∙ append_assoc (to ++ opens) (unary ∷ []) (finds ++ calls)
+    ∙ append_assoc to opens (unary ∷ (finds ++ calls))
+    ∙ ap₂ (λ x y. to ++ shape x y binary search) h u
+    ∙ ap₂ (λ z v. to ++ shape (t + 1) (t + 2) z v) b s
+
 in_front : (xs ys : List ℕ) (i t : ℕ) → slice_get xs i ≡ Some t → slice_get (xs ++ ys) i ≡ Some t
 in_front [] ys i t e = absurd cc
 in_front (x ∷ xs) ys zero t e = e
@@ -42,26 +70,88 @@ stub_next : {X : Type 0} (g : ℕ → X) (x : X) (f : ℕ) (rest : List ℕ) (mo
 stub_next g x f rest more true here later = ap₂ (λ y l. y ∷ l) (sym here) later
 stub_next g x f rest more false here later = later
 
-codes_are : (L : LinkedSet) (n : Numbers) (x : Starts) (m : ℕ) (ms : List sets.Member)
-    → map code_of (from_members (phase_parts L n x) m ms) ≡ from_members (phase_codes L n x) m ms
-codes_are L n x m [] = refl
-codes_are L n x m (y ∷ ms) = ap (λ l. phase_codes L n x m y.wasm ++ l) (codes_are L n x (m + 1) ms)
+codes_are : (parts : ℕ → Module → List Part) (codes : ℕ → Module → List Code) → ((m : ℕ) (wasm : Module) → map code_of (parts m wasm) ≡ codes m wasm)
+    → (m : ℕ) (ms : List sets.Member) → map code_of (from_members parts m ms) ≡ from_members codes m ms
+codes_are parts codes same m [] = refl
+codes_are parts codes same m (y ∷ ms) =
+    map-append code_of (parts m y.wasm) (from_members parts (m + 1) ms)
+    ∙ ap₂ (λ a b. a ++ b) (same m y.wasm) (codes_are parts codes same (m + 1) ms)
 
-pub phases_are : (L : LinkedSet) (n : Numbers) (x : Starts)
+phases_are : (L : LinkedSet) (n : Numbers) (x : Starts)
     → map code_of (from_members (phase_parts L n x) 0 L.set.members) ≡ from_members (phase_codes L n x) 0 L.set.members
-phases_are L n x = codes_are L n x 0 L.set.members
+phases_are L n x = codes_are (phase_parts L n x) (phase_codes L n x) (λ m wasm. refl) 0 L.set.members
+
+opens_are : (L : LinkedSet) (n : Numbers) (x : Starts) → map code_of (from_members (open_parts L n x) 0 L.set.members) ≡ open_codes L n x
+opens_are L n x = codes_are (open_parts L n x) _ (λ m wasm. refl) 0 L.set.members
+
+finds_are : (L : LinkedSet) → map code_of (from_members (find_parts L) 0 L.set.members) ≡ find_codes L
+finds_are L = codes_are (find_parts L) _ (λ m wasm. refl) 0 L.set.members
+
+-- bodies of the functions of the loader are put one after the other
+pub loader_put : (L : LinkedSet) (n : Numbers) (x : Starts) (opens finds calls : List Part) (long : Code)
+    → opens ≡ from_members (open_parts L n x) 0 L.set.members → long ≡ length_body → finds ≡ from_members (find_parts L) 0 L.set.members
+    → calls ≡ call_parts L x (finders_of L x) → (one two three all : List Code)
+    → one ≡ [] ++ map code_of opens → two ≡ one ++ long ∷ [] → three ≡ two ++ map code_of finds → all ≡ three ++ map code_of calls
+    → all ≡ loader_codes L n x
+loader_put L n x opens finds calls long o l f k one two three all a b c d =
+    let opening = open_codes L n x in
+    let finding = find_codes L in
+    let calling = call_codes L x in
+    let first : one ≡ opening = a ∙ ap (map code_of) o ∙ opens_are L n x in
+    let second : two ≡ opening ++ length_body ∷ [] = b ∙ ap₂ (λ u v. u ++ v ∷ []) first l in
+    let third : three ≡ (opening ++ length_body ∷ []) ++ finding = c ∙ ap₂ (λ u v. u ++ v) second (ap (map code_of) f ∙ finds_are L) in
+    d
+    ∙ ap₂ (λ u v. u ++ v) third (ap (map code_of) k)
+    ∙ append_assoc (opening ++ length_body ∷ []) finding calling
+    ∙ append_assoc opening (length_body ∷ []) (finding ++ calling)
+
+-- they are put where the set uses the loader, and there alone
+pub unused_put : (L : LinkedSet) (n : Numbers) (x : Starts) (loader : Option DlNumbers) → loader ≡ None → HasLoader L x loader → (to : List Code)
+    → to ≡ to ++ with_loader L (loader_codes L n x)
+unused_put L n x loader is has to =
+    let unused : uses_loader L ≡ false = subst (HasLoader L x) is has in
+    sym (ap (λ b. to ++ (if b then loader_codes L n x else [])) unused ∙ append-nil to)
+
+pub used_put : (L : LinkedSet) (n : Numbers) (x : Starts) (loader : Option DlNumbers) (d : DlNumbers) → loader ≡ Some d → HasLoader L x loader
+    → (to codes all : List Code) → (AreDlNumbers L d x (finders_of L x) → codes ≡ loader_codes L n x) → all ≡ to ++ codes
+    → all ≡ to ++ with_loader L (loader_codes L n x)
+used_put L n x loader d is has to codes all made put =
+    let used = subst (HasLoader L x) is has in
+    put ∙ ap (λ l. to ++ l) (made used.1 ∙ sym (ap (λ b. if b then loader_codes L n x else []) used.0))
+
+-- and those of all that is generated
+pub generated_put : (L : LinkedSet) (n : Numbers) (x : Starts) (phases : List Part) (entry : Code)
+    → phases ≡ from_members (phase_parts L n x) 0 L.set.members → entry ≡ plain_code (entry_code L n x) → (old one two all : List Code)
+    → one ≡ old ++ map code_of phases → two ≡ one ++ entry ∷ [] → all ≡ two ++ with_loader L (loader_codes L n x)
+    → all ≡ old ++ generated_codes L n x
+generated_put L n x phases entry p e old one two all a b c =
+    let phasing = from_members (phase_codes L n x) 0 L.set.members in
+    let loading = with_loader L (loader_codes L n x) in
+    let first : one ≡ old ++ phasing = a ∙ ap (λ l. old ++ l) (ap (map code_of) p ∙ phases_are L n x) in
+    c
+    ∙ ap (λ l. l ++ loading) (b ∙ ap₂ (λ u v. u ++ v ∷ []) first e)
+    ∙ append_assoc (old ++ phasing) (plain_code (entry_code L n x) ∷ []) loading
+    ∙ append_assoc old phasing (plain_code (entry_code L n x) ∷ loading)
 
 -- ---- a set
 
 module _ (L : LinkedSet) (k : Kept) (linked : IsLinked L k) where
+  pub used_are : {X : Type 0} (xs ys : List X) → xs ≡ ys → where_used k xs ≡ with_loader L ys
+  used_are xs ys same = ap₂ (λ b l. if b then l else []) linked.uses_loader same
+
+  generated_are : generated_in k ≡ generated_functions_types L
+  generated_are = ap (λ l. nullary ∷ l) (used_are loader_types loader_types refl)
+
   pub types_are : types_in k ≡ merged_types L
-  types_are = ap₂ (λ a hs. a ++ (nullary ∷ map host_type hs)) (members_are types_of L k linked) linked.hosts
+  types_are =
+      ap₂ (λ (a b : List FuncType). a ++ b) (members_are types_of L k linked)
+      (ap₂ (λ (g : List FuncType) hs. g ++ map host_type hs) generated_are linked.hosts)
 
   nullary_are : nullary_in k ≡ nullary_number L
   nullary_are = ap length (members_are types_of L k linked)
 
   pub imports_are : imports_in k ≡ merged_imports L
-  imports_are = ap₂ (λ t hs. host_imports (t + 1) hs) nullary_are linked.hosts
+  imports_are = ap₂ (λ t hs. host_imports t hs) (ap₂ (λ t (g : List FuncType). t + length g) nullary_are generated_are) linked.hosts
 
   -- ---- stubs
 
@@ -86,13 +176,31 @@ module _ (L : LinkedSet) (k : Kept) (linked : IsLinked L k) where
   traps_are : (m : ℕ) (wasm : Module) → traps_of k m wasm ≡ stub_codes L m wasm
   traps_are m wasm = stubs_are m (λ t. trap_code) (λ f. trap_code) 0 (imported_types wasm) (λ i t e. refl)
 
+  -- those of the functions of the loader
+  abbrev with_types : ℕ → List ℕ → List ℕ → List ℕ
+  with_types t opens finds = opens ++ (t + 2) ∷ (finds ++ (t + 3) ∷ (t + 3) ∷ (t + 2) ∷ (t + 1) ∷ [])
+
+  loader_funcs_are : funcs_for_loader (nullary_in k) k.set.members ≡ loader_funcs L
+  loader_funcs_are =
+      let t = nullary_in k in
+      ap₂ (with_types t) (ones_are (t + 1) 0 k.set.members) (ones_are (t + 4) 0 k.set.members)
+      ∙ ap₂ (λ c u. with_types u (replicate c (u + 1)) (replicate c (u + 4))) (sym (members_count L k linked)) nullary_are
+
+  generated_funcs_are : generated_funcs_in k ≡ generated_types L
+  generated_funcs_are =
+      let t = nullary_in k in
+      let more = funcs_for_loader t k.set.members in
+      sym (append_assoc (joined (four_of t) 0 k.set.members) (t ∷ []) (where_used k more))
+      ∙ ap₂ (λ (a b : List ℕ). a ++ b)
+      (four_are t 0 k.set.members ∙ ap₂ (λ c u. replicate (4 * c + 1) u) (sym (members_count L k linked)) nullary_are)
+      (used_are more (loader_funcs L) loader_funcs_are)
+
   pub funcs_are : (n : Numbers) → funcs_in k n ≡ merged_funcs L n
   funcs_are n =
-      let generated = four_are (nullary_in k) 0 k.set.members
-      ∙ ap₂ (λ c t. replicate (4 * c + 1) t) (sym (members_count L k linked)) nullary_are in
       ap₂ (λ a b. a ++ b) (members_are (funcs_of n) L k linked)
       (ap₂ (λ a b. a ++ b)
-      (joined_same (stub_types_of k n) (stub_types L n) (stub_types_are n) 0 k.set.members ∙ members_are (stub_types L n) L k linked) generated)
+      (joined_same (stub_types_of k n) (stub_types L n) (stub_types_are n) 0 k.set.members ∙ members_are (stub_types L n) L k linked)
+      generated_funcs_are)
 
   bodies_are : (n : Numbers) → joined (bodies_of n) 0 k.set.members ++ joined (traps_of k) 0 k.set.members
       ≡ from_members (bodies_of n) 0 L.set.members ++ from_members (stub_codes L) 0 L.set.members
@@ -100,18 +208,11 @@ module _ (L : LinkedSet) (k : Kept) (linked : IsLinked L k) where
       ap₂ (λ a b. a ++ b) (members_are (bodies_of n) L k linked)
       (joined_same (traps_of k) (stub_codes L) traps_are 0 k.set.members ∙ members_are (stub_codes L) L k linked)
 
-  -- all bodies, the entry function's last
-  pub all_codes : (n : Numbers) (x : Starts) (own phases all : List Code) (entry : Code)
-      → own ≡ joined (bodies_of n) 0 k.set.members ++ joined (traps_of k) 0 k.set.members
-      → phases ≡ from_members (phase_codes L n x) 0 L.set.members → entry ≡ plain_code (entry_code L n x)
-      → all ≡ (own ++ phases) ++ entry ∷ [] → all ≡ merged_codes L n x
-  all_codes n x own phases all entry p q r s =
+  -- all bodies, those that are generated last
+  pub all_codes : (n : Numbers) (x : Starts) (own all : List Code)
+      → own ≡ joined (bodies_of n) 0 k.set.members ++ joined (traps_of k) 0 k.set.members → all ≡ own ++ generated_codes L n x
+      → all ≡ merged_codes L n x
+  all_codes n x own all p q =
       let a = from_members (bodies_of n) 0 L.set.members in
       let b = from_members (stub_codes L) 0 L.set.members in
-      let c = from_members (phase_codes L n x) 0 L.set.members in
-      let e = plain_code (entry_code L n x) in
-      s
-      ∙ ap (λ l. (l ++ phases) ++ entry ∷ []) (p ∙ bodies_are n)
-      ∙ ap₂ (λ l y. ((a ++ b) ++ l) ++ y ∷ []) q r
-      ∙ append_assoc (a ++ b) c (e ∷ [])
-      ∙ append_assoc a b (c ++ e ∷ [])
+      q ∙ ap (λ l. l ++ generated_codes L n x) (p ∙ bodies_are n) ∙ append_assoc a b (generated_codes L n x)

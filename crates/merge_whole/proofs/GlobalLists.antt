@@ -28,8 +28,6 @@ use Rattle.spec_linking.specs.Slots.{CellName, same_cell, cell_as, cell_of_impor
 use Rattle.spec_linking.proofs.LinkedFacts.{holds_so, or_none, linked_member}
 use Rattle.spec_loading.specs.Addresses.{globals_size}
 use Rattle.spec_loading.specs.Members.{from_members}
-use Rattle.dyl_search.specs.declared.set.Member as declared
-use Rattle.dyl_search.specs.Gathers.{member_of}
 use Rattle.dyl_link.specs.Kept.{Kept, cell_in, IsLinked}
 use Rattle.merge_match.specs.Renumbering.{Numbers}
 use Rattle.merge_start.specs.Listed.{AreBases, bases_from}
@@ -39,10 +37,12 @@ use Rattle.merge_index.specs.Globals.{CellKey, cell_of_key, cells_in, with_cells
 use Rattle.merge_index.specs.Numbering.{sum_of}
 use Rattle.merge_index.proofs.Cells.{first_append}
 use Rattle.merge_index.proofs.Keys.{key_eq, key_is, any_same}
-use Rattle.merge_module.specs.MergedModule.{number_global, constant_instr, own_global, member_globals, merged_globals}
+use Rattle.merge_module.specs.MergedModule.{with_loader, number_global, constant_instr, own_global, member_globals, merged_globals}
 use Rattle.merge_module.proofs.Counted.{joined_length}
 use Rattle.merge_module.proofs.MergedSpaces.{past_front}
+use Rattle.merge_whole.specs.Built.{where_used}
 use Rattle.merge_whole.specs.Counts.{members_of}
+use Rattle.merge_whole.proofs.BuiltParts.{used_are}
 use Rattle.merge_whole.proofs.ElementLists.{from_same}
 use Rattle.merge_whole.specs.GlobalDefs.{own_by, cells_by, globals_by, all_globals}
 
@@ -108,20 +108,6 @@ member_put k n m wasm memory table is_memory is_table bases are imports same own
     ∙ append_assoc ((to ++ x ∷ []) ++ y ∷ []) these those
     ∙ append_assoc (to ++ x ∷ []) (y ∷ []) (these ++ those)
     ∙ append_assoc to (x ∷ []) (y ∷ (these ++ those))
-
--- what a member has comes before what those behind it have
-pub member_next : {X : Type 0} (of : ℕ → Module → List X) (ms : List declared.Member) (j : ℕ) (x : declared.Member) → j < length ms
-    → x ≡ get_or ms j x → (m next : ℕ) → next ≡ m + 1 → (to more all : List X) (wasm : Module) → wasm ≡ (member_of x).wasm
-    → more ≡ to ++ of m wasm → to ++ from_members of m (members_of (drop j ms)) ≡ all
-    → more ++ from_members of next (members_of (drop (j + 1) ms)) ≡ all
-member_next {X} of ms j x lt item m next step to more all wasm same put before =
-    let rest = drop (j + 1) ms in
-    let from : List declared.Member → List X = λ l. to ++ from_members of m (members_of l) in
-    ap₂ (λ (a b : List X). a ++ b) (put ∙ ap (λ (w : Module). to ++ of m w) same) (ap (λ i. from_members of i (members_of rest)) step)
-    ∙ append_assoc to (of m (member_of x).wasm) (from_members of (m + 1) (members_of rest))
-    ∙ ap (λ (y : declared.Member). from (y ∷ rest)) item
-    ∙ sym (at_drop_more from ms j x lt)
-    ∙ before
 
 module _ (L : LinkedSet) (k : Kept) (h : IsLinked L k) (m : ℕ) (member : Member) (at : slice_get L.set.members m ≡ Some member) where
   abbrev wasm : Module
@@ -261,5 +247,15 @@ module _ (L : LinkedSet) (k : Kept) (h : IsLinked L k) (n : Numbers) where
   pub many_are : length (all_globals k n) ≡ 1 + sum_of globals_size L
   many_are = ap length all_are ∙ (let many = joined_length (member_globals L n) globals_size (member_many L n) 0 L.set.members in omega arith)
 
-  pub globals_are : all_globals k n ++ map (λ x. number_global true 0) (members_of k.set.members) ≡ merged_globals L n
-  globals_are = ap₂ (λ a (ms : List Member). a ++ map (λ x. number_global true 0) ms) all_are (members_are L k h)
+  -- the guards come behind them, and then the error
+  pub globals_are : (guarded all : List GlobalDef) → guarded ≡ all_globals k n ++ map (λ x. number_global true 0) (members_of k.set.members)
+      → all ≡ guarded ++ where_used k (number_global true 0 ∷ []) → all ≡ merged_globals L n
+  globals_are guarded all guards error =
+      let own = number_global true (linked_plan L).stack_top ∷ from_members (member_globals L n) 0 L.set.members in
+      let these = map (λ x. number_global true 0) L.set.members in
+      let last : List GlobalDef = number_global true 0 ∷ [] in
+      error
+      ∙ ap₂ (λ (a b : List GlobalDef). a ++ b)
+      (guards ∙ ap₂ (λ a (ms : List Member). a ++ map (λ x. number_global true 0) ms) all_are (members_are L k h))
+      (used_are L k h last last refl)
+      ∙ append_assoc own these (with_loader L last)

@@ -8,3 +8,4 @@ pub mod BuiltBodies
 pub mod BuiltWhole
 pub mod ElementLists
 pub mod GlobalLists
+pub mod LoaderNumbers

@@ -1,48 +1,38 @@
 -- The lists of numbers that are made for generated code are those of a linked set.
 use Rattle.std.proofs.Common.{◌≡◌, ◌<◌, ◌≤◌, ℕ, zero, suc, ◌+◌, ◌-◌, ◌*◌, Bool, true, false, List, [], ◌∷◌, ◌++◌, length, nat_lt, slice_get, Option, Some, None, option_map, if◌then◌else◌, refl, sym, ap, ap₂, ◌∙◌, arith, length-append}
-use Rattle.std.proofs.Math.Path.{fun_ext}
 use Rattle.std.specs.List.{range_with_len}
 use Rattle.std.proofs.lemmas.Bool.Decides.{nat_tests}
-use Rattle.std.proofs.lemmas.List.{length-map, take_all}
+use Rattle.std.proofs.lemmas.List.{length-map}
 use Rattle.std.proofs.lemmas.List.FromFn.{length-range_with_len}
 use Rattle.std.proofs.lemmas.Option.{slice_get-map, slice_get_within}
 use Rattle.wasm_form.specs.declared.module.Module.{Module}
-use Rattle.wasm_form.specs.declared.runtime.Ref.{Ref}
 use Rattle.spec_binary.specs.Options.{◌>>=◌}
 use Rattle.spec_binary.specs.IndexSpaces.{imports_of, tables_in, table_space}
 use Rattle.spec_binary.proofs.Lists.{slice_get-append-left, slice_get-append-right}
 use Rattle.spec_linking.specs.Sets.{Member}
-use Rattle.spec_linking.specs.LinkedSets.{LinkedSet, wasm_of, function_ref}
+use Rattle.spec_linking.specs.LinkedSets.{LinkedSet, wasm_of}
 use Rattle.spec_linking.specs.Links.{set_entry}
 use Rattle.spec_loading.specs.declared.task.Phase.{Phase}
 use Rattle.spec_loading.specs.declared.task.Phase.TheVariants.{Place, Start, Relocate, Construct}
 use Rattle.spec_loading.specs.Phases.{stage_of, phase_function}
 use Rattle.spec_loading.specs.Addresses.{sum_before, item_address}
 use Rattle.spec_loading.specs.Members.{from_members}
-use Rattle.dyl_link.specs.Kept.{Kept, function_in, IsLinked}
+use Rattle.dyl_link.specs.Kept.{Kept, IsLinked}
 use Rattle.merge_match.specs.Renumbering.{Numbers}
 use Rattle.merge_match.specs.Parts.{nowhere, number_of}
 use Rattle.merge_start.specs.Listed.{AreListed, in_part}
 use Rattle.merge_start.proofs.Linked.{members_are, members_count}
-use Rattle.merge_index.specs.Numbering.{sum_of, first_phase, first_stub, numbers_of, starts_of}
+use Rattle.merge_index.specs.Numbering.{sum_of, first_phase, numbers_of, starts_of}
 use Rattle.merge_index.proofs.Numbered.{range_item}
 use Rattle.merge_index.proofs.FunctionNumbers.{sum_within}
-use Rattle.merge_whole.specs.declared.built.counts.Space.TheVariants.{Codes, Elems}
-use Rattle.merge_whole.specs.Counts.{members_of, size_in, total, stubs_by, stubs_total, tables_by, calls_by, starts_by}
+use Rattle.merge_whole.specs.declared.built.counts.Space.TheVariants.{Elems}
+use Rattle.merge_whole.specs.Counts.{members_of, size_in, total, tables_by, calls_by, starts_by}
 
 -- ---- sums
 
-pub total_is : (size : Module → ℕ) (start : ℕ) (xs : List Member) → total size start xs ≡ start + sum_before size xs (length xs)
+total_is : (size : Module → ℕ) (start : ℕ) (xs : List Member) → total size start xs ≡ start + sum_before size xs (length xs)
 total_is size start [] = omega arith
 total_is size start (x ∷ xs) = total_is size (start + size x.wasm) xs ∙ omega arith
-
-stubs_total_is : (of : ℕ → ℕ → Option Ref) (start m : ℕ) (xs : List Member)
-    → stubs_total of start m xs ≡ start + length (from_members (stubs_by of) m xs)
-stubs_total_is of start m [] = omega arith
-stubs_total_is of start m (x ∷ xs) =
-    let later = stubs_total_is of (start + length (stubs_by of m x.wasm)) (m + 1) xs in
-    let many = length-append (stubs_by of m x.wasm) (from_members (stubs_by of) (m + 1) xs) in
-    later ∙ omega arith
 
 fours : (xs : List Member) (m : ℕ) → m ≤ length xs → sum_before (λ w. 4) xs m ≡ 4 * m
 fours xs zero le = refl
@@ -114,17 +104,6 @@ module _ (L : LinkedSet) (k : Kept) (h : IsLinked L k) where
 
   abbrev n : Numbers
   n = numbers_of L
-
-  same_functions : function_in k ≡ function_ref L
-  same_functions = fun_ext (λ m. fun_ext (λ f. h.functions m f))
-
-  first_is : stubs_total (function_in k) (total (size_in Codes) (length k.hosts) (members_of k.set.members)) 0 (members_of k.set.members) ≡ first_phase L
-  first_is =
-      ap₂ (λ of ms. stubs_total of (total (size_in Codes) (length k.hosts) ms) 0 ms) same_functions (members_are L k h)
-      ∙ stubs_total_is (function_ref L) (total (size_in Codes) (length k.hosts) members) 0 members
-      ∙ ap (λ t. t + length (from_members (stubs_by (function_ref L)) 0 members))
-      (total_is (size_in Codes) (length k.hosts) members ∙ ap (λ hs. length hs + sum_before (size_in Codes) members (length members)) h.hosts)
-      ∙ ap (λ ms. first_stub L + length (from_members (stubs_by (function_ref L)) 0 ms)) (sym (take_all (length members) members (omega arith)))
 
   -- ---- segments
 
@@ -227,10 +206,11 @@ module _ (L : LinkedSet) (k : Kept) (h : IsLinked L k) where
   entry_is : (f : ℕ) → set_entry L.set.members ≡ Some f → n.named 0 f ≡ n.named 0 k.entry
   entry_is f e = (let same : f ≡ k.entry = (let q = sym e ∙ h.entry in cc) in ap (n.named 0) same)
 
-  pub are_listed : (guard : ℕ) → guard ≡ (starts_of L).guards → AreListed L (starts_by k n guard) n (starts_of L)
-  are_listed guard is = record {
+  pub are_listed : (guard first : ℕ) → guard ≡ (starts_of L).guards → first ≡ first_phase L
+      → AreListed L (starts_by k n guard first) n (starts_of L)
+  are_listed guard first is begins = record {
     guards = sym is;
-    phases = λ m p. ap (λ f. f + 4 * m + (stage_of p - 1)) (sym first_is);
+    phases = λ m p. ap (λ f. f + 4 * m + (stage_of p - 1)) (sym begins);
     calls = call_is;
     entry = entry_is;
     elems = λ m e wasm q. segment_is (λ w. length w.elems) (length k.set.members) m e wasm q;

@@ -13,16 +13,19 @@ use Rattle.wasm_form.specs.declared.module.Module.{Module}
 use Rattle.spec_binary.specs.Indices.{nullary}
 use Rattle.spec_binary.specs.IndexSpaces.{functions_in, imports_of}
 use Rattle.spec_runtime.specs.Names.{HostName}
+use Rattle.spec_linking.specs.LinkedSets.{LinkedSet}
 use Rattle.spec_loading.specs.Texts.{error_texts}
 use Rattle.spec_loading.specs.Members.{from_members}
 use Rattle.dyl_search.specs.declared.set.Member.{Member}
 use Rattle.dyl_link.specs.Kept.{Kept, function_in}
 use Rattle.merge_match.specs.Renumbering.{Numbers}
 use Rattle.merge_match.specs.Joined.{renumbered_code}
+use Rattle.merge_start.specs.Words.{Starts, entry_code}
 use Rattle.merge_start.specs.declared.part.Part.{Part}
+use Rattle.merge_dl.specs.Listed.{loader_types}
 use Rattle.merge_index.specs.Numbering.{is_stub}
 use Rattle.merge_index.specs.Lists.{code_in}
-use Rattle.merge_module.specs.MergedModule.{host_imports, trap_code, passive_data, number_expr}
+use Rattle.merge_module.specs.MergedModule.{host_imports, plain_code, trap_code, phase_codes, with_loader, loader_codes, passive_data, number_expr}
 use Rattle.merge_whole.specs.Counts.{members_of}
 
 -- what the members have, which are numbered from m on, one after the other
@@ -37,10 +40,18 @@ types_of m wasm = wasm.types
 abbrev pub host_type : HostName → FuncType
 host_type h = h.ty
 
-abbrev pub types_in : Kept → List FuncType
-types_in k = joined types_of 0 k.set.members ++ (nullary ∷ map host_type k.hosts)
+-- what is there where a member uses the loader
+abbrev pub where_used : {X : Type 0} → Kept → List X → List X
+where_used k xs = if k.uses_loader then xs else []
 
--- the number of the type of generated functions
+-- those of generated functions
+abbrev pub generated_in : Kept → List FuncType
+generated_in k = nullary ∷ where_used k loader_types
+
+abbrev pub types_in : Kept → List FuncType
+types_in k = joined types_of 0 k.set.members ++ (generated_in k ++ map host_type k.hosts)
+
+-- the number of the type without parameters and results, the first of those of generated functions
 abbrev pub nullary_in : Kept → ℕ
 nullary_in k = length (joined types_of 0 k.set.members)
 
@@ -48,7 +59,7 @@ abbrev pub import_of : HostName → ℕ → Import
 import_of h t = record { «module» = h.module_name; field = h.name; desc = imported.Func t }
 
 abbrev pub imports_in : Kept → List Import
-imports_in k = host_imports (nullary_in k + 1) k.hosts
+imports_in k = host_imports (nullary_in k + length (generated_in k)) k.hosts
 
 -- ---- functions
 
@@ -70,11 +81,26 @@ stub_types_of k n m wasm = stubs_at k m (n.ty m) 0 (imported_types wasm)
 abbrev pub four_of : ℕ → ℕ → Module → List ℕ
 four_of t m wasm = t ∷ t ∷ t ∷ t ∷ []
 
+-- one number for each member
+abbrev pub one_of : ℕ → ℕ → Module → List ℕ
+one_of t m wasm = t ∷ []
+
+-- those of the functions of the loader and of what they call, where the types of generated functions have the numbers from t on
+abbrev pub funcs_for_loader : ℕ → List Member → List ℕ
+funcs_for_loader t members =
+    joined (one_of (t + 1)) 0 members
+    ++ (t + 2) ∷ (joined (one_of (t + 4)) 0 members ++ (t + 3) ∷ (t + 3) ∷ (t + 2) ∷ (t + 1) ∷ [])
+
+-- those of the phases of each member, of the entry function, and of the loader
+abbrev pub generated_funcs_in : Kept → List ℕ
+generated_funcs_in k =
+    let members = k.set.members in
+    joined (four_of (nullary_in k)) 0 members ++ nullary_in k ∷ where_used k (funcs_for_loader (nullary_in k) members)
+
 abbrev pub funcs_in : Kept → Numbers → List ℕ
 funcs_in k n =
     let members = k.set.members in
-    joined (funcs_of n) 0 members
-    ++ (joined (stub_types_of k n) 0 members ++ (joined (four_of (nullary_in k)) 0 members ++ nullary_in k ∷ []))
+    joined (funcs_of n) 0 members ++ (joined (stub_types_of k n) 0 members ++ generated_funcs_in k)
 
 -- ---- bodies
 
@@ -90,6 +116,11 @@ traps_of k m wasm = stubs_at k m (λ t. trap_code) 0 (imported_types wasm)
 
 abbrev pub code_of : Part → Code
 code_of part = part.code
+
+-- those of what is generated
+abbrev pub generated_codes : LinkedSet → Numbers → Starts → List Code
+generated_codes L n x =
+    from_members (phase_codes L n x) 0 L.set.members ++ plain_code (entry_code L n x) ∷ with_loader L (loader_codes L n x)
 
 -- ---- tables and memory
 

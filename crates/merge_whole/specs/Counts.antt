@@ -1,9 +1,8 @@
 -- How much there is of a linked set, and the lists of the numbers that generated code names.
 use Rattle.std.specs.Prelude.{ℕ, ◌+◌, List, [], ◌∷◌, length, map, Option, None, option_map}
-use Rattle.std.specs.List.{filter, range_with_len}
+use Rattle.std.specs.List.{range_with_len}
 use Rattle.wasm_form.specs.declared.module.Module.{Module}
-use Rattle.wasm_form.specs.declared.runtime.Ref.{Ref}
-use Rattle.spec_binary.specs.IndexSpaces.{imported_count, table_space}
+use Rattle.spec_binary.specs.IndexSpaces.{table_space}
 use Rattle.spec_linking.specs.Sets as sets
 use Rattle.spec_loading.specs.declared.task.Phase.TheVariants.{Start, Relocate, Construct}
 use Rattle.spec_loading.specs.Phases.{phase_function}
@@ -11,17 +10,17 @@ use Rattle.dyl_search.specs.declared.set.Member.{Member}
 use Rattle.dyl_search.specs.Gathers.{member_of}
 use Rattle.merge_match.specs.Renumbering.{Numbers}
 use Rattle.spec_loading.specs.Members.{from_members}
-use Rattle.dyl_link.specs.Kept.{Kept, function_in}
+use Rattle.dyl_link.specs.Kept.{Kept}
 use Rattle.merge_start.specs.declared.numbers.StartNumbers.{StartNumbers}
-use Rattle.merge_index.specs.Numbering.{is_stub}
+use Rattle.merge_dl.specs.declared.numbers.DlNumbers.{DlNumbers}
+use Rattle.merge_index.specs.declared.numbers.LoaderNumbers.{LoaderNumbers}
 use Rattle.merge_whole.specs.declared.built.counts.Space.{Space}
-use Rattle.merge_whole.specs.declared.built.counts.Space.TheVariants.{Codes, Elems, Datas}
+use Rattle.merge_whole.specs.declared.built.counts.Space.TheVariants.{Elems, Datas}
 
 abbrev pub members_of : List Member → List sets.Member
 members_of xs = map member_of xs
 
 abbrev pub size_in : Space → Module → ℕ
-size_in Codes wasm = length wasm.codes
 size_in Elems wasm = length wasm.elems
 size_in Datas wasm = length wasm.datas
 
@@ -29,15 +28,6 @@ size_in Datas wasm = length wasm.datas
 abbrev pub total : (Module → ℕ) → ℕ → List sets.Member → ℕ
 total size start [] = start
 total size start (x ∷ xs) = total size (start + size x.wasm) xs
-
--- the imports of member m that nothing defines, by what its numbers name
-abbrev pub stubs_by : (ℕ → ℕ → Option Ref) → ℕ → Module → List ℕ
-stubs_by of m wasm = filter (λ f. is_stub (of m f)) (range_with_len 0 (imported_count wasm))
-
--- how many some members have that are numbered from m on, beside so many
-abbrev pub stubs_total : (ℕ → ℕ → Option Ref) → ℕ → ℕ → List sets.Member → ℕ
-stubs_total of start m [] = start
-stubs_total of start m (x ∷ xs) = stubs_total of (start + length (stubs_by of m x.wasm)) (m + 1) xs
 
 -- the numbers of the tables of member m, imported ones too
 abbrev pub tables_by : Numbers → ℕ → Module → List ℕ
@@ -49,17 +39,28 @@ calls_by n m wasm =
     None ∷ option_map (n.named m) (phase_function Start m wasm) ∷ option_map (n.named m) (phase_function Relocate m wasm)
     ∷ option_map (n.named m) (phase_function Construct m wasm) ∷ []
 
--- the numbers that generated code names, by what is kept of a set and the numbers of its members
-abbrev pub starts_by : Kept → Numbers → ℕ → StartNumbers
-starts_by k n guard =
+-- the numbers that generated code names, by what is kept of a set, the numbers of its members and those of the first guard and phase
+abbrev pub starts_by : Kept → Numbers → ℕ → ℕ → StartNumbers
+starts_by k n guard first =
     let members = members_of k.set.members in
     record {
       guard = guard;
-      first_function = stubs_total (function_in k) (total (size_in Codes) (length k.hosts) members) 0 members;
+      first_function = first;
       calls = from_members (calls_by n) 0 members;
       entry = n.named 0 k.entry;
       elems = range_with_len 0 (total (size_in Elems) (length k.set.members) members);
       datas = range_with_len 0 (total (size_in Datas) 0 members);
       tables = from_members (tables_by n) 0 members;
       functions = [];
+    }
+
+-- the numbers that the functions of the loader name, by those of what there is for them and of the first guard
+abbrev pub loader_by : Kept → ℕ → LoaderNumbers → DlNumbers
+loader_by k guard n =
+    let count = length k.set.members in
+    record {
+      error = guard + count;
+      guard = guard;
+      first_function = n.length;
+      opens = range_with_len n.first_opening count;
     }

@@ -1,15 +1,25 @@
 -- What the merged module is made with: the numbers, the globals and the element segments.
-use Rattle.std.specs.Prelude.{◌≡◌}
+use Rattle.std.specs.Prelude.{◌≡◌, true, false, Option, Some, None}
 use Rattle.spec_linking.specs.LinkedSets.{LinkedSet}
+use Rattle.spec_loading.specs.Members.{uses_loader}
+use Rattle.merge_start.specs.Words.{Starts}
 use Rattle.merge_start.specs.Listed.{AreListed}
+use Rattle.merge_dl.specs.declared.numbers.DlNumbers.{DlNumbers}
+use Rattle.merge_dl.specs.Listed.{AreDlNumbers}
 use Rattle.merge_index.specs.Kept.{numbers_in}
 use Rattle.merge_index.specs.Numbering.{numbers_of, starts_of}
-use Rattle.merge_module.specs.MergedModule.{merged_globals, merged_elems}
+use Rattle.merge_module.specs.MergedModule.{finders_of, merged_globals, merged_elems}
 use Rattle.merge_whole.specs.declared.built.given.Given.{Given}
+
+-- where a set uses the loader, and there alone, there are the numbers that its functions name
+abbrev pub HasLoader : LinkedSet → Starts → Option DlNumbers → Type 0
+HasLoader L x None = uses_loader L ≡ false
+HasLoader L x (Some d) = (uses_loader L ≡ true) × AreDlNumbers L d x (finders_of L x)
 
 -- those of a set
 pub record IsGiven (L : LinkedSet) (g : Given) : Type 0 where
   pub numbers : numbers_in g.numbers ≡ numbers_of L
   pub listed : AreListed L g.starts (numbers_of L) (starts_of L)
+  pub loader : HasLoader L (starts_of L) g.loader
   pub globals : g.globals ≡ merged_globals L (numbers_of L)
   pub elems : g.elems ≡ merged_elems L (numbers_of L)

@@ -1,15 +1,17 @@
 -- What it is that bytes merge a linked set in the form that is written here, and how much there is of a set.
-use Rattle.std.specs.Prelude.{ℕ, ◌+◌, ◌*◌, ◌^◌, List, length, sum_by}
+use Rattle.std.specs.Prelude.{ℕ, ◌+◌, ◌*◌, ◌^◌, List, length, sum_by, Ok}
+use Rattle.spec_binary.specs.DecodeAnswers.{DecodeAnswer}
 use Rattle.spec_linking.specs.Gathering.{total_size}
 use Rattle.spec_linking.specs.Sets.{Member}
 use Rattle.spec_linking.specs.LinkedSets.{LinkedSet}
 use Rattle.spec_loading.specs.Merged.{Merged}
 use Rattle.merge_module.specs.Laws.{HasShape}
 
--- the bytes merge the set, and the module that they spell for it has this shape
+-- the bytes merge the set; the module that they spell for it has this shape, and is what they are decoded to
 pub record Merges (L : LinkedSet) (bytes : List ℕ) : Type 0 where
   pub merged : Merged L bytes
   pub shape : HasShape L merged.wasm
+  pub decoded : DecodeAnswer bytes (Ok merged.wasm)
 
 -- How much there is of a set: 256 times the bytes of its files and of its members' names, and 64 times the square of their number. What is
 -- written for it is in line with that.

@@ -11,6 +11,7 @@ mod funcs;
 mod given;
 mod globals;
 mod imports;
+mod loader;
 mod starts;
 mod stubs;
 mod tables;

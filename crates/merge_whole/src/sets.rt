@@ -1,5 +1,5 @@
 // The bytes of the merged module of a linked set.
-ghost use Rattle.std.specs.Prelude.{◌≡◌, ◌^◌, ◌≤◌, ◌⊎◌, ℕ, [], All, IfOk, IfErr, Err, false};
+ghost use Rattle.std.specs.Prelude.{◌≡◌, ◌^◌, ◌≤◌, ◌⊎◌, ℕ, [], All, IfOk, IfErr, Err};
 ghost use Rattle.spec_merging.specs.declared.fault.MergeFault.TheVariants as faults;
 ghost use Rattle.spec_linking.specs.LinkedSets.{LinkedSet};
 ghost use Rattle.spec_binary.specs.Modules.{SpellsModule};
@@ -35,15 +35,14 @@ fn encoded(alloc: Global, wasm: &Module) -> Result<Vec<u8>, MergeFault>
     }
 }
 
-/// Merges a linked set whose members don't use the loader: the bytes spell a valid module that imports the host functions of the set alone,
-/// has the planned table and memory, exports its entry as `_start` and the memory as `memory`, and agrees with the loaded set.
+/// Merges a linked set: the bytes spell a valid module that imports the host functions of the set alone, has the planned table and memory,
+/// exports its entry as `_start` and the memory as `memory`, and agrees with the loaded set.
 ///
 /// `SectionSize` comes exactly where a section of that module would take 2^32 bytes or more, with the number of the first such section;
 /// no set is so big whose bulk is below 2^32. `Memory` comes where no memory could be had, and for a set whose host functions' names and types
-/// take more than 32 MiB.
+/// take more than 32 MiB or whose members' names take more than 16 MiB.
 pub fn merge_set(alloc: Global, linked: &Linked) -> Result<Vec<u8>, MergeFault>
     requires set { (L : LinkedSet) × IsLinked L linked.now }
-    requires loader { linked.now.uses_loader ≡ false }
     requires pages { linked.now.plan.pages_max ≤ 16384 }
     requires hosts { All IsSupported linked.now.hosts }
     ensures merged { IfOk result (λ bytes. (L : LinkedSet) → IsLinked L linked.now → Merges L bytes.items) }

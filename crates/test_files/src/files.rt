@@ -25,6 +25,7 @@ pub struct File {
     pub tables: &'static str,
     pub globals: &'static str,
     pub exports: &'static [Export],
+    pub start: &'static str,
     pub elems: &'static str,
     pub bodies: &'static [&'static str],
     pub datas: &'static str,
@@ -43,6 +44,7 @@ pub const EMPTY: File = File {
     tables: "",
     globals: "",
     exports: &[],
+    start: "",
     elems: "",
     bodies: &[],
     datas: "",
@@ -178,6 +180,7 @@ fn head_of(alloc: Global, file: &File) -> Result<Vec<u8>, Memory> {
 pub fn bytes_in(alloc: Global, file: &File) -> Result<Vec<u8>, Memory> {
     let mut bytes = head_of(alloc, file)?;
     put_exports(alloc, &mut bytes, file.exports)?;
+    put_text_section(alloc, &mut bytes, 8, file.start)?;
     put_text_section(alloc, &mut bytes, 9, file.elems)?;
     put_bodies(alloc, &mut bytes, file.bodies)?;
     put_text_section(alloc, &mut bytes, 11, file.datas)?;

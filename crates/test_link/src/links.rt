@@ -1,5 +1,5 @@
-// Sets of a main module and at most one library, from the rules of DynamicLinking.md of the WebAssembly tool conventions: each link fault
-// once, and each form of an import with its wrong kinds.
+// Sets of a main module and at most one library, from the rules of DynamicLinking.md of the WebAssembly tool conventions: each link fault,
+// each form of an import with its wrong kinds, each definition with its wrong types, and which of two faults comes first.
 ghost use Rattle.std.specs.Prelude.{◌≡◌, ◌≤◌, [], ◌∷◌, IfOk};
 ghost use Rattle.wasm_form.specs.declared.types.ValType.TheVariants.{I32};
 ghost use Rattle.spec_linking.specs.Gathering.{IsSet};
@@ -67,7 +67,82 @@ an import's fault comes before a name of two members: no_duplicates | needing ty
 too many pages: pages=1 | . 00 11 dylink 06 f0 a2 04 00 00 00 nullary start0 = memory limit 3 1
 a stack for which there are too few pages: pages=1 | plain nullary start0 = memory limit 2 1
 too many entries: . 00 11 dylink 06 00 00 80 80 3c 00 nullary start0 = table limit 983041 983040
-a fresh slot too many: . 00 11 dylink 06 00 00 ff ff 3b 00 nullary with_f = table limit 983041 983040";
+a fresh slot too many: . 00 11 dylink 06 00 00 ff ff 3b 00 nullary with_f = table limit 983041 983040
+a memory that is a table: plain types 02 10 01 'env 'memory 01 70 00 00 start0 = ill typed 0 Other memory
+a memory that is a global: plain types 02 0f 01 'env 'memory 03 7f 00 start0 = ill typed 0 Other memory
+a table that is a function: plain types 02 21 01 'env '__indirect_function_table 00 00 start1 = ill typed 0 Other \
+__indirect_function_table
+a table that is a memory: plain types 02 22 01 'env '__indirect_function_table 02 00 00 start0 = ill typed 0 Other \
+__indirect_function_table
+a table that is a global: plain types 02 22 01 'env '__indirect_function_table 03 7f 01 start0 = ill typed 0 Other \
+__indirect_function_table
+a stack pointer: plain types 02 18 01 'env '__stack_pointer 03 7f 01 start0 = entry 0
+a stack pointer of 64 bits: plain types 02 18 01 'env '__stack_pointer 03 7e 01 start0 = ill typed 0 Other __stack_pointer
+a stack pointer that is a function: plain types 02 17 01 'env '__stack_pointer 00 00 start1 = ill typed 0 Other __stack_pointer
+a stack pointer that is a table: plain types 02 19 01 'env '__stack_pointer 01 70 00 00 start0 = ill typed 0 Other __stack_pointer
+a memory base: plain types 02 16 01 'env '__memory_base 03 7f 00 start0 = entry 0
+a memory base of 64 bits: plain types 02 16 01 'env '__memory_base 03 7e 00 start0 = ill typed 0 Other __memory_base
+a memory base that is a function: plain types 02 15 01 'env '__memory_base 00 00 start1 = ill typed 0 Other __memory_base
+a table base: plain types 02 15 01 'env '__table_base 03 7f 00 start0 = entry 0
+a table base of 64 bits: plain types 02 15 01 'env '__table_base 03 7e 00 start0 = ill typed 0 Other __table_base
+a table base that is a memory: plain types 02 15 01 'env '__table_base 02 00 00 start0 = ill typed 0 Other __table_base
+a cell of 64 bits: needing types 02 0e 01 'GOT.mem 'g 03 7e 01 start0 = ill typed 0 Mem g
+a cell that is a function: needing types 02 0d 01 'GOT.mem 'g 00 00 start1 = ill typed 0 Mem g
+a cell that is a memory: needing types 02 0e 01 'GOT.mem 'g 02 00 00 start0 = ill typed 0 Mem g
+a cell that stays, of nothing: needing types 02 0e 01 'GOT.mem 'w 03 7f 00 start0 = ill typed 0 Mem w
+a slot's cell of 64 bits: needing types 02 0f 01 'GOT.func 'f 03 7e 01 start0 = ill typed 0 Func f
+a slot's cell that is a function: needing types 02 0e 01 'GOT.func 'f 00 00 start1 = ill typed 0 Func f
+a slot's cell that is a table: needing types 02 10 01 'GOT.func 'f 01 70 00 00 start0 = ill typed 0 Func f
+a slot's cell that stays, of nothing: needing types 02 0f 01 'GOT.func 'w 03 7f 00 start0 = ill typed 0 Func w
+a function that is a global: needing types 02 0a 01 'env 'g 03 7f 00 start0 = unresolved 0 Other g
+a function that is a table: needing types 02 0b 01 'env 'f 01 70 00 00 start0 = unresolved 0 Other f
+a function that is a memory: needing types 02 0a 01 'env 'f 02 00 00 start0 = unresolved 0 Other f
+a host function that is a global: plain types 02 0d 01 'sys 'host 03 7f 00 start0 = unresolved 0 Other host
+the end of the memory: plain types 02 17 01 'GOT.mem '__heap_end 03 7f 01 start0 = entry 0
+the end of the memory as a function: plain types 02 12 01 'env '__heap_end 00 00 start1 = ill typed 0 Function __heap_end
+the base of the heap as a slot: plain types 02 19 01 'GOT.func '__heap_base 03 7f 01 start0 = ill typed 0 Func __heap_base
+a slot of the loader's: plain types 02 15 01 'GOT.func 'dlerror 03 7f 01 start0 = entry 0
+an address of the loader's: plain types 02 14 01 'GOT.mem 'dlerror 03 7f 01 start0 = ill typed 0 Mem dlerror
+a host function's slot: plain types 02 12 01 'GOT.func 'host 03 7f 01 start0 = entry 0
+a weak address: . 00 19 dylink 04 00 00 00 00 04 08 01 'env 'w 01 types 02 0e 01 'GOT.mem 'w 03 7f 01 start0 = entry 0
+a weak slot: . 00 19 dylink 04 00 00 00 00 04 08 01 'env 'w 01 types 02 0f 01 'GOT.func 'w 03 7f 01 start0 = entry 0
+a weak host function of another module: . 00 19 dylink 04 00 00 00 00 04 08 01 'env 'w 01 types 02 09 01 'sys 'w 00 00 start1 = unresolved \
+0 Function w
+a weak name that isn't bound weakly: . 00 19 dylink 04 00 00 00 00 04 08 01 'env 'w 02 types 02 09 01 'env 'w 00 00 start1 = unresolved 0 \
+Function w
+a function that is weak by its address: . 00 1d dylink 04 00 00 00 00 04 0c 01 'GOT.mem 'w 01 types 02 09 01 'env 'w 00 00 start1 = entry 1
+a function that is weak elsewhere: . 00 19 dylink 04 00 00 00 00 04 08 01 'sys 'w 01 types 02 09 01 'env 'w 00 00 start1 = unresolved 0 \
+Function w
+a weak function that is there: . 00 21 dylink 04 00 00 00 00 02 06 01 'a.so 04 08 01 'env 'f 01 types 02 09 01 'env 'f 00 01 start1 = ill \
+typed 0 Function f
+all faults: no_duplicates | . 00 23 dylink 09 80 80 80 20 00 80 80 3c 00 02 06 01 'a.so 03 05 01 01 74 80 02 types 02 09 01 'env 'w 00 00 \
+03 04 03 01 01 00 05 03 01 00 01 07 34 03 '__wasm_apply_data_relocs 00 01 '__wasm_call_ctors 00 02 'f 00 03 0a 0e 03 04 00 20 00 0b 04 00 \
+20 00 0b 02 00 0b = own memory 0
+all but the first: no_duplicates | . 00 23 dylink 09 80 80 80 20 00 80 80 3c 00 02 06 01 'a.so 03 05 01 01 74 80 02 types 02 09 01 'env 'w \
+00 00 03 04 03 01 01 00 07 34 03 '__wasm_apply_data_relocs 00 01 '__wasm_call_ctors 00 02 'f 00 03 0a 0e 03 04 00 20 00 0b 04 00 20 00 0b \
+02 00 0b = thread-local 0 t
+from relocations on: no_duplicates | . 00 1c dylink 09 80 80 80 20 00 80 80 3c 00 02 06 01 'a.so types 02 09 01 'env 'w 00 00 03 04 03 01 \
+01 00 07 34 03 '__wasm_apply_data_relocs 00 01 '__wasm_call_ctors 00 02 'f 00 03 0a 0e 03 04 00 20 00 0b 04 00 20 00 0b 02 00 0b = ill \
+typed 0 Function __wasm_apply_data_relocs
+from constructors on: no_duplicates | . 00 1c dylink 09 80 80 80 20 00 80 80 3c 00 02 06 01 'a.so types 02 09 01 'env 'w 00 00 03 04 03 00 \
+01 00 07 34 03 '__wasm_apply_data_relocs 00 01 '__wasm_call_ctors 00 02 'f 00 03 0a 0c 03 02 00 0b 04 00 20 00 0b 02 00 0b = ill typed 0 \
+Function __wasm_call_ctors
+from imports on: no_duplicates | . 00 1c dylink 09 80 80 80 20 00 80 80 3c 00 02 06 01 'a.so types 02 09 01 'env 'w 00 00 03 04 03 00 00 \
+00 07 34 03 '__wasm_apply_data_relocs 00 01 '__wasm_call_ctors 00 02 'f 00 03 0a 0a 03 02 00 0b 02 00 0b 02 00 0b = unresolved 0 Function \
+w
+from names of two members on: no_duplicates | . 00 1c dylink 09 80 80 80 20 00 80 80 3c 00 02 06 01 'a.so types 03 04 03 00 00 00 07 34 03 \
+'__wasm_apply_data_relocs 00 00 '__wasm_call_ctors 00 01 'f 00 02 0a 0a 03 02 00 0b 02 00 0b 02 00 0b = duplicate f 0 1
+from the entry on: . 00 1c dylink 09 80 80 80 20 00 80 80 3c 00 02 06 01 'a.so types 03 04 03 00 00 00 07 34 03 '__wasm_apply_data_relocs \
+00 00 '__wasm_call_ctors 00 01 'f 00 02 0a 0a 03 02 00 0b 02 00 0b 02 00 0b = no entry
+both limits: . 00 1c dylink 09 80 80 80 20 00 80 80 3c 00 02 06 01 'a.so types 03 04 03 00 00 00 07 39 03 '__wasm_apply_data_relocs 00 00 \
+'__wasm_call_ctors 00 01 '_start 00 02 0a 0a 03 02 00 0b 02 00 0b 02 00 0b = memory limit 1026 1024
+the limit of the table alone: . 00 19 dylink 06 00 00 80 80 3c 00 02 06 01 'a.so types 03 04 03 00 00 00 07 39 03 \
+'__wasm_apply_data_relocs 00 00 '__wasm_call_ctors 00 01 '_start 00 02 0a 0a 03 02 00 0b 02 00 0b 02 00 0b = table limit 983041 983040
+two imports: needing types 02 11 02 'env 'w 00 00 'env 'v 00 00 03 02 01 00 07 0a 01 '_start 00 02 0a 04 01 02 00 0b = unresolved 0 \
+Function w
+an import before the next member's memory: . 00 17 dylink 04 00 00 00 00 02 06 01 'b.so types 02 09 01 'env 'w 00 00 start1 = unresolved 0 \
+Function w
+the next member's memory before the entry: . 00 17 dylink 04 00 00 00 00 02 06 01 'b.so nullary = own memory 1";
 
 // What a part of a module stands for: a first section with a record of four zeros, or with one that needs the library; types; and a function
 // without parameters and results that is exported as the entry, after no imported function or after one.
@@ -110,11 +185,15 @@ fn file_of(alloc: Global, text: &str) -> Result<Vec<u8>, AllocError> {
     Ok(bytes)
 }
 
-// A main module, with the library at hand.
+// Another library, which has a memory of its own.
+const OWNER: &str = "plain 05 03 01 00 01";
+
+// A main module, with the libraries at hand.
 fn files_of(alloc: Global, main: &str) -> Result<MemFiles, Fail> {
     let mut files = MemFiles::new(alloc);
     files.add(alloc, "m", &file_of(alloc, main)?)?;
     files.add(alloc, "a.so", &file_of(alloc, LIBRARY)?)?;
+    files.add(alloc, "b.so", &file_of(alloc, OWNER)?)?;
     Ok(files)
 }
 
@@ -211,6 +290,6 @@ fn links_or_first_faults(rt: HostRuntime) -> Result<(), Fail> {
         let told = answer_to(rt.alloc(), options, main)?;
         assert_eq!(rt; told.as_str(), answer, "{line}");
     }
-    assert_eq!(rt; ROWS.lines().count(), 44);
+    assert_eq!(rt; ROWS.lines().count(), 96);
     Ok(())
 }

@@ -1,3 +1,4 @@
+mod disk;
 mod files;
 mod limits;
 mod places;

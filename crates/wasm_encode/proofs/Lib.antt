@@ -6,8 +6,12 @@ pub mod Segments
 pub mod Chains
 pub mod Forms
 pub mod Weights
+pub mod Units
+pub mod Lengths
+pub mod Light
 pub mod SectionForms
 pub mod Costs
 pub mod Begun
 pub mod SectionSteps
 pub mod Steps
+pub mod Sizes

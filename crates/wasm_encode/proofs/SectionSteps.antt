@@ -198,7 +198,7 @@ list_too_long m id make unmake one (whole {w} s h) = contents (make w s) (λ v t
 list_too_long m id make unmake one (part {x} has long) = one x has long
 
 -- the whole module
-all_written : {m : Module} {cs : List Custom} {bytes : List ℕ} (b : IsBegun m 12 13 cs bytes) → b.before ≡ m.customs
+pub all_written : {m : Module} {cs : List Custom} {bytes : List ℕ} (b : IsBegun m 12 13 cs bytes) → b.before ≡ m.customs
 all_written b = sym (b.all ∙ ap (λ l. b.before ++ l) (placed_none (omega arith) b.placed) ∙ append-nil b.before)
 
 fits_whole : {m : Module} {cs : List Custom} {bytes : List ℕ} {id p : ℕ} → IsBegun m 12 13 cs bytes → IsTooLong m id p → ⊥
@@ -209,6 +209,12 @@ fits_whole b (custom {c} has long) = b.customs_fit c (subst (λ l. Contains l c)
 module _ {m : Module} {cs : List Custom} {bytes : List ℕ} (b : IsBegun m 12 13 cs bytes) where
   spelled_whole : SpellsModule m bytes
   spelled_whole = record { sections = b.sections; parts = b.parts; count = b.count; end = b.end; chain = b.chain; fields = b.fields ∙ ap (so_far m 12) (all_written b) }
+
+  -- what the sections of a whole module cost
+  pub accounts_whole : Accounts m (length b.sections)
+  accounts_whole =
+      let fields : b.end.fields ≡ m = b.fields ∙ ap (so_far m 12) (all_written b) in
+      subst (λ f. Accounts f (length b.sections)) fields (accounts_of b.chain)
 
   least_whole : (other : List ℕ) → SpellsModule m other → length bytes ≤ length other
   least_whole other s =

@@ -4,3 +4,5 @@ pub mod SectionSizes
 pub mod Written
 pub mod Begun
 pub mod ListSections
+pub mod Weight
+pub mod Laws

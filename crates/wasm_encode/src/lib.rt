@@ -5,6 +5,7 @@ mod code;
 mod fault;
 mod import;
 mod instr;
+mod laws;
 mod module;
 mod part;
 mod section;
@@ -12,4 +13,5 @@ mod segment;
 mod types;
 
 pub use fault::EncodeFault;
+pub use laws::light_modules_fit;
 pub use module::encode;

@@ -1,10 +1,11 @@
 // Modules (section 5.5.16).
-ghost use Rattle.std.specs.Prelude.{◌≡◌, ℕ, suc, ◌<◌, ◌^◌, ◌⊎◌, length, All, OnOk, IfOk};
+ghost use Rattle.std.specs.Prelude.{◌≡◌, ℕ, suc, ◌+◌, ◌*◌, ◌<◌, ◌≤◌, ◌^◌, ◌⊎◌, length, All, OnOk, IfOk};
 ghost use Rattle.wasm_form.specs.Number.{IsShortest};
 ghost use Rattle.spec_binary.specs.Modules.{header, SpellsModule};
 ghost use Rattle.spec_binary.specs.WellFormed.{IsWellFormed};
 ghost use Rattle.wasm_encode.specs.SectionSizes.{IsFirstTooLong};
 ghost use Rattle.wasm_encode.specs.Begun.{IsBegun};
+ghost use Rattle.wasm_encode.specs.Weight.{weight};
 ghost use Rattle.wasm_encode.specs.ListSections.{IsListStep};
 
 use crate::fault::EncodeFault;
@@ -111,6 +112,7 @@ fn put_back(
     requires formed { IsWellFormed m.now }
     requires begun { IsBegun m.now 7 8 customs.now to.old.items }
     ensures ok { OnOk result (IsShortest (SpellsModule m.now) to.new.items) }
+    ensures size { OnOk result (length to.new.items ≤ 16 * weight m.now + 256) }
     ensures fit { OnOk result ((id : ℕ) → IsFirstTooLong m.now id → ⊥) }
     ensures long { (id : ℕ) → result ≡ Err (EncodeFault.SectionSize id) → IsFirstTooLong m.now id }
 {
@@ -127,6 +129,7 @@ fn put_sections(alloc: Global, m: &Module, to: &mut Vec<u8>) -> Result<(), Encod
     requires formed { IsWellFormed m.now }
     requires begun { to.old.items ≡ header }
     ensures ok { OnOk result (IsShortest (SpellsModule m.now) to.new.items) }
+    ensures size { OnOk result (length to.new.items ≤ 16 * weight m.now + 256) }
     ensures fit { OnOk result ((id : ℕ) → IsFirstTooLong m.now id → ⊥) }
     ensures long { (id : ℕ) → result ≡ Err (EncodeFault.SectionSize id) → IsFirstTooLong m.now id }
 {
@@ -143,6 +146,7 @@ pub fn encode(alloc: Global, m: &Module) -> Result<Vec<u8>, EncodeFault>
     requires { IsWellFormed m.now }
     ensures spelled { IfOk result (λ bytes. SpellsModule m.now bytes.items) }
     ensures shortest { IfOk result (λ bytes. IsShortest (SpellsModule m.now) bytes.items) }
+    ensures size { IfOk result (λ bytes. length bytes.items ≤ 16 * weight m.now + 256) }
     ensures too_long { (id : ℕ) → result ≡ Err (EncodeFault.SectionSize id) → IsFirstTooLong m.now id }
     ensures only_too_long { (id : ℕ) → IsFirstTooLong m.now id → (result ≡ Err (EncodeFault.SectionSize id)) ⊎ (result ≡ Err EncodeFault.Memory) }
 {

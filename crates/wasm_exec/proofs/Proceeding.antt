@@ -1,5 +1,5 @@
 -- A driven run after further steps, and at its end.
-use Rattle.std.proofs.Common.{◌≡◌, ℕ, ◌<◌, ◌≤◌, true, false, true≢false, refl, List, [], ◌++◌, append-nil, Option, Some, None, Result, Ok, Err, IfOk, is_some, sym, ap, ◌∙◌, subst, arith}
+use Rattle.std.proofs.Common.{◌≡◌, ℕ, ◌<◌, ◌≤◌, true, false, true≢false, refl, [], ◌++◌, append-nil, Option, Some, None, Result, Ok, Err, IfOk, is_some, sym, ap, ◌∙◌, subst, arith}
 use Rattle.std.specs.Prelude.{◌&&◌}
 use Rattle.wasm_form.specs.declared.memory.Memory.{Memory}
 use Rattle.wasm_runtime.specs.declared.Asked.{Asked}

@@ -1,6 +1,5 @@
 -- The run of a loaded set, seen as a run of a course.
-use Rattle.std.proofs.Common.{◌≡◌, ℕ, suc, ◌<◌, ◌≤◌, List, [], map, slice_get, Option, Some, None, Result, Ok, Err, IfOk, OnOk, OnErr, ◌++◌, ◌∷◌, true, false, ◌⊎◌, inl, inr, refl, sym, ap, ◌∙◌, subst}
-use Rattle.std.specs.List.{All}
+use Rattle.std.proofs.Common.{◌≡◌, ℕ, ◌≤◌, List, [], map, slice_get, Option, Some, Result, Ok, Err, IfOk, OnOk, OnErr, ◌++◌, ◌∷◌, true, false, ◌⊎◌, inl, inr, refl, sym, ap, ◌∙◌, subst}
 use Rattle.wasm_form.specs.declared.memory.Memory.{Memory}
 use Rattle.wasm_form.specs.declared.runtime.Trap.{Trap}
 use Rattle.wasm_runtime.specs.declared.Answer.{Answer}
@@ -20,7 +19,6 @@ use Rattle.dyl_frames.specs.Steps.{TellsStatus}
 use Rattle.dyl_link.specs.Kept.{Kept, IsLinked}
 use Rattle.dyl_store.specs.Stores.{StoreRun, recorded_of, new_run}
 use Rattle.dyl_store.specs.Stores as store
-use Rattle.wasm_exec.specs.declared.program.Program.{Program}
 use Rattle.wasm_exec.specs.declared.program.Program.TheVariants as program
 use Rattle.wasm_exec.specs.Courses.{Course, Origin, OfModule, OfSet, course_of}
 use Rattle.wasm_exec.specs.Recordings.{after, reached, status_at, memory_at, IsAt, is_waiting, StepMade, RunStepped, ArgumentsFit, Advances, Awaits, with_answer}

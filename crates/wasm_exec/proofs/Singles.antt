@@ -1,5 +1,5 @@
 -- The run of one module, seen as a run of a course.
-use Rattle.std.proofs.Common.{◌≡◌, ℕ, suc, ◌<◌, ◌≤◌, List, [], map, slice_get, Option, Some, None, Result, Ok, Err, IfOk, OnOk, OnErr, ◌++◌, ◌∷◌, true, false, ◌⊎◌, inl, inr, refl, sym, ap, ◌∙◌, subst}
+use Rattle.std.proofs.Common.{◌≡◌, ℕ, suc, ◌≤◌, List, [], map, slice_get, Option, Result, Ok, Err, IfOk, OnOk, OnErr, ◌++◌, ◌∷◌, true, false, ◌⊎◌, inl, inr, refl, sym, ap, ◌∙◌, subst}
 use Rattle.wasm_form.specs.declared.memory.Memory.{Memory}
 use Rattle.wasm_form.specs.declared.module.Module.{Module}
 use Rattle.wasm_form.specs.declared.runtime.Trap.{Trap}
@@ -20,7 +20,6 @@ use Rattle.wasm_single.specs.Starts.{opened}
 use Rattle.wasm_single.specs.Cores as cores
 use Rattle.wasm_single.specs.Singles.{SingleRun, recorded_of}
 use Rattle.wasm_single.specs.Singles as single
-use Rattle.wasm_exec.specs.declared.program.Program.{Program}
 use Rattle.wasm_exec.specs.declared.program.Program.TheVariants as program
 use Rattle.wasm_exec.specs.Courses.{Course, Origin, OfModule, OfSet, course_of}
 use Rattle.wasm_exec.specs.Recordings.{after, reached, status_at, memory_at, IsAt, is_waiting, TellsStatus, StepMade, RunStepped, ArgumentsFit, Advances, Awaits, with_answer}

@@ -1,6 +1,6 @@
 -- A run as it is kept by its steps and its recorded answers, and what comes of each call that is made of it.
-use Rattle.std.specs.Prelude.{◌≡◌, ◌≤◌, ◌<◌, ◌⊎◌, ℕ, suc, List, [], ◌∷◌, ◌++◌, Option, None, Some, Bool, true, false, IsTrue, IfSome}
-use Rattle.spec_runs.specs.Systems.{Status, Moving, Waits, Returned, Exited, Trapped, Ran, run}
+use Rattle.std.specs.Prelude.{◌≡◌, ◌≤◌, ◌<◌, ◌⊎◌, ℕ, suc, List, [], ◌∷◌, ◌++◌, Option, None, Bool, true, false, IsTrue, IfSome}
+use Rattle.spec_runs.specs.Systems.{Status, Moving, Ran, run}
 use Rattle.wasm_form.specs.declared.runtime.Trap.{Trap}
 use Rattle.wasm_runtime.specs.declared.Answer.{Answer}
 use Rattle.spec_runtime.specs.Memories.{MemoryInstance}

@@ -1,5 +1,5 @@
 // The run of one module, or of a linked set.
-ghost use Rattle.std.specs.Prelude.{◌≡◌, ◌<◌, ◌≤◌, false, IfOk, OnOk};
+ghost use Rattle.std.specs.Prelude.{◌≡◌, ◌<◌, ◌≤◌, IfOk, OnOk};
 ghost use Rattle.spec_hosts.specs.Devices.{devices, KeepsFronts};
 ghost use Rattle.host_calls.specs.Embedders.{names_of, embedder_of, embedder};
 ghost use Rattle.wasm_exec.specs.Executed.{HaveIntegers, IsLinkedOver, Executes, ExecutesKept};
@@ -62,7 +62,7 @@ pub fn execute<I: Source, O: Sink, E: Sink, A: Ambient>(
 
 /// Runs a linked set for a program with these arguments, of which the first one is its name, for at most so many steps: main is opened
 /// with the members that it needs, and then its entry is called. Host calls are answered as for one module. The set was linked over the
-/// names that `host_names` gives for the table, and no member uses the functions of the loader. `Memory` where no memory could be had.
+/// names that `host_names` gives for the table. `Memory` where no memory could be had.
 pub fn execute_set<I: Source, O: Sink, E: Sink, A: Ambient>(
     alloc: Global,
     linked: &Linked,
@@ -77,7 +77,6 @@ pub fn execute_set<I: Source, O: Sink, E: Sink, A: Ambient>(
     requires most { most < 18446744073709551615 }
     requires names { IsLinkedOver linked.now (names_of table.now) }
     requires integers { HaveIntegers (names_of table.now) }
-    requires alone { linked.now.uses_loader ≡ false }
     ensures executes { ExecutesKept linked.now (embedder_of args table.now) most result (devices (I.seen input.old) (O.seen output.old) (E.seen errors.old) (A.seen ambient.old)) (devices (I.seen input.new) (O.seen output.new) (E.seen errors.new) (A.seen ambient.new)) }
     ensures fronts { KeepsFronts (devices (I.seen input.old) (O.seen output.old) (E.seen errors.old) (A.seen ambient.old)) (devices (I.seen input.new) (O.seen output.new) (E.seen errors.new) (A.seen ambient.new)) }
 {

@@ -16,4 +16,4 @@ mod view;
 pub use exports::exported_function;
 pub use instance::Instance;
 pub use rooms::rooms_of;
-pub use tables::tables_of;
+pub use tables::{copy_between, tables_of};

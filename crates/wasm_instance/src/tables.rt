@@ -35,7 +35,7 @@ pub fn tables_of(alloc: Global, types: &[TableType]) -> Result<Vec<Slots>, Memor
 
 /// Copies `n` entries from place `start` of table `from` to place `at` of table `to`; `TableBounds` where they pass the end
 /// of either, and nothing is written (section 4.4.6, table.copy).
-pub(crate) fn copy_between(
+pub fn copy_between(
     tables: &mut [Slots],
     to: usize,
     from: usize,

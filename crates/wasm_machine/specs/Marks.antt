@@ -24,22 +24,31 @@ LiesUnder (suc n) [] = ⊥
 LiesUnder (suc n) (Active a ∷ frames) = Unit {0}
 LiesUnder (suc n) (Marked tag ∷ frames) = ⊥
 
--- so many marks, numbered from the lowest on
+-- so many marks, numbered from the lowest on, each over what is said to lie under it
+abbrev pub AreMarksOver : (ℕ → List (Frame ℕ) → Type 0) → ℕ → List (Frame ℕ) → Type 0
+AreMarksOver L n [] = n ≡ 0
+AreMarksOver L n (Active a ∷ frames) = AreMarksOver L n frames
+AreMarksOver L zero (Marked tag ∷ frames) = ⊥
+AreMarksOver L (suc n) (Marked tag ∷ frames) = (tag ≡ n) × L n frames × AreMarksOver L n frames
+
 abbrev pub AreMarks : ℕ → List (Frame ℕ) → Type 0
-AreMarks n [] = n ≡ 0
-AreMarks n (Active a ∷ frames) = AreMarks n frames
-AreMarks zero (Marked tag ∷ frames) = ⊥
-AreMarks (suc n) (Marked tag ∷ frames) = (tag ≡ n) × LiesUnder n frames × AreMarks n frames
+AreMarks = AreMarksOver LiesUnder
 
 -- a call stack with something on it, and so many marks
-pub record IsStack (n : ℕ) (frames : List (Frame ℕ)) : Type 0 where
+pub record IsStackOver (L : ℕ → List (Frame ℕ) → Type 0) (n : ℕ) (frames : List (Frame ℕ)) : Type 0 where
   pub some : frames ≢ []
-  pub marks : AreMarks n frames
+  pub marks : AreMarksOver L n frames
+
+abbrev pub IsStack : ℕ → List (Frame ℕ) → Type 0
+IsStack = IsStackOver LiesUnder
 
 -- what a step leaves on the call stack; a function of the loader is called only where there are those
+abbrev pub KeepsOver : (ℕ → List (Frame ℕ) → Type 0) → {Units : Type 0} → View Units → ℕ → Next Units ℕ → Type 0
+KeepsOver L V n (Goes us memory frames) = IsStackOver L n frames
+KeepsOver L V n (Asks entry args frames) = IsStackOver L n frames
+KeepsOver L V n (Loads which args frames) = (V.has_loader ≡ true) × IsStackOver L n frames
+KeepsOver L V n Ends = Unit {0}
+KeepsOver L V n (Traps why) = Unit {0}
+
 abbrev pub KeepsUnder : {Units : Type 0} → View Units → ℕ → Next Units ℕ → Type 0
-KeepsUnder V n (Goes us memory frames) = IsStack n frames
-KeepsUnder V n (Asks entry args frames) = IsStack n frames
-KeepsUnder V n (Loads which args frames) = (V.has_loader ≡ true) × IsStack n frames
-KeepsUnder V n Ends = Unit {0}
-KeepsUnder V n (Traps why) = Unit {0}
+KeepsUnder V n next = KeepsOver LiesUnder V n next

@@ -52,6 +52,13 @@ impl Space {
         self.pages
     }
 
+    /// All bytes, from address 0 on.
+    pub fn bytes(&self) -> &[u8]
+        ensures { result.now ≡ self.now.bytes }
+    {
+        &self.bytes
+    }
+
     /// Adds so many pages of zeros and answers the old size in pages, or 4,294,967,295 exactly where the new
     /// size would pass the maximum (section 4.4.7, memory.grow). Without memory for them `Memory`, and the memory
     /// stays as it was.

@@ -15,7 +15,7 @@ returns c =
       slots = c.slots_fit.ensures.slots;
     } in
     record {
-      formed = λ L is. merged_formed L (known laws L is.shape is.links) is.pages is.loader;
+      formed = λ L is. merged_formed L (known laws L is.shape is.links) is.pages;
       shape = λ L is. merged_shaped L is.shape;
-      short = λ L is brief. merged_short L (known laws L is.shape is.links) is.pages is.loader brief;
+      short = λ L is brief. merged_short L (known laws L is.shape is.links) is.pages brief;
     }

@@ -1,4 +1,4 @@
-use Rattle.merge_module.proofs.Known.{HasLaws, known}
+use Rattle.merge_module.proofs.Known.{HasLaws, HasCodeLaws, known}
 use Rattle.merge_module.proofs.Headline.{merges}
 use Rattle.merge_module.proofs.spelled_modules_merge.Goals as goal
 
@@ -13,4 +13,11 @@ returns c L is =
       sizes = c.slots_fit.ensures.sizes;
       slots = c.slots_fit.ensures.slots;
     } in
-    merges L (known laws L is.shape is.links) is.pages is.loader is.hosts
+    let code : HasCodeLaws = record {
+      runs = c.sets_run_as_merged.ensures.runs;
+      unused = c.unused_loader_is_not_called.ensures;
+      answered = c.loader_calls_are_answered.ensures;
+      generated = c.generated_code_is_typed.ensures;
+      loader = c.loader_code_is_typed.ensures;
+    } in
+    merges code L (known laws L is.shape is.links) is.pages is.hosts

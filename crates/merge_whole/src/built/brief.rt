@@ -1,19 +1,20 @@
 // Whether the merged module of a linked set can be written, whatever is declared.
 ghost use Rattle.std.specs.Prelude.{◌≡◌, ◌+◌, ◌∷◌, [], ◌≤◌, map, IfOk, OnOk};
 ghost use Rattle.host_table.specs.Names.{host_name_of};
-ghost use Rattle.merge_start.specs.Listed.{IsOfSet};
-ghost use Rattle.merge_module.specs.Laws.{hosts_bulk};
+ghost use Rattle.merge_module.specs.Laws.{hosts_bulk, names_bulk};
+ghost use Rattle.merge_whole.specs.Counts.{members_of};
 ghost use Rattle.merge_whole.specs.Brief.{KeptIsBrief};
 
 use crate::built::counts::end_of;
 use dyl_link::Linked;
+use dyl_search::Member;
 use host_table::HostName;
 use wasm_form::Memory;
 
-// The most that host functions may take, and the most members that are opened with the main module.
+// The most that host functions may take, and the most bytes that members' names may have.
 const MOST_BULK: u32 = 33_554_432;
 
-const MOST_MEMBERS: usize = 262_144;
+const MOST_NAMES: u32 = 16_777_216;
 
 fn host_bulk(bulk: u32, h: &HostName) -> Result<u32, Memory>
     ensures { IfOk result (λ n. n ≡ bulk + hosts_bulk (host_name_of h.now ∷ [])) }
@@ -46,15 +47,31 @@ fn check_hosts(hosts: &[HostName]) -> Result<(), Memory>
     Ok(())
 }
 
-// The names and types of host functions take no more than 32 MiB, or there is no memory for them.
+// The bytes of members' names.
+fn names_bulk(members: &[Member]) -> Result<u32, Memory>
+    ensures { IfOk result (λ n. n ≡ names_bulk (members_of members.now)) }
+{
+    let mut bulk: u32 = 0;
+    for member in members {
+        bulk = end_of(bulk, member.name.as_str().len())?;
+    }
+    Ok(bulk)
+}
+
+fn check_names(members: &[Member]) -> Result<(), Memory>
+    ensures { OnOk result (names_bulk (members_of members.now) ≤ 16777216) }
+{
+    if names_bulk(members)? > MOST_NAMES {
+        return Err(Memory);
+    }
+    Ok(())
+}
+
+// The names and types of host functions take no more than 32 MiB and the members' names no more than 16 MiB, or there is no memory for them.
 pub(crate) fn check_brief(linked: &Linked) -> Result<(), Memory>
-    requires { IsOfSet linked.now }
     ensures { OnOk result (KeptIsBrief linked.now) }
 {
     check_hosts(linked.hosts())?;
-    let startup = linked.set().startup.items();
-    if startup.len() > MOST_MEMBERS || linked.construct_order(0).len() > MOST_MEMBERS {
-        return Err(Memory);
-    }
+    check_names(linked.set().members.items())?;
     Ok(())
 }

@@ -1,5 +1,5 @@
 // The bodies of the merged module.
-ghost use Rattle.std.specs.Prelude.{◌≡◌, ◌++◌, ◌∷◌, [], ◌<◌, ◌^◌, map, IfOk, OnOk};
+ghost use Rattle.std.specs.Prelude.{◌≡◌, ◌++◌, ◌<◌, ◌^◌, map, Some, IfOk, OnOk};
 ghost use Rattle.spec_linking.specs.LinkedSets.{LinkedSet};
 ghost use Rattle.dyl_link.specs.Kept.{IsLinked};
 ghost use Rattle.merge_match.specs.Joined.{renumbered_code};
@@ -7,15 +7,20 @@ ghost use Rattle.merge_start.specs.Words.{Starts};
 ghost use Rattle.merge_start.specs.Listed.{IsOfSet, AreListed};
 ghost use Rattle.merge_index.specs.Kept.{numbers_in};
 ghost use Rattle.merge_module.specs.MergedModule.{merged_codes};
-ghost use Rattle.merge_whole.specs.Built.{joined, HasBodies, bodies_of, traps_of, code_of};
+ghost use Rattle.merge_match.specs.Renumbering as renumbering;
+ghost use Rattle.merge_dl.specs.Listed.{AreDlNumbers};
+ghost use Rattle.merge_module.specs.MergedModule.{finders_of, with_loader, loader_codes};
+ghost use Rattle.merge_whole.specs.Built.{joined, HasBodies, bodies_of, traps_of, code_of, generated_codes};
+ghost use Rattle.merge_whole.specs.Given.{HasLoader};
 
 use crate::built::copies::copied_code;
 use crate::built::counts::end_of;
 use crate::built::stubs::{imported_types, put_traps};
 use dyl_link::Linked;
 use dyl_search::Member;
+use merge_dl::{DlNumbers, find_functions, length_function, loader_functions};
 use merge_index::Numbers;
-use merge_start::{Part, StartNumbers, entry_function, phase_functions};
+use merge_start::{Part, StartNumbers, entry_function, open_functions, phase_functions};
 use std::alloc::Global;
 use wasm_form::{Code, List, Memory};
 
@@ -91,22 +96,85 @@ fn own_codes(alloc: Global, linked: &Linked, n: &Numbers) -> Result<Vec<Code>, M
     Ok(codes)
 }
 
-// Those of the members, of the stubs, of the phases of each member and of the entry function.
+// Those of the functions of the loader, and of what they call.
+fn loader_codes(
+    alloc: Global,
+    linked: &Linked,
+    s: &StartNumbers,
+    d: &DlNumbers,
+) -> Result<Vec<Code>, Memory>
+    requires set { IsOfSet linked.now }
+    requires first { s.now.first_function < 2 ^ 31 }
+    ensures { IfOk result (λ c. (L : LinkedSet) (N : renumbering.Numbers) (x : Starts) → IsLinked L linked.now → AreListed L s.now N x → AreDlNumbers L d.now x (finders_of L x) → c.items ≡ loader_codes L N x) }
+{
+    let mut codes = Vec::new(alloc);
+    let opens = open_functions(alloc, linked, s)?;
+    put_parts(alloc, &mut codes, opens.items())?;
+    codes.push(length_function(alloc)?.code)?;
+    let finds = find_functions(alloc, linked, d)?;
+    put_parts(alloc, &mut codes, finds.items())?;
+    let calls = loader_functions(alloc, linked, d)?;
+    put_parts(alloc, &mut codes, calls.items())?;
+    Ok(codes)
+}
+
+// The same, where a member uses the loader.
+fn put_loader(
+    alloc: Global,
+    to: &mut Vec<Code>,
+    linked: &Linked,
+    s: &StartNumbers,
+    loader: &Option<DlNumbers>,
+) -> Result<(), Memory>
+    requires set { IsOfSet linked.now }
+    requires first { s.now.first_function < 2 ^ 31 }
+    ensures { OnOk result ((L : LinkedSet) (N : renumbering.Numbers) (x : Starts) → IsLinked L linked.now → AreListed L s.now N x → HasLoader L x loader.now → to.new.items ≡ to.old.items ++ with_loader L (loader_codes L N x)) }
+{
+    match loader {
+        None => Ok(()),
+        Some(d) => {
+            let mut codes = loader_codes(alloc, linked, s, d)?;
+            to.append(&mut codes)?;
+            Ok(())
+        }
+    }
+}
+
+// Those of the phases of each member, of the entry function, and of the loader.
+fn put_generated(
+    alloc: Global,
+    to: &mut Vec<Code>,
+    linked: &Linked,
+    s: &StartNumbers,
+    loader: &Option<DlNumbers>,
+) -> Result<(), Memory>
+    requires set { IsOfSet linked.now }
+    requires guard { s.now.guard < 2 ^ 31 }
+    requires first { s.now.first_function < 2 ^ 31 }
+    ensures { OnOk result ((L : LinkedSet) (N : renumbering.Numbers) (x : Starts) → IsLinked L linked.now → AreListed L s.now N x → HasLoader L x loader.now → to.new.items ≡ to.old.items ++ generated_codes L N x) }
+{
+    let phases = phase_functions(alloc, linked, s)?;
+    put_parts(alloc, to, phases.items())?;
+    let entry = entry_function(alloc, linked, s)?;
+    to.push(entry.code)?;
+    put_loader(alloc, to, linked, s, loader)?;
+    Ok(())
+}
+
+// Those of the members, of the stubs, and those that are generated.
 pub(crate) fn merged_codes(
     alloc: Global,
     linked: &Linked,
     n: &Numbers,
     s: &StartNumbers,
+    loader: &Option<DlNumbers>,
 ) -> Result<List<Code>, Memory>
     requires set { IsOfSet linked.now }
     requires guard { s.now.guard < 2 ^ 31 }
     requires first { s.now.first_function < 2 ^ 31 }
-    ensures { IfOk result (λ c. (L : LinkedSet) (x : Starts) → IsLinked L linked.now → AreListed L s.now (numbers_in n.now) x → c ≡ merged_codes L (numbers_in n.now) x) }
+    ensures { IfOk result (λ c. (L : LinkedSet) (x : Starts) → IsLinked L linked.now → AreListed L s.now (numbers_in n.now) x → HasLoader L x loader.now → c ≡ merged_codes L (numbers_in n.now) x) }
 {
     let mut codes = own_codes(alloc, linked, n)?;
-    let phases = phase_functions(alloc, linked, s)?;
-    put_parts(alloc, &mut codes, phases.items())?;
-    let entry = entry_function(alloc, linked, s)?;
-    codes.push(entry.code)?;
+    put_generated(alloc, &mut codes, linked, s, loader)?;
     Ok(List::of(codes))
 }

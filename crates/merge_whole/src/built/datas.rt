@@ -8,12 +8,9 @@ ghost use Rattle.merge_whole.specs.Built.{joined, datas_of, texts_at, datas_in};
 
 use dyl_link::Linked;
 use dyl_search::Member;
+use spec_loading::error_texts;
 use std::alloc::Global;
 use wasm_form::{Data, DataMode, Expr, Instr, List, Memory};
-
-// The texts of the loader's errors, each with a zero byte after it.
-const ERROR_TEXTS: &[u8; 101] =
-    b"dlopen: bad flags\0dlopen: no such module\0dlsym: bad handle\0dlsym: no such symbol\0dlclose: bad handle\0";
 
 fn passive_data(alloc: Global, d: &Data) -> Result<Data, Memory>
     ensures { IfOk result (λ x. x ≡ passive_data d.now) }
@@ -43,11 +40,10 @@ fn put_members(alloc: Global, to: &mut Vec<Data>, members: &[Member]) -> Result<
     Ok(())
 }
 
-#[tactic(auto, unfolding(spec_loading::specs::Texts::error_texts))]
 fn texts(alloc: Global) -> Result<List<u8>, Memory>
     ensures { IfOk result (λ bytes. bytes ≡ error_texts) }
 {
-    let bytes = ERROR_TEXTS.to_vec(alloc)?;
+    let bytes = error_texts().to_vec(alloc)?;
     Ok(List::of(bytes))
 }
 

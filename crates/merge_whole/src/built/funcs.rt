@@ -4,7 +4,7 @@ ghost use Rattle.spec_linking.specs.LinkedSets.{LinkedSet};
 ghost use Rattle.dyl_link.specs.Kept.{IsLinked};
 ghost use Rattle.merge_index.specs.Kept.{numbers_in};
 ghost use Rattle.merge_module.specs.MergedModule.{merged_funcs};
-ghost use Rattle.merge_whole.specs.Built.{joined, funcs_of, stub_types_of, four_of, funcs_in};
+ghost use Rattle.merge_whole.specs.Built.{joined, funcs_of, stub_types_of, four_of, one_of, funcs_for_loader, generated_funcs_in, funcs_in};
 
 use crate::built::counts::end_of;
 use crate::built::imports::nullary_number;
@@ -72,20 +72,67 @@ fn put_phases(to: &mut Vec<u32>, t: u32, members: &[Member]) -> Result<(), Memor
     Ok(())
 }
 
+// One function for each member.
+fn put_each(to: &mut Vec<u32>, t: u32, members: &[Member]) -> Result<(), Memory>
+    ensures { OnOk result (to.new.items ≡ to.old.items ++ joined (one_of t) 0 members.now) }
+{
+    for _member in members {
+        to.push(t)?;
+    }
+    Ok(())
+}
+
+// `dlopen`, `dlsym`, `dlclose` and `dlerror`.
+fn put_calls(to: &mut Vec<u32>, binary: u32, unary: u32, handle: u32) -> Result<(), Memory>
+    ensures { OnOk result (to.new.items ≡ to.old.items ++ (binary ∷ binary ∷ unary ∷ handle ∷ [])) }
+{
+    to.push(binary)?;
+    to.push(binary)?;
+    to.push(unary)?;
+    to.push(handle)?;
+    Ok(())
+}
+
+// The functions of the loader and what they call, where the types of generated functions have the numbers from one on.
+fn put_loader(to: &mut Vec<u32>, nullary: u32, members: &[Member]) -> Result<(), Memory>
+    ensures { OnOk result (to.new.items ≡ to.old.items ++ funcs_for_loader nullary members.now) }
+{
+    let handle = end_of(nullary, 1)?;
+    let unary = end_of(nullary, 2)?;
+    let binary = end_of(nullary, 3)?;
+    let search = end_of(nullary, 4)?;
+    put_each(to, handle, members)?;
+    to.push(unary)?;
+    put_each(to, search, members)?;
+    put_calls(to, binary, unary, handle)?;
+    Ok(())
+}
+
+fn put_generated(to: &mut Vec<u32>, linked: &Linked) -> Result<(), Memory>
+    ensures { OnOk result (to.new.items ≡ to.old.items ++ generated_funcs_in linked.now) }
+{
+    let members = linked.set().members.items();
+    let nullary = nullary_number(linked)?;
+    put_phases(to, nullary, members)?;
+    to.push(nullary)?;
+    if linked.uses_loader() {
+        put_loader(to, nullary, members)?;
+    }
+    Ok(())
+}
+
 fn funcs(alloc: Global, linked: &Linked, n: &Numbers) -> Result<Vec<u32>, Memory>
     ensures { IfOk result (λ x. x.items ≡ funcs_in linked.now (numbers_in n.now)) }
 {
     let members = linked.set().members.items();
-    let nullary = nullary_number(linked)?;
     let mut funcs = Vec::new(alloc);
     put_members(&mut funcs, n, members)?;
     put_stubs(alloc, &mut funcs, linked, n, members)?;
-    put_phases(&mut funcs, nullary, members)?;
-    funcs.push(nullary)?;
+    put_generated(&mut funcs, linked)?;
     Ok(funcs)
 }
 
-// Those of the members, the stubs, the phases of each member and the entry function.
+// Those of the members, the stubs, the phases of each member, the entry function and those of the loader.
 pub(crate) fn merged_funcs(alloc: Global, linked: &Linked, n: &Numbers) -> Result<List<u32>, Memory>
     ensures { IfOk result (λ x. (L : LinkedSet) → IsLinked L linked.now → x ≡ merged_funcs L (numbers_in n.now)) }
 {

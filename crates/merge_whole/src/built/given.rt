@@ -7,8 +7,10 @@ ghost use Rattle.merge_whole.specs.Given.{IsGiven};
 
 use crate::built::elems::merged_elems;
 use crate::built::globals::merged_globals;
+use crate::built::loader::loader_numbers;
 use crate::built::starts::set_starts;
 use dyl_link::Linked;
+use merge_dl::DlNumbers;
 use merge_index::Numbers;
 use merge_start::StartNumbers;
 use std::alloc::Global;
@@ -18,6 +20,7 @@ use wasm_form::{Elem, GlobalDef, List, Memory};
 pub(crate) struct Given {
     pub numbers: Numbers,
     pub starts: StartNumbers,
+    pub loader: Option<DlNumbers>,
     pub globals: List<GlobalDef>,
     pub elems: List<Elem>,
 }
@@ -31,10 +34,12 @@ pub(crate) fn make_given(alloc: Global, linked: &Linked) -> Result<Given, Memory
     let numbers = Numbers::of(alloc, linked)?;
     let (globals, guard) = merged_globals(alloc, linked, &numbers)?;
     let starts = set_starts(alloc, linked, &numbers, guard)?;
+    let loader = loader_numbers(alloc, linked, &numbers, guard)?;
     let elems = merged_elems(alloc, linked, &numbers)?;
     Ok(Given {
         numbers,
         starts,
+        loader,
         globals,
         elems,
     })

@@ -10,6 +10,7 @@ ghost use Rattle.merge_index.specs.Kept.{numbers_in};
 ghost use Rattle.merge_start.specs.Listed.{IsOfSet};
 ghost use Rattle.merge_module.specs.MergedModule.{number_global, merged_globals};
 ghost use Rattle.merge_whole.specs.Counts.{members_of};
+ghost use Rattle.merge_whole.specs.Built.{where_used};
 ghost use Rattle.merge_whole.specs.GlobalDefs.{value_by, own_by, cells_by, globals_by, all_globals};
 
 use crate::built::constants::{constant, constant_instr, zero_of};
@@ -237,10 +238,21 @@ fn all_globals(alloc: Global, linked: &Linked, n: &Numbers) -> Result<Vec<Global
     Ok(list)
 }
 
+// A guard for each member.
 fn put_guards(to: &mut Vec<GlobalDef>, alloc: Global, members: &[Member]) -> Result<(), Memory>
     ensures { OnOk result (to.new.items ≡ to.old.items ++ map (λ x. number_global true 0) (members_of members.now)) }
 {
     for _member in members {
+        to.push(number_global(alloc, true, 0)?)?;
+    }
+    Ok(())
+}
+
+// The number of the last error, where a member uses the loader.
+fn put_error(to: &mut Vec<GlobalDef>, alloc: Global, linked: &Linked) -> Result<(), Memory>
+    ensures { OnOk result (to.new.items ≡ to.old.items ++ where_used linked.now (number_global true 0 ∷ [])) }
+{
+    if linked.uses_loader() {
         to.push(number_global(alloc, true, 0)?)?;
     }
     Ok(())
@@ -259,5 +271,6 @@ pub(crate) fn merged_globals(
     let mut list = all_globals(alloc, linked, n)?;
     let guard = end_of(0, list.len())?;
     put_guards(&mut list, alloc, linked.set().members.items())?;
+    put_error(&mut list, alloc, linked)?;
     Ok((List::of(list), guard))
 }

@@ -4,7 +4,7 @@ ghost use Rattle.host_table.specs.Names.{host_name_of};
 ghost use Rattle.spec_linking.specs.LinkedSets.{LinkedSet};
 ghost use Rattle.dyl_link.specs.Kept.{IsLinked};
 ghost use Rattle.merge_module.specs.MergedModule.{host_imports, merged_imports};
-ghost use Rattle.merge_whole.specs.Built.{joined, types_of, nullary_in, import_of, imports_in};
+ghost use Rattle.merge_whole.specs.Built.{joined, types_of, generated_in, nullary_in, import_of, imports_in};
 
 use crate::built::copies::copied_text;
 use crate::built::counts::end_of;
@@ -24,7 +24,14 @@ fn type_count(members: &[Member]) -> Result<u32, Memory>
     Ok(count)
 }
 
-// The number of the type of generated functions.
+// How many types generated functions have.
+fn generated_count(linked: &Linked) -> usize
+    ensures { result ≡ length (generated_in linked.now) }
+{
+    if linked.uses_loader() { 5 } else { 1 }
+}
+
+// The number of the first type of generated functions.
 pub(crate) fn nullary_number(linked: &Linked) -> Result<u32, Memory>
     ensures { IfOk result (λ n. n ≡ nullary_in linked.now) }
 {
@@ -60,7 +67,7 @@ fn host_imports(alloc: Global, first: u32, hosts: &[HostName]) -> Result<Vec<Imp
 fn imports(alloc: Global, linked: &Linked) -> Result<Vec<Import>, Memory>
     ensures { IfOk result (λ x. x.items ≡ imports_in linked.now) }
 {
-    let first = end_of(nullary_number(linked)?, 1)?;
+    let first = end_of(nullary_number(linked)?, generated_count(linked))?;
     let imports = host_imports(alloc, first, linked.hosts())?;
     Ok(imports)
 }

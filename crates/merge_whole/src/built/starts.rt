@@ -1,5 +1,5 @@
 // The numbers that generated code names.
-ghost use Rattle.std.specs.Prelude.{◌≡◌, ◌+◌, ◌*◌, ◌<◌, ◌^◌, ◌++◌, length, map, option_map, None, IfOk, OnOk};
+ghost use Rattle.std.specs.Prelude.{◌≡◌, ◌-◌, ◌<◌, ◌^◌, ◌++◌, map, option_map, IfOk, OnOk};
 ghost use Rattle.std.specs.List.{range_with_len};
 ghost use Rattle.spec_loading.specs.declared.task.Phase.TheVariants as phases;
 ghost use Rattle.spec_loading.specs.Phases.{phase_function};
@@ -7,11 +7,11 @@ ghost use Rattle.spec_loading.specs.Members.{from_members};
 ghost use Rattle.spec_linking.specs.LinkedSets.{LinkedSet};
 ghost use Rattle.dyl_link.specs.Kept.{IsLinked};
 ghost use Rattle.merge_index.specs.Kept.{numbers_in};
-ghost use Rattle.merge_index.specs.Numbering.{numbers_of, starts_of};
+ghost use Rattle.merge_index.specs.Numbering.{first_phase, numbers_of, starts_of};
 ghost use Rattle.merge_start.specs.Listed.{AreListed};
 ghost use Rattle.merge_whole.specs.Counts.{members_of, tables_by, calls_by, starts_by};
 
-use crate::built::counts::{Space, end_of, stubs_total, table_count, total};
+use crate::built::counts::{Space, end_of, table_count, total};
 use dyl_link::Linked;
 use dyl_search::Member;
 use merge_index::Numbers;
@@ -20,13 +20,13 @@ use std::alloc::Global;
 use wasm_form::{List, Memory, Module};
 use wasm_instance::exported_function;
 
-// So many numbers, from 0 on.
+// The numbers from one on, up to another.
 #[tactic(auto, using(crate::proofs::CountLists::range_end))]
-fn range(alloc: Global, count: u32) -> Result<List<u32>, Memory>
-    ensures { IfOk result (λ list. list ≡ range_with_len 0 count) }
+pub(crate) fn range(alloc: Global, first: u32, end: u32) -> Result<List<u32>, Memory>
+    ensures { IfOk result (λ list. list ≡ range_with_len first (end - first)) }
 {
     let mut list = Vec::new(alloc);
-    for n in 0..count {
+    for n in first..end {
         list.push(n)?;
     }
     Ok(List::of(list))
@@ -97,27 +97,24 @@ fn calls(alloc: Global, members: &[Member], n: &Numbers) -> Result<List<Option<u
     Ok(List::of(list))
 }
 
-// The numbers, where the guards come from a number on.
+// The numbers, where the guards come from one on.
 fn starts_by(
     alloc: Global,
     linked: &Linked,
     n: &Numbers,
     guard: u32,
 ) -> Result<StartNumbers, Memory>
-    ensures { IfOk result (λ s. s ≡ starts_by linked.now (numbers_in n.now) guard) }
+    ensures { IfOk result (λ s. s ≡ starts_by linked.now (numbers_in n.now) guard n.now.first_phase) }
 {
     let members = linked.set().members.items();
-    let hosts = end_of(0, linked.hosts().len())?;
-    let codes = total(members, Space::Codes, hosts)?;
-    let first_function = stubs_total(linked, codes)?;
     let calls = calls(alloc, members, n)?;
     let slots = end_of(0, members.len())?;
-    let elems = range(alloc, total(members, Space::Elems, slots)?)?;
-    let datas = range(alloc, total(members, Space::Datas, 0)?)?;
+    let elems = range(alloc, 0, total(members, Space::Elems, slots)?)?;
+    let datas = range(alloc, 0, total(members, Space::Datas, 0)?)?;
     let tables = tables(alloc, members, n)?;
     Ok(StartNumbers {
         guard,
-        first_function,
+        first_function: n.first_phase(),
         calls,
         entry: n.named(0, linked.entry()),
         elems,
@@ -135,7 +132,7 @@ pub(crate) fn set_starts(
     n: &Numbers,
     guard: u32,
 ) -> Result<StartNumbers, Memory>
-    ensures listed { IfOk result (λ s. (L : LinkedSet) → IsLinked L linked.now → numbers_in n.now ≡ numbers_of L → guard ≡ (starts_of L).guards → AreListed L s (numbers_of L) (starts_of L)) }
+    ensures listed { IfOk result (λ s. (L : LinkedSet) → IsLinked L linked.now → numbers_in n.now ≡ numbers_of L → n.now.first_phase ≡ first_phase L → guard ≡ (starts_of L).guards → AreListed L s (numbers_of L) (starts_of L)) }
     ensures guard { IfOk result (λ s. s.guard < 2 ^ 31) }
     ensures first { IfOk result (λ s. s.first_function < 2 ^ 31) }
 {

@@ -5,12 +5,13 @@ ghost use Rattle.host_table.specs.Names.{host_name_of};
 ghost use Rattle.spec_linking.specs.LinkedSets.{LinkedSet};
 ghost use Rattle.dyl_link.specs.Kept.{IsLinked};
 ghost use Rattle.merge_module.specs.MergedModule.{merged_types};
-ghost use Rattle.merge_whole.specs.Built.{joined, types_of, host_type, types_in};
+ghost use Rattle.merge_whole.specs.Built.{joined, types_of, host_type, generated_in, types_in};
 
 use crate::built::copies::copied_type;
 use dyl_link::Linked;
 use dyl_search::Member;
 use host_table::HostName;
+use merge_dl::loader_types;
 use std::alloc::Global;
 use wasm_form::{FuncType, List, Memory};
 
@@ -51,17 +52,29 @@ fn put_nullary(alloc: Global, to: &mut Vec<FuncType>) -> Result<(), Memory>
     Ok(())
 }
 
+// Those of generated functions.
+fn put_generated(alloc: Global, to: &mut Vec<FuncType>, linked: &Linked) -> Result<(), Memory>
+    ensures { OnOk result (to.new.items ≡ to.old.items ++ generated_in linked.now) }
+{
+    put_nullary(alloc, to)?;
+    if linked.uses_loader() {
+        let mut types = loader_types(alloc)?;
+        to.append(&mut types)?;
+    }
+    Ok(())
+}
+
 fn types(alloc: Global, linked: &Linked) -> Result<Vec<FuncType>, Memory>
     ensures { IfOk result (λ x. x.items ≡ types_in linked.now) }
 {
     let mut types = Vec::new(alloc);
     put_members(alloc, &mut types, linked.set().members.items())?;
-    put_nullary(alloc, &mut types)?;
+    put_generated(alloc, &mut types, linked)?;
     put_hosts(alloc, &mut types, linked.hosts())?;
     Ok(types)
 }
 
-// Those of the members, that of generated functions, and those of the host functions.
+// Those of the members, of generated functions, and of the host functions.
 pub(crate) fn merged_types(alloc: Global, linked: &Linked) -> Result<List<FuncType>, Memory>
     ensures { IfOk result (λ x. (L : LinkedSet) → IsLinked L linked.now → x ≡ merged_types L) }
 {

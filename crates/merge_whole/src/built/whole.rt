@@ -43,7 +43,7 @@ fn module_with(alloc: Global, linked: &Linked, given: Given) -> Result<Module, M
     let tables = merged_tables(alloc, linked)?;
     let memories = merged_memories(alloc, linked)?;
     let exports = entry_exports(alloc, starting)?;
-    let codes = merged_codes(alloc, linked, &given.numbers, &given.starts)?;
+    let codes = merged_codes(alloc, linked, &given.numbers, &given.starts, &given.loader)?;
     let datas = merged_datas(alloc, linked)?;
     let count = end_of(0, datas.items().len())?;
     Ok(Module {

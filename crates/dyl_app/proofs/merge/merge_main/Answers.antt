@@ -6,20 +6,20 @@ use Rattle.dyl_app.proofs.Merging.{merge_serves}
 use Rattle.dyl_app.proofs.Refusing.{merge_refused}
 use Rattle.dyl_app.proofs.merge.merge_main.Goals as goal
 
-pub merge_linked-requires-clause-set : goal.merge_linked-requires-clause-set
-merge_linked-requires-clause-set g c =
+pub write_merged-requires-clause-set : goal.write_merged-requires-clause-set
+write_merged-requires-clause-set g c =
     let got = c.in-Ok.ensures.got in
     (linked (names_of c.args.host.now) (links.options_of c.args.link.now) got.set, got.linked)
 
-pub merge_linked-requires-clause-pages : goal.merge_linked-requires-clause-pages
-merge_linked-requires-clause-pages g c = let got = c.in-Ok.ensures.got in pages_below (links.options_of c.args.link.now) got.set (names_of c.args.host.now) c.in-Ok.linked got.linked c.requires.1
+pub write_merged-requires-clause-pages : goal.write_merged-requires-clause-pages
+write_merged-requires-clause-pages g c = let got = c.in-Ok.ensures.got in pages_below (links.options_of c.args.link.now) got.set (names_of c.args.host.now) c.in-Ok.linked got.linked c.requires.1
 
-pub merge_linked-requires-clause-hosts : goal.merge_linked-requires-clause-hosts
-merge_linked-requires-clause-hosts g c = let got = c.in-Ok.ensures.got in hosts_supported (links.options_of c.args.link.now) got.set (names_of c.args.host.now) c.in-Ok.linked got.linked got.integers
+pub write_merged-requires-clause-hosts : goal.write_merged-requires-clause-hosts
+write_merged-requires-clause-hosts g c = let got = c.in-Ok.ensures.got in hosts_supported (links.options_of c.args.link.now) got.set (names_of c.args.host.now) c.in-Ok.linked got.linked got.integers
 
 pub returns-in-Ok : goal.returns-in-Ok
 returns-in-Ok g c = λ before now.
-    merge_serves (names_of c.args.host.now) c.args.set.now c.args.link.now c.args.out.now c.in-Ok.linked _ _ _ c.in-Ok.ensures c.merge_linked.result (rw c.items.ensures at c.merge_linked.ensures) before now
+    merge_serves (names_of c.args.host.now) c.args.set.now c.args.link.now c.args.out.now c.in-Ok.linked _ _ _ c.in-Ok.ensures c.write_merged.result c.write_merged.ensures before now
 
 pub returns-in-Err : goal.returns-in-Err
 returns-in-Err g c = λ before now.

@@ -3,8 +3,11 @@ use Rattle.std.specs.List.{All}
 use Rattle.spec_loading.specs.LoadedSet.{set_loading}
 use Rattle.dyl_search.specs.declared.set.ClosedSet.{ClosedSet}
 use Rattle.dyl_frames.specs.declared.task.Task.{Task}
-use Rattle.dyl_store.proofs.Opened.{whole_over, holds_over, alone_over, core_at}
+use Rattle.dyl_store.proofs.Opened.{whole_over, holds_over, some_members, startup_opens, core_at}
 use Rattle.dyl_store.proofs.opening.core_of.Goals as goal
+
+pub member_tasks-requires-clause-member : goal.member_tasks-requires-clause-member
+member_tasks-requires-clause-member c = some_members c.requires.set.0 c.args.linked.now c.requires.set.1
 
 pub new-requires : goal.new-requires
 new-requires c κs =
@@ -15,10 +18,9 @@ new-requires c κs =
     let opened = c.requires.opened in
     let whole = whole_over L k h w opened c.linked_code_is_there.ensures.code c.store_is_in_range.ensures in
     let holds = holds_over L k h w opened c.linked_code_is_there.ensures.opening in
-    let alone = alone_over L k h w opened c.requires.alone in
     let many : length c.items.result.now ≡ length k.set.members = ap length (c.items.ensures ∙ ap (λ (S : ClosedSet). S.members) c.set.ensures) in
     let tasks = subst (λ (n : ℕ). All (λ (t : Task). t.member < n) c.in_ok-tasks.tasks.items) (sym many) c.in_ok-tasks.ensures.members in
-    ((refl, tt), (whole, (holds, (alone, tasks))))
+    ((refl, tt), (whole, (holds, tasks)))
 
 pub returns-clause-core : goal.returns-clause-core
 returns-clause-core c = c.in_ok-core.ensures.core
@@ -27,4 +29,4 @@ pub returns-clause-opened : goal.returns-clause-opened
 returns-clause-opened c = λ L h.
     let k = c.args.linked.now in
     let many : length c.items.result.now ≡ length k.set.members = ap length (c.items.ensures ∙ ap (λ (S : ClosedSet). S.members) c.set.ensures) in
-    core_at L k h c.args.world.now c.requires.opened (length c.items.result.now) many _ (c.in_ok-tasks.ensures.tasks L h) c.in_ok-core.core (c.in_ok-core.ensures.opened (set_loading L))
+    core_at L k h c.args.world.now c.requires.opened (length c.items.result.now) many _ (c.in_ok-tasks.ensures.tasks L h ∙ startup_opens L k h) c.in_ok-core.core (c.in_ok-core.ensures.opened (set_loading L))

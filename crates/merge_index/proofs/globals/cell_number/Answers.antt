@@ -1,5 +1,5 @@
-use Rattle.std.proofs.Common.{◌≡◌, ◌+◌, ◌∷◌, [], ap, sym, ◌∙◌}
-use Rattle.merge_index.specs.Globals.{CellKey, cell_named, cells_in, with_cells, cell_number}
+use Rattle.std.proofs.Common.{◌+◌, ap, sym, ◌∙◌}
+use Rattle.merge_index.specs.Globals.{CellKey, cell_named, cells_in, cell_number}
 use Rattle.merge_index.proofs.Keys.{key_eq, key_is, keys_are, number_is, told, same_number}
 use Rattle.merge_index.proofs.globals.cell_number.Goals as goal
 

@@ -13,13 +13,13 @@ use Rattle.merge_whole.proofs.sets.merge_set.Goals as goal
 pub encoded-requires-clause-formed : goal.encoded-requires-clause-formed
 encoded-requires-clause-formed c =
     let set = c.requires.set in
-    formed set.0 c.args.linked.now set.1 c.requires.loader c.requires.pages c.requires.hosts c.in_ok-check_brief.ensures c.merged_modules_are_formed.ensures.formed
+    formed set.0 c.args.linked.now set.1 c.requires.pages c.requires.hosts c.in_ok-check_brief.ensures c.merged_modules_are_formed.ensures.formed
     c.in_ok-module.module (c.in_ok-module.ensures set.0 set.1)
 
 pub encoded-requires-clause-short : goal.encoded-requires-clause-short
 encoded-requires-clause-short c =
     let set = c.requires.set in
-    short set.0 c.args.linked.now set.1 c.requires.loader c.requires.pages c.requires.hosts c.in_ok-check_brief.ensures c.merged_modules_are_formed.ensures.short
+    short set.0 c.args.linked.now set.1 c.requires.pages c.requires.hosts c.in_ok-check_brief.ensures c.merged_modules_are_formed.ensures.short
     c.in_ok-module.module (c.in_ok-module.ensures set.0 set.1)
 
 pub encoded-requires-clause-customs : goal.encoded-requires-clause-customs
@@ -33,8 +33,8 @@ returns-clause-merged c = all c.encoded.result c.encoded.ensures.spelled
     all : (r : Result (Vec ℕ Global) MergeFault) → IfOk r (λ bytes. SpellsModule c.in_ok-module.module bytes.items)
         → IfOk r (λ bytes. (L : LinkedSet) → IsLinked L c.args.linked.now → Merges L bytes.items)
     all (Ok bytes) spelled = λ L h.
-        merges L c.args.linked.now h c.requires.loader c.requires.pages c.requires.hosts c.in_ok-check_brief.ensures c.bytes_spell_one_module.ensures
-        c.spelled_modules_merge.ensures c.merged_modules_are_formed.ensures.shape c.in_ok-module.module (c.in_ok-module.ensures L h) bytes.items spelled
+        merges L c.args.linked.now h c.requires.pages c.requires.hosts c.in_ok-check_brief.ensures c.bytes_spell_one_module.ensures
+        c.spelled_modules_merge.ensures c.merged_modules_are_formed.ensures.formed c.merged_modules_are_formed.ensures.shape c.in_ok-module.module (c.in_ok-module.ensures L h) bytes.items spelled
     all (Err e) spelled = tt
 
 pub returns-clause-long : goal.returns-clause-long
@@ -47,5 +47,5 @@ pub returns-clause-only_long : goal.returns-clause-only_long
 returns-clause-only_long c = λ id L h too.
     absurd
     (never_first_long (merged_module L)
-    (short L c.args.linked.now h c.requires.loader c.requires.pages c.requires.hosts c.in_ok-check_brief.ensures c.merged_modules_are_formed.ensures.short (merged_module L) refl)
+    (short L c.args.linked.now h c.requires.pages c.requires.hosts c.in_ok-check_brief.ensures c.merged_modules_are_formed.ensures.short (merged_module L) refl)
     refl id too)

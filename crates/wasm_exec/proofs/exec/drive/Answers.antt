@@ -1,9 +1,7 @@
 -- What came of the run, at each of its ends.
-use Rattle.std.proofs.Common.{◌≡◌, ◌∙◌, ap, sym, subst, Ok, arith}
+use Rattle.std.proofs.Common.{◌≡◌, arith}
 use Rattle.std.proofs.lemmas.Result.{err_from_is_err_and}
-use Rattle.spec_runtime.specs.Recorded.{Recorded}
 use Rattle.wasm_exec.specs.Programs.{recorded_of}
-use Rattle.wasm_exec.specs.Driving.{ran_of}
 use Rattle.wasm_exec.proofs.Proceeding.{finished, cut_here}
 use Rattle.wasm_exec.proofs.exec.drive.Goals as goal
 

@@ -1,7 +1,6 @@
 -- The run begins at the opening state of the set.
-use Rattle.std.proofs.Common.{◌≡◌, ap}
+use Rattle.std.proofs.Common.{ap}
 use Rattle.std.proofs.lemmas.Result.{err_from_is_err_and}
-use Rattle.spec_hosts.specs.Devices.{devices}
 use Rattle.spec_hosts.proofs.Fronts.{fronts_itself}
 use Rattle.host_calls.specs.Embedders.{embedder_of}
 use Rattle.dyl_store.specs.Stores.{recorded_of}
@@ -11,8 +10,8 @@ use Rattle.wasm_exec.proofs.Proceeding.{course_fronts}
 use Rattle.wasm_exec.proofs.Sets.{set_begins, set_opens, set_executes}
 use Rattle.wasm_exec.proofs.exec.execute_set.Goals as goal
 
-pub load-requires-clause-set : goal.load-requires-clause-set
-load-requires-clause-set g c = (c.requires.names.0, c.requires.names.1)
+pub load-requires : goal.load-requires
+load-requires g c = (c.requires.names.0, c.requires.names.1)
 
 pub run_program-requires-clause-fresh : goal.run_program-requires-clause-fresh
 run_program-requires-clause-fresh g c = ap recorded_of c.in_ok-store.ensures

@@ -1,10 +1,9 @@
 -- The run is driven from its opening state.
-use Rattle.std.proofs.Common.{◌≡◌, ◌∙◌, Ok, Err, refl, ap, sym, subst, slice_get, zero-le}
+use Rattle.std.proofs.Common.{◌≡◌, ◌∙◌, ap, sym}
 use Rattle.std.proofs.lemmas.Result.{err_from_is_err_and}
 use Rattle.spec_hosts.specs.Devices.{devices}
 use Rattle.host_calls.specs.Embedders.{embedder_of, embedder}
 use Rattle.wasm_exec.specs.Courses.{course_of}
-use Rattle.wasm_exec.specs.Driving.{CourseGives}
 use Rattle.wasm_exec.proofs.Beginning.{begins_driven, not_begun}
 use Rattle.wasm_exec.proofs.exec.run_program.Goals as goal
 

@@ -12,7 +12,7 @@ use Rattle.dyl_store.proofs.running.Running.enter.Goals as goal
 pub enter-requires : goal.enter-requires
 enter-requires c κs =
     let callable = subst (λ (f : ℕ). type_of (kept_view c.args.self.now.world.linked) (Own 0 f) ≡ Some nullary) (sym c.entry.ensures) (entry_nullary c.linked_functions_are_typed.ensures.entry c.args.self.now c.requires.running) in
-    ((refl, tt), (c.requires.running.core, (c.requires.marked, (c.requires.last, (callable, tt)))))
+    ((refl, tt), (c.requires.running.core, (c.requires.marked, (c.requires.last, (c.requires.entry, (callable, tt))))))
 
 pub returns-clause-stepped : goal.returns-clause-stepped
 returns-clause-stepped c =

@@ -12,5 +12,5 @@ work-requires-clause-task c = sym c.next_task.ensures.task ∙ ap (option_map ta
 pub work-requires-clause-member : goal.work-requires-clause-member
 work-requires-clause-member c = subst (λ o. IfSome o (λ t. t.member < length c.args.self.now.core.stages)) c.in-Some.is c.next_task.ensures.member
 
-pub enter-requires-clause-last : goal.enter-requires-clause-last
-enter-requires-clause-last c = none_first (top_frame c.args.self.now.core).tasks (sym (ap (option_map task_value) c.in-None.is) ∙ c.next_task.ensures.task)
+pub follow-requires-clause-last : goal.follow-requires-clause-last
+follow-requires-clause-last c = none_first (top_frame c.args.self.now.core).tasks (sym (ap (option_map task_value) c.in-None.is) ∙ c.next_task.ensures.task)

@@ -1,18 +1,21 @@
 use Rattle.std.proofs.Common.{rules, sym, ◌∙◌, ◌≡◌, true, false}
-use Rattle.dyl_store.proofs.Stepping.{moving_store, moving_stepped, linked_of, last_found, last_taken, taken_store, taken_stepped, end_so, ended_stepped, end_asks_nothing}
+use Rattle.dyl_store.proofs.Stepping.{somewhere, moving_store, moving_stepped, linked_of, last_found, last_taken, taken_store, taken_stepped, end_so, ended_stepped, end_asks_nothing}
 use Rattle.dyl_store.proofs.Arguments.{arguments_told}
 use Rattle.dyl_store.proofs.store.Store.run_step.Goals as goal
 
 pub step-requires-clause-running : goal.step-requires-clause-running
 step-requires-clause-running c = c.self.invariant.running c.if-self.false
 
+pub step-requires-clause-stands : goal.step-requires-clause-stands
+step-requires-clause-stands c = somewhere c.self.inside c.self.invariant c.if-self.false
+
 pub invariant_of-self-in-Moving : goal.invariant_of-self-in-Moving
 invariant_of-self-in-Moving c =
-    moving_store c.in-Ok.event c.args.self.now c.self.inside c.step.new.self c.steps_told.result c.self.view_is c.self.invariant c.if-self.false (sym c.standing.ensures ∙ c.in-Moving.is) c.in-Ok.ensures.stepped c.step.ensures.linked c.steps_told.ensures c.in-Ok.ensures.running
+    moving_store c.in-Ok.event c.args.self.now c.self.inside c.step.new.self c.steps_told.result c.self.view_is c.self.invariant c.if-self.false (sym c.standing.ensures ∙ c.in-Moving.is) c.in-Ok.ensures.stepped c.in-Ok.ensures.answered c.step.ensures.linked c.steps_told.ensures c.in-Ok.ensures.running
 
 pub returns-in-Ok-clause-stepped : goal.returns-in-Ok-clause-stepped
 returns-in-Ok-clause-stepped c =
-    moving_stepped c.in-Ok.event c.args.self.now c.self.inside c.step.new.self c.steps_told.result c.self.view_is c.self.invariant c.if-self.false (sym c.standing.ensures ∙ c.in-Moving.is) c.in-Ok.ensures.stepped c.step.ensures.linked c.steps_told.ensures
+    moving_stepped c.in-Ok.event c.args.self.now c.self.inside c.step.new.self c.steps_told.result c.self.view_is c.self.invariant c.if-self.false (sym c.standing.ensures ∙ c.in-Moving.is) c.in-Ok.ensures.stepped c.in-Ok.ensures.answered c.step.ensures.linked c.steps_told.ensures
 
 pub unreachable-requires : goal.unreachable-requires
 unreachable-requires c =

@@ -1,7 +1,7 @@
 use Rattle.std.proofs.Common.{◌<◌, ◌+◌, length, ap, ◌∙◌, arith}
 use Rattle.merge_index.specs.Kept.{numbers_in}
 use Rattle.merge_whole.specs.GlobalDefs.{globals_by}
-use Rattle.merge_whole.proofs.GlobalLists.{member_next}
+use Rattle.merge_dl.proofs.Making.{member_next}
 use Rattle.merge_whole.proofs.built.globals.all_globals.Goals as goal
 
 pub loop-member-preserved : goal.loop-member-preserved

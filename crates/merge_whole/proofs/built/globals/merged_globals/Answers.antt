@@ -15,9 +15,10 @@ returns-clause-globals c = λ L h numbers.
     let n = numbers_in c.args.n.now in
     let members : c.items.result.now ≡ k.set.members = c.items.ensures ∙ ap (λ (S : ClosedSet). S.members) c.set.ensures in
     c.of.ensures
-    ∙ c.in_ok-put_guards.ensures
-    ∙ ap₂ (λ (gs : List GlobalDef) (ms : List Member). gs ++ map (λ x. number_global true 0) (members_of ms)) c.in_ok-list.ensures members
-    ∙ globals_are L k h n
+    ∙ globals_are L k h n _ _
+    (c.in_ok-put_guards.ensures
+    ∙ ap₂ (λ (gs : List GlobalDef) (ms : List Member). gs ++ map (λ x. number_global true 0) (members_of ms)) c.in_ok-list.ensures members)
+    c.in_ok-put_error.ensures
     ∙ ap (merged_globals L) numbers
 
 pub returns-clause-guards : goal.returns-clause-guards

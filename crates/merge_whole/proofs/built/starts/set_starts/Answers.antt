@@ -10,10 +10,10 @@ returns c =
     let k = c.args.linked.now in
     let s = c.in_ok-starts.starts in
     record {
-      listed = λ L h numbers guard.
+      listed = λ L h numbers phase guard.
           subst (λ z. AreListed L z (numbers_of L) (starts_of L))
-          (sym (c.in_ok-starts.ensures ∙ ap (λ n. starts_by k n c.args.guard) numbers))
-          (are_listed L k h c.args.guard guard);
+          (sym (c.in_ok-starts.ensures ∙ ap (λ n. starts_by k n c.args.guard c.args.n.now.first_phase) numbers))
+          (are_listed L k h c.args.guard c.args.n.now.first_phase guard phase);
       guard = subst (λ z. z.guard < 2147483648) (sym c.in_ok-starts.ensures) c.if-guard-ge2147483648.false;
       first = c.if-starts-ge2147483648.false;
     }

@@ -21,7 +21,7 @@ returns c = λ L h g.
     (c.in_ok-exports.ensures ∙ ap entry_exports (starting_is L c.args.linked.now h s g.listed _ c.in_ok-starting.ensures))
     g.elems
     count
-    (c.in_ok-codes.ensures L (starts_of L) h (subst (λ n. AreListed L s n (starts_of L)) (sym g.numbers) g.listed)
+    (c.in_ok-codes.ensures L (starts_of L) h (subst (λ n. AreListed L s n (starts_of L)) (sym g.numbers) g.listed) g.loader
     ∙ ap (λ n. merged_codes L n (starts_of L)) g.numbers)
     (c.in_ok-datas.ensures L h)
     none

@@ -1,0 +1,108 @@
+// The opening of members, at the start and by the functions that members call for it while they run, by docs/FORMATS.md: "How a set
+// is placed and linked", "The functions of the loader".
+
+import { passingOn } from "./binary.mjs";
+
+export const LOADER_TYPES = { dlopen: "[127,127] -> [127]", dlsym: "[127,127] -> [127]", dlclose: "[127] -> [127]", dlerror: "[] -> [127]" };
+const FLAGS = 1 | 2 | 4096;
+const ERRORS = { badFlags: 1, noModule: 2, badHandle: 3, noSymbol: 4, badClose: 5 };
+const NOT_CLOSED = -1;
+
+// ---- orders of members
+
+export function breadthFirst(from) {
+  const listed = [from];
+  for (let n = 0; n < listed.length; n++) for (const other of listed[n].needs) if (!listed.includes(other)) listed.push(other);
+  return listed;
+}
+
+function postOrder(from, entered = new Set(), listed = []) {
+  entered.add(from);
+  for (const other of from.needs) if (!entered.has(other)) postOrder(other, entered, listed);
+  listed.push(from);
+  return listed;
+}
+
+// ---- the functions
+
+export class Openings {
+  // `textsAt` has the addresses of the texts of the errors.
+  constructor(program, textsAt) {
+    Object.assign(this, { program, textsAt, error: 0, open: 0 });
+    this.stages = program.linked.members.map(() => 0);
+    // what was done, for those who want to know
+    this.counts = { opened: 0, nested: 0, errors: 0, endless: 0 };
+    const given = Object.keys(LOADER_TYPES).map((name) => [name, (...words) => this[name](...words.map((word) => word >>> 0))]);
+    this.functions = passedOn(Object.fromEntries(given), LOADER_TYPES);
+  }
+
+  // Four phases over what a member reaches. Each does its work on the members that haven't come so far.
+  begin(member) {
+    const reached = breadthFirst(member);
+    const phases = [[reached, "place"], [reached, "start"], [reached, "relocate"], [postOrder(member), "construct"]];
+    this.open++;
+    phases.forEach(([members, work], before) => {
+      for (const other of members) {
+        if (this.stages[other.number] > before) continue;
+        this.stages[other.number] = before + 1;
+        this.program[work](other);
+      }
+    });
+    this.open--;
+  }
+
+  // The bytes from an address up to a zero byte, as a text; none where they spell none, and so are the name of nothing.
+  string(at) {
+    const memory = new Uint8Array(this.program.memory.buffer);
+    const end = memory.indexOf(0, at);
+    if (end < 0) {
+      this.counts.endless++;
+      throw new WebAssembly.RuntimeError("memory access out of bounds");
+    }
+    const bytes = Buffer.from(memory.subarray(at, end));
+    const text = bytes.toString();
+    return Buffer.from(text).equals(bytes) ? text : undefined;
+  }
+  isHandle(handle) {
+    return handle === 1 || this.stages[handle - 1] > 0;
+  }
+  refused(error, answer) {
+    this.error = error;
+    this.counts.errors++;
+    return answer;
+  }
+
+  dlopen(name, flags) {
+    if (name === 0) return 1;
+    const text = this.string(name);
+    if (flags & ~FLAGS) return this.refused(ERRORS.badFlags, 0);
+    const member = this.program.linked.members.find((other) => other.name === text);
+    if (!member) return this.refused(ERRORS.noModule, 0);
+    if (this.stages[member.number] === 0) this.counts.opened++;
+    if (this.open) this.counts.nested++;
+    this.begin(member);
+    return member.number + 1;
+  }
+  dlsym(handle, name) {
+    const text = this.string(name);
+    if (handle !== 0 && !this.isHandle(handle)) return this.refused(ERRORS.badHandle, 0);
+    const { members, links } = this.program.linked;
+    const found = links.searched(handle === 0 ? links.startup : breadthFirst(members[handle - 1]), text);
+    return found ? this.program.linked.place(found) : this.refused(ERRORS.noSymbol, 0);
+  }
+  dlclose(handle) {
+    return this.isHandle(handle) ? 0 : this.refused(ERRORS.badClose, NOT_CLOSED);
+  }
+  dlerror() {
+    const text = this.error ? this.textsAt[this.error - 1] : 0;
+    this.error = 0;
+    return text;
+  }
+}
+
+// The functions as a module's exports, which alone can stand in a table.
+function passedOn(functions, types) {
+  const values = (text) => text.match(/\d+/g)?.map(Number) ?? [];
+  const listed = Object.entries(types).map(([name, type]) => [name, ...type.split("->").map(values)]);
+  return new WebAssembly.Instance(new WebAssembly.Module(passingOn(listed)), { from: functions }).exports;
+}

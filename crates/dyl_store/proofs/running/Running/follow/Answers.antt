@@ -1,0 +1,22 @@
+use Rattle.std.proofs.Common.{refl, sym, ap, ◌∙◌}
+use Rattle.spec_loading.specs.LoadedSet.{set_loading}
+use Rattle.dyl_frames.specs.Tasks.{after_value}
+use Rattle.dyl_store.specs.declared.running.Running.{Running}
+use Rattle.dyl_store.proofs.Loads.{running_after}
+use Rattle.dyl_store.proofs.running.Running.follow.Goals as goal
+
+pub enter-requires-clause-entry : goal.enter-requires-clause-entry
+enter-requires-clause-entry c = sym c.follows.ensures ∙ ap after_value c.in-CallEntry.is
+
+pub hand_over-requires : goal.hand_over-requires
+hand_over-requires c κs =
+    let handle = sym c.follows.ensures ∙ ap after_value c.in-GiveHandle.is in
+    ((refl, tt), (c.requires.running.core, (c.requires.marked, (c.requires.last, handle))))
+
+pub returns-in-GiveHandle-clause-stepped : goal.returns-in-GiveHandle-clause-stepped
+returns-in-GiveHandle-clause-stepped c = λ L linked. c.hand_over.ensures.stepped (set_loading L)
+
+pub returns-in-GiveHandle-clause-running : goal.returns-in-GiveHandle-clause-running
+returns-in-GiveHandle-clause-running c =
+    let new : Running = record c.args.self.now { core = c.hand_over.new.self } in
+    running_after c.args.self.now new c.requires.running refl refl refl c.hand_over.ensures.core c.hand_over.ensures.members

@@ -1,0 +1,32 @@
+use Rattle.std.proofs.Common.{refl, sym, subst, ◌∙◌}
+use Rattle.std.proofs.lemmas.Result.{IfOk-weaker}
+use Rattle.spec_loading.specs.LoadedSet.{set_loading}
+use Rattle.wasm_machine.specs.Machines.{IsMarked}
+use Rattle.dyl_frames.specs.declared.frames.Core.{Core}
+use Rattle.dyl_store.specs.Worlds.{seen_of}
+use Rattle.dyl_store.specs.declared.running.Running.{Running}
+use Rattle.dyl_store.proofs.Loads.{loaded, running_after, steps_same}
+use Rattle.dyl_store.proofs.running.Running.next.Goals as goal
+
+pub load-requires-clause-running : goal.load-requires-clause-running
+load-requires-clause-running c =
+    let new : Running = record c.args.self.now { world = c.step.new.view; core = c.step.new.self } in
+    running_after c.args.self.now new c.requires.running refl refl c.step.ensures.fixed c.in_ok-event.ensures.core c.step.ensures.members
+
+pub load-requires-clause-marked : goal.load-requires-clause-marked
+load-requires-clause-marked c =
+    let mark = c.in_ok-event.ensures.marked (sym c.is_mark.ensures ∙ c.if-is_mark.true) in
+    subst (λ (x : Core). IsMarked x.machine) (sym mark.0) mark.2
+
+pub returns-then-is_mark-clause-stepped : goal.returns-then-is_mark-clause-stepped
+returns-then-is_mark-clause-stepped c =
+    let mark = c.in_ok-event.ensures.marked (sym c.is_mark.ensures ∙ c.if-is_mark.true) in
+    IfOk-weaker c.load.result _ _ (λ e s L linked. steps_same L e c.args.self.now c.load.new.self c.step.new.self (seen_of c.step.new.view) mark.0 mark.1 (s L linked)) c.load.ensures.stepped
+
+pub returns-clause-stepped : goal.returns-clause-stepped
+returns-clause-stepped c = λ L linked. c.in_ok-event.ensures.stepped (sym c.is_mark.ensures ∙ c.if-is_mark.false) (set_loading L) (loaded c.args.self.now c.requires.running L linked)
+
+pub returns-clause-running : goal.returns-clause-running
+returns-clause-running c =
+    let new : Running = record c.args.self.now { world = c.step.new.view; core = c.step.new.self } in
+    running_after c.args.self.now new c.requires.running refl refl c.step.ensures.fixed c.in_ok-event.ensures.core c.step.ensures.members

@@ -1,0 +1,4 @@
+mod ZeroBytes
+mod Texts
+mod Found
+mod Known

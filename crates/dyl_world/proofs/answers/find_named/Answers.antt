@@ -1,0 +1,21 @@
+use Rattle.std.proofs.Common.{◌≡◌, true, ◌∙◌, sym, arith}
+use Rattle.spec_loading.specs.LoaderAnswers.{is_handle}
+use Rattle.dyl_world.proofs.Known.{some_members, names_count, bases_count, handle_inside}
+use Rattle.dyl_world.proofs.answers.find_named.Goals as goal
+use Rattle.dyl_world.proofs.answers.find_named.Goals.{else-handle-ne0-via-then-handle-ne0+else-not-is_handle, else-handle-ne0-via-else-handle-ne0}
+
+pub handle_list-requires : goal.handle_list-requires
+handle_list-requires c =
+    let some = some_members c.requires.linked.0 _ c.requires.linked.1 in
+    let names = names_count c.requires.linked.0 _ c.requires.linked.1 in
+    let stages = c.requires.stages in
+    elim c.else-handle-ne0.branch [
+      | else-handle-ne0-via-then-handle-ne0+else-not-is_handle w ↦
+          let known : is_handle c.args.stages.now c.args.handle ≡ true = sym w.is_handle.ensures ∙ w.if-not-is_handle.false in
+          let inside = handle_inside c.args.stages.now c.args.handle (omega arith) known in
+          omega arith
+      | else-handle-ne0-via-else-handle-ne0 w ↦ omega arith
+    ]
+
+pub search-requires : goal.search-requires
+search-requires c = bases_count c.requires.linked.0 _ c.requires.linked.1

@@ -1,0 +1,93 @@
+// How members and names are found.
+ghost use Rattle.std.specs.Prelude.{◌≡◌, ◌<◌, ◌≤◌, ◌+◌, ℕ, List, Some, length};
+ghost use Rattle.std.specs.List.{position_from};
+ghost use Rattle.spec_linking.specs.Definitions.{searched};
+ghost use Rattle.spec_linking.specs.LinkedSets.{LinkedSet};
+ghost use Rattle.spec_linking.specs.Slots as slots;
+ghost use Rattle.spec_loading.specs.LoaderAnswers as loader;
+ghost use Rattle.dyl_search.specs.Gathers.{set_of};
+ghost use Rattle.dyl_scope.specs.Scopes.{meaning_of};
+ghost use Rattle.dyl_link.specs.Kept.{IsLinked, address_in};
+ghost use Rattle.dyl_world.specs.Found.{IsFound, is_named};
+
+use dyl_link::Linked;
+use dyl_scope::Def;
+use dyl_search::{ClosedSet, Member};
+use wasm_form::Ref;
+
+fn first_named(members: &[Member], name: &[u8]) -> Option<u32>
+    requires { length members.now ≤ 256 }
+    ensures { result ≡ position_from (is_named name.now) 0 members.now }
+{
+    for (m, member) in members.iter().enumerate() {
+        if name == member.name.as_str().as_bytes() {
+            return Some(m as u32);
+        }
+    }
+    None
+}
+
+// The first member that has a name.
+#[tactic(auto, using(crate::proofs::Known::named_in_set))]
+pub(crate) fn member_named(set: &ClosedSet, name: &[u8]) -> Option<u32>
+    requires { length set.now.members ≤ 256 }
+    ensures { result ≡ loader.member_named (set_of set.now) name.now }
+{
+    first_named(set.members.items(), name)
+}
+
+// The members that a handle leads to: those that start with the main module, or the closure of one.
+pub(crate) fn handle_list(linked: &Linked, handle: u32) -> &[u32]
+    requires { handle ≤ length linked.now.symbols.names }
+    ensures { (L : LinkedSet) → IsLinked L linked.now → result.now ≡ loader.handle_list L.set handle }
+{
+    if handle < 2 {
+        linked.set().startup.items()
+    } else {
+        linked.symbols().closure(handle - 1)
+    }
+}
+
+// What the first of some members defines a name as. A name that isn't UTF-8 is defined by none.
+#[tactic(auto, using(crate::proofs::Texts::no_text))]
+fn definition(linked: &Linked, members: &[u32], name: &[u8]) -> Def
+    ensures { (L : LinkedSet) → IsLinked L linked.now → meaning_of result ≡ searched L.set members.now name.now }
+{
+    match str::from_utf8(name) {
+        Ok(text) => linked.symbols().search(members, text),
+        Err(_) => Def::Nothing,
+    }
+}
+
+// The address of data at a place of the memory region of a member, if there is one of this number.
+fn address(linked: &Linked, m: u32, offset: u32) -> Option<u32>
+    requires { length linked.now.plan.bases ≡ length linked.now.set.members }
+    ensures { result ≡ address_in linked.now m offset }
+{
+    if (m as usize) < linked.set().members.items().len() {
+        Some(linked.address(m, offset))
+    } else {
+        None
+    }
+}
+
+// The slot of the function that a name is defined as, or the address of the data.
+fn number_of(linked: &Linked, found: Def) -> Option<u32>
+    requires { length linked.now.plan.bases ≡ length linked.now.set.members }
+    ensures { (L : LinkedSet) (name : List ℕ) → IsLinked L linked.now → IsFound (meaning_of found) → result ≡ slots.cell_number L name (meaning_of found) }
+{
+    match found {
+        Def::Function { module, func } => linked.slot(Ref::Own { unit: module, func }),
+        Def::Datum { module, offset } => address(linked, module, offset),
+        Def::Loader(_) | Def::HeapBase | Def::HeapEnd | Def::Host(_) | Def::Weak | Def::Nothing =>
+            None,
+    }
+}
+
+/// The slot of the function, or the address of the data, that the first of some members defines a name as, if one does.
+pub fn search(linked: &Linked, members: &[u32], name: &[u8]) -> Option<u32>
+    requires { length linked.now.plan.bases ≡ length linked.now.set.members }
+    ensures { (L : LinkedSet) → IsLinked L linked.now → result ≡ slots.cell_number L name.now (searched L.set members.now name.now) }
+{
+    number_of(linked, definition(linked, members, name))
+}

@@ -1,0 +1,322 @@
+-- The step that calls a function of the loader, and the call of the generated function, come to the same.
+use Rattle.std.proofs.Common.{◌≡◌, ℕ, zero, suc, ◌<◌, ◌≤◌, Bool, true, false, ◌||◌, List, [], ◌∷◌, length, reverse, slice_get, slice_set, nat_eq, bit_and, Option, Some, None, refl, sym, ap, subst, arith, if◌then◌else◌}
+use Rattle.std.specs.Prelude.{bytes_eq}
+use Rattle.wasm_form.specs.declared.types.FuncType.{FuncType}
+use Rattle.wasm_form.specs.declared.module.Code.{Code}
+use Rattle.wasm_form.specs.declared.module.Module.{Module}
+use Rattle.wasm_form.specs.declared.runtime.LoaderCall.{LoaderCall}
+use Rattle.wasm_form.specs.declared.runtime.LoaderCall.TheVariants.{Dlopen, Dlsym, Dlclose, Dlerror}
+use Rattle.wasm_form.specs.declared.runtime.Ref.TheVariants.{Own, Loader}
+use Rattle.wasm_form.specs.declared.runtime.Trap.{Trap}
+use Rattle.wasm_form.specs.declared.runtime.Trap.TheVariants.{MemoryBounds}
+use Rattle.wasm_runtime.specs.declared.Value.{Value}
+use Rattle.wasm_runtime.specs.declared.Value.TheVariants.{Num, Func}
+use Rattle.spec_runs.specs.Systems.{only_if, Moving}
+use Rattle.spec_binary.specs.Options.{◌>>=◌}
+use Rattle.spec_binary.specs.Indices.{function_with}
+use Rattle.spec_runtime.specs.Numerics.{W32}
+use Rattle.spec_runtime.specs.Memories.{MemoryInstance}
+use Rattle.spec_execution.specs.Values.{low, take_values}
+use Rattle.spec_execution.specs.Activations.{Activation, with_values}
+use Rattle.spec_execution.specs.Views.{loader_type}
+use Rattle.spec_execution.specs.Runs.{Frame, Next, Goes, Loads, call, calling, call_own, call_loader, arguments, entered, became}
+use Rattle.spec_execution.specs.Runs as frames
+use Rattle.spec_execution.specs.Instances.{module_hosts, module_view}
+use Rattle.spec_execution.specs.OneModule.{Starting, ModuleState, module_step}
+use Rattle.spec_linking.specs.Gathering.{IsSet}
+use Rattle.spec_linking.specs.Definitions.{searched}
+use Rattle.spec_linking.specs.Slots.{cell_number}
+use Rattle.spec_linking.specs.Links.{Links}
+use Rattle.spec_linking.specs.LinkedSets.{LinkedSet}
+use Rattle.spec_loading.specs.declared.answers.Opening.{Opening}
+use Rattle.spec_loading.specs.declared.answers.Opening.TheVariants as opening
+use Rattle.spec_loading.specs.declared.answers.Finding.{Finding}
+use Rattle.spec_loading.specs.declared.answers.Finding.TheVariants as finding
+use Rattle.spec_loading.specs.Phases.{LoaderFrame, open_frame}
+use Rattle.spec_loading.specs.Loading.{LoaderState, LoaderAnswer, answered, went}
+use Rattle.spec_loading.specs.Loading as loading
+use Rattle.spec_loading.specs.LoaderAnswers.{other_flags, begin_or, member_named, open_named, open_answer, find_named, found_number, symbol_answer, close_answer, error_answer, handle_list, with_error, opened, found, closed, string_at, is_handle}
+use Rattle.spec_loading.specs.Members.{set_view, uses_loader}
+use Rattle.spec_loading.specs.LoadedSet.{SetState, set_loading}
+use Rattle.merge_match.specs.Renumbering.{Numbers, values, activation}
+use Rattle.merge_match.specs.Bounded.{IsBounded}
+use Rattle.merge_match.specs.Matching.{Below, Alike, Met}
+use Rattle.merge_start.specs.Words.{Starts}
+use Rattle.merge_start.specs.Running.{Changing, trapped_at, Reaches, there, goes}
+use Rattle.merge_start.specs.Started.{Same}
+use Rattle.merge_start.specs.Points.{places}
+use Rattle.merge_start.proofs.Reaching.{reaches_then, silent_of, with_global}
+use Rattle.merge_start.proofs.Keeping.{guard_there, error_there, error_same}
+use Rattle.merge_start.proofs.Nested.{members_open_as_merged}
+use Rattle.merge_dl.specs.Words.{Finders, call_body}
+use Rattle.merge_dl.specs.Ready.{LoaderReady}
+use Rattle.merge_dl.specs.Laws.{LoaderIsAnswered}
+use Rattle.merge_dl.proofs.Sites.{Site, back_with, Outcome, Gives, Opens, Leads, Answers, bottom}
+use Rattle.merge_dl.proofs.Calls.{locals_of, begins_body}
+use Rattle.merge_dl.proofs.SlotWords.{position_within}
+use Rattle.merge_dl.proofs.Grounds.{Ground}
+use Rattle.merge_dl.proofs.Tries.{finding_outcome}
+use Rattle.merge_dl.proofs.Handles.{symbol_answers}
+use Rattle.merge_dl.proofs.Closes.{closing_outcome, close_answers}
+use Rattle.merge_dl.proofs.Opens.{opening_outcome, open_answers}
+use Rattle.merge_dl.proofs.Texts.{error_answers}
+
+-- ---- what comes of a call
+
+module _ (L : LinkedSet) (n : Numbers) (x : Starts) (merged : Module) where
+  abbrev Reached : Option SetState → Option ModuleState → Type 0
+  Reached o p = Met n (places L n x) (Same L n x) (module_step merged) o p
+
+  module _ (s : SetState) (t : ModuleState) (alike : Alike (Same L n x) s t) (a : Activation) (fs : List (Frame LoaderFrame))
+      (gs : List (Frame Starting)) (below : Below n (places L n x) a.results fs gs) (rest : List Value) (f : ℕ) where
+    abbrev caller : List (Frame LoaderFrame)
+    caller = frames.Active (with_values a rest) ∷ fs
+
+    abbrev site : Site
+    site = bottom f (with_values (activation n a) (values n rest)) gs
+
+    abbrev start : Changing
+    start = record { units = t.units; memory = s.run.memory }
+
+    gives_met : (t0 : ModuleState) (d : Changing) (k : ℕ) (loader : LoaderState) → d.memory ≡ s.run.memory → Same L n x loader s.run.units d.units
+        → Reaches merged t0 (back_with d site (Num k)) → Reached (Some (answered s caller (loading.Gives k loader))) (Some t0)
+    gives_met t0 d k loader memory same reached =
+        let silent = silent_of reached in
+        (silent.0, t0, back_with d site (Num k), refl, silent.1, record { memory = memory; status = refl; units = same; stacks = (gs, refl, below) })
+
+    traps_met : (t0 : ModuleState) (why : Trap) → Reaches merged t0 (trapped_at start why) → Reached (Some (answered s caller (loading.Traps why))) (Some t0)
+    traps_met t0 why reached =
+        let silent = silent_of reached in
+        (silent.0, t0, trapped_at start why, refl, silent.1, record { memory = refl; status = refl; units = alike.units; stacks = tt })
+
+    module _ (set : IsSet L.set) (d : Finders) (ready : LoaderReady L n x d merged) (used : uses_loader L ≡ true) where
+      opens_met : (t0 : ModuleState) (m : ℕ) → m < length L.set.members → Leads merged x t0 site (Opens start m)
+          → Reached (Some (answered s caller (loading.Opens (open_frame L.set m)))) (Some t0)
+      opens_met t0 m lt leads =
+          let hs : List (Frame Starting) = frames.Active (with_values (activation n a) (values n rest)) ∷ gs in
+          let opened = members_open_as_merged L n x merged set m lt (ready.opens m lt) s t.units alike.units caller hs (gs, refl, below) leads.0 leads.1 in
+          let silent = silent_of (reaches_then leads.2 (goes refl opened.1 there)) in
+          (silent.0, t0, opened.0, refl, silent.1, opened.2)
+
+      -- an error is kept
+      abbrev faulty : ℕ → Changing
+      faulty e = with_global start d.error (Num e)
+
+      error_kept : (e : ℕ) → e ≤ 5 → Same L n x (with_error s.loader e) s.run.units (faulty e).units
+      error_kept e small =
+          subst (λ g. Same L n x (with_error s.loader e) s.run.units (record t.units { globals = slice_set t.units.globals g (Num e) })) (sym ready.error)
+          (error_same L n x s.loader s.run.units t.units alike.units used e small)
+
+      faults_met : (t0 : ModuleState) (e k : ℕ) → e ≤ 5 → Reaches merged t0 (back_with (faulty e) site (Num k))
+          → Reached (Some (answered s caller (loading.Gives k (with_error s.loader e)))) (Some t0)
+      faults_met t0 e k small reached = gives_met t0 (faulty e) k (with_error s.loader e) refl (error_kept e small) reached
+
+      -- ---- of each function
+
+      -- an answer names errors and members of the set
+      abbrev IsOpening : Opening → Type 0
+      IsOpening opening.Main = Unit {0}
+      IsOpening opening.Trapped = Unit {0}
+      IsOpening (opening.Refused e) = e ≤ 5
+      IsOpening (opening.Begin m) = m < length L.set.members
+
+      open_met : (t0 : ModuleState) (y : Opening) → IsOpening y → Leads merged x t0 site (opening_outcome start d y)
+          → Reached (Some (answered s caller (opened L s.loader y))) (Some t0)
+      open_met t0 opening.Main is leads = gives_met t0 start 1 s.loader refl alike.units leads
+      open_met t0 opening.Trapped is leads = traps_met t0 MemoryBounds leads
+      open_met t0 (opening.Refused e) is leads = faults_met t0 e 0 is leads
+      open_met t0 (opening.Begin m) is leads = opens_met t0 m is leads
+
+      abbrev IsFinding : Finding → Type 0
+      IsFinding finding.Trapped = Unit {0}
+      IsFinding (finding.Refused e) = e ≤ 5
+      IsFinding (finding.Address k) = Unit {0}
+
+      find_met : (t0 : ModuleState) (y : Finding) → IsFinding y → Leads merged x t0 site (finding_outcome start d y)
+          → Reached (Some (answered s caller (found s.loader y))) (Some t0)
+      find_met t0 finding.Trapped is leads = traps_met t0 MemoryBounds leads
+      find_met t0 (finding.Refused e) is leads = faults_met t0 e 0 is leads
+      find_met t0 (finding.Address k) is leads = gives_met t0 start k s.loader refl alike.units leads
+
+      close_met : (t0 : ModuleState) (y : Bool) → Leads merged x t0 site (closing_outcome start d y) → Reached (Some (answered s caller (closed s.loader y))) (Some t0)
+      close_met t0 true leads = gives_met t0 start 0 s.loader refl alike.units leads
+      close_met t0 false leads = faults_met t0 5 4294967295 (omega arith) leads
+
+-- ---- answers name errors and members
+
+module _ (L : LinkedSet) where
+  abbrev Sound : Opening → Type 0
+  Sound opening.Main = Unit {0}
+  Sound opening.Trapped = Unit {0}
+  Sound (opening.Refused e) = e ≤ 5
+  Sound (opening.Begin m) = m < length L.set.members
+
+  begun_sound : (name : List ℕ) (o : Option ℕ) → member_named L.set name ≡ o → Sound (begin_or o)
+  begun_sound name None e = omega arith
+  begun_sound name (Some m) e = (let inside = position_within (λ y. bytes_eq name y.name) 0 L.set.members m e in omega arith)
+
+  named_sound : (flags : ℕ) (o : Option (List ℕ)) → Sound (open_named L flags o)
+  named_sound flags None = tt
+  named_sound flags (Some name) = go (nat_eq (bit_and flags other_flags) 0)
+    where
+      go : (z : Bool) → Sound (if z then begin_or (member_named L.set name) else opening.Refused 1)
+      go true = begun_sound name (member_named L.set name) refl
+      go false = omega arith
+
+  pub open_sound : (memory : MemoryInstance) (name flags : ℕ) → Sound (open_answer L memory name flags)
+  open_sound memory zero flags = tt
+  open_sound memory (suc name) flags = named_sound flags (string_at memory (suc name))
+
+  abbrev SoundFinding : Finding → Type 0
+  SoundFinding finding.Trapped = Unit {0}
+  SoundFinding (finding.Refused e) = e ≤ 5
+  SoundFinding (finding.Address k) = Unit {0}
+
+  number_sound : (o : Option ℕ) → SoundFinding (found_number o)
+  number_sound None = omega arith
+  number_sound (Some k) = tt
+
+  pub find_sound : (stages : List ℕ) (handle : ℕ) (o : Option (List ℕ)) → SoundFinding (find_named L stages handle o)
+  find_sound stages handle None = tt
+  find_sound stages handle (Some name) = go (nat_eq handle 0 || is_handle stages handle)
+    where
+      go : (z : Bool) → SoundFinding (if z then found_number (cell_number L name (searched L.set (handle_list L.set handle) name)) else finding.Refused 3)
+      go true = number_sound (cell_number L name (searched L.set (handle_list L.set handle) name))
+      go false = omega arith
+
+-- ---- the calls
+
+module _ (L : LinkedSet) (n : Numbers) (x : Starts) (d : Finders) (merged : Module) (set : IsSet L.set) (links : Links L)
+    (used : uses_loader L ≡ true) (ready : LoaderReady L n x d merged) (s : SetState) (t : ModuleState) (alike : Alike (Same L n x) s t)
+    (bounded : IsBounded s.run.memory) (a : Activation) (fs : List (Frame LoaderFrame)) (gs : List (Frame Starting))
+    (below : Below n (places L n x) a.results fs gs) where
+  abbrev begin : Changing
+  begin = record { units = t.units; memory = s.run.memory }
+
+  error_held : slice_get t.units.globals d.error ≡ Some (Num s.loader.error)
+  error_held =
+      subst (λ g. slice_get t.units.globals g ≡ Some (Num s.loader.error)) (sym ready.error)
+      (error_there L n x s.loader s.run.units t.units alike.units used)
+
+  ground : Ground L x d merged s.loader.stages begin
+  ground = record {
+    bounded = bounded;
+    lengths = ready.lengths;
+    finds = ready.finds;
+    old = Num s.loader.error;
+    held = error_held;
+    guards = λ m stage held. (guard_there L n x s.loader s.run.units t.units alike.units m stage held, alike.units.store.kept.low m stage held);
+    sized = alike.units.store.kept.sized;
+  }
+
+  module _ (which : LoaderCall) (vs : List Value) where
+    abbrev ty : FuncType
+    ty = loader_type which
+
+    abbrev f : ℕ
+    f = n.function (Loader which)
+
+    abbrev body : Code
+    body = call_body L x d which
+
+    abbrev set_call : Option SetState
+    set_call = call (set_view L) s.run.units s.run.memory (calling a fs) vs (Loader which) >>= went (set_loading L) s
+
+    abbrev code_call : Option ModuleState
+    code_call = call (module_view merged) t.units s.run.memory (calling (activation n a) gs) (values n vs) (Own 0 f) >>= became (module_hosts merged) t
+
+    taken_by_set : set_call
+        ≡ ((take_values (reverse ty.params) vs >>= λ p. Some (Loads which (arguments ty p.0) (calling a fs p.1))) >>= went (set_loading L) s)
+    taken_by_set = ap (λ b. (only_if b ty >>= call_loader (calling a fs) vs which) >>= went (set_loading L) s) used
+
+    taken_by_code : code_call
+        ≡ ((take_values (reverse ty.params) (values n vs)
+        >>= λ p. Some (Goes t.units s.run.memory (frames.Active (entered 0 f (function_with ty body) p.0) ∷ calling (activation n a) gs p.1)))
+        >>= became (module_hosts merged) t)
+    taken_by_code =
+        ap (λ o. (o >>= call_own t.units s.run.memory (calling (activation n a) gs) (values n vs) 0 f) >>= became (module_hosts merged) t) (ready.calls which).code
+
+    -- what the function begins with
+    abbrev entering : List Value → List Value → ModuleState
+    entering args rest = record {
+      units = t.units;
+      memory = s.run.memory;
+      stack = frames.Active (entered 0 f (function_with ty body) args) ∷ frames.Active (with_values (activation n a) (values n rest)) ∷ gs;
+      status = Moving;
+    }
+
+    -- both have no step
+    neither : set_call ≡ None → code_call ≡ None → Reached L n x merged set_call code_call
+    neither e q = subst (λ o. Reached L n x merged o code_call) (sym e) q
+
+    -- both have one
+    both : (args rest : List Value) (y : LoaderAnswer) (o : Outcome) → length ty.results ≡ 1
+        → set_call ≡ Some (answered s (frames.Active (with_values a rest) ∷ fs) y) → code_call ≡ Some (entering args rest)
+        → Answers merged x body.body.list begin (locals_of body args) o
+        → ((t0 : ModuleState) → Leads merged x t0 (bottom f (with_values (activation n a) (values n rest)) gs) o
+        → Reached L n x merged (Some (answered s (frames.Active (with_values a rest) ∷ fs) y)) (Some t0))
+        → Reached L n x merged set_call code_call
+    both args rest y o one e q answers ends =
+        let b : Activation = with_values (activation n a) (values n rest) in
+        let there_is = begins_body (ready.calls which) begin b gs args one in
+        let leads : Leads merged x (entering args rest) (bottom f b gs) o =
+        subst (λ u. Leads merged x u (bottom f b gs) o) (sym there_is) (answers.runs f b gs) in
+        subst (λ p. Reached L n x merged p code_call) (sym e)
+        (subst (λ p. Reached L n x merged (Some (answered s (frames.Active (with_values a rest) ∷ fs) y)) p) (sym q) (ends (entering args rest) leads))
+
+  -- ---- each function
+
+  open_called : (vs : List Value) → Reached L n x merged (set_call Dlopen vs) (code_call Dlopen vs)
+  open_called (Num flags ∷ Num name ∷ rest) =
+      let y = open_answer L s.run.memory (low W32 name) (low W32 flags) in
+      let vs : List Value = Num flags ∷ Num name ∷ rest in
+      both Dlopen vs (Num flags ∷ Num name ∷ []) rest (opened L s.loader y) (opening_outcome begin d y) refl (taken_by_set Dlopen vs) (taken_by_code Dlopen vs)
+      (open_answers ground name flags)
+      (λ t0 leads. open_met L n x merged s t alike a fs gs below rest (n.function (Loader Dlopen)) set d ready used t0 y (open_sound L s.run.memory (low W32 name) (low W32 flags)) leads)
+  open_called [] = neither Dlopen [] (taken_by_set Dlopen []) (taken_by_code Dlopen [])
+  open_called (Func r ∷ vs) = neither Dlopen (Func r ∷ vs) (taken_by_set Dlopen (Func r ∷ vs)) (taken_by_code Dlopen (Func r ∷ vs))
+  open_called (Num flags ∷ []) = neither Dlopen (Num flags ∷ []) (taken_by_set Dlopen (Num flags ∷ [])) (taken_by_code Dlopen (Num flags ∷ []))
+  open_called (Num flags ∷ Func r ∷ vs) =
+      neither Dlopen (Num flags ∷ Func r ∷ vs) (taken_by_set Dlopen (Num flags ∷ Func r ∷ vs)) (taken_by_code Dlopen (Num flags ∷ Func r ∷ vs))
+
+  symbol_called : (vs : List Value) → Reached L n x merged (set_call Dlsym vs) (code_call Dlsym vs)
+  symbol_called (Num name ∷ Num handle ∷ rest) =
+      let y = symbol_answer L s.loader.stages s.run.memory (low W32 handle) (low W32 name) in
+      let vs : List Value = Num name ∷ Num handle ∷ rest in
+      both Dlsym vs (Num name ∷ Num handle ∷ []) rest (found s.loader y) (finding_outcome begin d y) refl (taken_by_set Dlsym vs) (taken_by_code Dlsym vs)
+      (symbol_answers ground set links handle name)
+      (λ t0 leads. find_met L n x merged s t alike a fs gs below rest (n.function (Loader Dlsym)) set d ready used t0 y
+      (find_sound L s.loader.stages (low W32 handle) (string_at s.run.memory (low W32 name))) leads)
+  symbol_called [] = neither Dlsym [] (taken_by_set Dlsym []) (taken_by_code Dlsym [])
+  symbol_called (Func r ∷ vs) = neither Dlsym (Func r ∷ vs) (taken_by_set Dlsym (Func r ∷ vs)) (taken_by_code Dlsym (Func r ∷ vs))
+  symbol_called (Num name ∷ []) = neither Dlsym (Num name ∷ []) (taken_by_set Dlsym (Num name ∷ [])) (taken_by_code Dlsym (Num name ∷ []))
+  symbol_called (Num name ∷ Func r ∷ vs) =
+      neither Dlsym (Num name ∷ Func r ∷ vs) (taken_by_set Dlsym (Num name ∷ Func r ∷ vs)) (taken_by_code Dlsym (Num name ∷ Func r ∷ vs))
+
+  close_called : (vs : List Value) → Reached L n x merged (set_call Dlclose vs) (code_call Dlclose vs)
+  close_called (Num handle ∷ rest) =
+      let y = close_answer s.loader.stages (low W32 handle) in
+      let vs : List Value = Num handle ∷ rest in
+      both Dlclose vs (Num handle ∷ []) rest (closed s.loader y) (closing_outcome begin d y) refl (taken_by_set Dlclose vs) (taken_by_code Dlclose vs)
+      (close_answers ground set handle)
+      (λ t0 leads. close_met L n x merged s t alike a fs gs below rest (n.function (Loader Dlclose)) set d ready used t0 y leads)
+  close_called [] = neither Dlclose [] (taken_by_set Dlclose []) (taken_by_code Dlclose [])
+  close_called (Func r ∷ vs) = neither Dlclose (Func r ∷ vs) (taken_by_set Dlclose (Func r ∷ vs)) (taken_by_code Dlclose (Func r ∷ vs))
+
+  error_called : (vs : List Value) → Reached L n x merged (set_call Dlerror vs) (code_call Dlerror vs)
+  error_called vs =
+      let k = error_answer L s.loader.error in
+      both Dlerror vs [] vs (loading.Gives k (with_error s.loader 0)) (Gives (with_global begin d.error (Num 0)) (Num k)) refl
+      (taken_by_set Dlerror vs) (taken_by_code Dlerror vs)
+      (error_answers L d begin s.loader.error alike.units.store.kept.few ready.texts error_held)
+      (λ t0 leads. faults_met L n x merged s t alike a fs gs below vs (n.function (Loader Dlerror)) set d ready used t0 0 k (omega arith) leads)
+
+  pub calls_answered : (which : LoaderCall) → Reached L n x merged (set_call which a.values) (code_call which a.values)
+  calls_answered Dlopen = open_called a.values
+  calls_answered Dlsym = symbol_called a.values
+  calls_answered Dlclose = close_called a.values
+  calls_answered Dlerror = error_called a.values
+
+pub loader_is_answered : LoaderIsAnswered
+loader_is_answered L n x d merged set links used is ready s t alike bounded a fs gs below which =
+    calls_answered L n x d merged set links used ready s t alike bounded a fs gs below which

@@ -1,0 +1,17 @@
+pub mod Operators
+pub mod Sites
+pub mod Calls
+pub mod Lengths
+pub mod Names
+pub mod SlotWords
+pub mod Defined
+pub mod Searches
+pub mod Tries
+pub mod Grounds
+pub mod Handles
+pub mod Closes
+pub mod Opens
+pub mod Texts
+pub mod Answered
+pub mod Typed
+pub mod Making

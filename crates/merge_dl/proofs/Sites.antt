@@ -1,0 +1,244 @@
+-- How runs of pieces of code are put together in a function that gives a number: a piece is gone through, or the function returns, traps, or
+-- comes to the call of what opens a member.
+use denote.Hole.Carrier.{out}
+use Rattle.std.proofs.Common.{◌≡◌, ℕ, suc, List, [], ◌∷◌, ◌++◌, length, nat_le, slice_get, slice_set, Some, None, true, refl, append_assoc, append-nil, arith}
+use Rattle.std.proofs.Math.Dec.{leb-zero}
+use Rattle.std.proofs.lemmas.Bool.Decides.{nat_tests}
+use Rattle.wasm_form.specs.declared.instr.BlockType.TheVariants.{Empty}
+use Rattle.wasm_form.specs.declared.instr.Instr.{Instr, Plain, Index, Block, out-Instr}
+use Rattle.wasm_form.specs.declared.instr.Instr.TheVariants.{outs-If, outs-Block}
+use Rattle.wasm_form.specs.declared.module.Module.{Module}
+use Rattle.wasm_form.specs.declared.runtime.Trap.{Trap}
+use Rattle.wasm_runtime.specs.declared.Value.{Value}
+use Rattle.wasm_runtime.specs.declared.Value.TheVariants.{Num}
+use Rattle.spec_runs.specs.Systems.{Moving}
+use Rattle.spec_runtime.specs.Numerics.{W32}
+use Rattle.spec_execution.specs.Values.{low}
+use Rattle.spec_execution.specs.Activations.{Level, Activation, with_values}
+use Rattle.spec_execution.specs.Runs.{Frame}
+use Rattle.spec_execution.specs.Runs as frames
+use Rattle.spec_execution.specs.OneModule.{Starting, ModuleState}
+use Rattle.merge_start.specs.Words.{Starts}
+use Rattle.merge_start.specs.Running.{Changing, Around, at, trapped_at, Reaches, Does}
+use Rattle.merge_start.specs.Points.{HandsOn}
+use Rattle.merge_start.specs.Laws.{calls_opening}
+use Rattle.merge_start.proofs.Reaching.{reaches_then, one_step}
+use Rattle.merge_dl.specs.Words.{when}
+
+-- ---- where code stands, and what comes of it
+
+-- Where a piece of code stands: its function, the values below its own, the code that follows in the innermost block, the open blocks, and
+-- what called, with the frames under that.
+pub record Site : Type 0 where
+  pub func : ℕ
+  pub below : List Value
+  pub more : List Instr
+  pub levels : List Level
+  pub caller : Activation
+  pub under : List (Frame Starting)
+
+abbrev pub around : Site → List Value → Around
+around w ls = record {
+  func = w.func;
+  results = 1;
+  locals = ls;
+  below = w.below;
+  more = w.more;
+  levels = w.levels;
+  under = frames.Active w.caller ∷ w.under;
+}
+
+-- it stands before this code, with these locals, and these values on top
+abbrev pub spot : Changing → List Value → Site → List Value → List Instr → ModuleState
+spot c ls w vs code = at c (around w ls) vs code
+
+-- a number was returned to what called
+abbrev pub back_with : Changing → Site → Value → ModuleState
+back_with c w v = record { units = c.units; memory = c.memory; stack = frames.Active (with_values w.caller (v ∷ w.caller.values)) ∷ w.under; status = Moving }
+
+pub data Outcome : Type 0 where
+  -- the code is gone through, with these locals, and these values on top
+  Passes : Changing → List Value → List Value → Outcome
+  -- the function returns a number, or traps, or is about to call what opens a member
+  Gives : Changing → Value → Outcome
+  Fails : Changing → Trap → Outcome
+  Opens : Changing → ℕ → Outcome
+
+abbrev pub IsEnd : Outcome → Type 0
+IsEnd (Passes d ms ws) = ⊥
+IsEnd (Gives d v) = Unit {0}
+IsEnd (Fails d why) = Unit {0}
+IsEnd (Opens d m) = Unit {0}
+
+-- silent steps lead from a state to an outcome
+abbrev pub Leads : Module → Starts → ModuleState → Site → Outcome → Type 0
+Leads wasm x t w (Passes d ms ws) = Reaches wasm t (spot d ms w ws [])
+Leads wasm x t w (Gives d v) = Reaches wasm t (back_with d w v)
+Leads wasm x t w (Fails d why) = Reaches wasm t (trapped_at d why)
+Leads wasm x t w (Opens d m) =
+    (b : Activation) × HandsOn b × Reaches wasm t (calls_opening x m b (frames.Active w.caller ∷ w.under) d.units d.memory)
+
+-- wherever this code stands
+pub record Runs (wasm : Module) (x : Starts) (code : List Instr) (c : Changing) (ls vs : List Value) (o : Outcome) : Type 0 where
+  pub runs : (w : Site) → Leads wasm x (spot c ls w vs code) w o
+
+-- where the body of a function stands
+abbrev pub bottom : ℕ → Activation → List (Frame Starting) → Site
+bottom f b gs = record { func = f; below = []; more = []; levels = []; caller = b; under = gs }
+
+-- as the body of a function, whose end returns what is on top
+pub record Answers (wasm : Module) (x : Starts) (code : List Instr) (c : Changing) (ls : List Value) (o : Outcome) : Type 0 where
+  pub runs : (f : ℕ) (b : Activation) (gs : List (Frame Starting)) → Leads wasm x (spot c ls (bottom f b gs) [] code) (bottom f b gs) o
+
+-- inside a block without values of its own
+abbrev pub block_level : Site → Level
+block_level w = record { below = w.below; arity = 0; again = None; after = w.more }
+
+abbrev pub inner : Site → Site
+inner w = record w { below = []; more = []; levels = block_level w ∷ w.levels }
+
+-- ---- steps
+
+some_there : (vs : List Value) → nat_le 1 (suc (length vs)) ≡ true
+some_there vs = grind (arith, nat_tests)
+
+module _ {wasm : Module} where
+  pub off_inner : {c : Changing} (ls : List Value) (w : Site) → Reaches wasm (spot c ls (inner w) [] []) (spot c ls w [] [])
+  off_inner ls w = one_step refl refl
+
+  pub into_when : {c : Changing} (ls : List Value) (w : Site) (p : List Instr) (a k : ℕ) → low W32 a ≡ suc k
+      → Reaches wasm (spot c ls w (Num a ∷ []) (when p ∷ [])) (spot c ls (inner w) [] p)
+  into_when {c} ls w p a k e = rw (append-nil p) (one_step refl (rw (outs-If Empty (record { list = p }) None, e, leb-zero (length w.below)) refl))
+
+  pub over_when : {c : Changing} (ls : List Value) (w : Site) (p : List Instr) (a : ℕ) → low W32 a ≡ 0
+      → Reaches wasm (spot c ls w (Num a ∷ []) (when p ∷ [])) (spot c ls w [] [])
+  over_when {c} ls w p a e =
+      reaches_then (one_step refl (rw (outs-If Empty (record { list = p }) None, e, leb-zero (length w.below)) refl)) (off_inner ls w)
+
+  pub into_block : {c : Changing} (ls : List Value) (w : Site) (p : List Instr)
+      → Reaches wasm (spot c ls w [] (Block Empty (record { list = p }) ∷ [])) (spot c ls (inner w) [] p)
+  into_block {c} ls w p = rw (append-nil p) (one_step refl (rw (outs-Block Empty (record { list = p }), leb-zero (length w.below)) refl))
+
+  -- a branch out of the innermost block
+  pub breaks_off : {c : Changing} (ls : List Value) (w : Site) (a k : ℕ) (code : List Instr) → low W32 a ≡ suc k
+      → Reaches wasm (spot c ls (inner w) (Num a ∷ []) (Index 0x0D 0 ∷ code)) (spot c ls w [] [])
+  unfolding out-Instr out
+  breaks_off ls w a k code e = one_step refl (rw e refl)
+
+  -- the body is done with a number on top, and this is returned
+  pub leaves_with : {c : Changing} (ls : List Value) (v : Value) (w : Site)
+      → Reaches wasm (spot c ls (record w { below = []; more = []; levels = [] }) (v ∷ []) []) (back_with c w v)
+  leaves_with ls v w = one_step refl refl
+
+  pub returns_with : {c : Changing} (ls : List Value) (v : Value) (w : Site)
+      → Reaches wasm (spot c ls w (v ∷ []) (Plain 0x0F ∷ [])) (back_with c w v)
+  unfolding out-Instr out
+  returns_with {c} ls v w =
+      reaches_then {u = spot c ls (record w { below = []; more = []; levels = [] }) (v ∷ []) []} (one_step refl (rw (some_there w.below) refl)) (leaves_with ls v w)
+
+-- ---- outcomes
+
+module _ {wasm : Module} (x : Starts) where
+  pub leads_after : {t u : ModuleState} (w : Site) (o : Outcome) → Reaches wasm t u → Leads wasm x u w o → Leads wasm x t w o
+  leads_after w (Passes d ms ws) a b = reaches_then a b
+  leads_after w (Gives d v) a b = reaches_then a b
+  leads_after w (Fails d why) a b = reaches_then a b
+  leads_after w (Opens d m) a b = (b.0, b.1, reaches_then a b.2)
+
+module _ (wasm : Module) (x : Starts) where
+  -- what ends doesn't ask what follows, or in which blocks the code stands
+  pub leads_end : (t : ModuleState) (w : Site) (o : Outcome) → IsEnd o → (below : List Value) (more : List Instr) (levels : List Level)
+      → Leads wasm x t (record w { below = below; more = more; levels = levels }) o → Leads wasm x t w o
+  leads_end t w (Passes d ms ws) end below more levels a = absurd end
+  leads_end t w (Gives d v) end below more levels a = a
+  leads_end t w (Fails d why) end below more levels a = a
+  leads_end t w (Opens d m) end below more levels a = a
+
+  -- code inside a block that ends
+  pub out_of : (t : ModuleState) (w : Site) (o : Outcome) → IsEnd o → Leads wasm x t (inner w) o → Leads wasm x t w o
+  out_of t w o end a = leads_end t w o end [] [] (block_level w ∷ w.levels) a
+
+module _ {wasm : Module} {x : Starts} where
+  -- ---- one after the other
+
+  pub runs_then : {p q : List Instr} {c d : Changing} {ls ms vs ws : List Value} (o : Outcome) → Runs wasm x p c ls vs (Passes d ms ws)
+      → Runs wasm x q d ms ws o → Runs wasm x (p ++ q) c ls vs o
+  runs_then {p} {q} {c} {d} {ls} {ms} {vs} {ws} o a b = record {
+    runs = λ w. rw append_assoc (leads_after x w o (a.runs (record w { more = q ++ w.more })) (b.runs w));
+  }
+
+  pub runs_ends : {p : List Instr} {c : Changing} {ls vs : List Value} (q : List Instr) (o : Outcome) → IsEnd o → Runs wasm x p c ls vs o
+      → Runs wasm x (p ++ q) c ls vs o
+  runs_ends {p} {c} {ls} {vs} q o end a = record {
+    runs = λ w. rw append_assoc (leads_end wasm x (spot c ls (record w { more = q ++ w.more }) vs p) w o end w.below (q ++ w.more) w.levels (a.runs (record w { more = q ++ w.more })));
+  }
+
+  -- what does its work whatever the locals are
+  pub runs_does : {p : List Instr} {c d : Changing} {vs ws : List Value} (ls : List Value) → Does wasm p c vs d ws None
+      → Runs wasm x p c ls vs (Passes d ls ws)
+  runs_does ls a = record { runs = λ w. a.runs (around w ls) }
+
+  pub runs_fails : {p : List Instr} {c d : Changing} {vs ws : List Value} {why : Trap} (ls : List Value) → Does wasm p c vs d ws (Some why)
+      → Runs wasm x p c ls vs (Fails d why)
+  runs_fails ls a = record { runs = λ w. a.runs (around w ls) }
+
+  -- ---- locals
+
+  pub runs_get : {c : Changing} {ls : List Value} (k : ℕ) (v : Value) (vs : List Value) → slice_get ls k ≡ Some v
+      → Runs wasm x (Index 0x20 k ∷ []) c ls vs (Passes c ls (v ∷ vs))
+  unfolding out-Instr out
+  runs_get k v vs e = record { runs = λ w. one_step refl (rw e refl) }
+
+  pub runs_set : {c : Changing} {ls : List Value} (k : ℕ) (v old : Value) (vs : List Value) → slice_get ls k ≡ Some old
+      → Runs wasm x (Index 0x21 k ∷ []) c ls (v ∷ vs) (Passes c (slice_set ls k v) vs)
+  unfolding out-Instr out
+  runs_set k v old vs e = record { runs = λ w. one_step refl (rw e refl) }
+
+  pub runs_tee : {c : Changing} {ls : List Value} (k : ℕ) (v old : Value) (vs : List Value) → slice_get ls k ≡ Some old
+      → Runs wasm x (Index 0x22 k ∷ []) c ls (v ∷ vs) (Passes c (slice_set ls k v) (v ∷ vs))
+  unfolding out-Instr out
+  runs_tee k v old vs e = record { runs = λ w. one_step refl (rw e refl) }
+
+  -- ---- blocks
+
+  pub runs_when : {p : List Instr} {c : Changing} {ls : List Value} (a k : ℕ) (o : Outcome) → low W32 a ≡ suc k → IsEnd o
+      → Runs wasm x p c ls [] o → Runs wasm x (when p ∷ []) c ls (Num a ∷ []) o
+  runs_when {p} {c} {ls} a k o e end r = record {
+    runs = λ w. leads_after x w o (into_when ls w p a k e) (out_of wasm x (spot c ls (inner w) [] p) w o end (r.runs (inner w)));
+  }
+
+  pub runs_when_on : {p : List Instr} {c d : Changing} {ls ms : List Value} (a k : ℕ) → low W32 a ≡ suc k
+      → Runs wasm x p c ls [] (Passes d ms []) → Runs wasm x (when p ∷ []) c ls (Num a ∷ []) (Passes d ms [])
+  runs_when_on {p} {c} {d} {ls} {ms} a k e r = record {
+    runs = λ w. reaches_then (into_when ls w p a k e) (reaches_then (r.runs (inner w)) (off_inner ms w));
+  }
+
+  pub runs_over : {c : Changing} {ls : List Value} (p : List Instr) (a : ℕ) → low W32 a ≡ 0
+      → Runs wasm x (when p ∷ []) c ls (Num a ∷ []) (Passes c ls [])
+  runs_over {c} {ls} p a e = record { runs = λ w. over_when ls w p a e }
+
+  pub runs_stays : {c : Changing} {ls : List Value} (a : ℕ) → low W32 a ≡ 0
+      → Runs wasm x (Index 0x0D 0 ∷ []) c ls (Num a ∷ []) (Passes c ls [])
+  unfolding out-Instr out
+  runs_stays a e = record { runs = λ w. one_step refl (rw e refl) }
+
+  -- ---- returns
+
+  pub runs_return : {c : Changing} {ls : List Value} (v : Value) → Runs wasm x (Plain 0x0F ∷ []) c ls (v ∷ []) (Gives c v)
+  runs_return {c} {ls} v = record { runs = λ w. returns_with ls v w }
+
+  -- ---- bodies
+
+  pub answers_runs : {p : List Instr} {c : Changing} {ls : List Value} {o : Outcome} → Runs wasm x p c ls [] o → Answers wasm x p c ls o
+  answers_runs a = record { runs = λ f b gs. a.runs (bottom f b gs) }
+
+  pub answers_last : {p : List Instr} {c d : Changing} {ls : List Value} (ms : List Value) {v : Value} → Runs wasm x p c ls [] (Passes d ms (v ∷ []))
+      → Answers wasm x p c ls (Gives d v)
+  answers_last ms {v} a = record { runs = λ f b gs. reaches_then (a.runs (bottom f b gs)) (leaves_with ms v (bottom f b gs)) }
+
+  pub answers_then : {p q : List Instr} {c d : Changing} {ls ms : List Value} {o : Outcome} → Runs wasm x p c ls [] (Passes d ms [])
+      → Answers wasm x q d ms o → Answers wasm x (p ++ q) c ls o
+  answers_then {p} {q} {c} {d} {ls} {ms} {o} a b = record {
+    runs = λ f caller gs.
+        rw append_assoc (leads_after x (bottom f caller gs) o (a.runs (record (bottom f caller gs) { more = q ++ [] })) (b.runs f caller gs));
+  }

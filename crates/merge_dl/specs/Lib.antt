@@ -1,0 +1,5 @@
+pub mod Words
+pub mod Ready
+pub mod Laws
+pub mod Typed
+pub mod Listed

@@ -1,0 +1,52 @@
+// The numbers that the functions of the loader name.
+ghost use Rattle.std.specs.Prelude.{◌≡◌, IfOk};
+ghost use Rattle.spec_linking.specs.LinkedSets.{LinkedSet};
+ghost use Rattle.dyl_link.specs.Kept.{IsLinked};
+ghost use Rattle.merge_index.specs.Numbering as numbering;
+ghost use Rattle.merge_index.specs.Numbering.{starts_of};
+ghost use Rattle.merge_whole.specs.Counts.{loader_by};
+ghost use Rattle.merge_whole.specs.Given.{HasLoader};
+
+use crate::built::counts::end_of;
+use crate::built::starts::range;
+use dyl_link::Linked;
+use merge_dl::DlNumbers;
+use merge_index::{LoaderNumbers, Numbers};
+use std::alloc::Global;
+use wasm_form::Memory;
+
+fn loader_by(
+    alloc: Global,
+    linked: &Linked,
+    guard: u32,
+    n: LoaderNumbers,
+) -> Result<DlNumbers, Memory>
+    ensures { IfOk result (λ d. d ≡ loader_by linked.now guard n) }
+{
+    let count = linked.set().members.items().len();
+    let error = end_of(guard, count)?;
+    let end = end_of(n.first_opening, count)?;
+    let opens = range(alloc, n.first_opening, end)?;
+    Ok(DlNumbers {
+        error,
+        guard,
+        first_function: n.length,
+        opens,
+    })
+}
+
+// The numbers that the functions of the loader name, where a member uses them and the guards come from a number on.
+pub(crate) fn loader_numbers(
+    alloc: Global,
+    linked: &Linked,
+    n: &Numbers,
+    guard: u32,
+) -> Result<Option<DlNumbers>, Memory>
+    ensures { IfOk result (λ d. (L : LinkedSet) → IsLinked L linked.now → n.now.loader ≡ numbering.loader_numbers L → guard ≡ (starts_of L).guards → HasLoader L (starts_of L) d) }
+{
+    let Some(loader) = n.loader() else {
+        return Ok(None);
+    };
+    let numbers = loader_by(alloc, linked, guard, loader)?;
+    Ok(Some(numbers))
+}
