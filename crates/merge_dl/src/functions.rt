@@ -9,9 +9,9 @@ ghost use Rattle.merge_dl.specs.Listed.{AreDlNumbers, call_parts};
 
 use crate::dlclose::close_function;
 use crate::dlerror::error_function;
-use crate::numbers::DlNumbers;
 use crate::dlopen::open_function;
 use crate::dlsym::symbol_function;
+use crate::numbers::DlNumbers;
 use dyl_link::Linked;
 use merge_start::Part;
 use std::alloc::Global;
