@@ -84,7 +84,7 @@ pub(crate) fn rename_expr(alloc: Global, n: &Numbers, m: u32, e: &Expr) -> Resul
 fn rename_list(alloc: Global, n: &Numbers, m: u32, is: &[Instr]) -> Result<Vec<Instr>, Memory>
     ensures { IfOk result (λ x. x.items ≡ code (numbers_in n.now) m is.now) }
 {
-    let mut out = Vec::new(alloc);
+    let mut out = Vec::with_capacity(alloc, is.len())?;
     for i in is {
         let one = rename_instr(alloc, n, m, i)?;
         out.push(one)?;
