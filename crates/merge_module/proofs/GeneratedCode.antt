@@ -18,12 +18,12 @@ use Rattle.spec_loading.specs.declared.task.Phase.{Phase}
 use Rattle.spec_loading.specs.declared.task.Phase.TheVariants.{Place, Start, Relocate, Construct}
 use Rattle.spec_loading.specs.declared.task.Task.{Task}
 use Rattle.spec_loading.specs.Phases.{stage_of, phase_function, startup_frame, open_frame}
+use Rattle.wasm_encode.specs.Weight.{sum_of, code_weight}
 use Rattle.merge_match.specs.Renumbering.{Numbers}
 use Rattle.merge_match.specs.Moves.{effect}
 use Rattle.merge_start.specs.Words.{Starts, number, on_three, effect_code, effects_code, slots_effect, member_call, work_code, guarded, phase_code, tasks_code, entry_code, open_code}
 use Rattle.merge_module.specs.MergedModule.{plain_code, trap_code, phase_codes}
 use Rattle.merge_module.proofs.Orders.{startup_tasks_few, open_tasks_few}
-use Rattle.merge_module.proofs.Weights.{sum_of, code_weight}
 use Rattle.merge_module.proofs.Pieces.{IsStep, call_step, get_global_step, set_global_step, trap_step, operator_step, number_step, second_step, IsPiece, nothing, within, step, then_piece, in_if, IsBody, body_by}
 
 -- ---- effects

@@ -37,7 +37,6 @@ pub mod ValidGenerated
 pub mod ValidLoader
 pub mod Orders
 pub mod FormedCode
-pub mod Units
 pub mod Weights
 pub mod Pieces
 pub mod GeneratedCode
@@ -48,6 +47,6 @@ pub mod Valid
 pub mod Headline
 pub mod Formed
 pub mod Bounds
-pub mod ShortGlobals
-pub mod ShortCode
+pub mod LightGlobals
+pub mod LightCode
 pub mod Short

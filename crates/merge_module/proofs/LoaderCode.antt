@@ -15,11 +15,11 @@ use Rattle.spec_linking.specs.Definitions.{member_definition}
 use Rattle.spec_linking.specs.LinkedSets.{LinkedSet}
 use Rattle.spec_linking.specs.Slots.{cell_number}
 use Rattle.spec_loading.specs.LoaderAnswers.{bad_flags_error, no_module_error, bad_handle_error, no_symbol_error, bad_close_error, other_flags, not_closed}
+use Rattle.wasm_encode.specs.Weight.{sum_of, export_weight}
 use Rattle.merge_start.specs.Words.{Starts}
 use Rattle.merge_dl.specs.Words.{Finders, is_local, give_code, fault_code, length_code, bytes_code, named_code, may_be_string, named_codes, name_number, name_numbers, found_value, search_code, opens_code, members_code, open_call_code, tries_code, handle_code, handles_code, libraries, symbol_call_code, closes_code, close_call_code, text_code, error_call_code, length_body, find_body, call_body}
 use Rattle.merge_module.specs.Laws.{names_bulk}
 use Rattle.merge_module.proofs.Orders.{closure_few, startup_few}
-use Rattle.merge_module.proofs.Weights.{sum_of, export_weight}
 use Rattle.merge_module.proofs.Pieces.{branch_step, branch_if_step, call_step, get_step, set_step, tee_step, get_global_step, set_global_step, load_byte_step, return_step, operator_step, number_step, wide_step, IsPiece, nothing, within, step, then_piece, in_block, in_loop, in_if, IsBody, body_by}
 
 -- ---- pieces

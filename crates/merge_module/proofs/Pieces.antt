@@ -20,14 +20,14 @@ use Rattle.spec_binary.specs.Trees.{nesting_here, nesting, nesting_all, every_he
 use Rattle.spec_binary.specs.BodyLimits.{local_count}
 use Rattle.spec_binary.specs.WellFormed.{has_form, IsFormedCode}
 use Rattle.spec_validation.specs.Faults.{unsupported_here, unsupported, unsupported_of, is_group_supported}
+use Rattle.wasm_encode.specs.Weight.{units_here, units, units_of, code_weight}
+use Rattle.wasm_encode.proofs.Units.{units_level, units_then}
 use Rattle.merge_match.specs.Renumbering.{Numbers}
 use Rattle.merge_start.specs.Words.{number}
 use Rattle.merge_module.specs.MergedModule.{constant_instr}
 use Rattle.merge_module.proofs.Faultless.{neither, both_none, SupportedBody}
 use Rattle.merge_module.proofs.SupportedCode.{unsupported_list, supported_level, list_is}
 use Rattle.merge_module.proofs.FormedCode.{nesting_level, every_level}
-use Rattle.merge_module.proofs.Units.{units_here, units, units_of, units_level, units_then}
-use Rattle.merge_module.proofs.Weights.{code_weight}
 
 -- ---- one instruction
 

@@ -1,5 +1,5 @@
 -- What is so of each member of a set: it is spelled, well formed and valid, and has no more of anything than its bytes.
-use Rattle.std.proofs.Common.{◌≡◌, ℕ, ◌+◌, ◌≤◌, List, [], ◌∷◌, ◌++◌, length, Some, None, Result, Ok, refl, ap, ◌∙◌, subst, arith, length-append, slice_get}
+use Rattle.std.proofs.Common.{◌≡◌, ℕ, ◌+◌, ◌≤◌, List, [], ◌∷◌, ◌++◌, length, Some, None, Result, Ok, refl, sym, ap, ◌∙◌, subst, arith, length-append, slice_get}
 use Rattle.std.specs.List.{All}
 use Rattle.std.proofs.lemmas.List.Elements.{All-head, All-tail}
 use Rattle.std.proofs.lemmas.List.Sums.{sum_by-append}
@@ -15,10 +15,12 @@ use Rattle.wasm_form.specs.declared.module.Data.{Data}
 use Rattle.wasm_form.specs.declared.module.Module.{Module}
 use Rattle.wasm_form.specs.Name as names
 use Rattle.wasm_form.specs.Number.{SpellsUnsigned}
+use Rattle.wasm_form.proofs.UnsignedSpelling.{unsigned_some}
 use Rattle.spec_binary.specs.Types as types
 use Rattle.spec_binary.specs.Types.{SpellsFuncType, SpellsValType, SpellsRefType, SpellsTableType, SpellsGlobalType}
 use Rattle.spec_binary.specs.Parts.{SpellsImport, SpellsGlobal, SpellsExport, SpellsElem, SpellsCode, SpellsData}
 use Rattle.spec_binary.specs.Parts as parts
+use Rattle.spec_binary.specs.Modules.{SpellsModule}
 use Rattle.spec_binary.specs.WellFormed.{IsWellFormed}
 use Rattle.spec_binary.specs.DecodeAnswers.{DecodeAnswer, spelled}
 use Rattle.spec_binary.specs.declared.fault.DecodeFault.{DecodeFault}
@@ -29,12 +31,13 @@ use Rattle.spec_linking.specs.LinkedSets.{LinkedSet, wasm_of}
 use Rattle.spec_validation.specs.Faults.{fault}
 use Rattle.spec_safety.proofs.Lookups.{went_on, holds_at}
 use Rattle.spec_reading.proofs.FormedSections.{spelled_formed}
-use Rattle.merge_module.proofs.SpelledParts.{AreSpelled, decoded_spelled, number_long, items_within}
+use Rattle.wasm_encode.proofs.Units.{items_within}
+use Rattle.merge_module.proofs.SpelledParts.{AreSpelled, module_spelled, decoded_text}
 
 -- ---- there are no more items than bytes
 
 name_long : {text w : List ℕ} → names.SpellsName text w → 1 ≤ length w
-name_long (names.name {text} {count} number utf8) = (let long = number_long number in omega (arith, length-append count text))
+name_long (names.name {text} {count} number utf8) = (let long = unsigned_some number in omega (arith, length-append count text))
 
 ref_type_long : {t : ValType} {w : List ℕ} → SpellsRefType t w → 1 ≤ length w
 ref_type_long types.func_ref = omega arith
@@ -50,7 +53,7 @@ value_type_long (types.reference ref) = ref_type_long ref
 type_long : (x : FuncType) (w : List ℕ) → SpellsFuncType x w → 1 ≤ length w
 type_long x _ (types.function {w = w} {v = v} params results) = omega arith
 
-pub import_long : (x : Import) (w : List ℕ) → SpellsImport x w → 1 ≤ length w
+import_long : (x : Import) (w : List ℕ) → SpellsImport x w → 1 ≤ length w
 import_long x _ (parts.import {w = w} {v = v} {u = u} from field desc) = (let long = name_long from in omega (arith, length-append w (v ++ u)))
 
 table_long : (x : TableType) (w : List ℕ) → SpellsTableType x w → 1 ≤ length w
@@ -66,13 +69,13 @@ export_long : (x : Export) (w : List ℕ) → SpellsExport x w → 1 ≤ length 
 export_long x _ (parts.export {w = w} {v = v} named desc) = (let long = name_long named in omega (arith, length-append w v))
 
 elem_long : (x : Elem) (w : List ℕ) → SpellsElem x w → 1 ≤ length w
-elem_long x _ (parts.segment {w = w} {v = v} {u = u} flags mode items) = (let long = number_long flags in omega (arith, length-append w (v ++ u)))
+elem_long x _ (parts.segment {w = w} {v = v} {u = u} flags mode items) = (let long = unsigned_some flags in omega (arith, length-append w (v ++ u)))
 
 code_long : (x : Code) (w : List ℕ) → SpellsCode x w → 1 ≤ length w
-code_long x _ (parts.code {size = size} {w = w} number body) = (let long = number_long number in omega (arith, length-append size w))
+code_long x _ (parts.code {size = size} {w = w} number body) = (let long = unsigned_some number in omega (arith, length-append size w))
 
 data_long : (x : Data) (w : List ℕ) → SpellsData x w → 1 ≤ length w
-data_long x _ (parts.segment {w = w} {v = v} {u = u} flags mode bytes) = (let long = number_long flags in omega (arith, length-append w (v ++ u)))
+data_long x _ (parts.segment {w = w} {v = v} {u = u} flags mode bytes) = (let long = unsigned_some flags in omega (arith, length-append w (v ++ u)))
 
 -- no part of a module has more items than there are bytes
 pub record AreFew (m : Module) (size : ℕ) : Type 0 where
@@ -83,7 +86,7 @@ parts_few : (m : Module) (size : ℕ) → AreSpelled m size → AreFew m size
 parts_few m size is =
     let a = items_within SpellsFuncType type_long m.types is.types.word is.types.spelled in
     let b = items_within SpellsImport import_long m.imports is.imports.word is.imports.spelled in
-    let c = items_within (SpellsUnsigned 32) (λ x w s. number_long s) m.funcs is.funcs.word is.funcs.spelled in
+    let c = items_within (SpellsUnsigned 32) (λ x w s. unsigned_some s) m.funcs is.funcs.word is.funcs.spelled in
     let d = items_within SpellsTableType table_long m.tables is.tables.word is.tables.spelled in
     let e = items_within SpellsGlobal global_long m.globals is.globals.word is.globals.spelled in
     let f = items_within SpellsExport export_long m.exports is.exports.word is.exports.spelled in
@@ -102,8 +105,11 @@ decoded_formed bytes _ _ m e = absurd cc
 pub member_formed : (m : Member) → IsMember m → IsWellFormed m.wasm
 member_formed m is = decoded_formed is.bytes (Ok m.wasm) is.read.told m.wasm refl
 
+pub member_text : (m : Member) (is : IsMember m) → SpellsModule m.wasm is.bytes
+member_text m is = decoded_text is.bytes (Ok m.wasm) is.read.told m.wasm refl
+
 pub member_spelled : (m : Member) → IsMember m → AreSpelled m.wasm m.size
-member_spelled m is = subst (AreSpelled m.wasm) (let e = is.read.size in cc) (decoded_spelled is.bytes (Ok m.wasm) is.read.told m.wasm refl)
+member_spelled m is = subst (AreSpelled m.wasm) (sym is.read.size) (module_spelled m.wasm is.bytes (member_text m is))
 
 pub member_few : (m : Member) → IsMember m → AreFew m.wasm m.size
 member_few m is = parts_few m.wasm m.size (member_spelled m is)

@@ -1,46 +1,21 @@
 -- No section of the merged module of a brief set is too long to be written.
-use Rattle.std.proofs.Common.{ℕ, ◌+◌, ◌≤◌, ◌<◌, ◌^◌, List, [], ◌∷◌, ◌++◌, length, map, arith, length-append}
-use Rattle.wasm_form.specs.declared.module.ImportDesc.{ImportDesc}
-use Rattle.wasm_form.specs.declared.module.Import.{Import}
+use Rattle.std.proofs.Common.{ℕ, ◌+◌, ◌*◌, ◌≤◌, ◌<◌, ◌^◌, List, [], ◌∷◌, length, map, arith}
+use Rattle.std.specs.List.{All}
 use Rattle.wasm_form.specs.declared.module.Module.{Module}
-use Rattle.wasm_form.specs.Sequence.{SpellsVec}
-use Rattle.spec_binary.specs.Parts.{SpellsImportDesc, SpellsImport, SpellsExport}
-use Rattle.spec_binary.specs.Parts as parts
 use Rattle.spec_runtime.specs.Names.{HostName}
 use Rattle.spec_linking.specs.LinkedSets.{LinkedSet, hosts_of}
 use Rattle.spec_linking.specs.Slots.{linked_plan}
+use Rattle.wasm_encode.specs.SectionSizes.{types, imports, funcs, tables, memories, globals, exports, elems, codes, datas, IsContents}
+use Rattle.wasm_encode.specs.Laws.{WeightIsLeast, SectionsAreBounded, BodiesAreBounded}
+use Rattle.wasm_encode.specs.Weight.{sum_of, type_weight, import_weight, global_weight, export_weight, elem_weight, code_weight, data_weight}
 use Rattle.merge_module.specs.MergedModule.{host_imports}
 use Rattle.merge_module.specs.Laws.{hosts_bulk, IsBrief, AreShort}
 use Rattle.merge_module.proofs.Known.{IsKnown}
-use Rattle.merge_module.proofs.MergedSpaces.{first_host_type}
-use Rattle.merge_module.proofs.Opens.{M}
-use Rattle.merge_module.proofs.Units.{IsAbout, number_short}
-use Rattle.merge_module.proofs.Weights.{sum_of, vec_about, type_weight, name_about, export_weight, export_about}
-use Rattle.merge_module.proofs.ShortGlobals.{limits_short, table_short, global_type_two, globals_short, tables_short, memories_short}
-use Rattle.merge_module.proofs.Bounds.{types_short, funcs_short, elems_short, datas_short}
-use Rattle.merge_module.proofs.ShortCode.{codes_short, bodies_short}
-
-import_desc_short : (d : ImportDesc) (w : List ℕ) → SpellsImportDesc d w → length w ≤ 13
-import_desc_short _ _ (parts.function s) = (let short = number_short s in omega arith)
-import_desc_short _ _ (parts.table {ty} {w} s) = (let short = table_short ty w s in omega arith)
-import_desc_short _ _ (parts.memory {limits} {w} s) = (let short = limits_short limits w s in omega arith)
-import_desc_short _ _ (parts.global s) = (let short = global_type_two s in omega arith)
-
-abbrev import_weight : Import → ℕ
-import_weight i = 2 + (length i.module + length i.field)
-
-import_about : (i : Import) (w : List ℕ) → SpellsImport i w → IsAbout (import_weight i) w
-import_about i _ (parts.import {w = w} {v = v} {u = u} from field desc) =
-    let one = name_about from in
-    let two = name_about field in
-    let short = import_desc_short i.desc u desc in
-    let least = one.least in
-    let most = one.most in
-    let least_field = two.least in
-    let most_field = two.most in
-    let sum = length-append w (v ++ u) in
-    let both = length-append v u in
-    record { least = omega arith; most = omega arith }
+use Rattle.merge_module.proofs.MergedSpaces.{first_host_type, few_funcs}
+use Rattle.merge_module.proofs.Opens.{N, X, M}
+use Rattle.merge_module.proofs.Bounds.{IsLight, members_light, types_light, elems_light, datas_light}
+use Rattle.merge_module.proofs.LightGlobals.{globals_light, few_tables}
+use Rattle.merge_module.proofs.LightCode.{codes_light}
 
 hosts_weigh : (t : ℕ) (hs : List HostName) → sum_of import_weight (host_imports t hs) ≤ hosts_bulk hs
 hosts_weigh t [] = omega arith
@@ -50,31 +25,55 @@ types_weigh : (hs : List HostName) → sum_of type_weight (map (λ (h : HostName
 types_weigh [] = omega arith
 types_weigh (h ∷ hs) = (let later = types_weigh hs in omega arith)
 
-module _ (L : LinkedSet) (K : IsKnown L) (few : (linked_plan L).pages_max ≤ 16384) (brief : IsBrief L) where
+module _ (least : WeightIsLeast) (sections : SectionsAreBounded) (bodies : BodiesAreBounded) (L : LinkedSet) (K : IsKnown L) (few : (linked_plan L).pages_max ≤ 16384) (brief : IsBrief L) where
   abbrev merged : Module
   merged = M L K few
 
-  imports_short : (w : List ℕ) → SpellsVec SpellsImport merged.imports w → length w < 2 ^ 32
-  imports_short w s =
-      let most = (vec_about SpellsImport import_weight import_about s).most in
-      let light = hosts_weigh (first_host_type L) (hosts_of L) in
-      let few_bytes = brief.hosts in
-      omega arith
+  light : All IsLight L.set.members
+  light = members_light least L.set.members K.set.members
 
-  exports_short : (w : List ℕ) → SpellsVec SpellsExport merged.exports w → length w < 2 ^ 32
-  exports_short w s = (let most = (vec_about SpellsExport export_weight export_about s).most in omega arith)
+  contents_short : {id : ℕ} {w : List ℕ} → IsContents merged id w → length w < 2 ^ 32
+  contents_short {w} (types s) =
+      let most : length w ≤ 16 * sum_of type_weight merged.types + 16 = sections merged 1 w (types s) in
+      let hosts = types_weigh (hosts_of L) in
+      let bulk = brief.hosts in
+      let all = types_light L K few light (omega arith) in
+      omega arith
+  contents_short {w} (imports s) =
+      let most : length w ≤ 16 * sum_of import_weight merged.imports + 16 = sections merged 2 w (imports s) in
+      let hosts = hosts_weigh (first_host_type L) (hosts_of L) in
+      let bulk = brief.hosts in
+      omega arith
+  contents_short {w} (funcs s) =
+      let most : length w ≤ 16 * length merged.funcs + 16 = sections merged 3 w (funcs s) in
+      let all = few_funcs L (N L K few) (X L K few) K.set in
+      omega arith
+  contents_short {w} (tables s) =
+      let most : length w ≤ 16 * length merged.tables + 16 = sections merged 4 w (tables s) in
+      let all = few_tables L K few in
+      omega arith
+  contents_short {w} (memories s) = (let most : length w ≤ 16 * length merged.memories + 16 = sections merged 5 w (memories s) in omega arith)
+  contents_short {w} (globals s) =
+      let most : length w ≤ 16 * sum_of global_weight merged.globals + 16 = sections merged 6 w (globals s) in
+      let all = globals_light L K few in
+      omega arith
+  contents_short {w} (exports s) = (let most : length w ≤ 16 * sum_of export_weight merged.exports + 16 = sections merged 7 w (exports s) in omega arith)
+  contents_short {w} (elems s) =
+      let most : length w ≤ 16 * sum_of elem_weight merged.elems + 16 = sections merged 9 w (elems s) in
+      let all = elems_light L K few light in
+      omega arith
+  contents_short {w} (codes s) =
+      let most : length w ≤ 16 * sum_of code_weight merged.codes + 16 = sections merged 10 w (codes s) in
+      let all = codes_light L K few light brief.names in
+      omega arith
+  contents_short {w} (datas s) =
+      let most : length w ≤ 16 * sum_of data_weight merged.datas + 16 = sections merged 11 w (datas s) in
+      let all = datas_light L K few light in
+      omega arith
 
   pub merged_short : AreShort merged
   merged_short = record {
-    types = λ w s. types_short L K few w (let light = types_weigh (hosts_of L) in let few_bytes = brief.hosts in omega arith) s;
-    imports = imports_short;
-    funcs = funcs_short L K few;
-    tables = tables_short L K few;
-    memories = memories_short L K few;
-    globals = globals_short L K few;
-    exports = exports_short;
-    elems = elems_short L K few;
-    codes = codes_short L K few brief.names;
-    datas = datas_short L K few;
-    bodies = bodies_short L K few brief.names;
+    contents = contents_short;
+    bodies = λ c has w s.
+        (let most : length w ≤ 16 * sum_of code_weight merged.codes = bodies merged c has w s in let all = codes_light L K few light brief.names in omega arith);
   }

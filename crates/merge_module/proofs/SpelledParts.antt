@@ -1,8 +1,8 @@
 -- What is spelled of each part of a module: each of its items, in no more bytes than there are.
-use Rattle.std.proofs.Common.{◌≡◌, ℕ, ◌+◌, ◌≤◌, List, [], ◌∷◌, ◌++◌, length, Result, Ok, ap, subst, arith, length-append}
+use Rattle.std.proofs.Common.{◌≡◌, ℕ, ◌+◌, ◌≤◌, List, [], ◌++◌, length, Result, Ok, ap, subst, arith, length-append}
 use Rattle.wasm_form.specs.declared.module.Module.{Module}
-use Rattle.wasm_form.specs.Number.{SpellsUnsigned, last, more}
-use Rattle.wasm_form.specs.Sequence.{SpellsEach, SpellsVec, none, next, vec}
+use Rattle.wasm_form.specs.Number.{SpellsUnsigned}
+use Rattle.wasm_form.specs.Sequence.{SpellsEach, SpellsVec, none, vec}
 use Rattle.spec_binary.specs.Types.{SpellsFuncType, SpellsTableType}
 use Rattle.spec_binary.specs.Parts.{SpellsImport, SpellsGlobal, SpellsExport, SpellsElem, SpellsCode, SpellsData}
 use Rattle.spec_binary.specs.Sections.{Progress, at_start, Contents, IsSection, Chain, custom, types, imports, funcs, tables, memories, globals, exports, start, elems, data_count, codes, datas, section}
@@ -79,29 +79,12 @@ chain_spelled (sections.next {s} {t} {u} {k} {id} {contents} {w} {v} framed held
     let later = chain_spelled chain (n + length contents) (contents_spelled held n is) in
     more_room u.fields (n + length contents + length v) (n + length (w ++ v)) (omega arith) later
 
-module_spelled : (m : Module) (bytes : List ℕ) → SpellsModule m bytes → AreSpelled m (length bytes)
+pub module_spelled : (m : Module) (bytes : List ℕ) → SpellsModule m bytes → AreSpelled m (length bytes)
 module_spelled m bytes is =
     let all = chain_spelled is.chain 0 none_spelled in
     let room : 0 + length is.sections ≤ length bytes = (let parts = ap length is.parts in let both = length-append header is.sections in omega arith) in
     subst (λ x. AreSpelled x (length bytes)) is.fields (more_room is.end.fields (0 + length is.sections) (length bytes) room all)
 
-pub decoded_spelled : (bytes : List ℕ) (r : Result Module DecodeFault) → DecodeAnswer bytes r → (m : Module) → r ≡ Ok m → AreSpelled m (length bytes)
-decoded_spelled bytes _ (spelled {m = n} text within counts) m e = (let same : n ≡ m = cc in subst (λ x. AreSpelled x (length bytes)) same (module_spelled n bytes text))
-decoded_spelled bytes _ _ m e = absurd cc
-
--- ---- there are no more items than bytes
-
-pub number_long : {n v : ℕ} {w : List ℕ} → SpellsUnsigned n v w → 1 ≤ length w
-number_long (last {n} {b} low fits) = omega arith
-number_long (more {n} {b} {v} {high} {w} le lt wide e rest) = omega arith
-
-pub vec_long : {A : Type 0} {Spells : A → List ℕ → Type 0} {xs : List A} {w : List ℕ} → SpellsVec Spells xs w → 1 ≤ length w
-vec_long (vec {xs} {count} {w} number each) = (let long = number_long number in omega (arith, length-append count w))
-
-pub items_within : {A : Type 0} (Spells : A → List ℕ → Type 0) → ((x : A) (w : List ℕ) → Spells x w → 1 ≤ length w) → (xs : List A) (w : List ℕ)
-    → SpellsEach Spells xs w → length xs ≤ length w
-items_within Spells long [] _ none = omega arith
-items_within Spells long (x ∷ xs) _ (next {w = w} {v = v} one rest) =
-    let here = long x w one in
-    let later = items_within Spells long xs v rest in
-    omega (arith, length-append w v)
+pub decoded_text : (bytes : List ℕ) (r : Result Module DecodeFault) → DecodeAnswer bytes r → (m : Module) → r ≡ Ok m → SpellsModule m bytes
+decoded_text bytes _ (spelled {m = n} text within counts) m e = (let same : n ≡ m = cc in subst (λ x. SpellsModule x bytes) same text)
+decoded_text bytes _ _ m e = absurd cc

@@ -1,5 +1,5 @@
 -- What is so of the merged module of a linked set.
-use Rattle.std.specs.Prelude.{◌≡◌, ℕ, ◌+◌, ◌≤◌, ◌<◌, ◌^◌, List, [], ◌∷◌, length, slice_get, Some, None, IsTrue}
+use Rattle.std.specs.Prelude.{◌≡◌, ℕ, ◌+◌, ◌≤◌, ◌<◌, ◌^◌, List, [], ◌∷◌, length, slice_get, Some, None, IsTrue, Contains}
 use Rattle.std.specs.List.{All}
 use Rattle.wasm_form.specs.declared.module.ImportDesc.{ImportDesc}
 use Rattle.wasm_form.specs.declared.module.ImportDesc.TheVariants as imported
@@ -7,10 +7,7 @@ use Rattle.wasm_form.specs.declared.module.Import.{Import}
 use Rattle.wasm_form.specs.declared.module.Code.{Code}
 use Rattle.wasm_form.specs.declared.module.Module.{Module}
 use Rattle.spec_binary.specs.Indices.{function_type, nullary}
-use Rattle.wasm_form.specs.Number.{SpellsUnsigned}
-use Rattle.wasm_form.specs.Sequence.{SpellsVec}
-use Rattle.spec_binary.specs.Types.{SpellsFuncType, SpellsTableType, SpellsLimits}
-use Rattle.spec_binary.specs.Parts.{SpellsImport, SpellsGlobal, SpellsExport, SpellsElem, SpellsFunc, SpellsCode, SpellsData}
+use Rattle.spec_binary.specs.Parts.{SpellsFunc}
 use Rattle.spec_binary.specs.Modules.{SpellsModule}
 use Rattle.spec_binary.specs.WellFormed.{IsShort, IsFormedType, IsWellFormed}
 use Rattle.spec_runtime.specs.Names.{HostName}
@@ -21,6 +18,7 @@ use Rattle.spec_linking.specs.LinkedSets.{LinkedSet, hosts_of}
 use Rattle.spec_linking.specs.Slots.{linked_plan}
 use Rattle.spec_linking.specs.Links.{Links}
 use Rattle.spec_loading.specs.Merged.{Merged}
+use Rattle.wasm_encode.specs.SectionSizes.{IsContents}
 use Rattle.merge_module.specs.MergedModule.{shared_table_type, shared_memory_type, entry_exports, merged_module}
 
 -- a host function of types that modules may use
@@ -87,17 +85,8 @@ pub record IsBrief (L : LinkedSet) : Type 0 where
 
 -- The contents of each section take fewer than 2^32 bytes, however they are spelled, and so does each body.
 pub record AreShort (m : Module) : Type 0 where
-  pub types : (w : List ℕ) → SpellsVec SpellsFuncType m.types w → length w < 2 ^ 32
-  pub imports : (w : List ℕ) → SpellsVec SpellsImport m.imports w → length w < 2 ^ 32
-  pub funcs : (w : List ℕ) → SpellsVec (SpellsUnsigned 32) m.funcs w → length w < 2 ^ 32
-  pub tables : (w : List ℕ) → SpellsVec SpellsTableType m.tables w → length w < 2 ^ 32
-  pub memories : (w : List ℕ) → SpellsVec SpellsLimits m.memories w → length w < 2 ^ 32
-  pub globals : (w : List ℕ) → SpellsVec SpellsGlobal m.globals w → length w < 2 ^ 32
-  pub exports : (w : List ℕ) → SpellsVec SpellsExport m.exports w → length w < 2 ^ 32
-  pub elems : (w : List ℕ) → SpellsVec SpellsElem m.elems w → length w < 2 ^ 32
-  pub codes : (w : List ℕ) → SpellsVec SpellsCode m.codes w → length w < 2 ^ 32
-  pub datas : (w : List ℕ) → SpellsVec SpellsData m.datas w → length w < 2 ^ 32
-  pub bodies : (i : ℕ) (c : Code) → slice_get m.codes i ≡ Some c → (w : List ℕ) → SpellsFunc c w → length w < 2 ^ 32
+  pub contents : {id : ℕ} {w : List ℕ} → IsContents m id w → length w < 2 ^ 32
+  pub bodies : (c : Code) → Contains m.codes c → (w : List ℕ) → SpellsFunc c w → length w < 2 ^ 32
 
 -- no section of the merged module of such a set is too long to be written
 abbrev pub MergedIsShort : Type 0

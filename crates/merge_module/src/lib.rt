@@ -6,6 +6,7 @@ ghost use Rattle.merge_module.specs.Laws.{SpelledMerges, MergedIsFormed, MergedH
 use merge_dl::{loader_calls_are_answered, loader_code_is_typed};
 use merge_start::{generated_code_is_typed, sets_run_as_merged, unused_loader_is_not_called};
 use spec_loading::{linked_code_is_there, linked_functions_are_typed, slots_fit};
+use wasm_encode::weights_bound_lengths;
 
 /// Bytes that spell the merged module of a linked set merge the set: the module is valid, it opens under the host names of the set, and its
 /// run agrees with that of the loaded set.
@@ -32,4 +33,5 @@ pub fn merged_modules_are_formed()
     linked_code_is_there();
     linked_functions_are_typed();
     slots_fit();
+    weights_bound_lengths();
 }

@@ -5,7 +5,8 @@ use Rattle.spec_linking.specs.Gathering.{total_size}
 use Rattle.spec_linking.specs.Sets.{Member}
 use Rattle.spec_linking.specs.LinkedSets.{LinkedSet}
 use Rattle.spec_loading.specs.Merged.{Merged}
-use Rattle.merge_module.specs.Laws.{HasShape}
+pub use Rattle.merge_module.specs.MergedModule.{merged_module}
+pub use Rattle.merge_module.specs.Laws.{IsSupported, HasShape}
 
 -- the bytes merge the set; the module that they spell for it has this shape, and is what they are decoded to
 pub record Merges (L : LinkedSet) (bytes : List ℕ) : Type 0 where

@@ -11,6 +11,7 @@ pub mod Lengths
 pub mod Light
 pub mod SectionForms
 pub mod Costs
+pub mod Least
 pub mod Begun
 pub mod SectionSteps
 pub mod Steps

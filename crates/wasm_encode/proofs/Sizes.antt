@@ -1,20 +1,17 @@
 -- How many bytes are written of a module, by how much there is of it.
-use Rattle.std.proofs.Common.{◌≡◌, ℕ, ◌+◌, ◌*◌, ◌≤◌, List, [], ◌∷◌, ◌++◌, length, length-append, None, Some, sym, ap, ◌∙◌, subst, arith}
+use Rattle.std.proofs.Common.{ℕ, ◌+◌, ◌*◌, ◌≤◌, List, length, length-append, sym, ap, subst, arith}
 use Rattle.std.specs.Prelude.{nat_eq, if◌then◌else◌}
 use Rattle.wasm_form.specs.declared.module.Custom.{Custom}
 use Rattle.wasm_form.specs.declared.module.Module.{Module}
-use Rattle.wasm_form.specs.Number.{SpellsUnsigned}
-use Rattle.wasm_form.specs.Sequence.{SpellsEach, none, next, SpellsVec}
+use Rattle.wasm_form.specs.Sequence.{SpellsEach}
 use Rattle.wasm_form.proofs.UnsignedSpelling.{unsigned_few}
-use Rattle.spec_binary.specs.Types.{SpellsFuncType, SpellsLimits, SpellsTableType}
-use Rattle.spec_binary.specs.Parts.{SpellsImport, SpellsGlobal, SpellsExport, SpellsElem, SpellsCode, SpellsData}
 use Rattle.spec_binary.specs.Sections.{IsSection, section as one_section}
 use Rattle.spec_binary.specs.Modules.{header}
-use Rattle.wasm_encode.specs.Written.{SpellsSome, some, SpellsCustom, custom as custom_section}
+use Rattle.wasm_encode.specs.SectionSizes.{types, imports, funcs, tables, memories, globals, exports, elems, codes, datas, IsContents}
+use Rattle.wasm_encode.specs.Written.{SpellsSome, some, SpellsCustom}
 use Rattle.wasm_encode.specs.Begun.{Costs, nothing, section, paid, Accounts, IsBegun}
-use Rattle.wasm_encode.specs.Weight.{sum_of, type_weight, import_weight, global_weight, export_weight, elem_weight, code_weight, data_weight, custom_weight, weight}
-use Rattle.wasm_encode.proofs.Units.{labels_within}
-use Rattle.wasm_encode.proofs.Lengths.{vec_about, vec_short, type_about, limits_short, table_short, import_about, export_about, name_short, code_about, global_about, elem_about, data_about}
+use Rattle.wasm_encode.specs.Weight.{custom_weight, section_weight, weight}
+use Rattle.wasm_encode.proofs.Lengths.{each_about, contents_about, custom_about}
 use Rattle.wasm_encode.proofs.SectionSteps.{all_written, accounts_whole}
 
 -- a section of contents that take at most so many bytes
@@ -28,54 +25,37 @@ tight most (section {contents} s is le) short = section s is (framed most is (sh
 some_short : {n : _} {w : List ℕ} → SpellsSome n w → length w ≤ 5
 some_short (some s) = unsigned_few s
 
-customs_short : (cs : List Custom) (w : List ℕ) → SpellsEach SpellsCustom cs w → length w ≤ 16 * sum_of custom_weight cs
-customs_short [] _ none = omega arith
-customs_short (c ∷ cs) _ (next {w} {v} one rest) =
-    let here = custom_short c w one in
-    let later = customs_short cs v rest in
-    omega (arith, length-append w v)
-  where
-    custom_short : (c : Custom) (w : List ℕ) → SpellsCustom c w → length w ≤ 16 * custom_weight c
-    custom_short c w (custom_section {name} s is) =
-        let short = name_short s in
-        let both = length-append name c.bytes in
-        let all = framed (length (name ++ c.bytes)) is (omega arith) in
-        omega arith
-
 -- the most that the section of each rank takes
 abbrev most_of : Module → ℕ → ℕ
 most_of m k =
-    if nat_eq k 1 then 16 + 16 * sum_of type_weight m.types
-    else if nat_eq k 2 then 16 + 16 * sum_of import_weight m.imports
-    else if nat_eq k 3 then 5 + 5 * length m.funcs
-    else if nat_eq k 4 then 5 + 12 * length m.tables
-    else if nat_eq k 5 then 5 + 11 * length m.memories
-    else if nat_eq k 6 then 16 + 16 * sum_of global_weight m.globals
-    else if nat_eq k 7 then 16 + 16 * sum_of export_weight m.exports
-    else if nat_eq k 9 then 16 + 16 * sum_of elem_weight m.elems
-    else if nat_eq k 11 then 16 + 16 * sum_of code_weight m.codes
-    else if nat_eq k 12 then 16 + 16 * sum_of data_weight m.datas
-    else 5
+    if nat_eq k 8 then 5
+    else if nat_eq k 10 then 5
+    else if nat_eq k 11 then 16 + 16 * section_weight m 10
+    else if nat_eq k 12 then 16 + 16 * section_weight m 11
+    else 16 + 16 * section_weight m k
 
 abbrev cost_of : Module → ℕ → ℕ
 cost_of m k = 6 + most_of m k
+
+contents_most : (m : Module) {id : ℕ} {w : List ℕ} → IsContents m id w → length w ≤ 16 + 16 * section_weight m id
+contents_most m s = (let most = (contents_about s).most in omega arith)
 
 module _ {m : Module} {n : ℕ} (a : Accounts m n) where
   abbrev tight_all : Accounts m (paid (cost_of m) 12 + length a.customs_word)
   tight_all = record {
     cost = cost_of m;
-    types = tight (most_of m 1) a.types (λ w s. (let most = (vec_about SpellsFuncType type_weight type_about s).most in omega arith));
-    imports = tight (most_of m 2) a.imports (λ w s. (let most = (vec_about SpellsImport import_weight import_about s).most in omega arith));
-    funcs = tight (most_of m 3) a.funcs (λ w s. (labels_within s).1);
-    tables = tight (most_of m 4) a.tables (λ w s. vec_short SpellsTableType 12 table_short s);
-    memories = tight (most_of m 5) a.memories (λ w s. vec_short SpellsLimits 11 limits_short s);
-    globals = tight (most_of m 6) a.globals (λ w s. (let most = (vec_about SpellsGlobal global_weight global_about s).most in omega arith));
-    exports = tight (most_of m 7) a.exports (λ w s. (let most = (vec_about SpellsExport export_weight export_about s).most in omega arith));
+    types = tight (most_of m 1) a.types (λ w s. contents_most m (types s));
+    imports = tight (most_of m 2) a.imports (λ w s. contents_most m (imports s));
+    funcs = tight (most_of m 3) a.funcs (λ w s. contents_most m (funcs s));
+    tables = tight (most_of m 4) a.tables (λ w s. contents_most m (tables s));
+    memories = tight (most_of m 5) a.memories (λ w s. contents_most m (memories s));
+    globals = tight (most_of m 6) a.globals (λ w s. contents_most m (globals s));
+    exports = tight (most_of m 7) a.exports (λ w s. contents_most m (exports s));
     start = tight (most_of m 8) a.start (λ w s. some_short s);
-    elems = tight (most_of m 9) a.elems (λ w s. (let most = (vec_about SpellsElem elem_weight elem_about s).most in omega arith));
+    elems = tight (most_of m 9) a.elems (λ w s. contents_most m (elems s));
     data_count = tight (most_of m 10) a.data_count (λ w s. some_short s);
-    codes = tight (most_of m 11) a.codes (λ w s. (let most = (vec_about SpellsCode code_weight code_about s).most in omega arith));
-    datas = tight (most_of m 12) a.datas (λ w s. (let most = (vec_about SpellsData data_weight data_about s).most in omega arith));
+    codes = tight (most_of m 11) a.codes (λ w s. contents_most m (codes s));
+    datas = tight (most_of m 12) a.datas (λ w s. contents_most m (datas s));
     customs_word = a.customs_word;
     customs = a.customs;
     enough = omega arith;
@@ -87,5 +67,5 @@ whole_size {m} {bytes} b =
     let a = tight_all found in
     let customs = subst (λ l. SpellsEach SpellsCustom l found.customs_word) (sym (all_written b)) found.customs in
     let least = b.least (paid (cost_of m) 12 + length found.customs_word) a found.customs_word customs in
-    let short = customs_short m.customs found.customs_word found.customs in
+    let short = (each_about SpellsCustom custom_weight custom_about m.customs found.customs_word found.customs).most in
     omega (arith, ap length b.parts, length-append header b.sections)

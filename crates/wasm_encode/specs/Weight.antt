@@ -1,5 +1,5 @@
 -- How much there is to write of a module: its items, the bytes of its texts, and the instructions of its code with their labels and types.
-use Rattle.std.specs.Prelude.{ℕ, suc, ◌+◌, List, [], ◌∷◌, length, Some, None}
+use Rattle.std.specs.Prelude.{ℕ, suc, ◌+◌, List, [], ◌∷◌, length, Some, None, nat_eq, if◌then◌else◌}
 use Rattle.wasm_form.specs.declared.types.FuncType.{FuncType}
 use Rattle.wasm_form.specs.declared.instr.Instr.{Instr, fold-Instr}
 use Rattle.wasm_form.specs.declared.instr.Instr.TheOpen as Open
@@ -92,6 +92,21 @@ abbrev pub custom_weight : Custom → ℕ
 custom_weight c = suc (length c.name + length c.bytes)
 
 -- ---- the whole
+
+-- of the items of the section with this number, but for custom sections
+abbrev pub section_weight : Module → ℕ → ℕ
+section_weight m id =
+    if nat_eq id 1 then sum_of type_weight m.types
+    else if nat_eq id 2 then sum_of import_weight m.imports
+    else if nat_eq id 3 then length m.funcs
+    else if nat_eq id 4 then length m.tables
+    else if nat_eq id 5 then length m.memories
+    else if nat_eq id 6 then sum_of global_weight m.globals
+    else if nat_eq id 7 then sum_of export_weight m.exports
+    else if nat_eq id 9 then sum_of elem_weight m.elems
+    else if nat_eq id 10 then sum_of code_weight m.codes
+    else if nat_eq id 11 then sum_of data_weight m.datas
+    else 0
 
 abbrev pub weight : Module → ℕ
 weight m =

@@ -13,5 +13,5 @@ mod segment;
 mod types;
 
 pub use fault::EncodeFault;
-pub use laws::light_modules_fit;
+pub use laws::{light_modules_fit, weights_bound_lengths};
 pub use module::encode;

@@ -14,8 +14,9 @@ returns c =
       sizes = c.slots_fit.ensures.sizes;
       slots = c.slots_fit.ensures.slots;
     } in
+    let bounds = c.weights_bound_lengths.ensures in
     record {
       formed = λ L is. merged_formed L (known laws L is.shape is.links) is.pages;
       shape = λ L is. merged_shaped L is.shape;
-      short = λ L is brief. merged_short L (known laws L is.shape is.links) is.pages brief;
+      short = λ L is brief. merged_short bounds.least bounds.sections bounds.bodies L (known laws L is.shape is.links) is.pages brief;
     }

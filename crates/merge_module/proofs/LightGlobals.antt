@@ -1,70 +1,22 @@
--- The sections of imports, tables, memory, globals and exports of the merged module are short however they are spelled.
-use Rattle.std.proofs.Common.{◌≡◌, ℕ, ◌+◌, ◌*◌, ◌≤◌, ◌<◌, ◌^◌, true, false, List, [], ◌∷◌, ◌++◌, length, map, refl, arith, length-append}
+-- How much the globals of the merged module weigh, and how many tables it has.
+use Rattle.std.proofs.Common.{◌≡◌, ℕ, ◌+◌, ◌*◌, ◌≤◌, true, false, List, [], ◌∷◌, ◌++◌, length, map, refl, arith, length-append}
 use Rattle.std.specs.Prelude.{unwrap_or}
-use Rattle.wasm_form.specs.declared.types.Limits.{Limits}
-use Rattle.wasm_form.specs.declared.types.TableType.{TableType}
 use Rattle.wasm_form.specs.declared.module.GlobalDef.{GlobalDef}
 use Rattle.wasm_form.specs.declared.module.Module.{Module}
-use Rattle.wasm_form.specs.Sequence.{SpellsVec, vec}
-use Rattle.spec_binary.specs.Types.{SpellsLimits, SpellsTableType, SpellsMutability, SpellsGlobalType}
-use Rattle.spec_binary.specs.Types as types
-use Rattle.spec_binary.specs.Parts.{SpellsGlobal}
-use Rattle.spec_binary.specs.Parts as parts
 use Rattle.spec_linking.specs.Sets.{Member}
 use Rattle.spec_linking.specs.LinkedSets.{LinkedSet}
 use Rattle.spec_linking.specs.Slots.{linked_plan, memory_base, table_base, cells_of, cell_value}
 use Rattle.spec_loading.specs.Members.{from_members, opened_global}
+use Rattle.wasm_encode.specs.Weight.{sum_of, global_weight}
 use Rattle.merge_match.specs.Renumbering.{Numbers}
-use Rattle.merge_start.specs.Words.{number}
 use Rattle.merge_module.specs.MergedModule.{with_loader, number_global, own_global, member_globals, guard_globals}
 use Rattle.merge_module.proofs.Known.{IsKnown}
 use Rattle.merge_module.proofs.WithLoader.{with_either}
 use Rattle.merge_module.proofs.Counted.{few_bytes, few_members, few_of}
 use Rattle.merge_module.proofs.OpenedStore.{two_each, cells_few, member_globals_fit, guards_few}
 use Rattle.merge_module.proofs.Opens.{N, M}
-use Rattle.merge_module.proofs.Units.{IsAbout, number_short, value_type_one, items_short}
-use Rattle.merge_module.proofs.Weights.{sum_of, sum_then, vec_about, expr_weight, constant_about}
+use Rattle.merge_module.proofs.Weights.{sum_then}
 use Rattle.merge_module.proofs.Pieces.{number_step, constant_step}
-
-vec_short : {A : Type 0} (Spells : A → List ℕ → Type 0) (k : ℕ) → ((x : A) (w : List ℕ) → Spells x w → length w ≤ k) → {xs : List A} {w : List ℕ} → SpellsVec Spells xs w → length w ≤ 5 + k * length xs
-vec_short Spells k short (vec {xs} {count} {w} number each) =
-    let one = number_short number in
-    let all = items_short Spells k short xs w each in
-    omega (arith, length-append count w)
-
--- ---- tables and memory
-
-pub limits_short : (limits : Limits) (w : List ℕ) → SpellsLimits limits w → length w ≤ 11
-limits_short limits _ (types.open_ended e s) = (let short = number_short s in omega arith)
-limits_short limits _ (types.bounded {w = w} {v = v} e s t) = (let short = number_short s in let later = number_short t in omega (arith, length-append w v))
-
-pub table_short : (ty : TableType) (w : List ℕ) → SpellsTableType ty w → length w ≤ 12
-table_short ty _ (types.table {w = w} {v = v} ref limits) =
-    let one = value_type_one (types.reference ref) in
-    let short = limits_short ty.limits v limits in
-    omega (arith, length-append w v)
-
--- ---- globals
-
-mutability_one : {may : _} {w : List ℕ} → SpellsMutability may w → length w ≡ 1
-mutability_one types.constant = refl
-mutability_one types.variable = refl
-
-pub global_type_two : {ty : _} {w : List ℕ} → SpellsGlobalType ty w → length w ≡ 2
-global_type_two (types.global {w = w} {v = v} value mutability) =
-    (let one = value_type_one value in let two = mutability_one mutability in omega (arith, length-append w v))
-
-abbrev global_weight : GlobalDef → ℕ
-global_weight g = 2 + expr_weight g.init
-
-global_about : (g : GlobalDef) (w : List ℕ) → SpellsGlobal g w → IsAbout (global_weight g) w
-global_about g _ (parts.global {w = w} {v = v} ty init) =
-    let two = global_type_two ty in
-    let inside = constant_about g.init v init in
-    let least = inside.least in
-    let most = inside.most in
-    let sum = length-append w v in
-    record { least = omega arith; most = omega arith }
 
 abbrev AreFours : List GlobalDef → Type 0
 AreFours gs = sum_of global_weight gs ≡ 4 * length gs
@@ -109,7 +61,7 @@ module _ (L : LinkedSet) (K : IsKnown L) (few : (linked_plan L).pages_max ≤ 16
   abbrev members : List Member
   members = L.set.members
 
-  globals_light : sum_of global_weight merged.globals ≤ 67112964
+  pub globals_light : sum_of global_weight merged.globals ≤ 67112964
   globals_light =
       let all = two_each (member_globals L n) (λ k y is. (let fit = member_globals_fit L n k y.wasm in let cells = cells_few y.wasm in let all = is.all in omega arith)) 0 members K.set.members in
       let bytes = few_bytes L K.set in
@@ -121,15 +73,8 @@ module _ (L : LinkedSet) (K : IsKnown L) (few : (linked_plan L).pages_max ≤ 16
       let first = four (linked_plan L).stack_top true in
       omega arith
 
-  pub globals_short : (w : List ℕ) → SpellsVec SpellsGlobal merged.globals w → length w < 2 ^ 32
-  globals_short w s = (let most = (vec_about SpellsGlobal global_weight global_about s).most in let light = globals_light in omega arith)
-
-  pub tables_short : (w : List ℕ) → SpellsVec SpellsTableType merged.tables w → length w < 2 ^ 32
-  tables_short w s =
-      let most = vec_short SpellsTableType 12 table_short s in
+  pub few_tables : length merged.tables ≤ 16777217
+  few_tables =
       let all = few_of L K.set (λ k w. w.tables) (λ k y is. (let all = is.all in omega arith)) in
       let bytes = few_bytes L K.set in
       omega arith
-
-  pub memories_short : (w : List ℕ) → SpellsVec SpellsLimits merged.memories w → length w < 2 ^ 32
-  memories_short w s = (let most = vec_short SpellsLimits 11 limits_short s in omega arith)

@@ -1,17 +1,16 @@
--- The section of code of the merged module is short however it is spelled, where members have short names.
-use Rattle.std.proofs.Common.{◌≡◌, ℕ, ◌+◌, ◌*◌, ◌≤◌, ◌<◌, ◌^◌, List, [], ◌∷◌, ◌++◌, length, map, Some, refl, arith, slice_get}
+-- How much the code of the merged module weighs, where members have short names.
+use Rattle.std.proofs.Common.{◌≡◌, ℕ, ◌+◌, ◌*◌, ◌≤◌, List, [], ◌∷◌, ◌++◌, length, map, refl, arith}
 use Rattle.std.specs.List.{All}
 use Rattle.std.proofs.lemmas.List.Elements.{All-head, All-tail}
 use Rattle.wasm_form.specs.declared.module.Code.{Code}
 use Rattle.wasm_form.specs.declared.module.Module.{Module}
 use Rattle.wasm_form.specs.declared.runtime.LoaderCall.TheVariants.{Dlopen, Dlsym, Dlclose, Dlerror}
-use Rattle.wasm_form.specs.Sequence.{SpellsVec}
-use Rattle.spec_binary.specs.Parts.{SpellsFunc, SpellsCode}
 use Rattle.spec_linking.specs.Sets.{Member}
-use Rattle.spec_linking.specs.Gathering.{total_size, IsMember, IsSet}
+use Rattle.spec_linking.specs.Gathering.{total_size, IsSet}
 use Rattle.spec_linking.specs.LinkedSets.{LinkedSet}
 use Rattle.spec_linking.specs.Slots.{linked_plan}
 use Rattle.spec_loading.specs.Members.{from_members}
+use Rattle.wasm_encode.specs.Weight.{sum_of, import_weight, code_weight, elem_weight, data_weight}
 use Rattle.merge_match.specs.Renumbering.{Numbers}
 use Rattle.merge_match.specs.Joined.{renumbered_code}
 use Rattle.merge_start.specs.Words.{Starts, entry_code, open_code}
@@ -24,11 +23,11 @@ use Rattle.merge_module.proofs.WithLoader.{with_either}
 use Rattle.merge_module.proofs.SetMembers.{total_cons}
 use Rattle.merge_module.proofs.Counted.{few_bytes, few_members, stubs_within}
 use Rattle.merge_module.proofs.Opens.{N, X, M}
-use Rattle.merge_module.proofs.Weights.{sum_of, sum_then, sum_same, vec_about, func_about, weighs_at, counted, code_weight, code_about, code_weighs, elem_weight, data_weight}
+use Rattle.merge_module.proofs.Weights.{sum_then, sum_same, counted, code_weighs}
 use Rattle.merge_module.proofs.Pieces.{trap_step}
 use Rattle.merge_module.proofs.GeneratedCode.{phases_light, entry_body, open_body}
 use Rattle.merge_module.proofs.LoaderCode.{length_written, find_written, call_written}
-use Rattle.merge_module.proofs.Bounds.{IsLight, member_light}
+use Rattle.merge_module.proofs.Bounds.{IsLight}
 
 -- ---- of members
 
@@ -41,26 +40,26 @@ module _ (L : LinkedSet) (n : Numbers) (x : Starts) where
   own m wasm = map (renumbered_code n m) wasm.codes
 
   -- what there is for a member, but for what opens it
-  member_weighs : (m : ℕ) (wasm : Module) (size : ℕ) → IsLight wasm size
-      → sum_of code_weight (own m wasm) + sum_of code_weight (stub_codes L m wasm) + sum_of code_weight (phase_codes L n x m wasm) + code_weight (find_body L m wasm) ≤ 57 + 8 * size
-  member_weighs m wasm size is =
-      let all = is.all in
-      let less = sum_same (renumbered_code n m) code_weight code_weight (code_weighs n m) wasm.codes in
-      let stubs = traps (stubs_of L m wasm) in
-      let few = stubs_within L m wasm in
-      let phases = phases_light L n x m wasm in
-      let find = (find_written L m wasm).light in
-      let elems = counted elem_weight (λ e. omega arith) wasm.elems in
-      let datas = counted data_weight (λ d. omega arith) wasm.datas in
+  member_weighs : (m : ℕ) (y : Member) → IsLight y
+      → sum_of code_weight (own m y.wasm) + sum_of code_weight (stub_codes L m y.wasm) + sum_of code_weight (phase_codes L n x m y.wasm) + code_weight (find_body L m y.wasm) ≤ 57 + 8 * y.size
+  member_weighs m y is =
+      let less = sum_same (renumbered_code n m) code_weight code_weight (code_weighs n m) y.wasm.codes in
+      let stubs = traps (stubs_of L m y.wasm) in
+      let few = stubs_within L m y.wasm in
+      let imports = counted import_weight (λ i. omega arith) y.wasm.imports in
+      let phases = phases_light L n x m y.wasm in
+      let find = (find_written L m y.wasm).light in
+      let elems = counted elem_weight (λ e. omega arith) y.wasm.elems in
+      let datas = counted data_weight (λ d. omega arith) y.wasm.datas in
       omega arith
 
-  members_weigh : (k : ℕ) (xs : List Member) → All IsMember xs
+  members_weigh : (k : ℕ) (xs : List Member) → All IsLight xs
       → sum_of code_weight (from_members own k xs) + sum_of code_weight (from_members (stub_codes L) k xs) + sum_of code_weight (from_members (phase_codes L n x) k xs)
       + sum_of code_weight (from_members (λ m wasm. find_body L m wasm ∷ []) k xs) ≤ 57 * length xs + 8 * total_size xs
   members_weigh k [] all = omega arith
   members_weigh k (y ∷ ys) all =
-      let here = member_weighs k y.wasm y.size (member_light y (All-head IsMember y ys all)) in
-      let later = members_weigh (k + 1) ys (All-tail IsMember y ys all) in
+      let here = member_weighs k y (All-head IsLight y ys all) in
+      let later = members_weigh (k + 1) ys (All-tail IsLight y ys all) in
       let total = total_cons y ys in
       let a = sum_then code_weight (own k y.wasm) (from_members own (k + 1) ys) in
       let b = sum_then code_weight (stub_codes L k y.wasm) (from_members (stub_codes L) (k + 1) ys) in
@@ -102,7 +101,8 @@ module _ (L : LinkedSet) (n : Numbers) (x : Starts) where
 
 -- ---- the whole
 
-module _ (L : LinkedSet) (K : IsKnown L) (few : (linked_plan L).pages_max ≤ 16384) (names : names_bulk L.set.members ≤ 16777216) where
+module _ (L : LinkedSet) (K : IsKnown L) (few : (linked_plan L).pages_max ≤ 16384) (light : All IsLight L.set.members)
+    (names : names_bulk L.set.members ≤ 16777216) where
   abbrev n : Numbers
   n = N L K few
 
@@ -115,14 +115,14 @@ module _ (L : LinkedSet) (K : IsKnown L) (few : (linked_plan L).pages_max ≤ 16
   abbrev members : List Member
   members = L.set.members
 
-  codes_light : sum_of code_weight merged.codes ≤ 219200000
+  pub codes_light : sum_of code_weight merged.codes ≤ 219200000
   codes_light =
       let mine = from_members (own L n x) 0 members in
       let stubs = from_members (stub_codes L) 0 members in
       let phases = from_members (phase_codes L n x) 0 members in
       let last = plain_code (entry_code L n x) in
       let loader = with_loader L (loader_codes L n x) in
-      let all = members_weigh L n x 0 members K.set.members in
+      let all = members_weigh L n x 0 members light in
       let more = loader_weighs L n x K.set names in
       let entry = (entry_body L n x K.set).light in
       let bytes = few_bytes L K.set in
@@ -130,14 +130,4 @@ module _ (L : LinkedSet) (K : IsKnown L) (few : (linked_plan L).pages_max ≤ 16
       let a = sum_then code_weight mine (stubs ++ (phases ++ last ∷ loader)) in
       let b = sum_then code_weight stubs (phases ++ last ∷ loader) in
       let c = sum_then code_weight phases (last ∷ loader) in
-      omega arith
-
-  pub codes_short : (w : List ℕ) → SpellsVec SpellsCode merged.codes w → length w < 2 ^ 32
-  codes_short w s = (let most = (vec_about SpellsCode code_weight code_about s).most in let light = codes_light in omega arith)
-
-  pub bodies_short : (i : ℕ) (c : Code) → slice_get merged.codes i ≡ Some c → (w : List ℕ) → SpellsFunc c w → length w < 2 ^ 32
-  bodies_short i c at w s =
-      let most = (func_about s).most in
-      let here = weighs_at code_weight merged.codes i c at in
-      let light = codes_light in
       omega arith
