@@ -47,6 +47,7 @@ bench: bin/wdyl
 	python3 bench/link.py bin/wdyl
 	python3 bench/sets.py bin/wdyl
 	python3 bench/dlsym.py bin/wdyl
+	python3 bench/gen.py bin/wdyl
 	python3 bench/random.py bin/wdyl
 	@if command -v node >/dev/null; then node bench/recursion.mjs bin/wdyl; \
 	else echo "node is missing: the merged module that recurses for ever isn't run"; fi

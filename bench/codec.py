@@ -77,10 +77,10 @@ def many_sections(size):
     return module([one] * (size // len(one)))
 
 
-def processor_time(words):
+def processor_time(words, runs=RUNS):
     """The processor time of the best of some runs, and what the last one printed."""
     best = None
-    for _ in range(RUNS):
+    for _ in range(runs):
         before = resource.getrusage(resource.RUSAGE_CHILDREN)
         run = subprocess.run(words, capture_output=True, check=False)
         after = resource.getrusage(resource.RUSAGE_CHILDREN)

@@ -5,8 +5,10 @@
 
 It builds bench/codec/main.rattle over copies of the crates, as codec.py does, and makes sets of 1, 16 and 256 members with 16 MB of
 code between them: functions with blocks, branches, loads and operators as compilers write them. Printed is processor time in
-seconds, the best of three: `wdyl merge` of the set; decoding, checking and encoding its files one by one, less the starts of these
-processes; and how many times as long merging takes. The exit status is 1 where that is more than 1.7 times.
+seconds, the best of some rounds in each of which all is done once: `wdyl merge` of the set; decoding, checking and encoding what it
+wrote, less the reading of it; and how many times as long merging takes. Behind that stands what decoding, checking and encoding the
+files of the set takes, one after the other, less the starts of these processes. The exit status is 1 where merging takes more than
+1.7 times as long as the first of these.
 """
 
 import os
@@ -20,6 +22,7 @@ from make_examples import body, items, name, record, section, unsigned
 
 MOST = 1.7
 COUNTS = (1, 16, 256)
+ROUNDS = 9
 ADDER = unsigned(len(codec.BODY)) + codec.BODY
 
 
@@ -41,25 +44,31 @@ def code_set(count):
     return {"main.wasm": member(share, record(needed=names), 1), **{text: member(share, record(), 0) for text in names}}
 
 
-def coded(program, path):
-    """Decoding, checking and encoding one file."""
-    times = {work: codec.processor_time([program, work, path]) for work in ["read", "decode", "encode", "check"]}
-    if "0" in (printed for _, printed in times.values()):
-        sys.exit(f"{path}: a work failed")
-    seconds = {work: time for work, (time, _) in times.items()}
-    return seconds["encode"] + seconds["check"] - seconds["decode"] - seconds["read"]
+def worked(program, work, paths):
+    """One work over some files, one after the other."""
+    times = [codec.processor_time([program, work, path], 1) for path in paths]
+    if "0" in (printed for _, printed in times):
+        sys.exit(f"{work}: it failed")
+    return sum(time for time, _ in times)
+
+
+def coded(program, paths):
+    """Decoding, checking and encoding some files, less the reading of them."""
+    return worked(program, "all", paths) - worked(program, "read", paths)
 
 
 def measured(wdyl, program, count):
     with tempfile.TemporaryDirectory() as folder:
         files = code_set(count)
         written(files, folder)
-        merge = [wdyl, "merge", os.path.join(folder, "main.wasm"), os.path.join(folder, "merged")]
-        waited(merge, folder)
-        merging, _ = codec.processor_time(merge)
-        coding = sum(coded(program, os.path.join(folder, file)) for file in files)
+        merged = os.path.join(folder, "merged")
+        merge = [wdyl, "merge", os.path.join(folder, "main.wasm"), merged]
+        paths = [os.path.join(folder, file) for file in files]
+        rounds = [(waited(merge, folder)[0], coded(program, [merged]), coded(program, paths)) for _ in range(ROUNDS)]
+    merging, coding, apart = map(min, zip(*rounds))
     ratio = merging / coding
-    print(f"{count:3} members: merge {merging:.3f} s, the codec {coding:.3f} s, {ratio:.2f} times as long", flush=True)
+    print(f"{count:3} members: merge {merging:.3f} s, the codec {coding:.3f} s, {ratio:.2f} times as long; ", end="")
+    print(f"file by file {apart:.3f} s, {merging / apart:.2f} times", flush=True)
     return ratio <= MOST
 
 

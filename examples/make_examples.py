@@ -3,8 +3,8 @@
 
     python3 examples/make_examples.py
 
-The main modules of sets have the form that wdyl merges today (docs/FORMATS.md, "The input form"). Each function of
-theirs is given by the bytes of its body, without the byte 0B that ends it. `says` is an ordinary module.
+Each function of the main modules of sets is given by the bytes of its body, without the byte 0B that ends it. `says` is an
+ordinary module.
 """
 
 import os

@@ -1,5 +1,5 @@
 -- What comes of a module that was read and is run.
-use Rattle.std.proofs.Common.{◌≡◌, ◌≢◌, ℕ, List, None, Result, Ok, Err, refl, sym, ap, ◌∙◌, subst, inl, inr}
+use Rattle.std.proofs.Common.{◌≡◌, ℕ, List, false, None, Result, Ok, Err, refl, ap, ◌∙◌, subst, inl, inr}
 use Rattle.wasm_form.specs.declared.module.Module.{Module}
 use Rattle.dyl_outside.specs.Files.{FilesState}
 use Rattle.spec_validation.specs.Faults as validation
@@ -10,8 +10,9 @@ use Rattle.spec_hosts.specs.Devices.{Devices}
 use Rattle.spec_hosts.specs.Hosted.{Embedder}
 use Rattle.wasm_exec.specs.Executed as run
 use Rattle.dyl_front.specs.declared.outcome.Outcome.{Outcome}
-use Rattle.dyl_front.specs.declared.outcome.Outcome.TheVariants.{Done, Ran, Single, Memory}
+use Rattle.dyl_front.specs.declared.outcome.Outcome.TheVariants.{Ran, Single, Memory}
 use Rattle.dyl_front.specs.declared.order.Order.TheVariants as order
+use Rattle.dyl_app.specs.Due.{is_done}
 use Rattle.dyl_app.specs.Fetched.{Reads}
 use Rattle.dyl_app.specs.Runs.{guest_arguments, ExecWorks}
 use Rattle.spec_linking.specs.declared.fault.SetFault.{SetFault}
@@ -67,16 +68,19 @@ pub with_arguments : (wasm : Module) (embedder : List (List ℕ) → Embedder) (
 with_arguments wasm embedder texts wanted same steps r old new h = subst (λ t. run.Executes wasm (embedder t) steps r old new) same h
 
 -- a run never answers Done
-pub never_done : (wasm : Module) (embedder : Embedder) (steps : ℕ) (answer : Outcome) (old new : Devices) → Executes wasm embedder steps answer old new → answer ≢ Done
-never_done wasm embedder steps answer old new h is = subst (λ o. Executes wasm embedder steps o old new) is h
+pub never_done : (wasm : Module) (embedder : Embedder) (steps : ℕ) (answer : Outcome) (old new : Devices) → Executes wasm embedder steps answer old new → is_done answer ≡ false
+never_done wasm embedder steps (Ran r) old new h = refl
+never_done wasm embedder steps (Single fault) old new h = refl
+never_done wasm embedder steps Memory old new h = refl
+never_done wasm embedder steps _ old new h = absurd h
 
-pub set_not_done : (fault : SetFault) → set_outcome fault ≢ Done
-set_not_done set.Memory is = cc
-set_not_done fault is = cc
+pub set_not_done : (fault : SetFault) → is_done (set_outcome fault) ≡ false
+set_not_done set.Memory = refl
+set_not_done fault = refl
 
-pub not_told_done : (outcome answer : Outcome) → IsTold outcome answer → outcome ≢ Done → answer ≢ Done
-not_told_done outcome answer (inl same) other is = other (sym same ∙ is)
-not_told_done outcome answer (inr none) other is = let m : Memory ≡ Done = sym none.0 ∙ is in cc
+pub not_told_done : (outcome answer : Outcome) → IsTold outcome answer → is_done outcome ≡ false → is_done answer ≡ false
+not_told_done outcome answer (inl same) other = ap is_done same ∙ other
+not_told_done outcome answer (inr none) other = ap is_done none.0
 
 -- what is answered with
 pub ran_is : (wasm : Module) (embedder : Embedder) (steps : ℕ) (r : ran.Ran) (old new : Devices) → run.Executes wasm embedder steps (Ok r) old new → Executes wasm embedder steps (Ran r) old new

@@ -2,6 +2,8 @@ pub mod Slashes
 pub mod OneFile
 pub mod Reading
 pub mod Dues
+pub mod Writing
+pub mod Generating
 pub mod Linking
 pub mod Refusing
 pub mod Merging

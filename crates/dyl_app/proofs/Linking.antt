@@ -31,7 +31,7 @@ use Rattle.dyl_link.specs.Answers.{IsFirst}
 use Rattle.dyl_link.specs.Kept.{Kept, IsLinked}
 use Rattle.wasm_exec.specs.Executed.{HaveIntegers}
 use Rattle.wasm_exec.proofs.SetHosts.{IsDeclared, set_declared}
-use Rattle.merge_module.specs.Laws.{IsSupported}
+use Rattle.merge_whole.specs.Merges.{IsSupported}
 use Rattle.dyl_front.specs.declared.outcome.Outcome.{Outcome}
 use Rattle.dyl_front.specs.declared.outcome.Outcome.TheVariants.{Set, Link, Memory}
 use Rattle.dyl_app.specs.Linking.{linked}

@@ -1,5 +1,5 @@
 -- What comes of listing a set that links.
-use Rattle.std.proofs.Common.{◌≡◌, Some, Result, Ok, Err, refl, ◌∙◌, subst, inl, inr}
+use Rattle.std.proofs.Common.{◌≡◌, [], Some, Result, Ok, Err, refl, ◌∙◌, subst, inl, inr}
 use Rattle.std.specs.FinMap.{get}
 use Rattle.dyl_outside.specs.declared.fault.IoFault.{IoFault}
 use Rattle.dyl_outside.specs.declared.fault.IoFault.TheVariants as io
@@ -28,7 +28,7 @@ module _ (names : HostNames) (o : SetOptions) (l : LinkOptions) (k : Kept) (old 
   links_at files told = record { set = gets.got.set; gathered = gets.got.gathered files told; links = gets.got.linked.links }
 
   pub plan_serves : (answer : Outcome) → Lists k answer sink after → Serves names (Ok (order.Plan o l)) answer old new sink.faults after.faults
-  plan_serves Done h = record { tells = links_at; leaves = λ files told. gets.files ∙ told; caused = tt; inner = refl }
+  plan_serves (Done []) h = record { tells = links_at; leaves = λ files told. gets.files ∙ told; caused = refl; inner = refl }
   plan_serves WriteFault h = record { tells = links_at; leaves = λ files told. gets.files ∙ told; caused = h.put.count; inner = refl }
   plan_serves Memory h = record { tells = λ files told. tt; leaves = λ files told. gets.files ∙ told; caused = tt; inner = refl }
   plan_serves _ h = absurd h
@@ -41,7 +41,7 @@ module _ (names : HostNames) (o : SetOptions) (l : LinkOptions) (k : Kept) (old 
   }
 
   pub plan_works : (answer : Outcome) → Lists k answer sink after → PlanWorks old.told names (options_of o) (links.options_of l) answer sink after
-  plan_works Done h = puts_listing (Ok tt) h
+  plan_works (Done []) h = puts_listing (Ok tt) h
   plan_works WriteFault h = puts_listing (Err io.Failed) h
   plan_works Memory (inl same) = inl same
   plan_works Memory (inr put) = inr (io.Memory, puts_listing (Err io.Memory) put)

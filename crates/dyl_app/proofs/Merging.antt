@@ -1,5 +1,5 @@
 -- What comes of merging a set that links.
-use Rattle.std.proofs.Common.{◌≡◌, ◌≤◌, ◌^◌, ℕ, List, Option, Some, None, Ok, refl, sym, ◌∙◌, subst, inl}
+use Rattle.std.proofs.Common.{◌≡◌, ◌≤◌, ◌^◌, ℕ, List, [], Option, Some, None, Ok, refl, sym, ◌∙◌, subst, inl}
 use Rattle.std.specs.Prelude.{IsSomeAnd}
 use Rattle.std.specs.FinMap.{get}
 use Rattle.dyl_outside.specs.FileMap.{FileMap}
@@ -8,7 +8,7 @@ use Rattle.dyl_outside.specs.Files.{FilesState}
 use Rattle.spec_runtime.specs.Names.{HostNames}
 use Rattle.spec_linking.specs.LinkedSets.{LinkedSet}
 use Rattle.wasm_encode.specs.SectionSizes.{IsFirstTooLong}
-use Rattle.merge_module.specs.MergedModule.{merged_module}
+use Rattle.merge_whole.specs.Merges.{merged_module}
 use Rattle.spec_merging.specs.declared.fault.MergeFault.{MergeFault}
 use Rattle.spec_merging.specs.declared.fault.MergeFault.TheVariants as merge
 use Rattle.dyl_search.specs.declared.set.SetOptions.{SetOptions}
@@ -27,7 +27,7 @@ use Rattle.dyl_app.specs.Served.{Serves, Gets, HoldsMerged, StoresOutput, Writes
 -- what is stored is what was merged
 pub stored_merged : (k : Kept) (out bytes : List ℕ) (answer : Outcome) (old new : FilesState) → ((L : LinkedSet) → IsLinked L k → whole.Merges L bytes) → StoresOutput out bytes answer old new
     → WritesMerged k out answer old new
-stored_merged k out bytes Done old new merges h = λ files told. subst (λ after. IsSomeAnd after (HoldsMerged k out files)) (sym (h files told)) (record { output = bytes; merges = merges; written = refl })
+stored_merged k out bytes (Done []) old new merges h = λ files told. subst (λ after. IsSomeAnd after (HoldsMerged k out files)) (sym (h files told)) (record { output = bytes; merges = merges; written = refl })
 stored_merged k out bytes WriteFault old new merges h = h
 stored_merged k out bytes Memory old new merges h = h
 stored_merged k out bytes _ old new merges h = absurd h
@@ -59,10 +59,10 @@ module _ (names : HostNames) (o : SetOptions) (l : LinkOptions) (out : List ℕ)
   }
 
   pub merge_serves : (answer : Outcome) → WritesMerged k out answer mid new → (before now : ℕ) → Serves names (Ok (order.Merge o l out)) answer old new before now
-  merge_serves Done h before now = record {
+  merge_serves (Done []) h before now = record {
     tells = links_at;
     leaves = λ files told. merged_at files told new.told (h files (gets.files ∙ told));
-    caused = tt;
+    caused = refl;
     inner = refl;
   }
   merge_serves WriteFault h before now = record {

@@ -1,5 +1,5 @@
 -- What is so of an order and of words, from what is so of what they hold.
-use Rattle.std.proofs.Common.{◌≡◌, ℕ, List, Option, Result, Ok, Err, refl, sym, subst, inl, inr}
+use Rattle.std.proofs.Common.{◌≡◌, ℕ, ◌≤◌, List, Option, Result, Ok, Err, refl, sym, subst, inl, inr}
 use Rattle.dyl_outside.specs.FileMap.{FileMap}
 use Rattle.dyl_outside.specs.Sink.{SinkState}
 use Rattle.spec_hosts.specs.Devices.{Devices}
@@ -10,7 +10,7 @@ use Rattle.dyl_search.specs.declared.set.SetOptions.{SetOptions}
 use Rattle.dyl_link.specs.declared.options.LinkOptions.{LinkOptions}
 use Rattle.dyl_front.specs.Orders.{IsLinkInRange, AreArgumentsInRange, IsInRange}
 use Rattle.dyl_front.specs.declared.order.Order.{Order}
-use Rattle.dyl_front.specs.declared.order.Order.TheVariants.{Merge, Run, Exec, Plan}
+use Rattle.dyl_front.specs.declared.order.Order.TheVariants.{Merge, Run, Exec, Plan, Gen}
 use Rattle.dyl_front.specs.declared.outcome.UsageKind.{UsageKind}
 use Rattle.dyl_front.specs.declared.outcome.Outcome.{Outcome}
 use Rattle.dyl_front.specs.declared.outcome.Outcome.TheVariants.{Memory}
@@ -31,6 +31,9 @@ at_run P order set link steps args items is texts h = subst (λ o. P (Ok o)) (sy
 pub at_plan : (P : Asked → Type 0) (order : Order) (set : SetOptions) (link : LinkOptions) → order ≡ Plan set link → P (Ok (Plan set link)) → P (Ok order)
 at_plan P order set link is h = subst (λ o. P (Ok o)) (sym is) h
 
+pub at_gen : (P : Asked → Type 0) (order : Order) (n pages steps : ℕ) → order ≡ Gen n pages steps → P (Ok (Gen n pages steps)) → P (Ok order)
+at_gen P order n pages steps is h = subst (λ o. P (Ok o)) (sym is) h
+
 -- the numbers of an order are in their ranges
 pub range_of_merge : (order : Order) (set : SetOptions) (link : LinkOptions) (out : List ℕ) → order ≡ Merge set link out → IsInRange order → IsLinkInRange link
 range_of_merge order set link out is h = (subst IsInRange is h).1
@@ -40,6 +43,9 @@ range_of_run order set link steps args is h = let r = subst IsInRange is h in (r
 
 pub range_of_plan : (order : Order) (set : SetOptions) (link : LinkOptions) → order ≡ Plan set link → IsInRange order → IsLinkInRange link
 range_of_plan order set link is h = (subst IsInRange is h).1
+
+pub range_of_gen : (order : Order) (n pages steps : ℕ) → order ≡ Gen n pages steps → IsInRange order → (1 ≤ pages) × (pages ≤ 16384) × (steps ≤ 9223372036854775807)
+range_of_gen order n pages steps is h = subst IsInRange is h
 
 pub at_exec : (P : Asked → Type 0) (order : Order) (file path : List ℕ) (steps : ℕ) (args items : List (List ℕ)) → order ≡ Exec file steps args → path ≡ file → items ≡ args → P (Ok (Exec path steps items)) → P (Ok order)
 at_exec P order file path steps args items is same texts h =
@@ -57,6 +63,7 @@ module _ (told : Option FileMap) (embedder : List (List ℕ) → Embedder) where
   nothing_works (Ok (Run set link steps args)) old = inl refl
   nothing_works (Ok (Exec file steps args)) old = inl refl
   nothing_works (Ok (Plan set link)) old = (inl refl, refl)
+  nothing_works (Ok (Gen n pages steps)) old = (inl refl, refl)
 
   -- memory was wanting before anything was done, and that is told
   pub memory_does : (asked : Asked) (answer : Outcome) (old : Devices) (errors : SinkState) → IsTold Memory answer → TellsErrors answer old.errors errors → Does told embedder asked answer old (record old { errors = errors })

@@ -1,5 +1,5 @@
 -- What is served where no set is linked, or no module is read.
-use Rattle.std.proofs.Common.{◌≡◌, ◌≢◌, ℕ, List, Ok, Err, refl, ◌∙◌, inl, subst}
+use Rattle.std.proofs.Common.{◌≡◌, ℕ, List, false, Ok, Err, refl, ◌∙◌, inl}
 use Rattle.dyl_outside.specs.Files.{FilesState}
 use Rattle.dyl_outside.specs.FileMap.{FileMap}
 use Rattle.dyl_outside.specs.Sink.{SinkState}
@@ -16,8 +16,9 @@ use Rattle.dyl_link.specs.declared.options.LinkOptions.{LinkOptions}
 use Rattle.dyl_link.specs.Kept as links
 use Rattle.dyl_front.specs.declared.order.Order.TheVariants as order
 use Rattle.dyl_front.specs.declared.outcome.Outcome.{Outcome}
-use Rattle.dyl_front.specs.declared.outcome.Outcome.TheVariants.{Done, Set, Link, Memory}
+use Rattle.dyl_front.specs.declared.outcome.Outcome.TheVariants.{Set, Link, Memory}
 use Rattle.std.specs.Prelude.{Option}
+use Rattle.dyl_app.specs.Due.{is_done}
 use Rattle.dyl_app.specs.Fetched.{Reads}
 use Rattle.dyl_app.specs.Runs.{PlanWorks, RunWorks}
 use Rattle.dyl_app.specs.Served.{Serves, IsNotGot, set_outcome}
@@ -77,5 +78,8 @@ exec_refused names path steps args (set.ReadFault at) old new before now h = rec
 exec_refused names path steps args fault old new before now h = record { tells = h.tells; leaves = λ files told. h.files ∙ told; caused = h.caused; inner = h.inner }
 
 -- where no set is linked, a run isn't Done
-pub refused_not_done : (names : HostNames) (o : sets.SetOptions) (l : plans.LinkOptions) (old new : FilesState) (answer : Outcome) → IsNotGot names o l answer old new → answer ≢ Done
-refused_not_done names o l old new answer h is = (subst (λ a. IsNotGot names o l a old new) is h).caused
+pub refused_not_done : (names : HostNames) (o : sets.SetOptions) (l : plans.LinkOptions) (old new : FilesState) (answer : Outcome) → IsNotGot names o l answer old new → is_done answer ≡ false
+refused_not_done names o l old new (Set fault) h = refl
+refused_not_done names o l old new (Link fault) h = refl
+refused_not_done names o l old new Memory h = refl
+refused_not_done names o l old new _ h = absurd h.caused

@@ -1,5 +1,5 @@
 -- What comes of running a set that links.
-use Rattle.std.proofs.Common.{◌≡◌, ◌≢◌, ℕ, List, Some, Ok, refl, ◌∙◌, subst, inl, inr}
+use Rattle.std.proofs.Common.{◌≡◌, ℕ, List, false, Some, Ok, refl, ◌∙◌, inl, inr}
 use Rattle.std.specs.FinMap.{get}
 use Rattle.dyl_outside.specs.FileMap.{FileMap}
 use Rattle.dyl_outside.specs.Files.{FilesState}
@@ -13,8 +13,9 @@ use Rattle.dyl_link.specs.Kept as links
 use Rattle.dyl_link.specs.Kept.{Kept}
 use Rattle.dyl_front.specs.declared.order.Order.TheVariants as order
 use Rattle.dyl_front.specs.declared.outcome.Outcome.{Outcome}
-use Rattle.dyl_front.specs.declared.outcome.Outcome.TheVariants.{Done, Ran, Memory}
+use Rattle.dyl_front.specs.declared.outcome.Outcome.TheVariants.{Ran, Memory}
 use Rattle.dyl_app.specs.Linking.{linked, LinksAt}
+use Rattle.dyl_app.specs.Due.{is_done}
 use Rattle.dyl_app.specs.Runs.{IsThere, RunWorks}
 use Rattle.dyl_app.specs.Served.{Serves, Gets, Runs}
 
@@ -40,5 +41,7 @@ module _ (embedder : Embedder) (o : SetOptions) (l : LinkOptions) (steps : ℕ) 
   run_works _ h = absurd h
 
 -- a run never answers Done
-pub runs_not_done : (k : Kept) (embedder : Embedder) (steps : ℕ) (answer : Outcome) (old new : Devices) → Runs k embedder steps answer old new → answer ≢ Done
-runs_not_done k embedder steps answer old new h is = subst (λ a. Runs k embedder steps a old new) is h
+pub runs_not_done : (k : Kept) (embedder : Embedder) (steps : ℕ) (answer : Outcome) (old new : Devices) → Runs k embedder steps answer old new → is_done answer ≡ false
+runs_not_done k embedder steps (Ran r) old new h = refl
+runs_not_done k embedder steps Memory old new h = refl
+runs_not_done k embedder steps _ old new h = absurd h

@@ -1,6 +1,6 @@
 -- The outcome that is due for what is asked over some files, if nothing outside fails and there is memory; and what an answer may be in its
 -- place. Each command has its own rows, and no other outcome is ever due for it.
-use Rattle.std.specs.Prelude.{◌≡◌, ◌≢◌, ◌⊎◌, ◌<◌, ◌^◌, List, ℕ, Bool, true, false, Result, Ok, Err}
+use Rattle.std.specs.Prelude.{◌≡◌, ◌≢◌, ◌⊎◌, ◌<◌, ◌≤◌, ◌^◌, List, [], ℕ, Bool, true, false, Result, Ok, Err}
 use Rattle.wasm_form.specs.declared.module.Module.{Module}
 use Rattle.dyl_outside.specs.Faults.{Rose}
 use Rattle.dyl_outside.specs.Files.{FilesState}
@@ -23,11 +23,12 @@ use Rattle.dyl_front.specs.declared.order.Order.{Order}
 use Rattle.dyl_front.specs.declared.order.Order.TheVariants as order
 use Rattle.dyl_app.specs.OneFile.{OfFile}
 use Rattle.dyl_app.specs.Linking.{linked, LinksAt, IsLong, FaultDue}
+use Rattle.dyl_app.specs.Generated.{GenDue}
 
 -- ---- merging, running and listing a set
 
 abbrev pub MergeDue : HostNames → Files → SetOptions → LinkOptions → Outcome → Type 0
-MergeDue names files o link Done = LinksAt names files o link
+MergeDue names files o link (Done []) = LinksAt names files o link
 MergeDue names files o link due = FaultDue names files o link due
 
 -- a run is due, whatever comes of it
@@ -36,7 +37,7 @@ RunDue names files o link (Ran ran) = LinksAt names files o link
 RunDue names files o link due = FaultDue names files o link due
 
 abbrev pub PlanDue : HostNames → Files → SetOptions → LinkOptions → Outcome → Type 0
-PlanDue names files o link Done = LinksAt names files o link
+PlanDue names files o link (Done []) = LinksAt names files o link
 PlanDue names files o link due = FaultDue names files o link due
 
 -- ---- running a module
@@ -69,6 +70,7 @@ DueFor names files (Ok (order.Merge o link out)) due = MergeDue names files (opt
 DueFor names files (Ok (order.Run o link steps args)) due = RunDue names files (options_of o) (links.options_of link) due
 DueFor names files (Ok (order.Exec file steps args)) due = ExecDue names files file due
 DueFor names files (Ok (order.Plan o link)) due = PlanDue names files (options_of o) (links.options_of link) due
+DueFor names files (Ok (order.Gen n pages steps)) due = GenDue names n pages due
 
 -- a path at which a file is sought
 abbrev pub Tries : Files → Result Order UsageKind → List ℕ → Type 0
@@ -77,6 +79,7 @@ Tries files (Ok (order.Merge o link out)) path = gathering.Tries files (options_
 Tries files (Ok (order.Run o link steps args)) path = gathering.Tries files (options_of o) path
 Tries files (Ok (order.Exec file steps args)) path = path ≡ file
 Tries files (Ok (order.Plan o link)) path = gathering.Tries files (options_of o) path
+Tries files (Ok (order.Gen n pages steps)) path = ⊥
 
 -- a set that is merged has a section that is too long
 pub record HasLongSection (names : HostNames) (files : Files) (o : SetOptions) (link : LinkOptions) (id : ℕ) : Type 0 where
@@ -91,7 +94,7 @@ MergeFaultTells names files _ _ = ⊥
 abbrev pub TellsFor : HostNames → Files → Result Order UsageKind → Outcome → Type 0
 TellsFor names files asked Memory = Unit {0}
 TellsFor names files asked (Set (ReadFault at)) = Tries files asked at
-TellsFor names files asked WriteFault = DueFor names files asked Done
+TellsFor names files asked WriteFault = DueFor names files asked (Done [])
 TellsFor names files asked (Merge fault) = MergeFaultTells names files asked fault
 TellsFor names files asked answer = DueFor names files asked answer
 
@@ -99,28 +102,35 @@ abbrev pub is_run : Outcome → Bool
 is_run (Ran ran) = true
 is_run _ = false
 
+abbrev pub is_done : Outcome → Bool
+is_done (Done runs) = true
+is_done _ = false
+
 -- The answer is the outcome that is due, or it yields to a fault of the outside or to want of memory. A write fault, and a fault of what was
--- merged, take the place of Done alone, and a read fault not that of Usage. What comes of a run isn't said here.
+-- merged, take the place of Done alone, and a read fault not that of Usage. What comes of runs isn't said here.
 abbrev pub Yields : Outcome → Outcome → Type 0
 Yields due Memory = Unit {0}
 Yields due (Set (ReadFault at)) = (kind : UsageKind) → due ≢ Usage kind
-Yields due WriteFault = due ≡ Done
-Yields due (Merge fault) = due ≡ Done
+Yields due WriteFault = is_done due ≡ true
+Yields due (Merge fault) = is_done due ≡ true
 Yields due (Ran ran) = is_run due ≡ true
+Yields due (Done runs) = is_done due ≡ true
 Yields due answer = due ≡ answer
 
 -- ---- completeness
 
 -- Where the command can be done over these files, and no read and nothing that it writes has failed, it is: merged where there isn't too much
--- of the set, listed, or run whatever the devices did. The numbers are the counts of the puts to the output that failed.
+-- of the set, listed, run whatever the devices did, or generated and run: a generated set needs three pages. The numbers are the counts of the
+-- puts to the output that failed.
 abbrev pub IsComplete : HostNames → Files → Result Order UsageKind → Outcome → FilesState → FilesState → ℕ → ℕ → Type 0
 IsComplete names files (Err kind) answer old new before now = Unit {0}
 IsComplete names files (Ok (order.Merge o link out)) answer old new before now =
     (merges : LinksAt names files (options_of o) (links.options_of link)) → bulk (linked names (links.options_of link) merges.set) < 2 ^ 32
-    → ¬ Rose old.read_faults new.read_faults → ¬ Rose old.write_faults new.write_faults → (answer ≡ Done) ⊎ (answer ≡ Memory)
+    → ¬ Rose old.read_faults new.read_faults → ¬ Rose old.write_faults new.write_faults → (answer ≡ Done []) ⊎ (answer ≡ Memory)
 IsComplete names files (Ok (order.Run o link steps args)) answer old new before now =
     LinksAt names files (options_of o) (links.options_of link) → ¬ Rose old.read_faults new.read_faults → (is_run answer ≡ true) ⊎ (answer ≡ Memory)
 IsComplete names files (Ok (order.Exec file steps args)) answer old new before now =
     OpensAt names files file → ¬ Rose old.read_faults new.read_faults → (is_run answer ≡ true) ⊎ (answer ≡ Memory)
 IsComplete names files (Ok (order.Plan o link)) answer old new before now =
-    LinksAt names files (options_of o) (links.options_of link) → ¬ Rose old.read_faults new.read_faults → ¬ Rose before now → (answer ≡ Done) ⊎ (answer ≡ Memory)
+    LinksAt names files (options_of o) (links.options_of link) → ¬ Rose old.read_faults new.read_faults → ¬ Rose before now → (answer ≡ Done []) ⊎ (answer ≡ Memory)
+IsComplete names files (Ok (order.Gen n pages steps)) answer old new before now = 0 < n → n ≤ 255 → 3 ≤ pages → ¬ Rose before now → (is_done answer ≡ true) ⊎ (answer ≡ Memory)

@@ -10,7 +10,7 @@ use Rattle.spec_linking.specs.Gathering.{IsGathered}
 use Rattle.spec_linking.specs.Plans.{LinkOptions}
 use Rattle.spec_linking.specs.Links.{Links}
 use Rattle.spec_loading.specs.Merged.{Merged}
-use Rattle.merge_module.specs.Laws.{HasShape}
+use Rattle.merge_whole.specs.Merges.{HasShape}
 use Rattle.dyl_search.specs.Gathers.{options_of}
 use Rattle.dyl_link.specs.Kept as links
 use Rattle.dyl_front.specs.declared.outcome.UsageKind.{UsageKind}
@@ -33,7 +33,7 @@ pub record IsMerged (names : HostNames) (o : SetOptions) (link : LinkOptions) (o
 
 -- What an answer of merging leaves of these files. After a write fault the path of the output may hold anything.
 abbrev pub MergeLeaves : HostNames → SetOptions → LinkOptions → List ℕ → FileMap → Outcome → FilesState → FilesState → Type 0
-MergeLeaves names o link out files Done old new = IsSomeAnd new.told (IsMerged names o link out files)
+MergeLeaves names o link out files (Done runs) old new = IsSomeAnd new.told (IsMerged names o link out files)
 MergeLeaves names o link out files WriteFault old new = IsSomeAnd new.told (SameBut out files)
 MergeLeaves names o link out files Memory old new = (new.told ≡ Some files) ⊎ (Rose old.write_faults new.write_faults × IsSomeAnd new.told (SameBut out files))
 MergeLeaves names o link out files answer old new = new.told ≡ Some files

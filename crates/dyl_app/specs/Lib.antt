@@ -1,10 +1,12 @@
 pub mod OneFile
 pub mod Linking
+pub mod Generated
 pub mod Causes
 pub mod Due
 pub mod Files
 pub mod Told
 pub mod Runs
+pub mod GeneratedRuns
 pub mod Fetched
 pub mod Served
 pub mod Clauses

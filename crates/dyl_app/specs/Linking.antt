@@ -9,8 +9,7 @@ use Rattle.spec_linking.specs.Plans.{LinkOptions}
 use Rattle.spec_linking.specs.LinkedSets.{LinkedSet}
 use Rattle.spec_linking.specs.Links.{link_fault, Links}
 use Rattle.wasm_encode.specs.SectionSizes.{IsFirstTooLong}
-use Rattle.merge_module.specs.MergedModule.{merged_module}
-use Rattle.merge_whole.specs.Merges.{bulk}
+use Rattle.merge_whole.specs.Merges.{merged_module, bulk}
 use Rattle.dyl_front.specs.declared.outcome.Outcome.{Outcome}
 use Rattle.dyl_front.specs.declared.outcome.Outcome.TheVariants.{Set, Link, Memory}
 

@@ -1,5 +1,5 @@
 -- What is so of an answer and of the files, for each command.
-use Rattle.std.specs.Prelude.{◌≡◌, ◌⊎◌, ℕ, List, false, Some, IsSomeAnd, IfOk, IfErr, Result, Ok, Err}
+use Rattle.std.specs.Prelude.{◌≡◌, ◌⊎◌, ℕ, List, [], false, Some, IsSomeAnd, IfOk, IfErr, Result, Ok, Err}
 use Rattle.std.specs.Option.{ForSome}
 use Rattle.std.specs.FinMap.{get, insert}
 use Rattle.wasm_form.specs.declared.module.Module.{Module}
@@ -43,7 +43,7 @@ use Rattle.dyl_app.specs.Causes.{SetCause, Caused, has_inner_memory}
 pub record Serves (names : HostNames) (asked : Result Order UsageKind) (answer : Outcome) (old new : FilesState) (before now : ℕ) : Type 0 where
   pub tells : ForSome old.told (λ files. TellsFor names (get files) asked answer)
   pub leaves : ForSome old.told (λ files. LeavesFor names asked files answer old new)
-  pub caused : Caused asked answer old new before now
+  pub caused : Caused names asked answer old new before now
   pub inner : has_inner_memory answer ≡ false
 
 -- ---- a set that is gathered and linked
@@ -92,14 +92,14 @@ pub record HoldsMerged (k : Kept) (out : List ℕ) (files after : FileMap) : Typ
 
 -- what each outcome of a store leaves of the files
 abbrev pub StoresOutput : List ℕ → List ℕ → Outcome → FilesState → FilesState → Type 0
-StoresOutput out bytes Done old new = ForSome old.told (λ files. new.told ≡ Some (insert files out bytes))
+StoresOutput out bytes (Done []) old new = ForSome old.told (λ files. new.told ≡ Some (insert files out bytes))
 StoresOutput out bytes WriteFault old new = ForSome old.told (λ files. IsSomeAnd new.told (SameBut out files)) × Rises old.write_faults new.write_faults
 StoresOutput out bytes Memory old new = ForSome old.told (λ files. new.told ≡ Some files)
 StoresOutput out bytes _ old new = ⊥
 
 -- and of merging
 abbrev pub WritesMerged : Kept → List ℕ → Outcome → FilesState → FilesState → Type 0
-WritesMerged k out Done old new = ForSome old.told (λ files. IsSomeAnd new.told (HoldsMerged k out files))
+WritesMerged k out (Done []) old new = ForSome old.told (λ files. IsSomeAnd new.told (HoldsMerged k out files))
 WritesMerged k out WriteFault old new = ForSome old.told (λ files. IsSomeAnd new.told (SameBut out files)) × Rises old.write_faults new.write_faults
 WritesMerged k out (Merge merge.Memory) old new = ⊥
 WritesMerged k out (Merge (merge.SectionSize id)) old new = ((L : LinkedSet) → IsLinked L k → IsLong L id) × (new.told ≡ old.told)
@@ -115,7 +115,7 @@ pub record PutsKept (k : Kept) (result : Result (Unit {0}) IoFault) (old new : S
   pub put : Puts text result old new
 
 abbrev pub Lists : Kept → Outcome → SinkState → SinkState → Type 0
-Lists k Done old new = PutsKept k (Ok tt) old new
+Lists k (Done []) old new = PutsKept k (Ok tt) old new
 Lists k WriteFault old new = PutsKept k (Err io.Failed) old new
 Lists k Memory old new = (new ≡ old) ⊎ PutsKept k (Err io.Memory) old new
 Lists k _ old new = ⊥

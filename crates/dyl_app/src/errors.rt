@@ -49,7 +49,7 @@ fn is_silent(outcome: &Outcome) -> bool
     ensures told { result ≡ false → IsSome (outcome_text outcome.now) }
 {
     match outcome {
-        Outcome::Done => true,
+        Outcome::Done(_) => true,
         Outcome::Ran(ran) => matches!(ran.end, RunEnd::Return | RunEnd::Exit(_)),
         _ => false,
     }

@@ -1,7 +1,8 @@
 // Running one module.
-ghost use Rattle.std.specs.Prelude.{◌≡◌, ◌≢◌, ◌≤◌, IfOk, Ok};
+ghost use Rattle.std.specs.Prelude.{◌≡◌, ◌≤◌, false, IfOk, Ok};
 ghost use Rattle.host_calls.specs.Embedders.{names_of};
 ghost use Rattle.dyl_app.specs.Runs.{guest_arguments};
+ghost use Rattle.dyl_app.specs.Due.{is_done};
 ghost use Rattle.dyl_app.specs.Served.{Serves};
 ghost use Rattle.dyl_app.specs.Clauses.{ModuleDoes, ExecWorks};
 
@@ -70,7 +71,7 @@ pub fn exec_file<F: Files, I: Source, O: Sink, E: Sink, A: Ambient>(
 ) -> Outcome
     requires { steps ≤ 9223372036854775807 }
     ensures serves { Serves (names_of host.now) (Ok (Order.Exec file.now steps args.now)) result (F.seen files.old) (F.seen files.new) (O.seen output.old).faults (O.seen output.new).faults }
-    ensures done { result ≢ Outcome.Done }
+    ensures done { is_done result ≡ false }
     ensures works { ExecWorks host.now (F.seen files.old) file.now steps args.now result (I.seen input.old) (O.seen output.old) (E.seen errors.old) (A.seen ambient.old) (I.seen input.new) (O.seen output.new) (E.seen errors.new) (A.seen ambient.new) }
 {
     match read_module(alloc, file, files) {

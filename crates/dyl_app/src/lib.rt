@@ -3,6 +3,7 @@
 
 mod errors;
 mod exec;
+mod generated;
 mod merge;
 mod module;
 mod plan;

@@ -3,7 +3,7 @@ ghost use Rattle.std.specs.Prelude.{◌≡◌, ◌≤◌, ℕ, All, Ok};
 ghost use Rattle.host_calls.specs.Embedders.{names_of};
 ghost use Rattle.spec_linking.specs.LinkedSets.{LinkedSet};
 ghost use Rattle.dyl_link.specs.Kept.{IsLinked};
-ghost use Rattle.merge_module.specs.Laws.{IsSupported};
+ghost use Rattle.merge_whole.specs.Merges.{IsSupported};
 ghost use Rattle.dyl_front.specs.Orders.{IsLinkInRange};
 ghost use Rattle.dyl_app.specs.Served.{Serves, StoresOutput, WritesMerged, merge_outcome};
 
@@ -22,7 +22,7 @@ fn store_output<F: Files>(alloc: Global, out: &str, bytes: &[u8], files: &mut F)
     ensures { StoresOutput out.now bytes.now result (F.seen files.old) (F.seen files.new) }
 {
     match files.store(alloc, out, bytes) {
-        Ok(()) => Outcome::Done,
+        Ok(()) => Outcome::done(alloc),
         Err(IoFault::Failed) => Outcome::WriteFault,
         Err(IoFault::Memory) => Outcome::Memory,
     }

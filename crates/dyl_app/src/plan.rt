@@ -26,7 +26,7 @@ fn put_listing<O: Sink>(alloc: Global, linked: &Linked, output: &mut O) -> Outco
         return Outcome::Memory;
     };
     match output.put(alloc, &text) {
-        Ok(()) => Outcome::Done,
+        Ok(()) => Outcome::done(alloc),
         Err(IoFault::Failed) => Outcome::WriteFault,
         Err(IoFault::Memory) => Outcome::Memory,
     }

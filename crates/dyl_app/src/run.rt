@@ -1,8 +1,9 @@
 // Running a set.
-ghost use Rattle.std.specs.Prelude.{◌≢◌, ◌≤◌, Ok};
+ghost use Rattle.std.specs.Prelude.{◌≡◌, ◌≤◌, false, Ok};
 ghost use Rattle.host_calls.specs.Embedders.{names_of};
 ghost use Rattle.dyl_front.specs.Orders.{IsLinkInRange};
 ghost use Rattle.wasm_exec.specs.Executed.{HaveIntegers, IsLinkedOver};
+ghost use Rattle.dyl_app.specs.Due.{is_done};
 ghost use Rattle.dyl_app.specs.Served.{Serves};
 ghost use Rattle.dyl_app.specs.Clauses.{SetRuns, RunWorks};
 
@@ -62,7 +63,7 @@ pub fn run_main<F: Files, I: Source, O: Sink, E: Sink, A: Ambient>(
     requires link { IsLinkInRange link.now }
     requires steps { steps ≤ 9223372036854775807 }
     ensures serves { Serves (names_of host.now) (Ok (Order.Run set.now link.now steps args.now)) result (F.seen files.old) (F.seen files.new) (O.seen output.old).faults (O.seen output.new).faults }
-    ensures done { result ≢ Outcome.Done }
+    ensures done { is_done result ≡ false }
     ensures works { RunWorks host.now (F.seen files.old) set.now link.now steps args.now result (I.seen input.old) (O.seen output.old) (E.seen errors.old) (A.seen ambient.old) (I.seen input.new) (O.seen output.new) (E.seen errors.new) (A.seen ambient.new) }
 {
     match linked_set(alloc, set, link, files, host) {

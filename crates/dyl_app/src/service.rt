@@ -1,25 +1,28 @@
 // The call that does all that the program does.
-ghost use Rattle.std.specs.Prelude.{◌≡◌, ◌≤◌, ℕ, false, Ok};
+ghost use Rattle.std.specs.Prelude.{◌≡◌, ◌≤◌, ℕ, [], true, false, Ok};
 ghost use Rattle.std.specs.Option.{ForSome};
 ghost use Rattle.std.specs.FinMap.{get};
-ghost use Rattle.host_calls.specs.Embedders.{names_of};
+ghost use Rattle.dyl_outside.specs.Files.{FilesState};
+ghost use Rattle.host_calls.specs.Embedders.{names_of, embedder_of};
 ghost use Rattle.dyl_search.specs.Gathers.{options_of};
 ghost use Rattle.dyl_link.specs.Kept as links;
 ghost use Rattle.dyl_front.specs.Orders.{order_of, IsLinkInRange, IsInRange};
-ghost use Rattle.dyl_app.specs.Due.{DueFor, TellsFor, Yields, IsComplete};
+ghost use Rattle.dyl_app.specs.Due.{DueFor, TellsFor, is_done, Yields, IsComplete};
 ghost use Rattle.dyl_app.specs.Files.{LeavesFor};
 ghost use Rattle.dyl_app.specs.Causes.{Caused, has_inner_memory};
 ghost use Rattle.dyl_app.specs.Told.{TellsErrors};
 ghost use Rattle.dyl_app.specs.Served.{Serves};
-ghost use Rattle.dyl_app.specs.Runs.{PlanWorks};
+ghost use Rattle.dyl_app.specs.Runs.{guest_arguments, PlanWorks, GenWorks};
 ghost use Rattle.dyl_app.specs.Clauses.{DoesBy, RunDoes, ExecDoes};
 
 use crate::errors::tell;
 use crate::exec::exec_file;
+use crate::generated::gen_main;
 use crate::merge::merge_main;
 use crate::plan::plan_main;
 use crate::run::run_main;
 use dyl_front::{Order, Outcome, WordFault, read_words};
+use dyl_gen::generated_set_links;
 use dyl_link::LinkOptions;
 use dyl_outside::{Ambient, Files, Sink, Source};
 use dyl_search::SetOptions;
@@ -43,7 +46,7 @@ fn perform_merge<F: Files, E: Sink>(
     requires { IsLinkInRange link.now }
     ensures serves { (before now : ℕ) → Serves (names_of host.now) (Ok (Order.Merge set.now link.now out.now)) result (F.seen files.old) (F.seen files.new) before now }
     ensures told { TellsErrors result (E.seen errors.old) (E.seen errors.new) }
-    ensures quiet { result ≡ Outcome.Done → errors.new ≡ errors.old }
+    ensures quiet { is_done result ≡ true → errors.new ≡ errors.old }
 {
     let merged = merge_main(alloc, set, link, out, files, host);
     tell(alloc, merged, errors)
@@ -63,7 +66,7 @@ fn perform_plan<F: Files, O: Sink, E: Sink>(
     ensures serves { Serves (names_of host.now) (Ok (Order.Plan set.now link.now)) result (F.seen files.old) (F.seen files.new) (O.seen output.old).faults (O.seen output.new).faults }
     ensures works { PlanWorks (F.seen files.old).told (names_of host.now) (options_of set.now) (links.options_of link.now) result (O.seen output.old) (O.seen output.new) }
     ensures told { TellsErrors result (E.seen errors.old) (E.seen errors.new) }
-    ensures quiet { result ≡ Outcome.Done → errors.new ≡ errors.old }
+    ensures quiet { is_done result ≡ true → errors.new ≡ errors.old }
 {
     let listed = plan_main(alloc, set, link, files, output, host);
     tell(alloc, listed, errors)
@@ -87,7 +90,7 @@ fn perform_run<F: Files, I: Source, O: Sink, E: Sink, A: Ambient>(
     requires steps { steps ≤ 9223372036854775807 }
     ensures serves { Serves (names_of host.now) (Ok (Order.Run set.now link.now steps args.now)) result (F.seen files.old) (F.seen files.new) (O.seen output.old).faults (O.seen output.new).faults }
     ensures does { RunDoes host.now (F.seen files.old) set.now link.now steps args.now result (I.seen input.old) (O.seen output.old) (E.seen errors.old) (A.seen ambient.old) (I.seen input.new) (O.seen output.new) (E.seen errors.new) (A.seen ambient.new) }
-    ensures quiet { result ≡ Outcome.Done → errors.new ≡ errors.old }
+    ensures quiet { is_done result ≡ true → errors.new ≡ errors.old }
 {
     let executed = run_main(
         alloc, set, link, steps, args, files, input, output, errors, ambient, host,
@@ -111,12 +114,34 @@ fn perform_exec<F: Files, I: Source, O: Sink, E: Sink, A: Ambient>(
     requires { steps ≤ 9223372036854775807 }
     ensures serves { Serves (names_of host.now) (Ok (Order.Exec file.now steps args.now)) result (F.seen files.old) (F.seen files.new) (O.seen output.old).faults (O.seen output.new).faults }
     ensures does { ExecDoes host.now (F.seen files.old) file.now steps args.now result (I.seen input.old) (O.seen output.old) (E.seen errors.old) (A.seen ambient.old) (I.seen input.new) (O.seen output.new) (E.seen errors.new) (A.seen ambient.new) }
-    ensures quiet { result ≡ Outcome.Done → errors.new ≡ errors.old }
+    ensures quiet { is_done result ≡ true → errors.new ≡ errors.old }
 {
     let executed = exec_file(
         alloc, file, steps, args, files, input, output, errors, ambient, host,
     );
     tell(alloc, executed, errors)
+}
+
+/// Makes a set and runs it loaded and merged, and tells what came of it.
+fn perform_gen<O: Sink, E: Sink>(
+    alloc: Global,
+    n: u32,
+    pages: u32,
+    steps: u64,
+    output: &mut O,
+    errors: &mut E,
+    host: &HostTable,
+) -> Outcome
+    requires some { 1 ≤ pages }
+    requires few { pages ≤ 16384 }
+    requires steps { steps ≤ 9223372036854775807 }
+    ensures serves { (files : FilesState) → Serves (names_of host.now) (Ok (Order.Gen n pages steps)) result files files (O.seen output.old).faults (O.seen output.new).faults }
+    ensures works { GenWorks (embedder_of (guest_arguments []) host.now) n pages steps result (O.seen output.old) (O.seen output.new) }
+    ensures told { TellsErrors result (E.seen errors.old) (E.seen errors.new) }
+    ensures quiet { is_done result ≡ true → errors.new ≡ errors.old }
+{
+    let made = gen_main(alloc, n, pages, steps, output, host);
+    tell(alloc, made, errors)
 }
 
 /// Does what an order asks for, and tells what came of it.
@@ -133,7 +158,7 @@ fn perform_order<F: Files, I: Source, O: Sink, E: Sink, A: Ambient>(
     requires { IsInRange order.now }
     ensures serves { Serves (names_of host.now) (Ok order.now) result (F.seen files.old) (F.seen files.new) (O.seen output.old).faults (O.seen output.new).faults }
     ensures does { DoesBy host.now (F.seen files.old) (Ok order.now) result (I.seen input.old) (O.seen output.old) (E.seen errors.old) (A.seen ambient.old) (I.seen input.new) (O.seen output.new) (E.seen errors.new) (A.seen ambient.new) }
-    ensures quiet { result ≡ Outcome.Done → errors.new ≡ errors.old }
+    ensures quiet { is_done result ≡ true → errors.new ≡ errors.old }
 {
     match order {
         Order::Merge { set, link, out } => {
@@ -158,6 +183,9 @@ fn perform_order<F: Files, I: Source, O: Sink, E: Sink, A: Ambient>(
             host,
         ),
         Order::Plan { set, link } => perform_plan(alloc, set, link, files, output, errors, host),
+        Order::Gen { n, pages, steps } => {
+            perform_gen(alloc, *n, *pages, *steps, output, errors, host)
+        }
         Order::Exec { file, steps, args } => perform_exec(
             alloc,
             file.as_str(),
@@ -186,7 +214,7 @@ fn serve_words<F: Files, I: Source, O: Sink, E: Sink, A: Ambient>(
 ) -> Outcome
     ensures serves { Serves (names_of host.now) (order_of words.now) result (F.seen files.old) (F.seen files.new) (O.seen output.old).faults (O.seen output.new).faults }
     ensures does { DoesBy host.now (F.seen files.old) (order_of words.now) result (I.seen input.old) (O.seen output.old) (E.seen errors.old) (A.seen ambient.old) (I.seen input.new) (O.seen output.new) (E.seen errors.new) (A.seen ambient.new) }
-    ensures quiet { result ≡ Outcome.Done → errors.new ≡ errors.old }
+    ensures quiet { is_done result ≡ true → errors.new ≡ errors.old }
 {
     match read_words(alloc, words) {
         Ok(order) => perform_order(alloc, &order, files, input, output, errors, ambient, host),
@@ -211,14 +239,15 @@ pub fn perform<F: Files, I: Source, O: Sink, E: Sink, A: Ambient>(
     ensures tells { ForSome (F.seen files.old).told (λ told. TellsFor (names_of host.now) (get told) (Ok order.now) result) }
     ensures files { ForSome (F.seen files.old).told (λ told. LeavesFor (names_of host.now) (Ok order.now) told result (F.seen files.old) (F.seen files.new)) }
     ensures complete { ForSome (F.seen files.old).told (λ told. IsComplete (names_of host.now) (get told) (Ok order.now) result (F.seen files.old) (F.seen files.new) (O.seen output.old).faults (O.seen output.new).faults) }
-    ensures caused { Caused (Ok order.now) result (F.seen files.old) (F.seen files.new) (O.seen output.old).faults (O.seen output.new).faults }
+    ensures caused { Caused (names_of host.now) (Ok order.now) result (F.seen files.old) (F.seen files.new) (O.seen output.old).faults (O.seen output.new).faults }
     ensures inner { has_inner_memory result ≡ false }
     ensures does { DoesBy host.now (F.seen files.old) (Ok order.now) result (I.seen input.old) (O.seen output.old) (E.seen errors.old) (A.seen ambient.old) (I.seen input.new) (O.seen output.new) (E.seen errors.new) (A.seen ambient.new) }
-    ensures quiet { result ≡ Outcome.Done → errors.new ≡ errors.old }
+    ensures quiet { is_done result ≡ true → errors.new ≡ errors.old }
 {
     reading_answers();
     one_record_answer();
     one_gathered();
+    generated_set_links();
     perform_order(alloc, order, files, input, output, errors, ambient, host)
 }
 
@@ -230,6 +259,8 @@ pub fn perform<F: Files, I: Source, O: Sink, E: Sink, A: Ambient>(
 ///   with the loaded set: whatever a host answers, after any number of steps of either run there is a number of steps of the other
 ///   with the same host calls on the same memory, and with the same end.
 /// - `plan MAIN` gathers and links the set, and puts its listing to the output.
+/// - `gen N` generates the set of N members, merges it, runs it as loaded and as merged over nothing outside, and puts a summary of the two
+///   runs to the output.
 /// - `run MAIN` gathers and links the set, and runs it as loaded.
 /// - `exec FILE` runs the module at the path FILE for at most 1,000,000,000 steps. Its calls of `wasi_snapshot_preview1` are answered
 ///   over the input, the output, the errors, the clock and the random words, and others by the callbacks of the table.
@@ -254,15 +285,16 @@ pub fn serve<F: Files, I: Source, O: Sink, E: Sink, A: Ambient>(
     ensures complete { ForSome (F.seen files.old).told (λ told. IsComplete (names_of host.now) (get told) (order_of words.now) result (F.seen files.old) (F.seen files.new) (O.seen output.old).faults (O.seen output.new).faults) }
 
     // Whatever is told: when each answer may come. Want of memory is an answer of its own.
-    ensures caused { Caused (order_of words.now) result (F.seen files.old) (F.seen files.new) (O.seen output.old).faults (O.seen output.new).faults }
+    ensures caused { Caused (names_of host.now) (order_of words.now) result (F.seen files.old) (F.seen files.new) (O.seen output.old).faults (O.seen output.new).faults }
     ensures inner { has_inner_memory result ≡ false }
 
     // What a run does to the outside; and the line of the answer, which is put last.
     ensures does { DoesBy host.now (F.seen files.old) (order_of words.now) result (I.seen input.old) (O.seen output.old) (E.seen errors.old) (A.seen ambient.old) (I.seen input.new) (O.seen output.new) (E.seen errors.new) (A.seen ambient.new) }
-    ensures quiet { result ≡ Outcome.Done → errors.new ≡ errors.old }
+    ensures quiet { is_done result ≡ true → errors.new ≡ errors.old }
 {
     reading_answers();
     one_record_answer();
     one_gathered();
+    generated_set_links();
     serve_words(alloc, words, files, input, output, errors, ambient, host)
 }

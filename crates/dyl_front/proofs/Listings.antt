@@ -1,5 +1,6 @@
 -- What is kept of a linked set has its listing.
 use Rattle.std.proofs.Common.{◌≡◌, ◌≤◌, ◌<◌, ℕ, zero, suc, ◌+◌, ◌*◌, ◌^◌, List, [], ◌∷◌, ◌++◌, length, map, flat_map, Option, Some, None, unwrap_or, slice_get, refl, sym, ap, ap₂, ◌∙◌, subst, append_assoc, arith}
+use Rattle.std.specs.Prelude.{codes}
 use Rattle.std.proofs.lemmas.List.{length-map}
 use Rattle.wasm_form.specs.declared.module.Import.{Import}
 use Rattle.wasm_form.specs.declared.runtime.Ref.{Ref}
@@ -17,6 +18,8 @@ use Rattle.dyl_search.specs.Gathers.{set_of, member_of}
 use Rattle.dyl_link.specs.Kept.{Kept, KeptMember, IsLinked, slot_in, function_in, cell_in, fresh_in}
 use Rattle.dyl_front.specs.Listing.{Functions, Cells, slot_line, slot_lines, bind_as, import_lines, bind_lines, plan_lines, module_lines, lines_of, listing_of}
 use Rattle.dyl_front.specs.KeptListing.{fresh_of_members, listed_in, HasMembers}
+use Rattle.dyl_front.specs.declared.reports.Report.{Report}
+use Rattle.dyl_front.specs.Summary.{run_line, sizes_lines, set_lines, summary_of}
 
 -- ---- the same by the same values
 
@@ -63,6 +66,19 @@ module _ (L : LinkedSet) (k : Kept) (h : IsLinked L k) where
       ∙ slots_same L.set.members (hosts_of L) (slot_in k) (slot_of L) h.slots (fresh_of_members 0 k.members ++ k.outside)
       ∙ ap (slot_lines L.set.members (hosts_of L) (slot_of L)) fresh_are))
       (ap (bind_lines (function_in k) (cell_in k) 0) members_are ∙ binds_same (function_in k) (function_ref L) (cell_in k) (imported_number L) h.functions h.cells 0 L.set.members)
+
+  pub sizes_are : sizes_lines (length k.set.members) k.plan.pages k.plan.pages_max k.table_entries k.table_max ≡ set_lines L
+  sizes_are =
+      ap₂ (λ (plan : Plan) count. sizes_lines count plan.pages plan.pages_max k.table_entries k.table_max) h.plan count_is
+      ∙ ap₂ (sizes_lines (length L.set.members) (linked_plan L).pages (linked_plan L).pages_max) h.table_entries h.table_max
+
+  -- what is put for the set and for its two runs
+  pub summary_is : (loaded merged : Report) (begun sizes first all : List ℕ) → begun ≡ [] → sizes ≡ begun ++ sizes_lines (length k.set.members) k.plan.pages k.plan.pages_max k.table_entries k.table_max
+      → first ≡ sizes ++ run_line (codes "run") loaded.ran loaded.output → all ≡ first ++ run_line (codes "exec") merged.ran merged.output → all ≡ summary_of L loaded merged
+  summary_is loaded merged begun sizes first all empty put_sizes put_first put_all =
+      put_all
+      ∙ ap (λ bytes. bytes ++ run_line (codes "exec") merged.ran merged.output)
+      (put_first ∙ ap (λ bytes. bytes ++ run_line (codes "run") loaded.ran loaded.output) (put_sizes ∙ ap (λ bytes. bytes ++ sizes_lines (length k.set.members) k.plan.pages k.plan.pages_max k.table_entries k.table_max) empty ∙ sizes_are))
 
   bases_length : (size align : Region → ℕ) (end : ℕ) (rs : List Region) → length (bases size align end rs) ≡ length rs
   bases_length size align end [] = refl

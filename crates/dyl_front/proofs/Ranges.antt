@@ -11,11 +11,11 @@ use Rattle.dyl_words.proofs.ZeroFree.{asked_free}
 use Rattle.dyl_link.specs.declared.options.LinkOptions.{LinkOptions}
 use Rattle.dyl_search.specs.declared.set.SetOptions.{SetOptions}
 use Rattle.dyl_front.specs.declared.outcome.Opt.{Opt}
-use Rattle.dyl_front.specs.declared.outcome.Opt.TheVariants.{Dl, Path, Pages, Stack, Steps}
+use Rattle.dyl_front.specs.declared.outcome.Opt.TheVariants.{Dl, Path, Pages, Stack, Steps, N}
 use Rattle.dyl_front.specs.declared.outcome.UsageKind.{UsageKind}
 use Rattle.dyl_front.specs.declared.order.Order.{Order}
-use Rattle.dyl_front.specs.declared.order.Order.TheVariants.{Merge, Run, Exec, Plan}
-use Rattle.dyl_front.specs.Orders.{Text, on_ok, is_number, is_between, number_in, is_empty, items_of, items_in, set_in, link_in, steps_in, over_set, order_by, order_asked, order_for, order_of, has_no_zero, is_item, IsSetInRange, IsLinkInRange, AreArgumentsInRange, IsInRange}
+use Rattle.dyl_front.specs.declared.order.Order.TheVariants.{Merge, Run, Exec, Plan, Gen}
+use Rattle.dyl_front.specs.Orders.{Text, on_ok, is_number, is_between, number_of, number_in, is_empty, items_of, items_in, set_in, pages_in, link_in, steps_in, over_set, order_by, order_asked, order_for, order_of, has_no_zero, is_item, IsSetInRange, IsLinkInRange, AreArgumentsInRange, IsInRange}
 
 parts_false : (a b : Bool) → (a || b) ≡ false → (a ≡ false) × (b ≡ false)
 parts_false true b h = absurd (true≢false h)
@@ -84,10 +84,13 @@ module _ (a : Asked) (free : IsZeroFree a) where
       (λ dl d. ok_then (λ xs. list_all is_item xs ≡ true) IsSetInRange (items_in Path 0x3A a.path) (λ paths. Ok (record { main = main; dl = dl; paths = paths }))
       (items Path 0x3A a.path free.2) (λ paths p. (ap not h, d, p)))
 
+  pages : IfOk (pages_in a) (λ n. (1 ≤ n) × (n ≤ 16384))
+  pages = numbers Pages 1 16384 1024 a.pages (omega arith) (omega arith)
+
   links : IfOk (link_in a) IsLinkInRange
-  links = ok_then (λ n. (1 ≤ n) × (n ≤ 16384)) IsLinkInRange (number_in Pages 1 16384 1024 a.pages)
+  links = ok_then (λ n. (1 ≤ n) × (n ≤ 16384)) IsLinkInRange (pages_in a)
       (λ pages. on_ok (number_in Stack 16 16777216 65536 a.stack) (λ stack. Ok (record { stack = stack; pages = pages; no_duplicates = a.no_duplicates })))
-      (numbers Pages 1 16384 1024 a.pages (omega arith) (omega arith))
+      pages
       (λ pages p. ok_then (λ n. (16 ≤ n) × (n ≤ 16777216)) IsLinkInRange (number_in Stack 16 16777216 65536 a.stack) (λ stack. Ok (record { stack = stack; pages = pages; no_duplicates = a.no_duplicates }))
       (numbers Stack 16 16777216 65536 a.stack (omega arith) (omega arith)) (λ stack s. (p.0, p.1, s.0, s.1)))
 
@@ -126,6 +129,14 @@ module _ (a : Asked) (free : IsZeroFree a) where
   orders command.Plan [] h = tt
   orders command.Plan (main ∷ []) h = over main (λ set link. Ok (Plan set link)) (parts_false (has_zero main) false h).0 (λ set link s l. (s, l))
   orders command.Plan (main ∷ word ∷ words) h = tt
+  orders command.Gen [] h = tt
+  orders command.Gen (number ∷ []) h =
+      let members = λ (pages steps : ℕ). on_ok (number_of N 0 4294967295 number) (λ n. Ok (Gen n pages steps)) in
+      ok_then (λ n. (1 ≤ n) × (n ≤ 16384)) IsInRange (pages_in a) (λ most. on_ok (steps_in a) (λ n. members most n)) pages
+      (λ most p. ok_then (λ n. n ≤ 9223372036854775807) IsInRange (steps_in a) (λ n. members most n) steps
+      (λ n m. ok_then (λ k. (0 ≤ k) × (k ≤ 4294967295)) IsInRange (number_of N 0 4294967295 number) (λ k. Ok (Gen k most n))
+      (numbers N 0 4294967295 0 (Some number) (omega arith) (omega arith)) (λ k q. (p.0, p.1, m))))
+  orders command.Gen (number ∷ word ∷ words) h = tt
 
 asked_in_range : (c : CommandName) (r : Option Asked) → ((a : Asked) → r ≡ Some a → IsZeroFree a) → IfOk (order_asked c r) IsInRange
 asked_in_range c None h = tt

@@ -3,3 +3,4 @@ pub mod Status
 pub mod Lines
 pub mod Listing
 pub mod KeptListing
+pub mod Summary

@@ -23,6 +23,8 @@ use Rattle.spec_hosts.specs.declared.ran.RunEnd.{RunEnd}
 use Rattle.spec_hosts.specs.declared.ran.RunEnd.TheVariants as end
 use Rattle.spec_merging.specs.declared.fault.MergeFault.{MergeFault}
 use Rattle.spec_merging.specs.declared.fault.MergeFault.TheVariants as merge
+use Rattle.dyl_gen.specs.declared.fault.GenFault.{GenFault}
+use Rattle.dyl_gen.specs.declared.fault.GenFault.TheVariants as gen
 use Rattle.dyl_front.specs.declared.outcome.Opt.{Opt}
 use Rattle.dyl_front.specs.declared.outcome.Opt.TheVariants.{Dl, Path, Pages, Stack, Steps, N}
 use Rattle.dyl_front.specs.declared.outcome.UsageKind.{UsageKind}
@@ -31,7 +33,7 @@ use Rattle.spec_linking.specs.declared.fault.SetFault.{SetFault}
 use Rattle.spec_linking.specs.declared.fault.SetFault.TheVariants as set
 use Rattle.spec_linking.specs.declared.fault.SetFault.TheVariants.{Missing, ReadFault, Decode, Record, Check, ModuleCount, SetSize}
 use Rattle.dyl_front.specs.declared.outcome.Outcome.{Outcome}
-use Rattle.dyl_front.specs.declared.outcome.Outcome.TheVariants.{Done, Ran, Usage, Set, Link, Merge, Single, WriteFault, Memory}
+use Rattle.dyl_front.specs.declared.outcome.Outcome.TheVariants.{Done, Ran, Usage, Set, Link, Merge, Single, Gen, WriteFault, Memory}
 
 -- a lower-case hexadecimal digit
 abbrev pub hex_digit : ℕ → ℕ
@@ -166,18 +168,23 @@ single_text (single.HostType from name) = codes "ill-typed host import " ++ esca
 single_text single.SegmentTrap = codes "segment out of bounds"
 single_text single.Memory = codes "out of memory"
 
+abbrev pub gen_text : GenFault → List ℕ
+gen_text gen.Range = codes "N must be 1 to 255"
+gen_text gen.Memory = codes "out of memory"
+
 abbrev pub memory_text : List ℕ
 memory_text = codes "out of memory"
 
 -- what is told of an outcome; none where the command is done, and of a run that returned or exited
 abbrev pub outcome_text : Outcome → Option (List ℕ)
-outcome_text Done = None
+outcome_text (Done runs) = None
 outcome_text (Ran ran) = end_text ran.end
 outcome_text (Usage kind) = Some (usage_text kind)
 outcome_text (Set fault) = Some (set_text fault)
 outcome_text (Link fault) = Some (link_text fault)
 outcome_text (Merge fault) = Some (merge_text fault)
 outcome_text (Single fault) = Some (single_text fault)
+outcome_text (Gen fault) = Some (gen_text fault)
 outcome_text WriteFault = Some (codes "write fault")
 outcome_text Memory = Some memory_text
 

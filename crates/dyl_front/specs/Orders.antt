@@ -13,13 +13,13 @@ use Rattle.dyl_words.specs.declared.asked.AskFault.TheVariants as ask
 use Rattle.dyl_words.specs.declared.names.CommandName.{CommandName}
 use Rattle.dyl_words.specs.declared.names.CommandName.TheVariants as command
 use Rattle.dyl_front.specs.declared.outcome.Opt.{Opt}
-use Rattle.dyl_front.specs.declared.outcome.Opt.TheVariants.{Dl, Path, Pages, Stack, Steps}
+use Rattle.dyl_front.specs.declared.outcome.Opt.TheVariants.{Dl, Path, Pages, Stack, Steps, N}
 use Rattle.dyl_front.specs.declared.outcome.UsageKind.{UsageKind}
 use Rattle.dyl_front.specs.declared.outcome.UsageKind.TheVariants.{NoCommand, UnknownCommand, Words, Number, Name}
 use Rattle.dyl_front.specs.declared.outcome.Outcome.{Outcome}
 use Rattle.dyl_front.specs.declared.outcome.Outcome.TheVariants as outcome
 use Rattle.dyl_front.specs.declared.order.Order.{Order}
-use Rattle.dyl_front.specs.declared.order.Order.TheVariants.{Merge, Run, Exec, Plan}
+use Rattle.dyl_front.specs.declared.order.Order.TheVariants.{Merge, Run, Exec, Plan, Gen}
 use Rattle.dyl_front.specs.declared.words.WordFault.{WordFault}
 use Rattle.dyl_front.specs.declared.words.WordFault.TheVariants as word
 
@@ -41,10 +41,14 @@ is_number text = not (length text == 0) && list_all is_digit text
 abbrev pub is_between : ℕ → ℕ → ℕ → Bool
 is_between least most n = nat_le least n && nat_le n most
 
--- a number in its range, in digits alone; where no value is given, this one
+-- a number in its range, in digits alone
+abbrev pub number_of : Opt → ℕ → ℕ → Text → Result ℕ UsageKind
+number_of of least most text = if is_number text && is_between least most (digits_value 10 text) then Ok (digits_value 10 text) else Err (Number of)
+
+-- the number that is the value of an option; where none is given, this one
 abbrev pub number_in : Opt → ℕ → ℕ → ℕ → Option Text → Result ℕ UsageKind
 number_in of least most unless None = Ok unless
-number_in of least most unless (Some text) = if is_number text && is_between least most (digits_value 10 text) then Ok (digits_value 10 text) else Err (Number of)
+number_in of least most unless (Some text) = number_of of least most text
 
 abbrev pub is_empty : Text → Bool
 is_empty text = length text == 0
@@ -61,8 +65,11 @@ items_in of separator (Some text) = items_of of (slice_split (λ b. b == separat
 abbrev pub set_in : Text → Asked → Result SetOptions UsageKind
 set_in main a = on_ok (items_in Dl 0x2C a.dl) (λ dl. on_ok (items_in Path 0x3A a.path) (λ paths. Ok (record { main = main; dl = dl; paths = paths })))
 
+abbrev pub pages_in : Asked → Result ℕ UsageKind
+pages_in a = number_in Pages 1 16384 1024 a.pages
+
 abbrev pub link_in : Asked → Result LinkOptions UsageKind
-link_in a = on_ok (number_in Pages 1 16384 1024 a.pages) (λ pages. on_ok (number_in Stack 16 16777216 65536 a.stack) (λ stack. Ok (record { stack = stack; pages = pages; no_duplicates = a.no_duplicates })))
+link_in a = on_ok (pages_in a) (λ pages. on_ok (number_in Stack 16 16777216 65536 a.stack) (λ stack. Ok (record { stack = stack; pages = pages; no_duplicates = a.no_duplicates })))
 
 abbrev pub steps_in : Asked → Result ℕ UsageKind
 steps_in a = number_in Steps 0 9223372036854775807 1000000000 a.steps
@@ -84,12 +91,17 @@ exec_order file args a = on_ok (steps_in a) (λ steps. Ok (Exec file steps args)
 abbrev pub plan_order : Text → Asked → Result Order UsageKind
 plan_order main a = over_set main a (λ set link. Ok (Plan set link))
 
+-- the number of members may be any of 32 bits here
+abbrev pub gen_order : Text → Asked → Result Order UsageKind
+gen_order number a = on_ok (pages_in a) (λ pages. on_ok (steps_in a) (λ steps. on_ok (number_of N 0 4294967295 number) (λ n. Ok (Gen n pages steps))))
+
 -- by the plain words, of which `asked` leaves neither too few nor too many
 abbrev pub order_by : CommandName → List Text → Asked → Result Order UsageKind
 order_by command.Merge (main ∷ out ∷ []) a = merge_order main out a
 order_by command.Run (main ∷ args) a = run_order main args a
 order_by command.Exec (file ∷ args) a = exec_order file args a
 order_by command.Plan (main ∷ []) a = plan_order main a
+order_by command.Gen (number ∷ []) a = gen_order number a
 order_by _ _ a = Err Words
 
 abbrev pub order_asked : CommandName → Option Asked → Result Order UsageKind
@@ -122,13 +134,6 @@ abbrev pub refused_words : ErrorKind → Outcome
 refused_words OutOfMemory = outcome.Memory
 refused_words _ = outcome.Usage Words
 
--- the path of the main module, or of the module that is run
-abbrev pub path_of : Order → List ℕ
-path_of (Merge set link out) = set.main
-path_of (Run set link steps args) = set.main
-path_of (Exec file steps args) = file
-path_of (Plan set link) = set.main
-
 abbrev pub has_no_zero : List ℕ → Bool
 has_no_zero text = not (has_zero text)
 
@@ -151,3 +156,4 @@ IsInRange (Merge set link out) = IsSetInRange set × IsLinkInRange link × (has_
 IsInRange (Run set link steps args) = IsSetInRange set × IsLinkInRange link × AreArgumentsInRange steps args
 IsInRange (Exec file steps args) = (has_no_zero file ≡ true) × AreArgumentsInRange steps args
 IsInRange (Plan set link) = IsSetInRange set × IsLinkInRange link
+IsInRange (Gen n pages steps) = (1 ≤ pages) × (pages ≤ 16384) × (steps ≤ 9223372036854775807)

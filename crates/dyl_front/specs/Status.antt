@@ -4,7 +4,7 @@ use Rattle.spec_hosts.specs.declared.ran.RunEnd.{RunEnd}
 use Rattle.spec_hosts.specs.declared.ran.RunEnd.TheVariants as end
 use Rattle.spec_linking.specs.declared.fault.SetFault.TheVariants.{ReadFault}
 use Rattle.dyl_front.specs.declared.outcome.Outcome.{Outcome}
-use Rattle.dyl_front.specs.declared.outcome.Outcome.TheVariants.{Done, Ran, Usage, Set, Link, Merge, Single, WriteFault, Memory}
+use Rattle.dyl_front.specs.declared.outcome.Outcome.TheVariants.{Done, Ran, Usage, Set, Link, Merge, Single, Gen, WriteFault, Memory}
 
 abbrev pub end_status : RunEnd → ℕ
 end_status end.Return = 0
@@ -16,7 +16,7 @@ end_status end.HostCallLimit = 126
 end_status end.Stuck = 70
 
 abbrev pub status_of : Outcome → ℕ
-status_of Done = 0
+status_of (Done runs) = 0
 status_of (Ran ran) = end_status ran.end
 status_of (Usage kind) = 64
 status_of (Set (ReadFault path)) = 66
@@ -24,5 +24,6 @@ status_of (Set fault) = 65
 status_of (Link fault) = 65
 status_of (Merge fault) = 65
 status_of (Single fault) = 65
+status_of (Gen fault) = 65
 status_of WriteFault = 74
 status_of Memory = 71

@@ -10,6 +10,7 @@ mod options;
 mod order;
 mod outcome;
 mod put;
+mod reports;
 mod slots;
 mod words;
 
@@ -19,4 +20,5 @@ pub use lines::{line, link_line, set_line, usage_line};
 pub use list::listing;
 pub use order::Order;
 pub use outcome::{Opt, Outcome, UsageKind, status};
+pub use reports::{Report, summary};
 pub use words::{WordFault, collected, owned, read_words};

@@ -1,11 +1,12 @@
 // The line that is put to the errors for an outcome.
 ghost use Rattle.std.specs.Prelude.{◌≡◌, ◌++◌, [], codes, decimal, unwrap_or, Some, IsSome, IfOk, OnOk, string_bytes};
 ghost use Rattle.spec_linking.specs.declared.fault.LinkFault.TheVariants as link;
-ghost use Rattle.dyl_front.specs.Lines.{escaped, option_text, usage_text, set_text, kind_text, link_text, merge_text, trap_text, end_text, single_text, outcome_text, line_with, line_of};
+ghost use Rattle.dyl_front.specs.Lines.{escaped, option_text, usage_text, set_text, kind_text, link_text, merge_text, trap_text, end_text, single_text, gen_text, outcome_text, line_with, line_of};
 
 use crate::faults::put_set;
 use crate::outcome::{Opt, Outcome, UsageKind};
 use crate::put::{put_escaped, put_text};
+use dyl_gen::GenFault;
 use spec_execution::SingleFault;
 use spec_hosts::RunEnd;
 use spec_linking::{Kind, LinkFault, SetFault};
@@ -209,16 +210,20 @@ fn cause_text(trap: Trap) -> &'static str
     }
 }
 
+/// Puts why a run trapped.
+pub(crate) fn put_trap(trap: Trap, to: &mut Vec<u8>) -> Result<(), Memory>
+    ensures { OnOk result (to.new.items ≡ to.old.items ++ (codes "trap " ++ trap_text trap)) }
+{
+    put_both("trap ", cause_text(trap), to)
+}
+
 /// Puts how a run ended that neither returned nor exited.
 fn put_end(end: RunEnd, to: &mut Vec<u8>) -> Result<(), Memory>
     ensures { OnOk result (to.new.items ≡ to.old.items ++ unwrap_or (end_text end) []) }
 {
     match end {
         RunEnd::Return | RunEnd::Exit(_) => Ok(()),
-        RunEnd::Trap(trap) => {
-            put_text("trap ", to)?;
-            put_text(cause_text(trap), to)
-        }
+        RunEnd::Trap(trap) => put_trap(trap, to),
         RunEnd::StepLimit => put_text("step limit", to),
         RunEnd::DepthLimit => put_text("depth limit", to),
         RunEnd::HostCallLimit => put_text("host call limit", to),
@@ -254,18 +259,29 @@ fn put_single(fault: &SingleFault, to: &mut Vec<u8>) -> Result<(), Memory>
     }
 }
 
+/// Why no set is made.
+fn making_text(fault: GenFault) -> &'static str
+    ensures { result.now ≡ gen_text fault }
+{
+    match fault {
+        GenFault::Range => "N must be 1 to 255",
+        GenFault::Memory => "out of memory",
+    }
+}
+
 /// Puts the text of an outcome, if there is one.
 fn put_outcome(alloc: Global, outcome: &Outcome, to: &mut Vec<u8>) -> Result<(), Memory>
     ensures { OnOk result (to.new.items ≡ to.old.items ++ unwrap_or (outcome_text outcome.now) []) }
 {
     match outcome {
-        Outcome::Done => Ok(()),
+        Outcome::Done(_) => Ok(()),
         Outcome::Ran(ran) => put_end(ran.end, to),
         Outcome::Usage(kind) => put_usage(*kind, to),
         Outcome::Set(fault) => put_set(alloc, fault, to),
         Outcome::Link(fault) => put_link(alloc, fault, to),
         Outcome::Merge(fault) => put_text(&merging_text(alloc, *fault)?, to),
         Outcome::Single(fault) => put_single(fault, to),
+        Outcome::Gen(fault) => put_text(making_text(*fault), to),
         Outcome::WriteFault => put_text("write fault", to),
         Outcome::Memory => put_text("out of memory", to),
     }

@@ -25,7 +25,7 @@ fn range_text(alloc: Global, name: &str, lower: u64, upper: u64) -> Result<Strin
 }
 
 /// Puts the line of a range.
-fn put_range(
+pub(crate) fn put_range(
     alloc: Global,
     name: &str,
     lower: u64,

@@ -3,7 +3,8 @@ ghost use Rattle.std.specs.Prelude.{◌≡◌, ◌==◌, ◌≤◌, ◌<◌, ◌
 ghost use Rattle.std.specs.List.{list_any, list_all, slice_split};
 ghost use Rattle.std.specs.Str.Parse.{digits_value};
 ghost use Rattle.dyl_words.specs.Shown.{shown, text_in};
-ghost use Rattle.dyl_front.specs.Orders.{Reads, is_digit, is_number, is_between, is_empty, number_in, items_of, items_in, set_in, link_in, steps_in};
+ghost use Rattle.dyl_front.specs.Orders.{Reads, is_digit, is_number, is_between, is_empty, number_of, number_in, items_of, items_in, set_in, pages_in, link_in, steps_in};
+ghost use Rattle.dyl_front.specs.declared.outcome.Opt.TheVariants.{N};
 
 use crate::order::{LEAST_PAGES, LEAST_STACK, MOST_PAGES, MOST_STACK, MOST_STEPS};
 use crate::outcome::{Opt, UsageKind};
@@ -20,6 +21,9 @@ const DEFAULT_PAGES: u64 = 1_024;
 const DEFAULT_STACK: u64 = 65_536;
 
 const DEFAULT_STEPS: u64 = 1_000_000_000;
+
+// The greatest number of members that words can ask for.
+const MOST_MEMBERS: u64 = 4_294_967_295;
 
 fn is_digit(b: u8) -> bool
     ensures { result ≡ is_digit b }
@@ -53,6 +57,17 @@ fn number(text: &str) -> Option<u64>
     }
 }
 
+// The number that a text writes, in its range.
+fn number_of(option: Opt, least: u64, most: u64, text: &str) -> Result<u64, UsageKind>
+    ensures value { result ≡ number_of option least most text.now }
+    ensures range { IfOk result (λ n. n ≤ most) }
+{
+    match number(text) {
+        Some(n) if n >= least && n <= most => Ok(n),
+        _ => Err(UsageKind::Number(option)),
+    }
+}
+
 // The value of an option as a number in its range; where none is given, this one.
 fn number_in(
     option: Opt,
@@ -65,18 +80,15 @@ fn number_in(
     ensures value { result ≡ number_in option least most unless (text_in value.entry) }
     ensures range { IfOk result (λ n. n ≤ most) }
 {
-    let Some(text) = value else {
-        return Ok(unless);
-    };
-    match number(text) {
-        Some(n) if n >= least && n <= most => Ok(n),
-        _ => Err(UsageKind::Number(option)),
+    match value {
+        Some(text) => number_of(option, least, most, text),
+        None => Ok(unless),
     }
 }
 
-// How a set is linked.
-pub(crate) fn link_in(asked: &Asked<'_>) -> Result<LinkOptions, UsageKind>
-    ensures { result ≡ link_in (shown asked.now) }
+// The most pages of memory.
+pub(crate) fn pages_in(asked: &Asked<'_>) -> Result<u32, UsageKind>
+    ensures { result ≡ pages_in (shown asked.now) }
 {
     let pages = number_in(
         Opt::Pages,
@@ -85,6 +97,14 @@ pub(crate) fn link_in(asked: &Asked<'_>) -> Result<LinkOptions, UsageKind>
         DEFAULT_PAGES,
         asked.pages,
     )?;
+    Ok(pages as u32)
+}
+
+// How a set is linked.
+pub(crate) fn link_in(asked: &Asked<'_>) -> Result<LinkOptions, UsageKind>
+    ensures { result ≡ link_in (shown asked.now) }
+{
+    let pages = pages_in(asked)?;
     let stack = number_in(
         Opt::Stack,
         u64::from(LEAST_STACK),
@@ -94,7 +114,7 @@ pub(crate) fn link_in(asked: &Asked<'_>) -> Result<LinkOptions, UsageKind>
     )?;
     Ok(LinkOptions {
         stack: stack as u32,
-        pages: pages as u32,
+        pages,
         no_duplicates: asked.no_duplicates,
     })
 }
@@ -104,6 +124,14 @@ pub(crate) fn steps_in(asked: &Asked<'_>) -> Result<u64, UsageKind>
     ensures { result ≡ steps_in (shown asked.now) }
 {
     number_in(Opt::Steps, 0, MOST_STEPS, DEFAULT_STEPS, asked.steps)
+}
+
+// The number of members of a generated set.
+pub(crate) fn members_in(text: &str) -> Result<u32, UsageKind>
+    ensures { result ≡ number_of N 0 4294967295 text.now }
+{
+    let n = number_of(Opt::N, 0, MOST_MEMBERS, text)?;
+    Ok(n as u32)
 }
 
 // The parts of a text between separators, which are ASCII.

@@ -1,5 +1,5 @@
 // What a call of the program is asked for.
-ghost use Rattle.std.specs.Prelude.{◌≡◌, true};
+ghost use Rattle.std.specs.Prelude.{◌≡◌, ◌≤◌, true};
 ghost use Rattle.std.specs.List.{list_all};
 ghost use Rattle.dyl_words.specs.Words.{has_zero};
 ghost use Rattle.dyl_front.specs.Orders.{has_no_zero, is_item, IsSetInRange, IsLinkInRange, AreArgumentsInRange, IsInRange};
@@ -60,15 +60,20 @@ fn is_set_in_range(set: &SetOptions) -> bool
     is_whole(&set.main) && are_items(set.dl.items()) && are_items(set.paths.items())
 }
 
+/// Whether there may be so many pages.
+fn are_pages_in_range(pages: u32) -> bool
+    ensures range { result ≡ true → (1 ≤ pages) × (pages ≤ 16384) }
+    ensures only { 1 ≤ pages → pages ≤ 16384 → result ≡ true }
+{
+    pages >= LEAST_PAGES && pages <= MOST_PAGES
+}
+
 /// Whether the numbers of linking are in their ranges.
 fn is_link_in_range(link: &LinkOptions) -> bool
     ensures range { result ≡ true → IsLinkInRange link.now }
     ensures only { IsLinkInRange link.now → result ≡ true }
 {
-    link.pages >= LEAST_PAGES
-        && link.pages <= MOST_PAGES
-        && link.stack >= LEAST_STACK
-        && link.stack <= MOST_STACK
+    are_pages_in_range(link.pages) && link.stack >= LEAST_STACK && link.stack <= MOST_STACK
 }
 
 /// Whether steps and arguments are as words give them.
@@ -106,6 +111,13 @@ pub enum Order {
         set: SetOptions,
         link: LinkOptions,
     },
+    /// Makes a set of so many members, which may have so many pages of memory, and runs it loaded and merged, for at most so many steps
+    /// each.
+    Gen {
+        n: u32,
+        pages: u32,
+        steps: u64,
+    },
 }
 
 impl Order {
@@ -132,6 +144,7 @@ impl Order {
                 is_whole(file) && are_arguments_in_range(*steps, args)
             }
             Order::Plan { set, link } => is_set_in_range(set) && is_link_in_range(link),
+            Order::Gen { n: _, pages, steps } => are_pages_in_range(*pages) && *steps <= MOST_STEPS,
         }
     }
 }

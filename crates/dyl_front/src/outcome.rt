@@ -1,11 +1,14 @@
 // What a call of the program comes to.
-ghost use Rattle.std.specs.Prelude.{◌≡◌};
+ghost use Rattle.std.specs.Prelude.{◌≡◌, []};
 ghost use Rattle.dyl_front.specs.Status.{end_status, status_of};
 
+use dyl_gen::GenFault;
 use spec_execution::SingleFault;
 use spec_hosts::{Ran, RunEnd};
 use spec_linking::{LinkFault, SetFault};
 use spec_merging::MergeFault;
+use std::alloc::Global;
+use wasm_form::List;
 
 /// An option that has a value, or the number of a generated set.
 #[derive(Clone, Copy, Debug, PartialEq, Eq)]
@@ -42,8 +45,8 @@ pub enum UsageKind {
 /// The answer of `serve`.
 #[derive(Drop)]
 pub enum Outcome {
-    /// The command is done.
-    Done,
+    /// The command is done. For `gen` the list has the run of the loaded set and then that of the merged module; for others it is empty.
+    Done(List<Ran>),
     /// The module was run.
     Ran(Ran),
     /// The words are no order.
@@ -56,10 +59,21 @@ pub enum Outcome {
     Merge(MergeFault),
     /// The module is not run. The fault is never `Memory`.
     Single(SingleFault),
+    /// No set is made. The fault is never `Memory`.
+    Gen(GenFault),
     /// The output could not be written.
     WriteFault,
     /// No memory could be had.
     Memory,
+}
+
+impl Outcome {
+    /// That a command is done which makes no runs of its own.
+    pub fn done(alloc: Global) -> Outcome
+        ensures { result ≡ Outcome.Done [] }
+    {
+        Outcome::Done(List::of(Vec::new(alloc)))
+    }
 }
 
 /// The exit status of a run by its end: that of a shell's `timeout` where steps are used up, and of a process that aborted where it
@@ -83,11 +97,15 @@ pub fn status(outcome: &Outcome) -> u8
     ensures { result ≡ status_of outcome.now }
 {
     match outcome {
-        Outcome::Done => 0,
+        Outcome::Done(_) => 0,
         Outcome::Ran(ran) => end_status(ran.end),
         Outcome::Usage(_) => 64,
         Outcome::Set(SetFault::ReadFault { .. }) => 66,
-        Outcome::Set(_) | Outcome::Link(_) | Outcome::Merge(_) | Outcome::Single(_) => 65,
+        Outcome::Set(_)
+        | Outcome::Link(_)
+        | Outcome::Merge(_)
+        | Outcome::Single(_)
+        | Outcome::Gen(_) => 65,
         Outcome::Memory => 71,
         Outcome::WriteFault => 74,
     }

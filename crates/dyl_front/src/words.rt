@@ -4,10 +4,10 @@ ghost use Rattle.std.specs.IoError.{error_kind};
 ghost use Rattle.dyl_words.specs.Words.{asked};
 ghost use Rattle.dyl_words.specs.declared.names.CommandName.TheVariants as command;
 ghost use Rattle.dyl_words.specs.Shown.{shown};
-ghost use Rattle.dyl_front.specs.Orders.{Reads, word_fault, merge_order, run_order, exec_order, plan_order, order_by, order_asked, order_of, refused_words, IsInRange};
+ghost use Rattle.dyl_front.specs.Orders.{Reads, word_fault, merge_order, run_order, exec_order, plan_order, gen_order, order_by, order_asked, order_of, refused_words, IsInRange};
 ghost use Rattle.dyl_front.specs.declared.words.WordFault.TheVariants as word;
 
-use crate::options::{link_in, owned_all, set_in, steps_in};
+use crate::options::{link_in, members_in, owned_all, pages_in, set_in, steps_in};
 use crate::order::Order;
 use crate::outcome::{Outcome, UsageKind};
 use dyl_words::{AskFault, Asked, CommandName, ask};
@@ -155,6 +155,16 @@ fn plan_order(alloc: Global, main: &str, asked: &Asked<'_>) -> Result<Order, Wor
     Ok(Order::Plan { set, link })
 }
 
+/// The order of `gen`.
+fn gen_order(number: &str, asked: &Asked<'_>) -> Result<Order, WordFault>
+    ensures { Reads result (gen_order number.now (shown asked.now)) }
+{
+    let pages = pages_in(asked)?;
+    let steps = steps_in(asked)?;
+    let n = members_in(number)?;
+    Ok(Order::Gen { n, pages, steps })
+}
+
 /// The order that a command is, by what is asked for.
 fn order_by(alloc: Global, command: CommandName, asked: &Asked<'_>) -> Result<Order, WordFault>
     ensures { Reads result (order_by command (shown asked.now).plain (shown asked.now)) }
@@ -164,6 +174,7 @@ fn order_by(alloc: Global, command: CommandName, asked: &Asked<'_>) -> Result<Or
         (CommandName::Run, words) => run_words(alloc, words, asked),
         (CommandName::Exec, [file, args @ ..]) => exec_order(alloc, file, args, asked),
         (CommandName::Plan, [main]) => plan_order(alloc, main, asked),
+        (CommandName::Gen, [number]) => gen_order(number, asked),
         _ => Err(WordFault::Usage(UsageKind::Words)),
     }
 }

@@ -5,7 +5,7 @@ use Rattle.std.specs.Borrow.{Bor}
 use Rattle.std.specs.Str.{bytes_eq}
 use Rattle.dyl_words.specs.Forms.{Form, ends, option, stray, plain, form_of, after_hyphen}
 use Rattle.dyl_words.specs.declared.names.CommandName.{CommandName}
-use Rattle.dyl_words.specs.declared.names.CommandName.TheVariants.{Merge, Run, Exec, Plan}
+use Rattle.dyl_words.specs.declared.names.CommandName.TheVariants.{Merge, Run, Exec, Plan, Gen}
 use Rattle.dyl_words.specs.declared.names.OptionName.{OptionName}
 use Rattle.dyl_words.specs.declared.names.OptionName.TheVariants.{Dl, Path, Pages, Stack, NoDuplicates, Steps}
 use Rattle.dyl_words.specs.Words.{Given, options, options_of, option_named, is_flag, yes, with_plain, with_use, at_option, at_form, given, has_zero, values_of, is_right, takes_plain, asked_of, asked_by, asked_in, asked}
@@ -42,6 +42,7 @@ none_taken Merge = refl
 none_taken Run = refl
 none_taken Exec = refl
 none_taken Plan = refl
+none_taken Gen = refl
 
 -- ---- stray hyphens
 
@@ -114,6 +115,7 @@ module _ (c : CommandName) (ws : List Text) where
       none Run = refl
       none Exec = refl
       none Plan = refl
+      none Gen = refl
 
   module _ (name : Text) (ts : List Text) (is : ws ≡ name ∷ ts) where
     at_rest : (P : List Text → Type 0) → P ts → P (drop 1 ws)

@@ -3,7 +3,7 @@ use Rattle.std.proofs.Common.{◌≡◌, Bool, true, false, not, List, [], ◌�
 use lib.Pointwise.{bytes_decides}
 use Rattle.std.specs.Str.{bytes_eq}
 use Rattle.dyl_words.specs.declared.names.CommandName.{CommandName}
-use Rattle.dyl_words.specs.declared.names.CommandName.TheVariants.{Merge, Run, Exec, Plan}
+use Rattle.dyl_words.specs.declared.names.CommandName.TheVariants.{Merge, Run, Exec, Plan, Gen}
 use Rattle.dyl_words.specs.declared.names.OptionName.{OptionName}
 use Rattle.dyl_words.specs.declared.names.OptionName.TheVariants.{Dl, Path, Pages, Stack, NoDuplicates, Steps}
 use Rattle.dyl_words.specs.Words.{command_word, option_word, option_named, options_of, is_flag}
@@ -37,18 +37,21 @@ built_is Merge = refl
 built_is Run = refl
 built_is Exec = refl
 built_is Plan = refl
+built_is Gen = refl
 
 pub simple : (c : CommandName) → is_simple_and_free (app c) ≡ true
 simple Merge = refl
 simple Run = refl
 simple Exec = refl
 simple Plan = refl
+simple Gen = refl
 
 pub simple_is : (c : CommandName) → is_simple (app c) ≡ true
 simple_is Merge = refl
 simple_is Run = refl
 simple_is Exec = refl
 simple_is Plan = refl
+simple_is Gen = refl
 
 -- ---- the rule of an option
 

@@ -4,7 +4,7 @@ use Rattle.std.specs.List.{list_any, list_all, filter}
 use Rattle.std.specs.Str.{bytes_eq}
 use Rattle.dyl_words.specs.Forms.{Text, Form, ends, option, plain, stray, form_of, begins_with_hyphen}
 use Rattle.dyl_words.specs.declared.names.CommandName.{CommandName}
-use Rattle.dyl_words.specs.declared.names.CommandName.TheVariants.{Merge, Run, Exec, Plan}
+use Rattle.dyl_words.specs.declared.names.CommandName.TheVariants.{Merge, Run, Exec, Plan, Gen}
 use Rattle.dyl_words.specs.declared.names.OptionName.{OptionName}
 use Rattle.dyl_words.specs.declared.names.OptionName.TheVariants.{Dl, Path, Pages, Stack, NoDuplicates, Steps}
 
@@ -15,9 +15,10 @@ command_word Merge = codes "merge"
 command_word Run = codes "run"
 command_word Exec = codes "exec"
 command_word Plan = codes "plan"
+command_word Gen = codes "gen"
 
 abbrev pub commands : List CommandName
-commands = Merge ∷ Run ∷ Exec ∷ Plan ∷ []
+commands = Merge ∷ Run ∷ Exec ∷ Plan ∷ Gen ∷ []
 
 abbrev pub command_named : Text → Option CommandName
 command_named word = find (λ c. bytes_eq word (command_word c)) commands
@@ -47,16 +48,18 @@ options_of Merge = set_options
 options_of Run = options
 options_of Exec = Steps ∷ []
 options_of Plan = set_options
+options_of Gen = Pages ∷ Steps ∷ []
 
 abbrev pub option_named : List OptionName → Text → Option OptionName
 option_named known word = find (λ o. bytes_eq (option_word o) word) known
 
--- so many plain words are taken: MAIN and OUT, MAIN alone, or a path and arguments
+-- so many plain words are taken: MAIN and OUT, MAIN alone, a path and arguments, or a number
 abbrev pub takes_plain : CommandName → ℕ → Bool
 takes_plain Merge n = n == 2
 takes_plain Run n = nat_le 1 n
 takes_plain Exec n = nat_le 1 n
 takes_plain Plan n = n == 1
+takes_plain Gen n = n == 1
 
 -- ---- what words give
 

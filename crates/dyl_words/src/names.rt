@@ -13,6 +13,8 @@ pub enum CommandName {
     Exec,
     /// Lists a set.
     Plan,
+    /// Makes a set, and runs it loaded and merged.
+    Gen,
 }
 
 /// An option of a command.
@@ -54,6 +56,9 @@ const RUN_OPTIONS: [OptionName; 6] = [
 /// The options of a command that runs one module.
 const EXEC_OPTIONS: [OptionName; 1] = [OptionName::Steps];
 
+/// The options of a command that makes a set.
+const GEN_OPTIONS: [OptionName; 2] = [OptionName::Pages, OptionName::Steps];
+
 impl CommandName {
     // The options that the command takes.
     pub(crate) fn options(self) -> &'static [OptionName]
@@ -63,6 +68,7 @@ impl CommandName {
             CommandName::Merge | CommandName::Plan => &SET_OPTIONS,
             CommandName::Run => &RUN_OPTIONS,
             CommandName::Exec => &EXEC_OPTIONS,
+            CommandName::Gen => &GEN_OPTIONS,
         }
     }
 
@@ -73,7 +79,7 @@ impl CommandName {
         match self {
             CommandName::Merge => count == 2,
             CommandName::Run | CommandName::Exec => count >= 1,
-            CommandName::Plan => count == 1,
+            CommandName::Plan | CommandName::Gen => count == 1,
         }
     }
 
@@ -86,6 +92,7 @@ impl CommandName {
             CommandName::Run => "run",
             CommandName::Exec => "exec",
             CommandName::Plan => "plan",
+            CommandName::Gen => "gen",
         }
     }
 
@@ -98,6 +105,7 @@ impl CommandName {
             "run" => Some(CommandName::Run),
             "exec" => Some(CommandName::Exec),
             "plan" => Some(CommandName::Plan),
+            "gen" => Some(CommandName::Gen),
             _ => None,
         }
     }

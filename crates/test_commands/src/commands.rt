@@ -1,9 +1,9 @@
 // Commands over files in memory, and what comes of them.
-ghost use Rattle.std.specs.Prelude.{◌≡◌, ◌∷◌, [], IfOk};
+ghost use Rattle.std.specs.Prelude.{◌≡◌, ◌<◌, ◌∷◌, [], IfOk, None};
 
 use dyl_app::{Outcome, serve, status};
 use dyl_outside::{Files, MemAmbient, MemFiles, MemSink, MemSource};
-use host_table::HostTable;
+use host_table::{HostTable, Reply};
 use std::alloc::Global;
 use std::test::Fail;
 use test_files::{File, holding};
@@ -186,4 +186,16 @@ pub fn i32_to_i32(alloc: Global) -> Result<FuncType, Memory>
         params: List::of(params),
         results: List::of(results),
     })
+}
+
+/// A host function of that type, which answers the double.
+pub fn doubled(args: &[u64], _size: u64) -> Reply
+    ensures result { result.result < 4294967296 }
+    ensures put { result.put ≡ None }
+{
+    let first = args.first().copied().unwrap_or(0);
+    Reply {
+        result: first % 4_294_967_296 * 2 % 4_294_967_296,
+        put: None,
+    }
 }

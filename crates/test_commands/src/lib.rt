@@ -6,6 +6,8 @@ mod commands;
 #[cfg(test)]
 mod exec;
 #[cfg(test)]
+mod generated;
+#[cfg(test)]
 mod opening;
 #[cfg(test)]
 mod plan;

@@ -101,7 +101,7 @@ fn put_text(alloc: Global, to: &mut Vec<u8>, text: &str) -> Result<(), Memory> {
 }
 
 /// Appends a name.
-fn put_name(alloc: Global, to: &mut Vec<u8>, name: &str) -> Result<(), Memory> {
+pub fn put_name(alloc: Global, to: &mut Vec<u8>, name: &str) -> Result<(), Memory> {
     put_count(alloc, to, name.len())?;
     to.extend_from_slice(name.as_bytes())?;
     Ok(())

@@ -5,7 +5,7 @@ mod files;
 mod programs;
 mod sets;
 
-pub use files::{EMPTY, Export, File, Import, bytes_in, holding, put_section};
+pub use files::{EMPTY, Export, File, Import, bytes_in, holding, put_name, put_section};
 pub use programs::{
     CONSTRUCTOR, FD_WRITE, GREETED, GREETING, MAIN, MEMORY, MEMORY_BASE, SAY, SAYER, SAYER_TYPES,
     START, TABLE, TABLE_BASE,

@@ -84,6 +84,10 @@ fn shown(alloc: Global, order: &Order) -> Result<String, Fail> {
             let set = set_shown(alloc, set, link)?;
             Ok(format!(in alloc; "plan {set}")?)
         }
+        Order::Gen { n, pages, steps } => {
+            let (n, pages, steps) = (*n, *pages, *steps);
+            Ok(format!(in alloc; "gen {n} {pages} {steps}")?)
+        }
     }
 }
 
@@ -93,7 +97,7 @@ const WORDS: &str = "wdyl: usage: words\n";
 const WRONG: &[(&str, &str)] = &[
     ("link", "wdyl: usage: unknown command\n"),
     (".", "wdyl: usage: unknown command\n"),
-    ("gen 40", "wdyl: usage: unknown command\n"),
+    ("generate 40", "wdyl: usage: unknown command\n"),
     ("--help", "wdyl: usage: unknown command\n"),
     ("run", WORDS),
     ("run -x main.wasm", WORDS),
@@ -206,6 +210,26 @@ const WRONG: &[(&str, &str)] = &[
         "exec --steps x main.wasm",
         "wdyl: usage: number for --steps\n",
     ),
+    ("gen", WORDS),
+    ("gen 40 41", WORDS),
+    ("gen -1", WORDS),
+    ("gen --dl a.so 40", WORDS),
+    ("gen --path lib 40", WORDS),
+    ("gen --stack 65536 40", WORDS),
+    ("gen --no-duplicates 40", WORDS),
+    ("gen --steps 7 --steps 7 40", WORDS),
+    ("gen --pages 0 40", "wdyl: usage: number for --pages\n"),
+    (
+        "gen --steps x --pages 16385 40",
+        "wdyl: usage: number for --pages\n",
+    ),
+    ("gen --steps x x", "wdyl: usage: number for --steps\n"),
+    ("gen x", "wdyl: usage: number for N\n"),
+    ("gen .", "wdyl: usage: number for N\n"),
+    ("gen -- -1", "wdyl: usage: number for N\n"),
+    ("gen 0x28", "wdyl: usage: number for N\n"),
+    ("gen 4294967296", "wdyl: usage: number for N\n"),
+    ("gen 18446744073709551656", "wdyl: usage: number for N\n"),
 ];
 
 /// Rows of words, and the order that each is.
@@ -273,6 +297,17 @@ const RIGHT: &[(&str, &str)] = &[
     ),
     ("exec main.wasm --steps 2 a", "exec main.wasm 2 [a]"),
     ("exec -- -x -y", "exec -x 1000000000 [-y]"),
+    ("gen 40", "gen 40 1024 1000000000"),
+    ("gen 0", "gen 0 1024 1000000000"),
+    ("gen -- 4294967295", "gen 4294967295 1024 1000000000"),
+    (
+        "gen --pages 1 0000000000000000000040 --steps=0",
+        "gen 40 1 0",
+    ),
+    (
+        "gen --pages=16384 --steps 9223372036854775807 255",
+        "gen 255 16384 9223372036854775807",
+    ),
 ];
 
 #[test]

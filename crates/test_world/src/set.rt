@@ -1,13 +1,11 @@
 // A linked set of a main module, which has no data and no function that it defines under a name, and of a library that may be opened.
-ghost use Rattle.std.specs.Prelude.{◌≡◌, ◌≤◌, length, IfOk, IfSome};
-ghost use Rattle.spec_linking.specs.Gathering.{IsSet};
+ghost use Rattle.std.specs.Prelude.{◌≤◌, IfOk, IfSome};
 ghost use Rattle.spec_linking.specs.LinkedSets.{LinkedSet};
-ghost use Rattle.dyl_search.specs.Gathers.{set_of};
 ghost use Rattle.dyl_link.specs.Kept.{IsLinked};
 
 use dyl_link::{LinkOptions, Linked, link};
 use dyl_outside::MemFiles;
-use dyl_search::{ClosedSet, SetOptions, gather};
+use dyl_search::{SetOptions, gather};
 use host_table::HostNames;
 use std::alloc::Global;
 use std::test::Fail;
@@ -51,23 +49,16 @@ fn options() -> LinkOptions
     }
 }
 
-fn linked(alloc: Global, set: ClosedSet) -> Result<Option<Linked>, Fail>
-    requires { IsSet (set_of set) }
-    ensures { IfOk result (λ found. IfSome found (λ l. (L : LinkedSet) × IsLinked L l)) }
-{
-    match link(alloc, set, &options(), &HostNames::new(alloc)) {
-        Ok(linked) => Ok(Some(linked)),
-        Err(_) => Ok(None),
-    }
-}
-
 // The linked set.
 pub(crate) fn linked_set(alloc: Global) -> Result<Option<Linked>, Fail>
     ensures { IfOk result (λ found. IfSome found (λ l. (L : LinkedSet) × IsLinked L l)) }
 {
     let mut files = files(alloc)?;
-    match gather(alloc, &mut files, &asked(alloc)?) {
-        Ok(set) => linked(alloc, set),
+    let Ok(set) = gather(alloc, &mut files, &asked(alloc)?) else {
+        return Ok(None);
+    };
+    match link(alloc, set, &options(), &HostNames::new(alloc)) {
+        Ok(linked) => Ok(Some(linked)),
         Err(_) => Ok(None),
     }
 }

@@ -1,5 +1,6 @@
 //! `wdyl run MAIN` runs a main WebAssembly module with the libraries that it needs, `wdyl merge MAIN OUT` makes one module of them,
-//! `wdyl plan MAIN` lists how they are placed and linked, and `wdyl exec FILE` runs one module.
+//! `wdyl plan MAIN` lists how they are placed and linked, `wdyl exec FILE` runs one module, and `wdyl gen N` makes a set and runs it as
+//! loaded and as merged.
 #![tactic(auto)]
 
 use dyl_app::{serve, tell};

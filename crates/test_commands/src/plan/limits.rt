@@ -4,9 +4,9 @@ use dyl_outside::MemFiles;
 use host_table::HostTable;
 use std::alloc::Global;
 use std::test::Fail;
-use test_files::{EMPTY, bytes_in, put_section};
+use test_files::{EMPTY, bytes_in, put_name, put_section};
 use test_rows::bytes_of;
-use wasm_form::{Memory, put_u32};
+use wasm_form::put_u32;
 
 const MERGE: &str = "wdyl merge main.wasm out.wasm";
 
@@ -31,16 +31,6 @@ fn sizes() -> &'static [(usize, &'static str)] {
     SIZES
 }
 
-// Puts a text as a name.
-fn put_text(alloc: Global, to: &mut Vec<u8>, text: &str) -> Result<(), Memory> {
-    let Ok(count) = u32::try_from(text.len()) else {
-        return Err(Memory);
-    };
-    put_u32(alloc, to, count)?;
-    to.extend_from_slice(text.as_bytes())?;
-    Ok(())
-}
-
 // So many libraries.
 fn libraries(alloc: Global, count: u32) -> Result<MemFiles, Fail> {
     let library = bytes_in(alloc, &EMPTY)?;
@@ -58,7 +48,7 @@ fn names(alloc: Global, count: u32) -> Result<Vec<u8>, Fail> {
     put_u32(alloc, &mut names, count)?;
     for i in 0..count {
         let name = format!(in alloc; "a{i}")?;
-        put_text(alloc, &mut names, &name)?;
+        put_name(alloc, &mut names, &name)?;
     }
     Ok(names)
 }
@@ -126,11 +116,11 @@ fn how_many_bytes(rt: HostRuntime) -> Result<(), Fail> {
 fn exports(alloc: Global, count: u32) -> Result<Vec<u8>, Fail> {
     let mut exports = Vec::new(alloc);
     put_u32(alloc, &mut exports, count)?;
-    put_text(alloc, &mut exports, "_start")?;
+    put_name(alloc, &mut exports, "_start")?;
     exports.extend_from_slice(&[0, 0])?;
     for i in 1..count {
         let name = format!(in alloc; "f{i}")?;
-        put_text(alloc, &mut exports, &name)?;
+        put_name(alloc, &mut exports, &name)?;
         exports.extend_from_slice(&[0, 0])?;
     }
     Ok(exports)

@@ -1,6 +1,7 @@
 // The lines of outcomes.
 use dyl_app::tell;
 use dyl_front::{Outcome, UsageKind, status};
+use dyl_gen::GenFault;
 use dyl_outside::MemSink;
 use spec_binary::DecodeFault;
 use spec_execution::SingleFault;
@@ -37,7 +38,8 @@ fn text(alloc: Global, name: &str) -> Result<Text, Fail> {
 fn lines_of_outcomes(rt: HostRuntime) -> Result<(), Fail> {
     let alloc = rt.alloc();
     for (outcome, line) in [
-        (Outcome::Done, ""),
+        (Outcome::done(alloc), ""),
+        (Outcome::Gen(GenFault::Range), "wdyl: N must be 1 to 255\n"),
         (Outcome::WriteFault, "wdyl: write fault\n"),
         (Outcome::Memory, "wdyl: out of memory\n"),
         (

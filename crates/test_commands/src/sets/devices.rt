@@ -67,6 +67,13 @@ type Row = (
 
 const RUN: &str = "wdyl run main.wasm";
 
+/// That what is to be put can't be.
+const UNWRITTEN: Wanted = Wanted {
+    status: 74,
+    output: "",
+    errors: "wdyl: write fault\n",
+};
+
 const SINKS: &[Row] = &[
     (RUN, BASED, Some(0), None, DONE),
     (
@@ -90,17 +97,8 @@ const SINKS: &[Row] = &[
             errors: "",
         },
     ),
-    (
-        "wdyl plan main.wasm",
-        CYCLE,
-        Some(0),
-        None,
-        Wanted {
-            status: 74,
-            output: "",
-            errors: "wdyl: write fault\n",
-        },
-    ),
+    ("wdyl plan main.wasm", CYCLE, Some(0), None, UNWRITTEN),
+    ("wdyl gen 2", &[], Some(0), None, UNWRITTEN),
 ];
 
 fn sinks_rows() -> &'static [Row] {

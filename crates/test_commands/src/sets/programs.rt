@@ -1,16 +1,14 @@
 // What programs put, and how they end.
-ghost use Rattle.std.specs.Prelude.{◌≡◌, ◌<◌, None};
-
 use super::modules::{
     BASED, BY_TYPE, CLOSES, COUNTS, CYCLE, FIRST_B, GROWS, OUTSIDE, RECURSES, STRONG, TWICE, WEAK,
 };
 use crate::commands::{
-    DONE, Row, Wanted, are_merged, are_run, called_over, does, i32_to_i32, is_done, is_wanted,
-    refuses,
+    DONE, Row, Wanted, are_merged, are_run, called_over, does, doubled, i32_to_i32, is_done,
+    is_wanted, refuses,
 };
 use dyl_app::Outcome;
 use dyl_outside::MemSink;
-use host_table::{Callback, HostTable, Reply};
+use host_table::{Callback, HostTable};
 use std::alloc::Global;
 use std::test::Fail;
 use test_files::{DIAMOND, FIRST_A, File, GREETED, GREETING, MAIN, holding};
@@ -270,20 +268,7 @@ fn a_host_function(rt: HostRuntime) -> Result<(), Fail> {
     let alloc = rt.alloc();
     let mut table = HostTable::new(alloc);
     let ty = i32_to_i32(alloc)?;
-    let call: Callback = Box::new(
-        alloc,
-        |args: &[u64], _size: u64| -> Reply
-            ensures result { result.result < 4294967296 }
-            ensures put { result.put ≡ None }
-        {
-            let first = args.first().copied().unwrap_or(0);
-            Reply {
-                result: first % 4_294_967_296 * 2 % 4_294_967_296,
-                put: None,
-            }
-        },
-    )
-    .expect(&rt, "memory");
+    let call: Callback = Box::new(alloc, doubled)?;
     assert!(rt; table.add(alloc, "env", "twice", ty, call).is_ok());
     let wanted = Wanted { status: 42, ..DONE };
     let mut files = holding(alloc, twice())?;

@@ -1,4 +1,4 @@
-use Rattle.std.proofs.Common.{Ok}
+use Rattle.std.proofs.Common.{Ok, sym, ◌∙◌, true≢false}
 use Rattle.spec_hosts.specs.Devices.{devices}
 use Rattle.host_calls.specs.Embedders.{names_of, embedder_of}
 use Rattle.dyl_front.specs.declared.order.Order.TheVariants.{Exec}
@@ -23,4 +23,4 @@ returns-clause-does g c =
     }
 
 pub returns-clause-quiet : goal.returns-clause-quiet
-returns-clause-quiet g c = λ is. absurd (not_told_done c.exec_file-executed.result c.tell.result c.tell.ensures.answer c.exec_file-executed.ensures.done is)
+returns-clause-quiet g c = λ is. absurd (true≢false (sym is ∙ not_told_done c.exec_file-executed.result c.tell.result c.tell.ensures.answer c.exec_file-executed.ensures.done))

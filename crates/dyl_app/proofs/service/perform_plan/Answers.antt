@@ -3,7 +3,7 @@ use Rattle.host_calls.specs.Embedders.{names_of}
 use Rattle.dyl_search.specs.Gathers.{options_of}
 use Rattle.dyl_link.specs.Kept as links
 use Rattle.dyl_front.specs.declared.order.Order.TheVariants.{Plan}
-use Rattle.dyl_app.proofs.Telling.{told_serves, told_plans}
+use Rattle.dyl_app.proofs.Telling.{done_silent, told_serves, told_plans}
 use Rattle.dyl_app.proofs.service.perform_plan.Goals as goal
 
 pub returns-clause-serves : goal.returns-clause-serves
@@ -13,3 +13,6 @@ returns-clause-serves g c =
 pub returns-clause-works : goal.returns-clause-works
 returns-clause-works g c =
     told_plans _ (names_of c.args.host.now) (options_of c.args.set.now) (links.options_of c.args.link.now) c.plan_main-listed.result c.tell.result _ _ c.tell.ensures.answer c.plan_main-listed.ensures.works
+
+pub returns-clause-quiet : goal.returns-clause-quiet
+returns-clause-quiet g c = λ is. c.tell.ensures.quiet (done_silent c.tell.result is)

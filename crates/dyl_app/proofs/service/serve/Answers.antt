@@ -1,10 +1,12 @@
 use Rattle.host_calls.specs.Embedders.{names_of}
+use Rattle.host_table.specs.Table.{functions_of}
 use Rattle.dyl_app.proofs.Dues.{laws_of, told_yields, told_complete}
+use Rattle.dyl_app.proofs.Writing.{can_write}
 use Rattle.dyl_app.proofs.service.serve.Goals as goal
 
 pub returns-clause-due : goal.returns-clause-due
 returns-clause-due g c = λ told is.
-    told_yields (laws_of c.reading_answers.ensures c.one_record_answer.ensures c.one_gathered.ensures) (names_of c.args.host.now) _ _ c.serve_words.result (c.serve_words.ensures.serves.tells told is)
+    told_yields (laws_of c.reading_answers.ensures c.one_record_answer.ensures c.one_gathered.ensures c.generated_set_links.ensures.three) (names_of c.args.host.now) (can_write (functions_of c.args.host.now)) _ _ c.serve_words.result (c.serve_words.ensures.serves.tells told is)
 
 pub returns-clause-tells : goal.returns-clause-tells
 returns-clause-tells g c = c.serve_words.ensures.serves.tells
@@ -14,7 +16,7 @@ returns-clause-files g c = c.serve_words.ensures.serves.leaves
 
 pub returns-clause-complete : goal.returns-clause-complete
 returns-clause-complete g c = λ told is.
-    told_complete (laws_of c.reading_answers.ensures c.one_record_answer.ensures c.one_gathered.ensures) (names_of c.args.host.now) _ _ _ _ _ _ c.serve_words.result (c.serve_words.ensures.serves.tells told is)
+    told_complete (laws_of c.reading_answers.ensures c.one_record_answer.ensures c.one_gathered.ensures c.generated_set_links.ensures.three) (names_of c.args.host.now) (can_write (functions_of c.args.host.now)) _ _ _ _ _ _ c.serve_words.result (c.serve_words.ensures.serves.tells told is)
     c.serve_words.ensures.serves.caused
 
 pub returns-clause-caused : goal.returns-clause-caused

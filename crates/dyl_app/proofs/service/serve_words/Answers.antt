@@ -5,7 +5,7 @@ use Rattle.dyl_front.specs.Orders.{order_of}
 use Rattle.dyl_front.specs.declared.outcome.Outcome.TheVariants.{Usage, Memory}
 use Rattle.dyl_app.specs.Runs.{Does}
 use Rattle.dyl_app.specs.Served.{Serves}
-use Rattle.dyl_app.proofs.Telling.{told_serves, memory_serves, usage_serves}
+use Rattle.dyl_app.proofs.Telling.{done_silent, told_serves, memory_serves, usage_serves}
 use Rattle.dyl_app.proofs.Performing.{usage_does, memory_does}
 use Rattle.dyl_app.proofs.service.serve_words.Goals as goal
 
@@ -45,3 +45,9 @@ returns-in-Err-Memory-clause-does g c =
     memory_does (g.F.Files.seen c.args.files.now).told (λ texts. embedder_of texts c.args.host.now) (order_of c.args.words.now) c.tell-in-Err-Memory.result
     (devices (g.I.Source.seen c.args.input.now) (g.O.Sink.seen c.args.output.now) (g.E.Sink.seen c.args.errors.now) (g.A.Ambient.seen c.args.ambient.now))
     (g.E.Sink.seen c.tell-in-Err-Memory.new.errors) c.tell-in-Err-Memory.ensures.answer c.tell-in-Err-Memory.ensures.told
+
+pub returns-in-Err-Usage-clause-quiet : goal.returns-in-Err-Usage-clause-quiet
+returns-in-Err-Usage-clause-quiet g c = λ is. c.tell.ensures.quiet (done_silent c.tell.result is)
+
+pub returns-in-Err-Memory-clause-quiet : goal.returns-in-Err-Memory-clause-quiet
+returns-in-Err-Memory-clause-quiet g c = λ is. c.tell-in-Err-Memory.ensures.quiet (done_silent c.tell-in-Err-Memory.result is)

@@ -1,0 +1,45 @@
+-- The summary of a set that was run as loaded and as merged.
+use Rattle.std.specs.Prelude.{ℕ, List, [], ◌∷◌, ◌++◌, length, flat_map, codes, decimal}
+use Rattle.wasm_form.specs.declared.runtime.Trap.{Trap}
+use Rattle.spec_hosts.specs.declared.ran.Ran.{Ran}
+use Rattle.spec_hosts.specs.declared.ran.RunEnd.{RunEnd}
+use Rattle.spec_hosts.specs.declared.ran.RunEnd.TheVariants as end
+use Rattle.spec_linking.specs.LinkedSets.{LinkedSet}
+use Rattle.spec_linking.specs.Slots.{linked_plan, table_entries, table_most}
+use Rattle.dyl_front.specs.declared.reports.Report.{Report}
+use Rattle.dyl_front.specs.Lines.{hex_byte, trap_text}
+use Rattle.dyl_front.specs.Listing.{line_end, space, range_line}
+
+-- how a run ended
+abbrev pub end_word : RunEnd → List ℕ
+end_word end.Return = codes "return"
+end_word (end.Exit code) = codes "exit " ++ decimal code
+end_word (end.Trap why) = codes "trap " ++ trap_text why
+end_word end.StepLimit = codes "steplimit"
+end_word end.DepthLimit = codes "depthlimit"
+end_word end.HostCallLimit = codes "hostcalllimit"
+end_word end.Stuck = codes "stuck"
+
+-- bytes as hexadecimal digits, or a hyphen where there are none
+abbrev pub bytes_word : List ℕ → List ℕ
+bytes_word [] = codes "-"
+bytes_word (b ∷ bytes) = flat_map hex_byte (b ∷ bytes)
+
+-- a name, how a run ended, how many answers its host gave, and the bytes that it put to its output
+abbrev pub run_line : List ℕ → Ran → List ℕ → List ℕ
+run_line name ran output = name ++ space ++ end_word ran.end ++ (space ++ decimal (length ran.answers) ++ space) ++ bytes_word output ++ line_end
+
+abbrev pub modules_line : ℕ → List ℕ
+modules_line n = codes "modules " ++ decimal n ++ line_end
+
+-- the number of members, and the initial size of the memory and of the table, each with the most
+abbrev pub sizes_lines : ℕ → ℕ → ℕ → ℕ → ℕ → List ℕ
+sizes_lines count pages pages_max entries entries_max =
+    modules_line count ++ range_line (codes "memory") pages pages_max ++ range_line (codes "table") entries entries_max
+
+abbrev pub set_lines : LinkedSet → List ℕ
+set_lines L = sizes_lines (length L.set.members) (linked_plan L).pages (linked_plan L).pages_max (table_entries L) (table_most L)
+
+-- these, and then a line for each of two runs
+abbrev pub summary_of : LinkedSet → Report → Report → List ℕ
+summary_of L loaded merged = set_lines L ++ run_line (codes "run") loaded.ran loaded.output ++ run_line (codes "exec") merged.ran merged.output

@@ -1,0 +1,128 @@
+// The summary of a set that was run as loaded and as merged.
+ghost use Rattle.std.specs.Prelude.{◌≡◌, ◌++◌, length, flat_map, codes, decimal, IfOk, OnOk, string_bytes};
+ghost use Rattle.spec_linking.specs.LinkedSets.{LinkedSet};
+ghost use Rattle.dyl_link.specs.Kept.{IsLinked};
+ghost use Rattle.dyl_front.specs.Lines.{hex_byte};
+ghost use Rattle.dyl_front.specs.Listing.{space, line_end};
+ghost use Rattle.dyl_front.specs.Summary.{end_word, bytes_word, run_line, modules_line, sizes_lines, summary_of};
+
+use crate::lines::put_trap;
+use crate::list::put_range;
+use crate::put::{put_hex, put_text};
+use dyl_link::Linked;
+use spec_hosts::{Ran, RunEnd};
+use std::alloc::Global;
+use wasm_form::{List, Memory};
+
+/// What came of a run: how it ended, and what it put to its output.
+#[derive(Drop)]
+pub struct Report {
+    pub ran: Ran,
+    pub output: List<u8>,
+}
+
+/// How a run exited.
+fn exit_text(alloc: Global, code: u32) -> Result<String, Memory>
+    ensures { IfOk result (λ text. string_bytes text ≡ codes "exit " ++ decimal code) }
+{
+    let text = format!(in alloc; "exit {code}")?;
+    Ok(text)
+}
+
+/// Puts how a run ended.
+fn put_end(alloc: Global, end: RunEnd, to: &mut Vec<u8>) -> Result<(), Memory>
+    ensures { OnOk result (to.new.items ≡ to.old.items ++ end_word end) }
+{
+    match end {
+        RunEnd::Return => put_text("return", to),
+        RunEnd::Exit(code) => put_text(&exit_text(alloc, code)?, to),
+        RunEnd::Trap(trap) => put_trap(trap, to),
+        RunEnd::StepLimit => put_text("steplimit", to),
+        RunEnd::DepthLimit => put_text("depthlimit", to),
+        RunEnd::HostCallLimit => put_text("hostcalllimit", to),
+        RunEnd::Stuck => put_text("stuck", to),
+    }
+}
+
+/// Puts the digits of bytes.
+fn put_digits(bytes: &[u8], to: &mut Vec<u8>) -> Result<(), Memory>
+    ensures { OnOk result (to.new.items ≡ to.old.items ++ flat_map hex_byte bytes.now) }
+{
+    for b in bytes {
+        put_hex(*b, to)?;
+    }
+    Ok(())
+}
+
+/// Puts bytes as digits, or a hyphen where there are none.
+fn put_bytes(bytes: &[u8], to: &mut Vec<u8>) -> Result<(), Memory>
+    ensures { OnOk result (to.new.items ≡ to.old.items ++ bytes_word bytes.now) }
+{
+    if bytes.is_empty() {
+        return put_text("-", to);
+    }
+    put_digits(bytes, to)
+}
+
+/// How many answers a host gave.
+fn answers_text(alloc: Global, count: usize) -> Result<String, Memory>
+    ensures { IfOk result (λ text. string_bytes text ≡ space ++ decimal count ++ space) }
+{
+    let text = format!(in alloc; " {count} ")?;
+    Ok(text)
+}
+
+/// Puts the line of a run.
+fn put_run(alloc: Global, name: &str, report: &Report, to: &mut Vec<u8>) -> Result<(), Memory>
+    ensures { OnOk result (to.new.items ≡ to.old.items ++ run_line name.now report.now.ran report.now.output) }
+{
+    put_text(name, to)?;
+    put_text(" ", to)?;
+    put_end(alloc, report.ran.end, to)?;
+    put_text(&answers_text(alloc, report.ran.answers.items().len())?, to)?;
+    put_bytes(report.output.items(), to)?;
+    put_text("\n", to)
+}
+
+/// The line of the number of members.
+fn modules_text(alloc: Global, count: usize) -> Result<String, Memory>
+    ensures { IfOk result (λ text. string_bytes text ≡ modules_line count) }
+{
+    let text = format!(in alloc; "modules {count}\n")?;
+    Ok(text)
+}
+
+/// Puts the number of members, and the sizes of the memory and of the table.
+fn put_sizes(alloc: Global, linked: &Linked, to: &mut Vec<u8>) -> Result<(), Memory>
+    ensures { OnOk result (to.new.items ≡ to.old.items ++ sizes_lines (length linked.now.set.members) linked.now.plan.pages linked.now.plan.pages_max linked.now.table_entries linked.now.table_max) }
+{
+    let plan = linked.plan();
+    let count = linked.set().members.items().len();
+    put_text(&modules_text(alloc, count)?, to)?;
+    let (pages, most) = (u64::from(plan.pages()), u64::from(plan.pages_max()));
+    put_range(alloc, "memory", pages, most, to)?;
+    put_range(
+        alloc,
+        "table",
+        u64::from(linked.table_entries()),
+        u64::from(linked.table_max()),
+        to,
+    )
+}
+
+/// The summary of a linked set, by what came of its run as loaded, and of the run of what merges it: the number of members, the sizes of the
+/// memory and of the table, and how each run ended.
+pub fn summary(
+    alloc: Global,
+    linked: &Linked,
+    loaded: &Report,
+    merged: &Report,
+) -> Result<Vec<u8>, Memory>
+    ensures { IfOk result (λ bytes. (L : LinkedSet) → IsLinked L linked.now → bytes.items ≡ summary_of L loaded.now merged.now) }
+{
+    let mut bytes = Vec::new(alloc);
+    put_sizes(alloc, linked, &mut bytes)?;
+    put_run(alloc, "run", loaded, &mut bytes)?;
+    put_run(alloc, "exec", merged, &mut bytes)?;
+    Ok(bytes)
+}

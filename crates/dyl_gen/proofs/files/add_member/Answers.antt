@@ -1,0 +1,14 @@
+use Rattle.std.proofs.Common.{◌∙◌, ap₂, List, ℕ}
+use Rattle.std.specs.FinMap.{insert}
+use Rattle.wasm_form.proofs.Joined.{on_ok}
+use Rattle.dyl_outside.specs.MemFiles.{MemFilesState}
+use Rattle.dyl_gen.proofs.files.add_member.Goals as goal
+
+pub returns : goal.returns
+returns c =
+    let old : MemFilesState = c.args.files.now in
+    on_ok c.add.result (λ e. record {
+      bytes = c.in_ok-bytes.bytes.items;
+      is = c.in_ok-bytes.ensures;
+      state = e ∙ ap₂ (λ (path bytes : List ℕ). record old { files = insert old.files path bytes }) (c.as_str.ensures ∙ c.in_ok-name.ensures) c.deref.ensures.value;
+    }) c.add.ensures.ok
