@@ -1,9 +1,8 @@
 -- The items of a list, by its parts.
-use Rattle.std.proofs.Common.{◌≡◌, ℕ, Bool, true, false, List, [], ◌∷◌, Option, Some, None, Result, Ok, Err, refl, sym, ap, ap₂, ◌∙◌, ◌||◌, ◌==◌, map, cond}
+use Rattle.std.proofs.Common.{◌≡◌, ℕ, true, false, List, [], ◌∷◌, Some, Ok, Err, refl, sym, ap, ◌∙◌, ◌||◌, ◌==◌, map, cond}
 use Rattle.std.specs.List.{list_any, slice_split}
 use Rattle.std.specs.Borrow.{Bor}
 use Rattle.dyl_front.specs.declared.outcome.Opt.{Opt}
-use Rattle.dyl_front.specs.declared.outcome.UsageKind.{UsageKind}
 use Rattle.dyl_front.specs.declared.outcome.UsageKind.TheVariants.{Name}
 use Rattle.dyl_front.specs.Orders.{Text, is_empty, items_of, items_in}
 

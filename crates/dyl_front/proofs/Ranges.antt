@@ -1,5 +1,5 @@
 -- Orders that are read from words are in range.
-use Rattle.std.proofs.Common.{◌≡◌, ◌≤◌, ℕ, Bool, true, false, not, List, [], ◌∷◌, Option, Some, None, refl, sym, ap, ap₂, ◌∙◌, ◌||◌, ◌&&◌, ◌==◌, cond, length, map, Result, Ok, Err, IfOk, subst, string_bytes, String, true≢false, nat_le, arith}
+use Rattle.std.proofs.Common.{◌≡◌, ◌≤◌, ℕ, Bool, true, false, not, List, [], ◌∷◌, Option, Some, None, refl, sym, ap, ◌∙◌, ◌||◌, ◌&&◌, ◌==◌, cond, length, map, Result, Ok, Err, IfOk, subst, string_bytes, String, true≢false, nat_le, arith}
 use Rattle.std.proofs.lemmas.Bool.{leb-true}
 use Rattle.std.specs.declared.alloc.Global.{Global}
 use Rattle.std.specs.List.{list_any, list_all, slice_split, onto_first}
@@ -15,7 +15,7 @@ use Rattle.dyl_front.specs.declared.outcome.Opt.TheVariants.{Dl, Path, Pages, St
 use Rattle.dyl_front.specs.declared.outcome.UsageKind.{UsageKind}
 use Rattle.dyl_front.specs.declared.order.Order.{Order}
 use Rattle.dyl_front.specs.declared.order.Order.TheVariants.{Merge, Run, Exec, Plan, Gen}
-use Rattle.dyl_front.specs.Orders.{Text, on_ok, is_number, is_between, number_of, number_in, is_empty, items_of, items_in, set_in, pages_in, link_in, steps_in, over_set, order_by, order_asked, order_for, order_of, has_no_zero, is_item, IsSetInRange, IsLinkInRange, AreArgumentsInRange, IsInRange}
+use Rattle.dyl_front.specs.Orders.{Text, on_ok, is_number, is_between, number_of, number_in, is_empty, items_of, items_in, set_in, pages_in, link_in, steps_in, over_set, order_by, order_asked, order_for, order_of, has_no_zero, is_item, IsSetInRange, IsLinkInRange, IsInRange}
 
 parts_false : (a b : Bool) → (a || b) ≡ false → (a ≡ false) × (b ≡ false)
 parts_false true b h = absurd (true≢false h)

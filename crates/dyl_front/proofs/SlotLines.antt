@@ -1,5 +1,5 @@
 -- The lines of slots, in parts.
-use Rattle.std.proofs.Common.{◌≡◌, ℕ, zero, suc, ◌+◌, List, [], ◌∷◌, ◌++◌, map, drop, Option, Some, None, is_some, unwrap_or, slice_get, Bool, true, false, true≢false, refl, sym, ap, ap₂, ◌∙◌, append_assoc, arith}
+use Rattle.std.proofs.Common.{◌≡◌, ℕ, zero, suc, ◌+◌, List, [], ◌∷◌, ◌++◌, map, drop, Option, Some, is_some, unwrap_or, slice_get, true≢false, refl, sym, ap, ◌∙◌, append_assoc, arith}
 use Rattle.wasm_form.specs.declared.runtime.Ref.{Ref}
 use Rattle.wasm_form.specs.declared.runtime.Ref.TheVariants.{Own}
 use Rattle.spec_binary.specs.Options.{◌>>=◌}

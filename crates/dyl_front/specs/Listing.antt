@@ -15,7 +15,7 @@ use Rattle.spec_runtime.specs.Names.{HostName}
 use Rattle.spec_linking.specs.Sets.{Member}
 use Rattle.spec_linking.specs.Plans.{Plan, stack_end, texts_size}
 use Rattle.spec_linking.specs.Definitions.{is_one_of, reserved_names}
-use Rattle.spec_linking.specs.Imports.{ImportUse, SharedMemory, SharedTable, StackPointer, MemoryBase, TableBase, DataCell, SlotCell, EnvFunction, ModuleFunction, OtherUse, use_of}
+use Rattle.spec_linking.specs.Imports.{ImportUse, DataCell, SlotCell, EnvFunction, ModuleFunction, use_of}
 use Rattle.spec_linking.specs.LinkedSets.{LinkedSet, hosts_of, function_ref}
 use Rattle.spec_linking.specs.Slots.{linked_plan, slot_of, fresh_slots, table_entries, table_most, heap_end, imported_number}
 use Rattle.dyl_front.specs.Lines.{escaped}

@@ -1,6 +1,5 @@
 -- The memory of the set: with a stack of 65,536 bytes it needs three pages.
-use Rattle.std.proofs.Common.{◌≡◌, ◌≢◌, ◌⊎◌, ℕ, ◌+◌, ◌-◌, ◌*◌, ◌/◌, ◌^◌, ◌<◌, ◌≤◌, max, nat_eq, Bool, true, false, cond, List, [], ◌∷◌, ◌++◌, length, map, None, Some, refl, sym, ap, ◌∙◌, subst, arith, eqb-true, inl, inr}
-use Rattle.std.specs.Prelude.{slice_get}
+use Rattle.std.proofs.Common.{◌≡◌, ◌≢◌, ◌⊎◌, ℕ, ◌+◌, ◌-◌, ◌*◌, ◌^◌, ◌<◌, ◌≤◌, max, Bool, true, false, cond, List, [], ◌∷◌, ◌++◌, length, None, refl, sym, ap, ◌∙◌, subst, arith, eqb-true, inl, inr}
 use Rattle.std.specs.List.{All, flat_map}
 use Rattle.std.proofs.lemmas.Bool.Decides.{nat_tests}
 use Rattle.std.proofs.lemmas.List.Elements.{All-head, All-tail}
@@ -13,9 +12,7 @@ use Rattle.spec_linking.specs.Gathering.{names_of}
 use Rattle.spec_linking.specs.declared.fault.LinkFault.TheVariants.{MemoryLimit}
 use Rattle.spec_runtime.specs.Names.{HostNames}
 use Rattle.spec_linking.specs.Links.{link_fault}
-use Rattle.spec_linking.specs.Plans.{Region, LinkOptions, region_of, regions_of, end_of, rounded_up, pages_for, greatest, least_of, memory_limits, limits_in, minima, maxima, sizes_of, plan_of, limit}
-use Rattle.dyl_section.specs.Recorded.{record_of}
-use Rattle.dyl_gen.specs.Generated as made
+use Rattle.spec_linking.specs.Plans.{Region, LinkOptions, regions_of, end_of, rounded_up, pages_for, greatest, least_of, memory_limits, limits_in, minima, maxima, sizes_of, plan_of, limit}
 use Rattle.dyl_gen.specs.Generated.{file_name, is_main, is_last, next}
 use Rattle.dyl_gen.proofs.MemberNames.{files_differ, further_differs}
 use Rattle.dyl_gen.proofs.Valid.{member_by}

@@ -1,5 +1,4 @@
-use Rattle.std.proofs.Common.{rules, ◌≡◌, true, Err}
-use Rattle.dyl_front.specs.Orders.{is_number}
+use Rattle.std.proofs.Common.{rules, ◌≡◌, Err}
 use Rattle.dyl_front.proofs.Numbers.{too_large}
 use Rattle.dyl_front.proofs.options.number.Goals as goal
 

@@ -1,6 +1,5 @@
-use Rattle.std.proofs.Common.{rules, ◌≡◌, Ok}
+use Rattle.std.proofs.Common.{rules}
 use Rattle.dyl_front.specs.Orders.{order_of}
-use Rattle.dyl_front.specs.declared.order.Order.{Order}
 use Rattle.dyl_front.proofs.Ranges.{in_range, read_in_range}
 use Rattle.dyl_front.proofs.words.read_words.Goals as goal
 
