@@ -5,6 +5,4 @@ mod Counted
 mod EachOnce
 mod Names
 mod Noted
-mod NumberEntries
-mod Numbering
 mod Steps

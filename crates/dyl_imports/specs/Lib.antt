@@ -1,6 +1,5 @@
 pub mod Hosts
 pub mod Kept
-pub mod Numbers
 pub mod Refs
 pub mod Uses
 pub mod Weak

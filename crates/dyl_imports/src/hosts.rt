@@ -4,12 +4,11 @@ ghost use Rattle.std.specs.List.{position_from, list_any};
 ghost use Rattle.std.specs.Option.{option_copied, option_map};
 ghost use Rattle.spec_linking.specs.LinkedSets.{is_named, is_same_name};
 ghost use Rattle.host_table.specs.Names.{host_name_of};
+ghost use Rattle.host_table.specs.Numbers.{number_of, with_number};
 ghost use Rattle.dyl_imports.specs.Hosts.{with_host};
-ghost use Rattle.dyl_imports.specs.Numbers.{number_of, with_number};
 
 use crate::copies::{as_number, host_name};
-use crate::numbers::Numbers;
-use host_table::HostName;
+use host_table::{HostName, HostNumbers};
 use std::alloc::Global;
 use std::marker::Model;
 use wasm_form::{FuncType, Memory};
@@ -18,20 +17,20 @@ use wasm_form::{FuncType, Memory};
 #[derive(Drop)]
 pub struct Hosts {
     list: Vec<HostName>,
-    numbers: Numbers,
+    numbers: HostNumbers,
 }
 
 impl Model for Hosts {
     ghost use Rattle.std.specs.Prelude.{List, map};
     ghost use Rattle.spec_runtime.specs.Names as names;
     ghost use Rattle.host_table.specs.Names.{host_name_of};
-    ghost use Rattle.dyl_imports.specs.Numbers.{AreNumbered};
+    ghost use Rattle.host_table.specs.Numbered.{AreNumbered};
 
     ghost Value = { List names.HostName };
 
     ghost view = { λ h. map host_name_of h.list.items };
 
-    ghost invariant = { λ h. AreNumbered h.numbers (map host_name_of h.list.items) };
+    ghost invariant = { λ h. AreNumbered (λ n. n) h.numbers (map host_name_of h.list.items) };
 }
 
 impl Hosts {
@@ -41,7 +40,7 @@ impl Hosts {
     {
         Hosts {
             list: Vec::new(alloc),
-            numbers: Numbers::new(alloc),
+            numbers: HostNumbers::new(alloc),
         }
     }
 
@@ -108,7 +107,7 @@ fn prepare(
     alloc: Global,
     host: &HostName,
     list: &mut Vec<HostName>,
-    numbers: &mut Numbers,
+    numbers: &mut HostNumbers,
 ) -> Result<(), Memory>
     requires new { number_of numbers.old host.now.«module» host.now.name ≡ None }
     ensures list { list.new.items ≡ list.old.items }

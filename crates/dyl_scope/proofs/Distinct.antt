@@ -1,6 +1,7 @@
 -- Numbers that are added, each once.
 use Rattle.std.proofs.Common.{◌≡◌, ℕ, Bool, true, false, List, [], ◌∷◌, ◌++◌, refl, ap, sym, ◌∙◌, cond, nat_eq, arith}
 use Rattle.std.specs.Prelude.{◌||◌}
+use Rattle.std.proofs.Math.Bool.{or-true}
 use Rattle.std.proofs.lemmas.Bool.Decides.{nat_tests}
 use Rattle.std.proofs.lemmas.List.Sums.{fold-append}
 use Rattle.spec_linking.specs.Orders.{is_among, with_number, with_numbers}
@@ -13,12 +14,8 @@ among_append n (x ∷ xs) ys = by (nat_eq x n) refl (among_append n xs ys)
     by true p rest = rw p refl
     by false p rest = rw p rest
 
-same_number : (n : ℕ) → nat_eq n n ≡ true
+pub same_number : (n : ℕ) → nat_eq n n ≡ true
 same_number n = grind (arith, nat_tests)
-
-or_true : (b : Bool) → (b || true) ≡ true
-or_true true = refl
-or_true false = refl
 
 -- a number that is added is there
 pub added : (known : List ℕ) (n : ℕ) → is_among n (with_number known n) ≡ true
@@ -26,7 +23,7 @@ added known n = by (is_among n known) refl
   where
     by : (b : Bool) → is_among n known ≡ b → is_among n (with_number known n) ≡ true
     by true p = rw p p
-    by false p = rw p (among_append n known (n ∷ []) ∙ ap (λ b. is_among n known || (b || false)) (same_number n) ∙ or_true (is_among n known))
+    by false p = rw p (among_append n known (n ∷ []) ∙ ap (λ b. is_among n known || (b || false)) (same_number n) ∙ or-true (is_among n known))
 
 -- those that were there stay
 pub kept : (known : List ℕ) (n m : ℕ) → is_among m known ≡ true → is_among m (with_number known n) ≡ true

@@ -1,10 +1,11 @@
 -- Walks in depth-first post-order.
 use Rattle.std.proofs.Common.{◌≡◌, ℕ, zero, suc, ◌-◌, ◌<◌, Bool, true, false, List, [], ◌∷◌, ◌++◌, refl, ap, sym, ◌∙◌, cond, nat_eq, arith}
 use Rattle.std.specs.Prelude.{◌||◌}
+use Rattle.std.proofs.Math.Bool.{or-true}
 use Rattle.std.proofs.lemmas.Bool.Decides.{nat_tests}
 use Rattle.spec_linking.specs.Orders.{is_among, with_number, with_numbers, Walk, walk_each, entering, leaving}
 use Rattle.dyl_scope.specs.Orders.{walk_by}
-use Rattle.dyl_scope.proofs.Distinct.{among_append}
+use Rattle.dyl_scope.proofs.Distinct.{among_append, same_number}
 
 -- a member that was entered is passed over
 pub passed : (needs : ℕ → List ℕ) (depth m : ℕ) (w : Walk) → is_among m w.entered ≡ true → walk_by needs depth m w ≡ w
@@ -45,15 +46,8 @@ module _ (needs : ℕ → List ℕ) where
       by true p keeps = rw p there
       by false p keeps = rw p (each_keeps (walk_by needs depth) keeps (needs m) k (entering m w) (also_later k w.entered (m ∷ []) there))
 
-  same_number : (n : ℕ) → nat_eq n n ≡ true
-  same_number n = grind (arith, nat_tests)
-
-  or_true : (b : Bool) → (b || true) ≡ true
-  or_true true = refl
-  or_true false = refl
-
   now_entered : (m : ℕ) (w : Walk) → is_among m (entering m w).entered ≡ true
-  now_entered m w = among_append m w.entered (m ∷ []) ∙ ap (λ b. is_among m w.entered || (b || false)) (same_number m) ∙ or_true (is_among m w.entered)
+  now_entered m w = among_append m w.entered (m ∷ []) ∙ ap (λ b. is_among m w.entered || (b || false)) (same_number m) ∙ or-true (is_among m w.entered)
 
   -- a member that was gone through is entered
   walk_enters : (depth m : ℕ) (w : Walk) → is_among m (walk_by needs (suc depth) m w).entered ≡ true

@@ -8,7 +8,7 @@ ghost use Rattle.dyl_scope.specs.Kept.{names_by};
 ghost use Rattle.dyl_scope.specs.Definers.{definers_of, with_definer, with_definers, AreDefiners};
 
 use crate::maker::Told;
-use crate::numbers::Numbers;
+use crate::numbers::DistinctNumbers;
 use crate::symbol::Definition;
 use indexmap::IndexMap;
 use std::alloc::Global;
@@ -18,7 +18,7 @@ use wasm_form::Memory;
 // Of each name the members that define it, in order.
 #[derive(Drop)]
 pub(crate) struct Definers {
-    members: IndexMap<String, Numbers>,
+    members: IndexMap<String, DistinctNumbers>,
 }
 
 impl Model for Definers {
@@ -30,10 +30,10 @@ impl Model for Definers {
 }
 
 // One member.
-fn one(alloc: Global, m: u32) -> Result<Numbers, Memory>
+fn one(alloc: Global, m: u32) -> Result<DistinctNumbers, Memory>
     ensures { IfOk result (λ members. members ≡ m ∷ []) }
 {
-    let mut members = Numbers::new(alloc, 0)?;
+    let mut members = DistinctNumbers::new(alloc, 0)?;
     members.add(m)?;
     Ok(members)
 }

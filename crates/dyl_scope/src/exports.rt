@@ -1,7 +1,7 @@
 // The names that the exports of a module define.
 ghost use Rattle.std.specs.Prelude.{◌≡◌, ◌<◌, ◌++◌, map, ◌^◌, length, IsTrue, IfOk, OnOk};
 ghost use Rattle.std.specs.List.{list_all};
-ghost use Rattle.spec_binary.specs.IndexSpaces.{imports_of, functions_in, globals_in};
+ghost use Rattle.spec_binary.specs.IndexSpaces.{imports_of, imported_count, functions_in, globals_in};
 ghost use Rattle.spec_validation.specs.Faults.{global_fits};
 ghost use Rattle.spec_linking.specs.Definitions as defined;
 ghost use Rattle.dyl_scope.specs.Names.{maybe_symbol, symbol_value, definition_value, defined_as, defined_in, data_at, own_data, Counts};
@@ -11,8 +11,8 @@ use crate::symbol::{Definition, Symbol};
 use std::alloc::Global;
 use wasm_form::{Export, ExportDesc, Import, ImportDesc, Memory, Module, Text};
 
-// How many functions are imported.
-fn imported_functions(imports: &[Import]) -> u32
+/// How many functions are imported.
+pub fn imported_functions(imports: &[Import]) -> u32
     requires { length imports.now < 2 ^ 32 }
     ensures { result ≡ length (imports_of functions_in imports.now) }
 {
@@ -40,7 +40,8 @@ fn imported_globals(imports: &[Import]) -> u32
     count
 }
 
-fn is_reserved(name: &str) -> bool
+/// Whether a name is one that no member defines for others: the functions and the handle that the loader itself looks for.
+pub fn is_reserved(name: &str) -> bool
     ensures { result ≡ defined.is_one_of name.now defined.reserved_names }
 {
     match name {
@@ -60,14 +61,15 @@ pub(crate) struct Imported {
     globals: u32,
 }
 
-fn own_function(m: &Module, imported: Imported, f: u32) -> Option<u32>
-    requires counted { Counts m.now imported }
+/// A function, if it is one of the module's own, where so many are imported.
+pub fn own_function(m: &Module, imported: u32, f: u32) -> Option<u32>
+    requires counted { imported ≡ imported_count m.now }
     ensures { result ≡ defined.own_only m.now f }
 {
-    if f < imported.functions {
+    if f < imported {
         return None;
     }
-    let place = (f - imported.functions) as usize;
+    let place = (f - imported) as usize;
     if place < m.funcs.items().len() {
         Some(f)
     } else {
@@ -103,7 +105,7 @@ fn desc_symbol(m: &Module, imported: Imported, desc: ExportDesc) -> Option<Symbo
     ensures { maybe_symbol result ≡ defined.desc_symbol m.now desc }
 {
     match desc {
-        ExportDesc::Func(f) => match own_function(m, imported, f) {
+        ExportDesc::Func(f) => match own_function(m, imported.functions, f) {
             Some(own) => Some(Symbol::Function(own)),
             None => None,
         },

@@ -11,7 +11,7 @@ ghost use Rattle.dyl_scope.specs.Kept.{names_by, kept_of};
 use crate::definers::definers_of;
 use crate::exports::definitions_of;
 use crate::names::Names;
-use crate::numbers::{Numbers, distinct};
+use crate::numbers::{DistinctNumbers, distinct};
 use crate::orders::{closure_of, post_order_of};
 use crate::symbol::Definition;
 use crate::symbols::Symbols;
@@ -66,7 +66,7 @@ fn names_of(alloc: Global, members: &[Told]) -> Result<Vec<Names>, Memory>
     Ok(names)
 }
 
-fn closures_of(alloc: Global, members: &[Told]) -> Result<Vec<Numbers>, Memory>
+fn closures_of(alloc: Global, members: &[Told]) -> Result<Vec<DistinctNumbers>, Memory>
     requires { length members.now ≤ 256 }
     ensures { IfOk result (λ v. v.items ≡ map (closure_by (needed_in members.now) (length members.now)) (range_with_len 0 (length members.now))) }
 {

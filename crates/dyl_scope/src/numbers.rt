@@ -6,14 +6,14 @@ use std::alloc::Global;
 use std::marker::Model;
 use wasm_form::{List, Memory};
 
-// Numbers, each once, in the order in which they came. Of the small ones it is marked whether they are there.
+/// Numbers, each once, in the order in which they came. Of the small ones it is marked whether they are there, so that these are found fast.
 #[derive(Drop)]
-pub(crate) struct Numbers {
+pub struct DistinctNumbers {
     list: Vec<u32>,
     marks: Vec<bool>,
 }
 
-impl Model for Numbers {
+impl Model for DistinctNumbers {
     ghost use Rattle.std.specs.Prelude.{List, ℕ};
     ghost use Rattle.dyl_scope.specs.Marks.{AreMarked};
 
@@ -35,19 +35,19 @@ fn no_marks(alloc: Global, count: usize) -> Result<Vec<bool>, Memory>
     Ok(marks)
 }
 
-impl Numbers {
-    // None so far; those below `count` will be found fast.
-    pub fn new(alloc: Global, count: usize) -> Result<Numbers, Memory>
+impl DistinctNumbers {
+    /// None so far. Those below `count` will be found fast; their marks take `count` bytes.
+    pub fn new(alloc: Global, count: usize) -> Result<DistinctNumbers, Memory>
         ensures { IfOk result (λ n. n ≡ []) }
     {
         let marks = no_marks(alloc, count)?;
-        Ok(Numbers {
+        Ok(DistinctNumbers {
             list: Vec::new(alloc),
             marks,
         })
     }
 
-    // Whether a number is there.
+    /// Whether a number is there.
     pub fn contains(&self, n: u32) -> bool
         ensures { result ≡ is_among n self.now }
     {
@@ -58,7 +58,7 @@ impl Numbers {
     }
 
     // The number at a place.
-    pub fn get(&self, k: usize) -> Option<u32>
+    pub(crate) fn get(&self, k: usize) -> Option<u32>
         ensures { result ≡ slice_get self.now k }
     {
         self.list.get(k).copied()
@@ -76,7 +76,7 @@ impl Numbers {
         Ok(())
     }
 
-    // Adds a number, unless it is there.
+    /// Adds a number as the last one, unless it is there.
     pub fn add(&mut self, n: u32) -> Result<(), Memory>
         ensures { OnOk result (self.new ≡ with_number self.old n) }
     {
@@ -87,7 +87,7 @@ impl Numbers {
     }
 
     // Adds those numbers that aren't there.
-    pub fn add_all(&mut self, numbers: &[u32]) -> Result<(), Memory>
+    pub(crate) fn add_all(&mut self, numbers: &[u32]) -> Result<(), Memory>
         ensures { OnOk result (self.new ≡ with_numbers self.old numbers.now) }
     {
         for n in numbers {
@@ -96,13 +96,14 @@ impl Numbers {
         Ok(())
     }
 
+    /// The numbers, in the order in which they came.
     pub fn list(&self) -> &[u32]
         ensures { result.now ≡ self.now }
     {
         &self.list
     }
 
-    pub fn into_list(self) -> List<u32>
+    pub(crate) fn into_list(self) -> List<u32>
         ensures { result ≡ self }
     {
         List::of(self.list)
@@ -113,7 +114,7 @@ impl Numbers {
 pub(crate) fn distinct(alloc: Global, numbers: &[u32]) -> Result<List<u32>, Memory>
     ensures { IfOk result (λ l. l ≡ with_numbers [] numbers.now) }
 {
-    let mut known = Numbers::new(alloc, 256)?;
+    let mut known = DistinctNumbers::new(alloc, 256)?;
     known.add_all(numbers)?;
     Ok(known.into_list())
 }

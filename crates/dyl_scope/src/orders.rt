@@ -4,7 +4,7 @@ ghost use Rattle.spec_linking.specs.Orders.{with_numbers};
 ghost use Rattle.dyl_scope.specs.Orders.{needed_in, needed_at, closure_by, walk_by, walk_value, post_order_by};
 
 use crate::maker::Told;
-use crate::numbers::Numbers;
+use crate::numbers::DistinctNumbers;
 use std::alloc::Global;
 use wasm_form::{List, Memory};
 
@@ -19,7 +19,7 @@ fn needed_in(members: &[Told], m: u32) -> &[u32]
 }
 
 // Adds what the known member at a place needs.
-fn add_needed(members: &[Told], known: &mut Numbers, k: usize) -> Result<(), Memory>
+fn add_needed(members: &[Told], known: &mut DistinctNumbers, k: usize) -> Result<(), Memory>
     ensures { OnOk result (known.new ≡ with_numbers known.old (needed_at (needed_in members.now) (slice_get known.old k))) }
 {
     match known.get(k) {
@@ -29,10 +29,10 @@ fn add_needed(members: &[Told], known: &mut Numbers, k: usize) -> Result<(), Mem
 }
 
 // The closure of a member: the member and what it reaches, breadth first.
-pub(crate) fn closure_of(alloc: Global, members: &[Told], m: u32) -> Result<Numbers, Memory>
+pub(crate) fn closure_of(alloc: Global, members: &[Told], m: u32) -> Result<DistinctNumbers, Memory>
     ensures { IfOk result (λ l. l ≡ closure_by (needed_in members.now) (length members.now) m) }
 {
-    let mut known = Numbers::new(alloc, members.len())?;
+    let mut known = DistinctNumbers::new(alloc, members.len())?;
     known.add(m)?;
     for k in 0..members.len() {
         add_needed(members, &mut known, k)?;
@@ -43,7 +43,7 @@ pub(crate) fn closure_of(alloc: Global, members: &[Told], m: u32) -> Result<Numb
 // The members that were entered, and those that were left, in order.
 #[derive(Drop)]
 pub(crate) struct Walk {
-    entered: Numbers,
+    entered: DistinctNumbers,
     left: Vec<u32>,
 }
 
@@ -66,7 +66,7 @@ fn go_through(members: &[Told], depth: usize, m: u32, w: &mut Walk) -> Result<()
 pub(crate) fn post_order_of(alloc: Global, members: &[Told], m: u32) -> Result<List<u32>, Memory>
     ensures { IfOk result (λ l. l ≡ post_order_by (needed_in members.now) (length members.now) m) }
 {
-    let entered = Numbers::new(alloc, members.len())?;
+    let entered = DistinctNumbers::new(alloc, members.len())?;
     let mut w = Walk {
         entered,
         left: Vec::new(alloc),

@@ -5,7 +5,7 @@ ghost use Rattle.dyl_scope.specs.Scopes.{meaning_of, list_at, by_member, by_firs
 
 use crate::def::Def;
 use crate::names::Names;
-use crate::numbers::Numbers;
+use crate::numbers::DistinctNumbers;
 use crate::symbol::Symbol;
 
 fn by_member(names: &[Names], m: u32, name: &str) -> Def
@@ -41,7 +41,7 @@ pub(crate) fn by_first(names: &[Names], definers: &[u32], members: &[u32], name:
 }
 
 // The one definer, if it is among some members.
-fn by_one(names: &[Names], definer: u32, members: &Numbers, name: &str) -> Def
+fn by_one(names: &[Names], definer: u32, members: &DistinctNumbers, name: &str) -> Def
     requires { AreOnly names.now (definer ∷ []) name.now }
     ensures meaning { meaning_of result ≡ by_first names.now members.now name.now }
     ensures inside { IsInside result }
@@ -54,7 +54,7 @@ fn by_one(names: &[Names], definer: u32, members: &Numbers, name: &str) -> Def
 }
 
 // The first of some members, which is fast where few define the name.
-fn among(names: &[Names], definers: &[u32], members: &Numbers, name: &str) -> Def
+fn among(names: &[Names], definers: &[u32], members: &DistinctNumbers, name: &str) -> Def
     requires { AreOnly names.now definers.now name.now }
     ensures meaning { meaning_of result ≡ by_first names.now members.now name.now }
     ensures inside { IsInside result }
@@ -67,7 +67,13 @@ fn among(names: &[Names], definers: &[u32], members: &Numbers, name: &str) -> De
 }
 
 // The first in the closure of a member.
-fn in_closure(names: &[Names], definers: &[u32], closures: &[Numbers], m: u32, name: &str) -> Def
+fn in_closure(
+    names: &[Names],
+    definers: &[u32],
+    closures: &[DistinctNumbers],
+    m: u32,
+    name: &str,
+) -> Def
     requires { AreOnly names.now definers.now name.now }
     ensures meaning { meaning_of result ≡ by_first names.now (list_at closures.now m) name.now }
     ensures inside { IsInside result }
@@ -82,7 +88,7 @@ fn in_closure(names: &[Names], definers: &[u32], closures: &[Numbers], m: u32, n
 pub(crate) fn in_scope(
     names: &[Names],
     definers: &[u32],
-    closures: &[Numbers],
+    closures: &[DistinctNumbers],
     m: u32,
     name: &str,
 ) -> Def

@@ -10,7 +10,7 @@ ghost use Rattle.dyl_scope.specs.declared.def.Def.TheVariants as def;
 use crate::def::Def;
 use crate::definers::Definers;
 use crate::names::Names;
-use crate::numbers::Numbers;
+use crate::numbers::DistinctNumbers;
 use crate::search::{by_first, in_scope};
 use std::marker::Model;
 use wasm_form::{List, LoaderCall};
@@ -20,7 +20,7 @@ use wasm_form::{List, LoaderCall};
 pub struct Symbols {
     names: Vec<Names>,
     definers: Definers,
-    closures: Vec<Numbers>,
+    closures: Vec<DistinctNumbers>,
     orders: Vec<List<u32>>,
 }
 
@@ -61,7 +61,7 @@ fn outside(host: Option<u32>, weak: bool) -> Def
     }
 }
 
-fn closure_at(closures: &[Numbers], m: u32) -> &[u32]
+fn closure_at(closures: &[DistinctNumbers], m: u32) -> &[u32]
     ensures { result.now ≡ list_at closures.now m }
 {
     match closures.get(m as usize) {
@@ -83,7 +83,7 @@ impl Symbols {
     pub(crate) fn of(
         names: Vec<Names>,
         definers: Definers,
-        closures: Vec<Numbers>,
+        closures: Vec<DistinctNumbers>,
         orders: Vec<List<u32>>,
     ) -> Symbols
         requires { AreDefiners names.items definers }

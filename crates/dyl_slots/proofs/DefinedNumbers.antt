@@ -1,7 +1,7 @@
 -- The functions that a module defines under names are numbers of its functions.
 use Rattle.std.proofs.Common.{◌≡◌, ℕ, ◌+◌, ◌<◌, ◌≤◌, Bool, true, false, ◌||◌, not, List, [], ◌∷◌, ◌++◌, length, Option, Some, None, refl, sym, ap, ◌∙◌, subst, nat_eq, nat_lt, arith, length-append, if◌then◌else◌, cond}
 use Rattle.std.specs.List.{filter}
-use Rattle.std.proofs.lemmas.Bool.{and_parts, ltb-true, eqb-true, eq-eqb}
+use Rattle.std.proofs.lemmas.Bool.{and_parts, ltb-true, eqb-true}
 use Rattle.wasm_form.specs.declared.module.ExportDesc.{ExportDesc}
 use Rattle.wasm_form.specs.declared.module.ExportDesc.TheVariants as desc
 use Rattle.wasm_form.specs.declared.module.Export.{Export}
@@ -13,6 +13,7 @@ use Rattle.spec_binary.specs.Indices.{is_own}
 use Rattle.spec_linking.specs.Orders.{is_among}
 use Rattle.spec_linking.specs.Definitions.{plain_number, is_one_of, reserved_names, own_only, own_global, FunctionSymbol, DataSymbol, data_symbol, desc_symbol, function_in, defined_function}
 use Rattle.spec_linking.specs.Slots.{with_function, functions_with, defined_functions}
+use Rattle.dyl_scope.proofs.Distinct.{among_append, same_number}
 
 module _ (m : Module) where
   abbrev AreBelow : List ℕ → Type 0
@@ -58,14 +59,6 @@ module _ (m : Module) where
       by true h = absurd cc
       by false h = desc_below e.desc g h
 
-  among_append : (f : ℕ) (xs ys : List ℕ) → is_among f (xs ++ ys) ≡ (is_among f xs || is_among f ys)
-  among_append f [] ys = refl
-  among_append f (x ∷ xs) ys = by (nat_eq x f) (among_append f xs ys)
-    where
-      by : (b : Bool) → is_among f (xs ++ ys) ≡ (is_among f xs || is_among f ys) → (b || is_among f (xs ++ ys)) ≡ ((b || is_among f xs) || is_among f ys)
-      by true rest = refl
-      by false rest = rest
-
   one_more : (known : List ℕ) (g : ℕ) → g < length (function_space m) → AreBelow known → AreBelow (known ++ g ∷ [])
   one_more known g lt below = λ f h. by f (is_among f known) (nat_eq g f) refl refl (sym (among_append f known (g ∷ [])) ∙ h)
     where
@@ -93,7 +86,7 @@ pub filter_same : (s t : ℕ → Bool) (xs : List ℕ) → ((x : ℕ) → is_amo
 filter_same s t [] same = refl
 filter_same s t (x ∷ xs) same =
     let rest = filter_same s t xs (λ y h. same y (later (nat_eq x y) (is_among y xs) h)) in
-    ap (λ b. cond b (x ∷ filter s xs) (filter s xs)) (same x (here (nat_eq x x) (is_among x xs) (itself x)))
+    ap (λ b. cond b (x ∷ filter s xs) (filter s xs)) (same x (here (nat_eq x x) (is_among x xs) (same_number x)))
     ∙ ap (λ r. cond (t x) (x ∷ r) r) rest
   where
     later : (b c : Bool) → c ≡ true → (b || c) ≡ true
@@ -103,9 +96,6 @@ filter_same s t (x ∷ xs) same =
     here : (b c : Bool) → b ≡ true → (b || c) ≡ true
     here true c h = refl
     here false c h = absurd cc
-
-    itself : (n : ℕ) → nat_eq n n ≡ true
-    itself n = eq-eqb n n refl
 
 pub filter_few : (t : ℕ → Bool) (xs : List ℕ) → length (filter t xs) ≤ length xs
 filter_few t [] = omega arith

@@ -2,7 +2,6 @@ pub mod Found
 pub mod Fresh
 pub mod Given
 pub mod Limits
-pub mod Marks
 pub mod Outside
 pub mod Placings
 pub mod Regions

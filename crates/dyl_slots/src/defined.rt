@@ -4,24 +4,9 @@ ghost use Rattle.spec_binary.specs.IndexSpaces.{imports_of, imported_count, func
 ghost use Rattle.spec_linking.specs.Definitions as defined;
 ghost use Rattle.spec_linking.specs.Slots.{with_function, defined_functions};
 
-use crate::numbers::Numbers;
+use dyl_scope::{DistinctNumbers, imported_functions, is_reserved, own_function};
 use std::alloc::Global;
-use wasm_form::{Export, ExportDesc, Import, ImportDesc, Memory, Module};
-
-// How many functions are imported.
-fn imported_functions(imports: &[Import]) -> u32
-    requires { length imports.now < 2 ^ 32 }
-    ensures { result ≡ length (imports_of functions_in imports.now) }
-{
-    let mut count = 0;
-    for import in imports {
-        match import.desc {
-            ImportDesc::Func(_) => count += 1,
-            ImportDesc::Table(_) | ImportDesc::Space(_) | ImportDesc::Global(_) => {}
-        }
-    }
-    count
-}
+use wasm_form::{Export, ExportDesc, Memory, Module};
 
 // How many functions there are.
 pub(crate) fn functions_count(m: &Module) -> usize
@@ -30,35 +15,6 @@ pub(crate) fn functions_count(m: &Module) -> usize
     ensures { result ≡ length (function_space m.now) }
 {
     imported_functions(m.imports.items()) as usize + m.funcs.items().len()
-}
-
-fn is_reserved(name: &str) -> bool
-    ensures { result ≡ defined.is_one_of name.now defined.reserved_names }
-{
-    match name {
-        "__wasm_apply_data_relocs"
-        | "__wasm_call_ctors"
-        | "__dso_handle"
-        | "_start"
-        | "_initialize" => true,
-        _ => false,
-    }
-}
-
-// A function of the module's own, where so many are imported.
-fn own_function(m: &Module, imported: u32, f: u32) -> Option<u32>
-    requires counted { imported ≡ imported_count m.now }
-    ensures { result ≡ defined.own_only m.now f }
-{
-    if f < imported {
-        return None;
-    }
-    let place = (f - imported) as usize;
-    if place < m.funcs.items().len() {
-        Some(f)
-    } else {
-        None
-    }
 }
 
 // The function of the module's own that an export defines its name as.
@@ -75,7 +31,7 @@ fn defined_function(m: &Module, imported: u32, e: &Export) -> Option<u32>
     }
 }
 
-fn define(known: &mut Numbers, f: Option<u32>) -> Result<(), Memory>
+fn define(known: &mut DistinctNumbers, f: Option<u32>) -> Result<(), Memory>
     ensures { OnOk result (known.new ≡ with_function known.old f) }
 {
     match f {
@@ -85,12 +41,16 @@ fn define(known: &mut Numbers, f: Option<u32>) -> Result<(), Memory>
 }
 
 // The functions that a module of so many functions defines under names, each once.
-pub(crate) fn defined_functions(alloc: Global, m: &Module, count: usize) -> Result<Numbers, Memory>
+pub(crate) fn defined_functions(
+    alloc: Global,
+    m: &Module,
+    count: usize,
+) -> Result<DistinctNumbers, Memory>
     requires { length m.now.imports < 2 ^ 32 }
     ensures { IfOk result (λ known. known ≡ defined_functions m.now) }
 {
     let imported = imported_functions(m.imports.items());
-    let mut known = Numbers::new(alloc, count)?;
+    let mut known = DistinctNumbers::new(alloc, count)?;
     for e in m.exports.items() {
         define(&mut known, defined_function(m, imported, e))?;
     }

@@ -8,7 +8,6 @@ mod fresh;
 mod given;
 mod limits;
 mod members;
-mod numbers;
 mod outside;
 mod placings;
 mod references;

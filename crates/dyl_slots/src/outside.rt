@@ -5,7 +5,7 @@ ghost use Rattle.wasm_form.specs.declared.runtime.Ref.TheVariants as refs;
 ghost use Rattle.spec_linking.specs.Slots.{same_call, same_ref};
 ghost use Rattle.dyl_slots.specs.Outside.{calls_in, call_in, hosts_in, with_host_in, outside_in};
 
-use crate::numbers::Numbers;
+use dyl_scope::DistinctNumbers;
 use std::alloc::Global;
 use wasm_form::{LoaderCall, Memory, Ref};
 
@@ -50,7 +50,7 @@ fn calls_in(alloc: Global, list: &[Ref]) -> Result<Vec<LoaderCall>, Memory>
     Ok(calls)
 }
 
-fn add_host(hosts: &mut Numbers, r: Ref) -> Result<(), Memory>
+fn add_host(hosts: &mut DistinctNumbers, r: Ref) -> Result<(), Memory>
     ensures { OnOk result (hosts.new ≡ with_host_in hosts.old r) }
 {
     match r {
@@ -60,10 +60,10 @@ fn add_host(hosts: &mut Numbers, r: Ref) -> Result<(), Memory>
 }
 
 // The host functions among references, each once; those below `count` are found fast.
-fn hosts_in(alloc: Global, list: &[Ref], count: usize) -> Result<Numbers, Memory>
+fn hosts_in(alloc: Global, list: &[Ref], count: usize) -> Result<DistinctNumbers, Memory>
     ensures { IfOk result (λ hosts. hosts ≡ hosts_in list.now) }
 {
-    let mut hosts = Numbers::new(alloc, count)?;
+    let mut hosts = DistinctNumbers::new(alloc, count)?;
     for r in list {
         add_host(&mut hosts, *r)?;
     }
@@ -74,7 +74,7 @@ fn hosts_in(alloc: Global, list: &[Ref], count: usize) -> Result<Numbers, Memory
 #[derive(Drop)]
 pub(crate) struct Outside {
     pub calls: Vec<LoaderCall>,
-    pub hosts: Numbers,
+    pub hosts: DistinctNumbers,
 }
 
 pub(crate) fn outside_of(alloc: Global, list: &[Ref], count: usize) -> Result<Outside, Memory>

@@ -9,9 +9,9 @@ ghost use Rattle.dyl_slots.specs.Given.{IsAt, IsSegmentedOf};
 
 use crate::defined::{defined_functions, functions_count};
 use crate::fresh::without_slot;
-use crate::numbers::Numbers;
 use crate::placings::{Bases, Names, base_numbers, placings_of};
 use crate::regions::segment_slots;
+use dyl_scope::DistinctNumbers;
 use dyl_search::Member;
 use std::alloc::Global;
 use wasm_form::{List, Memory, Ref};
@@ -20,7 +20,7 @@ use wasm_form::{List, Memory, Ref};
 // defined ones that have none there.
 #[derive(Drop)]
 pub(crate) struct Segmented {
-    pub defined: Numbers,
+    pub defined: DistinctNumbers,
     pub segments: Vec<Option<u32>>,
     pub fresh: List<u32>,
 }

@@ -1,3 +1,3 @@
-mod Entries
-mod Numbering
+pub mod Entries
+pub mod Numbering
 mod NumberEntries

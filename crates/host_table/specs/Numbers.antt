@@ -1,4 +1,4 @@
--- Numbers of entries by their modules and names.
+-- Numbers of host functions by their modules and names.
 use Rattle.std.specs.Prelude.{ℕ, List, [], ◌∷◌, ◌++◌, Option, Some, None, if◌then◌else◌}
 use Rattle.std.specs.Map.{lookup}
 use Rattle.std.specs.Str.{bytes_eq}

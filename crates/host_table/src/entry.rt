@@ -7,8 +7,7 @@ ghost use Rattle.host_table.specs.Answers.{Keeps, ReplyFits, AnswersAt};
 ghost use Rattle.host_table.specs.Numbered.{AreNumbered};
 
 use crate::copies::copied_type;
-use crate::numbers::Numbers;
-use crate::{Callback, HostName, HostNames, Reply};
+use crate::{Callback, HostName, HostNames, HostNumbers, Reply};
 use std::alloc::Global;
 use wasm_form::Memory;
 
@@ -65,7 +64,7 @@ pub struct AddRefused {
 #[derive(Drop)]
 pub struct HostTable {
     pub(crate) entries: Vec<Entry>,
-    pub(crate) numbers: Numbers,
+    pub(crate) numbers: HostNumbers,
     ghost room: { length entries.items ≤ 4294967295 },
     ghost numbered: { AreNumbered (λ e. host_name_of e.host) numbers entries.items },
 }

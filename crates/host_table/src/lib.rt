@@ -15,3 +15,4 @@ pub use entry::{AddFault, AddRefused, HostTable};
 pub use host::{Callback, HostName, Put, Reply};
 pub use module::HostMatch;
 pub use names::HostNames;
+pub use numbers::HostNumbers;

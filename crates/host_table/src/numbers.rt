@@ -1,4 +1,4 @@
-// Numbers of entries by their modules and names.
+// Numbers of host functions by their modules and names.
 ghost use Rattle.std.specs.Prelude.{◌≡◌, ◌++◌, ◌∷◌, [], None, OnOk, OnErr, IfOk};
 ghost use Rattle.std.specs.Map.{lookup};
 ghost use Rattle.std.specs.Str.{bytes_eq};
@@ -56,13 +56,13 @@ impl NameNumbers {
     }
 }
 
-// The names of modules with their numbers.
+/// Numbers of host functions, by their modules and names.
 #[derive(Drop)]
-pub struct Numbers {
+pub struct HostNumbers {
     modules: IndexMap<String, NameNumbers>,
 }
 
-impl Model for Numbers {
+impl Model for HostNumbers {
     ghost use Rattle.host_table.specs.Names.{by_text};
     ghost use Rattle.host_table.specs.Numbers as numbers;
 
@@ -71,16 +71,17 @@ impl Model for Numbers {
     ghost view = { λ n. by_text n.modules.entries };
 }
 
-impl Numbers {
-    pub fn new(alloc: Global) -> Numbers
+impl HostNumbers {
+    /// No host function has a number.
+    pub fn new(alloc: Global) -> HostNumbers
         ensures { result ≡ [] }
     {
-        Numbers {
+        HostNumbers {
             modules: IndexMap::new(alloc),
         }
     }
 
-    // The number of a module and a name.
+    /// The number of a module and a name, if they have one.
     pub fn find(&self, from: &str, name: &str) -> Option<u32>
         ensures { result ≡ number_of self.now from.now name.now }
     {
@@ -90,7 +91,7 @@ impl Numbers {
         }
     }
 
-    // Adds a name of a module that isn't there.
+    /// Numbers a module and a name that have no number. At want of memory nothing is changed.
     pub fn add(&mut self, alloc: Global, from: &str, name: &str, number: u32) -> Result<(), Memory>
         requires new { number_of self.old from.now name.now ≡ None }
         ensures ok { OnOk result (self.new ≡ with_number from.now name.now number self.old) }

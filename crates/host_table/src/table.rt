@@ -9,8 +9,7 @@ ghost use Rattle.host_table.specs.Table.{is_same_name, functions_of, entry_count
 
 use crate::copies::owned;
 use crate::entry::{AddFault, AddRefused, Entry, HostTable};
-use crate::numbers::Numbers;
-use crate::{Callback, HostName, HostNames, Reply};
+use crate::{Callback, HostName, HostNames, HostNumbers, Reply};
 use std::alloc::Global;
 use wasm_form::{FuncType, Memory, Text};
 
@@ -22,7 +21,7 @@ impl HostTable {
     {
         HostTable {
             entries: Vec::new(alloc),
-            numbers: Numbers::new(alloc),
+            numbers: HostNumbers::new(alloc),
         }
     }
 
@@ -126,7 +125,7 @@ fn prepare(
     alloc: Global,
     host: &HostName,
     entries: &mut Vec<Entry>,
-    numbers: &mut Numbers,
+    numbers: &mut HostNumbers,
 ) -> Result<(), Memory>
     requires few { length entries.old.items < 4294967295 }
     requires new { number_of numbers.old host.now.«module» host.now.name ≡ None }

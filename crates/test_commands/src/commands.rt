@@ -3,7 +3,7 @@ ghost use Rattle.std.specs.Prelude.{◌≡◌, ◌<◌, ◌∷◌, [], IfOk, Non
 
 use dyl_app::{Outcome, serve, status};
 use dyl_outside::{Files, MemAmbient, MemFiles, MemSink, MemSource};
-use host_table::{HostTable, Reply};
+use host_table::{Callback, HostTable, Reply};
 use std::alloc::Global;
 use std::test::Fail;
 use test_files::{File, holding};
@@ -177,7 +177,7 @@ pub fn are_merged(alloc: Global, rows: &[Row]) -> Result<(), Fail> {
 }
 
 /// The type of a function from an i32 to an i32.
-pub fn i32_to_i32(alloc: Global) -> Result<FuncType, Memory>
+fn i32_to_i32(alloc: Global) -> Result<FuncType, Memory>
     ensures { IfOk result (λ t. t ≡ record { params = ValType.I32 ∷ []; results = ValType.I32 ∷ [] }) }
 {
     let params = vec![in alloc; ValType::I32; 1]?;
@@ -189,7 +189,7 @@ pub fn i32_to_i32(alloc: Global) -> Result<FuncType, Memory>
 }
 
 /// A host function of that type, which answers the double.
-pub fn doubled(args: &[u64], _size: u64) -> Reply
+fn doubled(args: &[u64], _size: u64) -> Reply
     ensures result { result.result < 4294967296 }
     ensures put { result.put ≡ None }
 {
@@ -198,4 +198,36 @@ pub fn doubled(args: &[u64], _size: u64) -> Reply
         result: first % 4_294_967_296 * 2 % 4_294_967_296,
         put: None,
     }
+}
+
+/// The host function `twice` of the module `env`, which answers the double.
+pub fn twice_table(alloc: Global) -> Result<HostTable, Fail> {
+    let mut table = HostTable::new(alloc);
+    let ty = i32_to_i32(alloc)?;
+    let call: Callback = Box::new(alloc, doubled)?;
+    match table.add(alloc, "env", "twice", ty, call) {
+        Ok(()) => Ok(table),
+        Err(_) => Err(Fail::from("the host function isn't taken")),
+    }
+}
+
+/// Whether the run of a set over host functions, and the run of what is merged of it, come to what is wanted.
+pub fn is_run_and_merged(
+    alloc: Global,
+    set: &[File],
+    host: &HostTable,
+    wanted: Wanted,
+) -> Result<bool, Fail> {
+    let mut files = holding(alloc, set)?;
+    Ok(
+        does(alloc, "wdyl run main.wasm", &mut files, host, wanted)?
+            && does(
+                alloc,
+                "wdyl merge main.wasm out.wasm",
+                &mut files,
+                host,
+                DONE,
+            )?
+            && does(alloc, "wdyl exec out.wasm", &mut files, host, wanted)?,
+    )
 }

@@ -17,8 +17,7 @@ fn run_with(
     input: &[u8],
     host: &HostTable,
 ) -> Result<Report, Fail> {
-    let mut files = MemFiles::new(alloc);
-    files.add(alloc, "main.wasm", file)?;
+    let mut files = holding(alloc, file)?;
     let words = words_of(alloc, line)?;
     let input = MemSource::new(alloc, input.to_vec(alloc)?);
     let output = MemSink::new(alloc);
@@ -52,6 +51,12 @@ fn runs(rt: HostRuntime) -> Result<(), Fail> {
     assert!(rt; ends(alloc, modules::SMALLEST, b"", 0, b"", b"")?);
     assert!(rt; ends(alloc, modules::PLAIN, b"", 0, b"", b"")?);
     assert!(rt; ends(alloc, modules::STARTS, b"", 0, b"", b"")?);
+    Ok(())
+}
+
+#[test]
+fn runs_that_put(rt: HostRuntime) -> Result<(), Fail> {
+    let alloc = rt.alloc();
     assert!(rt; ends(alloc, modules::SAYS, b"", 0, b"Hello, module!\n", b"")?);
     assert!(rt; ends(alloc, modules::ECHOES, b"some input", 0, b"some input", b"")?);
     assert!(rt; ends(alloc, modules::ECHOES, b"", 0, b"", b"")?);
@@ -119,7 +124,7 @@ fn step_limits(rt: HostRuntime) -> Result<(), Fail> {
 }
 
 #[test]
-fn refusals(rt: HostRuntime) -> Result<(), Fail> {
+fn refused_imports_and_entries(rt: HostRuntime) -> Result<(), Fail> {
     let alloc = rt.alloc();
     assert!(rt;
         ends(
@@ -133,6 +138,12 @@ fn refusals(rt: HostRuntime) -> Result<(), Fail> {
     );
     assert!(rt; ends(alloc, modules::NO_ENTRY, b"", 65, b"", b"wdyl: no entry\n")?);
     assert!(rt; ends(alloc, modules::RESULT, b"", 65, b"", b"wdyl: no entry\n")?);
+    Ok(())
+}
+
+#[test]
+fn refused_modules(rt: HostRuntime) -> Result<(), Fail> {
+    let alloc = rt.alloc();
     assert!(rt;
         ends(
             alloc,
@@ -180,43 +191,61 @@ fn guest_arguments(rt: HostRuntime) -> Result<(), Fail> {
     Ok(())
 }
 
-/// The status and the errors of a command over files.
-fn served(alloc: Global, files: &mut MemFiles, line: &str) -> Result<(u8, MemSink), Fail> {
+/// Whether a command over files ends with a status and puts these errors.
+fn serves(
+    alloc: Global,
+    files: &mut MemFiles,
+    line: &str,
+    code: u8,
+    errors: &str,
+) -> Result<bool, Fail> {
     let host = HostTable::new(alloc);
-    let output = MemSink::new(alloc);
-    let errors = MemSink::new(alloc);
-    let report = called_over(alloc, line, files, &host, output, errors)?;
-    Ok((status(&report.outcome), report.errors))
+    let report = called_over(
+        alloc,
+        line,
+        files,
+        &host,
+        MemSink::new(alloc),
+        MemSink::new(alloc),
+    )?;
+    Ok(status(&report.outcome) == code && report.errors.held() == errors.as_bytes())
+}
+
+/// Files that hold this one as `main.wasm`.
+fn holding(alloc: Global, file: &[u8]) -> Result<MemFiles, Fail> {
+    let mut files = MemFiles::new(alloc);
+    files.add(alloc, "main.wasm", file)?;
+    Ok(files)
 }
 
 #[test]
 fn merged_and_run(rt: HostRuntime) -> Result<(), Fail> {
-    let alloc = rt.alloc();
-    let mut files = MemFiles::new(alloc);
-    files.add(alloc, "main.wasm", modules::TRAPS)?;
-    let (code, _) = served(alloc, &mut files, "wdyl merge main.wasm out.wasm")?;
-    assert_eq!(rt; code, 0);
-    let (code, errors) = served(alloc, &mut files, "wdyl exec out.wasm")?;
-    assert_eq!(rt; code, 134);
-    assert!(rt; errors.held() == b"wdyl: trap unreachable\n".as_slice());
+    let mut files = holding(rt.alloc(), modules::TRAPS)?;
+    for (line, code, errors) in [
+        ("wdyl merge main.wasm out.wasm", 0, ""),
+        ("wdyl exec out.wasm", 134, "wdyl: trap unreachable\n"),
+    ] {
+        assert!(rt;
+            serves(rt.alloc(), &mut files, line, code, errors)?,
+            "{line}"
+        );
+    }
     Ok(())
 }
 
 #[test]
 fn words_of_exec(rt: HostRuntime) -> Result<(), Fail> {
-    let alloc = rt.alloc();
-    let mut files = MemFiles::new(alloc);
-    files.add(alloc, "main.wasm", modules::PLAIN)?;
-    let (code, _) = served(alloc, &mut files, "wdyl exec main.wasm")?;
-    assert_eq!(rt; code, 0);
-    let (code, errors) = served(alloc, &mut files, "wdyl exec")?;
-    assert_eq!(rt; code, 64);
-    assert!(rt; errors.held() == b"wdyl: usage: words\n".as_slice());
-    let (code, errors) = served(alloc, &mut files, "wdyl exec a b")?;
-    assert_eq!(rt; code, 65);
-    assert!(rt; errors.held() == b"wdyl: missing a\n".as_slice());
-    let (code, errors) = served(alloc, &mut files, "wdyl exec other.wasm")?;
-    assert_eq!(rt; code, 65);
-    assert!(rt; errors.held() == b"wdyl: missing other.wasm\n".as_slice());
+    let mut files = holding(rt.alloc(), modules::PLAIN)?;
+    for (line, code, errors) in [
+        ("wdyl exec main.wasm", 0, ""),
+        ("wdyl exec", 64, "wdyl: usage: words\n"),
+        ("wdyl exec a b", 65, "wdyl: missing a\n"),
+        ("wdyl exec other.wasm", 65, "wdyl: missing other.wasm\n"),
+    ] {
+        assert!(rt;
+            serves(rt.alloc(), &mut files, line, code, errors)?,
+            "{line}"
+        );
+    }
     Ok(())
 }

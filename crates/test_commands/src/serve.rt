@@ -150,21 +150,37 @@ const REFUSED: &[(&str, &str)] = &[
     ),
 ];
 
+/// Whether words over the file of a row have this status and line, and leave an output or none.
+fn row_answers(
+    alloc: Global,
+    words: &[&str],
+    row: &str,
+    code: u8,
+    line: &str,
+    written: bool,
+) -> Result<bool, Fail> {
+    let mut files = holding(alloc, &file_of(alloc, row)?)?;
+    answers(alloc, words, &mut files, code, line, written)
+}
+
 #[test]
-fn files_by_rows(rt: HostRuntime) -> Result<(), Fail> {
-    let alloc = rt.alloc();
+fn files_that_are_merged_or_not(rt: HostRuntime) -> Result<(), Fail> {
     for (row, code, line) in MERGES {
-        let mut files = holding(alloc, &file_of(alloc, row)?)?;
+        let written = *code == 0;
         assert!(rt;
-            answers(alloc, MERGE, &mut files, *code, line, *code == 0)?,
+            row_answers(rt.alloc(), MERGE, row, *code, line, written)?,
             "{row}"
         );
     }
+    Ok(())
+}
+
+#[test]
+fn files_that_are_refused(rt: HostRuntime) -> Result<(), Fail> {
     for (row, line) in REFUSED {
         for words in [MERGE, EXEC] {
-            let mut files = holding(alloc, &file_of(alloc, row)?)?;
             assert!(rt;
-                answers(alloc, words, &mut files, 65, line, false)?,
+                row_answers(rt.alloc(), words, row, 65, line, false)?,
                 "{row}"
             );
         }
@@ -218,37 +234,40 @@ fn prefixes(rt: HostRuntime) -> Result<(), Fail> {
     Ok(())
 }
 
+/// Whether a merge in which a call of the files fails ends so, and writes nothing.
+fn fails_so(alloc: Global, call: u64, code: u8, line: &str) -> Result<bool, Fail> {
+    let mut files = holding(alloc, &bytes_of(alloc, SMALLEST)?)?;
+    files.fail_at(alloc, call)?;
+    answers(alloc, MERGE, &mut files, code, line, false)
+}
+
 #[test]
 fn files_that_fail(rt: HostRuntime) -> Result<(), Fail> {
-    let alloc = rt.alloc();
-    let file = bytes_of(alloc, SMALLEST)?;
     for (call, code, line) in [
         (0, 66, "wdyl: read fault main.wasm\n"),
         (1, 74, "wdyl: write fault\n"),
     ] {
-        let mut files = holding(alloc, &file)?;
-        files.fail_at(alloc, call)?;
-        assert!(rt;
-            answers(alloc, MERGE, &mut files, code, line, false)?,
-            "{line}"
-        );
+        assert!(rt; fails_so(rt.alloc(), call, code, line)?, "{line}");
     }
+    Ok(())
+}
+
+/// Of a path the last name is told.
+#[test]
+fn a_missing_file(rt: HostRuntime) -> Result<(), Fail> {
     let words = ["wdyl", "merge", "set/app/main.wasm", "out.wasm"];
-    assert!(rt;
-        answers(
-            alloc,
-            &words,
-            &mut MemFiles::new(alloc),
-            65,
-            "wdyl: missing main.wasm\n",
-            false
-        )?
-    );
-    let mut errors = MemSink::new(alloc);
-    errors.fail_at(alloc, 0)?;
-    let report = called(alloc, MERGE, &mut MemFiles::new(alloc), errors)?;
-    assert_eq!(rt; status(&report.outcome), 65);
-    assert!(rt; report.errors.held().is_empty());
+    let mut files = MemFiles::new(rt.alloc());
+    let line = "wdyl: missing main.wasm\n";
+    assert!(rt; answers(rt.alloc(), &words, &mut files, 65, line, false)?);
+    Ok(())
+}
+
+#[test]
+fn errors_that_fail(rt: HostRuntime) -> Result<(), Fail> {
+    let mut errors = MemSink::new(rt.alloc());
+    errors.fail_at(rt.alloc(), 0)?;
+    let report = called(rt.alloc(), MERGE, &mut MemFiles::new(rt.alloc()), errors)?;
+    assert!(rt; status(&report.outcome) == 65 && report.errors.held().is_empty());
     Ok(())
 }
 
@@ -361,25 +380,44 @@ fn put_export_name(to: &mut Vec<u8>, i: u32) -> Result<(), Fail> {
     Ok(())
 }
 
-/// As many functions as exports, each a call of function 0.
-fn many(alloc: Global, count: u32) -> Result<Vec<u8>, Fail> {
+/// As many functions of type 0.
+fn many_functions(alloc: Global, count: u32) -> Result<Vec<u8>, Fail> {
     let mut functions = Vec::new(alloc);
-    let mut exports = Vec::new(alloc);
-    let mut codes = Vec::new(alloc);
     put_u32(alloc, &mut functions, count)?;
-    put_u32(alloc, &mut exports, count)?;
-    put_u32(alloc, &mut codes, count)?;
-    for i in 0..count {
+    for _ in 0..count {
         functions.push(0)?;
+    }
+    Ok(functions)
+}
+
+/// An export of each.
+fn exports_of(alloc: Global, count: u32) -> Result<Vec<u8>, Fail> {
+    let mut exports = Vec::new(alloc);
+    put_u32(alloc, &mut exports, count)?;
+    for i in 0..count {
         put_export_name(&mut exports, i)?;
         exports.push(0)?;
         put_u32(alloc, &mut exports, i)?;
+    }
+    Ok(exports)
+}
+
+/// The body of each, a call of function 0.
+fn bodies_of(alloc: Global, count: u32) -> Result<Vec<u8>, Fail> {
+    let mut codes = Vec::new(alloc);
+    put_u32(alloc, &mut codes, count)?;
+    for _ in 0..count {
         codes.extend_from_slice(b"\x04\0\x10\0\x0b")?;
     }
+    Ok(codes)
+}
+
+/// As many functions as exports, each a call of function 0.
+fn many(alloc: Global, count: u32) -> Result<Vec<u8>, Fail> {
     let mut file = file_of(alloc, "01 04 01 60 00 00")?;
-    put_section(alloc, &mut file, 3, &functions)?;
-    put_section(alloc, &mut file, 7, &exports)?;
-    put_section(alloc, &mut file, 10, &codes)?;
+    put_section(alloc, &mut file, 3, &many_functions(alloc, count)?)?;
+    put_section(alloc, &mut file, 7, &exports_of(alloc, count)?)?;
+    put_section(alloc, &mut file, 10, &bodies_of(alloc, count)?)?;
     Ok(file)
 }
 

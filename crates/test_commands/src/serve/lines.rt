@@ -54,6 +54,21 @@ fn lines_of_outcomes(rt: HostRuntime) -> Result<(), Fail> {
     ] {
         assert!(rt; tells(alloc, outcome, line)?, "{line}");
     }
+    Ok(())
+}
+
+/// Whether the end of a run is told by this line.
+fn tells_end(alloc: Global, end: RunEnd, text: &str) -> Result<bool, Fail> {
+    let ran = Ran {
+        end,
+        steps: 0,
+        answers: List::of(Vec::new(alloc)),
+    };
+    tells(alloc, Outcome::Ran(ran), text)
+}
+
+#[test]
+fn lines_of_ends(rt: HostRuntime) -> Result<(), Fail> {
     for (end, line) in [
         (RunEnd::Return, ""),
         (RunEnd::Exit(7), ""),
@@ -75,19 +90,19 @@ fn lines_of_outcomes(rt: HostRuntime) -> Result<(), Fail> {
         (RunEnd::HostCallLimit, "wdyl: host call limit\n"),
         (RunEnd::Stuck, "wdyl: stuck\n"),
     ] {
-        let ran = Ran {
-            end,
-            steps: 0,
-            answers: List::of(Vec::new(alloc)),
-        };
-        assert!(rt; tells(alloc, Outcome::Ran(ran), line)?, "{line}");
+        assert!(rt; tells_end(rt.alloc(), end, line)?, "{line}");
     }
     Ok(())
 }
 
+/// Whether a missing file of this name is told by this line.
+fn tells_missing(alloc: Global, name: &str, line: &str) -> Result<bool, Fail> {
+    let name = text(alloc, name)?;
+    tells_set(alloc, SetFault::Missing { name }, line)
+}
+
 #[test]
-fn lines_of_names(rt: HostRuntime) -> Result<(), Fail> {
-    let alloc = rt.alloc();
+fn lines_of_missing_files(rt: HostRuntime) -> Result<(), Fail> {
     for (name, line) in [
         ("lib.wasm", "wdyl: missing lib.wasm\n"),
         ("a b", "wdyl: missing a\\20b\n"),
@@ -95,114 +110,149 @@ fn lines_of_names(rt: HostRuntime) -> Result<(), Fail> {
         ("~\x7F!", "wdyl: missing ~\\7f!\n"),
         ("\u{E9}", "wdyl: missing \\c3\\a9\n"),
     ] {
-        let name = text(alloc, name)?;
-        assert!(rt;
-            tells_set(alloc, SetFault::Missing { name }, line)?,
-            "{line}"
-        );
+        assert!(rt; tells_missing(rt.alloc(), name, line)?, "{line}");
     }
-    let path = text(alloc, "set/my app")?;
-    assert!(rt;
-        tells_set(
-            alloc,
-            SetFault::ReadFault { path },
-            "wdyl: read fault set/my\\20app\n"
-        )?
-    );
-    let (from, name) = (text(alloc, "e v")?, text(alloc, "f")?);
-    let fault = SingleFault::HostImport { module: from, name };
-    assert!(rt;
-        tells(
-            alloc,
-            Outcome::Single(fault),
-            "wdyl: no host import e\\20v f\n"
-        )?
-    );
-    let (from, name) = (text(alloc, "env")?, text(alloc, "f")?);
-    let fault = SingleFault::HostType { module: from, name };
-    assert!(rt;
-        tells(
-            alloc,
-            Outcome::Single(fault),
-            "wdyl: ill-typed host import env f\n"
-        )?
-    );
-    assert!(rt;
-        tells(
-            alloc,
-            Outcome::Single(SingleFault::NoEntry),
-            "wdyl: no entry\n"
-        )?
-    );
-    let fault = SingleFault::SegmentTrap;
-    assert!(rt;
-        tells(
-            alloc,
-            Outcome::Single(fault),
-            "wdyl: segment out of bounds\n"
-        )?
-    );
+    Ok(())
+}
+
+#[test]
+fn line_of_a_read_fault(rt: HostRuntime) -> Result<(), Fail> {
+    let path = text(rt.alloc(), "set/my app")?;
+    let line = "wdyl: read fault set/my\\20app\n";
+    assert!(rt; tells_set(rt.alloc(), SetFault::ReadFault { path }, line)?);
+    Ok(())
+}
+
+/// Whether a host import that isn't there, or has another type, is told by this line.
+fn tells_import(alloc: Global, from: &str, is_there: bool, line: &str) -> Result<bool, Fail> {
+    let module = text(alloc, from)?;
+    let name = text(alloc, "f")?;
+    let fault = if is_there {
+        SingleFault::HostType { module, name }
+    } else {
+        SingleFault::HostImport { module, name }
+    };
+    tells(alloc, Outcome::Single(fault), line)
+}
+
+#[test]
+fn lines_of_host_imports(rt: HostRuntime) -> Result<(), Fail> {
+    for (from, is_there, line) in [
+        ("e v", false, "wdyl: no host import e\\20v f\n"),
+        ("env", true, "wdyl: ill-typed host import env f\n"),
+    ] {
+        assert!(rt; tells_import(rt.alloc(), from, is_there, line)?, "{line}");
+    }
+    Ok(())
+}
+
+#[test]
+fn lines_of_single_modules(rt: HostRuntime) -> Result<(), Fail> {
+    for (fault, line) in [
+        (SingleFault::NoEntry, "wdyl: no entry\n"),
+        (SingleFault::SegmentTrap, "wdyl: segment out of bounds\n"),
+    ] {
+        assert!(rt; tells(rt.alloc(), Outcome::Single(fault), line)?, "{line}");
+    }
     Ok(())
 }
 
 #[test]
 fn lines_of_links(rt: HostRuntime) -> Result<(), Fail> {
-    let alloc = rt.alloc();
-    let fault = LinkFault::MemoryLimit {
-        pages: 1025,
-        max: 1024,
+    for (fault, line) in [
+        (
+            LinkFault::MemoryLimit {
+                pages: 1025,
+                max: 1024,
+            },
+            "wdyl: memory of 1025 pages is above 1024\n",
+        ),
+        (
+            LinkFault::TableLimit { entries: 8, max: 7 },
+            "wdyl: table of 8 entries is above 7\n",
+        ),
+        (
+            LinkFault::OwnMemory { module: 3 },
+            "wdyl: module 3 has its own memory\n",
+        ),
+        (LinkFault::NoEntry, "wdyl: no entry\n"),
+    ] {
+        assert!(rt; tells_link(rt.alloc(), fault, line)?, "{line}");
+    }
+    Ok(())
+}
+
+/// Whether an import `f` of module 2 that nothing defines is told by this line.
+fn tells_unresolved(alloc: Global, kind: Kind, line: &str) -> Result<bool, Fail> {
+    let name = text(alloc, "f")?;
+    let fault = LinkFault::Unresolved {
+        module: 2,
+        kind,
+        name,
     };
-    assert!(rt; tells_link(alloc, fault, "wdyl: memory of 1025 pages is above 1024\n")?);
-    let fault = LinkFault::TableLimit { entries: 8, max: 7 };
-    assert!(rt; tells_link(alloc, fault, "wdyl: table of 8 entries is above 7\n")?);
-    let fault = LinkFault::OwnMemory { module: 3 };
-    assert!(rt; tells_link(alloc, fault, "wdyl: module 3 has its own memory\n")?);
-    let name = text(alloc, "a b")?;
-    let fault = LinkFault::TlsExport { module: 1, name };
-    assert!(rt; tells_link(alloc, fault, "wdyl: module 1 has TLS export a\\20b\n")?);
+    tells_link(alloc, fault, line)
+}
+
+#[test]
+fn lines_of_unresolved_imports(rt: HostRuntime) -> Result<(), Fail> {
     for (kind, line) in [
         (Kind::Function, "wdyl: unresolved function f in 2\n"),
         (Kind::Mem, "wdyl: unresolved mem f in 2\n"),
         (Kind::Func, "wdyl: unresolved func f in 2\n"),
         (Kind::Other, "wdyl: unresolved other f in 2\n"),
     ] {
-        let name = text(alloc, "f")?;
-        let fault = LinkFault::Unresolved {
-            module: 2,
-            kind,
-            name,
-        };
-        assert!(rt; tells_link(alloc, fault, line)?, "{line}");
+        assert!(rt; tells_unresolved(rt.alloc(), kind, line)?, "{line}");
     }
-    let name = text(alloc, "f")?;
+    Ok(())
+}
+
+#[test]
+fn line_of_a_tls_export(rt: HostRuntime) -> Result<(), Fail> {
+    let name = text(rt.alloc(), "a b")?;
+    let fault = LinkFault::TlsExport { module: 1, name };
+    let line = "wdyl: module 1 has TLS export a\\20b\n";
+    assert!(rt; tells_link(rt.alloc(), fault, line)?);
+    Ok(())
+}
+
+#[test]
+fn line_of_an_ill_typed_import(rt: HostRuntime) -> Result<(), Fail> {
+    let name = text(rt.alloc(), "f")?;
     let fault = LinkFault::IllTyped {
         module: 0,
         kind: Kind::Func,
         name,
     };
-    assert!(rt; tells_link(alloc, fault, "wdyl: ill-typed func f in 0\n")?);
-    let name = text(alloc, "f")?;
+    assert!(rt; tells_link(rt.alloc(), fault, "wdyl: ill-typed func f in 0\n")?);
+    Ok(())
+}
+
+#[test]
+fn line_of_a_duplicate(rt: HostRuntime) -> Result<(), Fail> {
+    let name = text(rt.alloc(), "f")?;
     let fault = LinkFault::Duplicate {
         name,
         first: 1,
         second: 2,
     };
-    assert!(rt; tells_link(alloc, fault, "wdyl: duplicate f in 1 and 2\n")?);
-    assert!(rt; tells_link(alloc, LinkFault::NoEntry, "wdyl: no entry\n")?);
+    assert!(rt; tells_link(rt.alloc(), fault, "wdyl: duplicate f in 1 and 2\n")?);
     Ok(())
 }
 
 #[test]
 fn lines_of_sets(rt: HostRuntime) -> Result<(), Fail> {
+    for (fault, line) in [
+        (SetFault::SetSize, "wdyl: files too long\n"),
+        (SetFault::ModuleCount, "wdyl: more than 256 modules\n"),
+    ] {
+        assert!(rt; tells_set(rt.alloc(), fault, line)?, "{line}");
+    }
+    Ok(())
+}
+
+#[test]
+fn lines_of_decoding(rt: HostRuntime) -> Result<(), Fail> {
     let alloc = rt.alloc();
-    assert!(rt; tells_set(alloc, SetFault::SetSize, "wdyl: files too long\n")?);
-    assert!(rt;
-        tells_set(
-            alloc,
-            SetFault::ModuleCount,
-            "wdyl: more than 256 modules\n"
-        )?
-    );
     for (fault, line) in [
         (
             DecodeFault::Malformed { section: 4 },
@@ -225,6 +275,12 @@ fn lines_of_sets(rt: HostRuntime) -> Result<(), Fail> {
             "{line}"
         );
     }
+    Ok(())
+}
+
+#[test]
+fn lines_of_records(rt: HostRuntime) -> Result<(), Fail> {
+    let alloc = rt.alloc();
     for (fault, line) in [
         (
             RecordFault::NoDylink,

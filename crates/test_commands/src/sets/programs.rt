@@ -3,12 +3,12 @@ use super::modules::{
     BASED, BY_TYPE, CLOSES, COUNTS, CYCLE, FIRST_B, GROWS, OUTSIDE, RECURSES, STRONG, TWICE, WEAK,
 };
 use crate::commands::{
-    DONE, Row, Wanted, are_merged, are_run, called_over, does, doubled, i32_to_i32, is_done,
-    is_wanted, refuses,
+    DONE, Row, Wanted, are_merged, are_run, called_over, is_done, is_run_and_merged, is_wanted,
+    refuses, twice_table,
 };
 use dyl_app::Outcome;
 use dyl_outside::MemSink;
-use host_table::{Callback, HostTable};
+use host_table::HostTable;
 use std::alloc::Global;
 use std::test::Fail;
 use test_files::{DIAMOND, FIRST_A, File, GREETED, GREETING, MAIN, holding};
@@ -265,23 +265,8 @@ fn many_host_calls(rt: HostRuntime) -> Result<(), Fail> {
 
 #[test]
 fn a_host_function(rt: HostRuntime) -> Result<(), Fail> {
-    let alloc = rt.alloc();
-    let mut table = HostTable::new(alloc);
-    let ty = i32_to_i32(alloc)?;
-    let call: Callback = Box::new(alloc, doubled)?;
-    assert!(rt; table.add(alloc, "env", "twice", ty, call).is_ok());
+    let table = twice_table(rt.alloc())?;
     let wanted = Wanted { status: 42, ..DONE };
-    let mut files = holding(alloc, twice())?;
-    assert!(rt; does(alloc, "wdyl run main.wasm", &mut files, &table, wanted)?);
-    assert!(rt;
-        does(
-            alloc,
-            "wdyl merge main.wasm out.wasm",
-            &mut files,
-            &table,
-            DONE
-        )?
-    );
-    assert!(rt; does(alloc, "wdyl exec out.wasm", &mut files, &table, wanted)?);
+    assert!(rt; is_run_and_merged(rt.alloc(), twice(), &table, wanted)?);
     Ok(())
 }

@@ -6,7 +6,7 @@ use super::phases::{
     PLACED_BEHIND, RECURSE_TOGETHER, RELOCATES_BADLY, RELOCATES_LAST, STARTS_ABROAD, STARTS_BADLY,
     STARTS_LAST, STARTS_NOWHERE, STARTS_OUTSIDE, STEPPED,
 };
-use crate::commands::{DONE, Row, Wanted, are_merged, are_run, called_over, does};
+use crate::commands::{DONE, Row, Wanted, are_merged, are_run, called_over, is_run_and_merged};
 use dyl_app::status;
 use dyl_outside::MemSink;
 use host_table::{Callback, HostTable, Put, Reply};
@@ -237,10 +237,8 @@ fn outside() -> &'static [File] {
     STARTS_OUTSIDE
 }
 
-/// Puts `k` at 1040.
-#[test]
-fn a_start_function_of_the_host(rt: HostRuntime) -> Result<(), Fail> {
-    let alloc = rt.alloc();
+/// The host function `knock` of the module `env`, which puts `k` at 1040.
+fn knock_table(alloc: Global) -> Result<HostTable, Fail> {
     let mut table = HostTable::new(alloc);
     let ty = FuncType {
         params: List::of(Vec::new(alloc)),
@@ -263,17 +261,20 @@ fn a_start_function_of_the_host(rt: HostRuntime) -> Result<(), Fail> {
             };
             Reply { result: 0, put }
         },
-    )
-    .expect(&rt, "memory");
-    assert!(rt; table.add(alloc, "env", "knock", ty, call).is_ok());
+    )?;
+    match table.add(alloc, "env", "knock", ty, call) {
+        Ok(()) => Ok(table),
+        Err(_) => Err(Fail::from("the host function isn't taken")),
+    }
+}
+
+#[test]
+fn a_start_function_of_the_host(rt: HostRuntime) -> Result<(), Fail> {
+    let table = knock_table(rt.alloc())?;
     let wanted = Wanted {
         output: "k",
         ..DONE
     };
-    let mut files = holding(alloc, outside())?;
-    let merge = "wdyl merge main.wasm out.wasm";
-    assert!(rt; does(alloc, "wdyl run main.wasm", &mut files, &table, wanted)?);
-    assert!(rt; does(alloc, merge, &mut files, &table, DONE)?);
-    assert!(rt; does(alloc, "wdyl exec out.wasm", &mut files, &table, wanted)?);
+    assert!(rt; is_run_and_merged(rt.alloc(), outside(), &table, wanted)?);
     Ok(())
 }

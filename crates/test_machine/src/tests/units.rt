@@ -1,13 +1,14 @@
 // The machine over two units.
 ghost use Rattle.std.specs.Prelude.{IfSome};
-ghost use Rattle.test_machine.specs.Runs.{StandsOpen};
+ghost use Rattle.test_units.specs.Runs.{StandsOpen};
 
 use super::{checked, push_sized};
-use crate::{OutsideTypes, Pair, Run};
+
 use std::alloc::Global;
 use std::process::Abort;
 use std::test::Fail;
 use test_rows::{bytes_of, push_hex};
+use test_units::{OutsideTypes, Pair, Run};
 use wasm_check::Checked;
 use wasm_form::{Memory, Trap};
 use wasm_machine::{Event, Value};

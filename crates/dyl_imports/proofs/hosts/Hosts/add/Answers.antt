@@ -1,7 +1,6 @@
-use Rattle.std.proofs.Common.{◌≡◌, ◌∙◌, ap, sym, length, Some}
-use Rattle.dyl_imports.specs.Hosts.{with_host}
+use Rattle.std.proofs.Common.{◌∙◌, sym}
+use Rattle.host_table.proofs.Entries.{on_ok}
 use Rattle.dyl_imports.proofs.EachOnce.{kept_host, new_host}
-use Rattle.dyl_imports.proofs.NumberEntries.{on_ok}
 use Rattle.dyl_imports.proofs.hosts.Hosts.add.Goals as goal
 
 pub returns-in-Some : goal.returns-in-Some

@@ -1,11 +1,11 @@
 -- The host function that was added has the next number.
-use Rattle.std.proofs.Common.{◌≡◌, ◌∙◌, ◌++◌, ◌∷◌, [], None, map, length, ap, sym, subst}
+use Rattle.std.proofs.Common.{◌≡◌, ◌∙◌, ◌++◌, ◌∷◌, [], None, map, length, ap, sym}
 use Rattle.std.specs.List.{position_from}
 use Rattle.std.proofs.lemmas.List.{length-map, map_push}
 use Rattle.spec_linking.specs.LinkedSets.{is_named}
 use Rattle.host_table.specs.Names.{host_name_of}
-use Rattle.dyl_imports.specs.Numbers.{number_of, with_number, AreNumbered}
-use Rattle.dyl_imports.proofs.Numbering.{numbered_more}
+use Rattle.host_table.specs.Numbers.{number_of, with_number}
+use Rattle.host_table.proofs.Numbering.{numbered_more}
 use Rattle.dyl_imports.proofs.hosts.Hosts.push.Goals as goal
 
 pub invariant_of-self-2 : goal.invariant_of-self-2
@@ -23,4 +23,4 @@ invariant_of-self-2 c =
     (λ i. number_of numbers (named i) (called i)) ∙ c.self.invariant from name ∙ ap (position_from (is_named from name) 0) c.self.view_is ∙ c.requires.new in
     let added : c.prepare.new.numbers ≡ with_number host.«module» host.name (length (map host_name_of old)) numbers =
     c.in_ok-prepare.ensures.ok ∙ ap (λ n. with_number host.«module» host.name n numbers) (sym (length-map old host_name_of)) in
-    subst (AreNumbered c.prepare.new.numbers) (sym same) (numbered_more numbers c.prepare.new.numbers (map host_name_of old) (host_name_of host) c.self.invariant fresh added)
+    numbered_more (λ n. n) numbers c.prepare.new.numbers (map host_name_of old) (map host_name_of c.push.new.self.items) (host_name_of host) c.self.invariant fresh added same
