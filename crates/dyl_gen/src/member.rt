@@ -1,6 +1,6 @@
 // The modules of the set, and their bytes.
 ghost use Rattle.std.specs.Prelude.{◌≡◌, ◌<◌, ◌≤◌, IfOk, length};
-ghost use Rattle.wasm_form.specs.Number.{IsShortest};
+ghost use Rattle.spec_binary.specs.Number.{IsShortest};
 ghost use Rattle.spec_binary.specs.Modules.{SpellsModule};
 ghost use Rattle.spec_binary.specs.WellFormed.{IsWellFormed};
 ghost use Rattle.wasm_encode.specs.Weight.{weight};

@@ -1,10 +1,10 @@
 -- What the writers of subsections do, and the whole that they write.
 use Rattle.std.proofs.Common.{◌≡◌, ℕ, suc, ◌^◌, ◌<◌, ◌≤◌, List, [], ◌∷◌, ◌++◌, length, length-append, map, refl, sym, ap, ◌∙◌, subst, append_assoc, append-nil, arith}
 use Rattle.std.specs.Prelude.{◌≢◌}
-use Rattle.wasm_form.specs.Number.{SpellsUnsigned, IsShortest, Appends}
-use Rattle.wasm_form.specs.Name.{SpellsName}
-use Rattle.wasm_form.specs.Sequence.{SpellsVec}
-use Rattle.wasm_form.proofs.UnsignedSpelling.{unsigned_few}
+use Rattle.spec_binary.specs.Number.{SpellsUnsigned, IsShortest, Appends}
+use Rattle.spec_binary.specs.Name.{SpellsName}
+use Rattle.spec_binary.specs.Sequence.{SpellsVec}
+use Rattle.spec_binary.proofs.UnsignedSpelling.{unsigned_few}
 use Rattle.spec_binary.proofs.Lists.{empty_list}
 use Rattle.spec_linking.specs.Records.{most_align, DylinkRecord, empty_record, SpellsExportNote, SpellsImportNote, Subsection, memory_information, needed, export_notes, import_notes, runtime_paths, Subsections, done, next}
 use Rattle.spec_linking.specs.Records as records

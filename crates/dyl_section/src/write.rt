@@ -1,8 +1,8 @@
 // Writing a record.
 ghost use Rattle.std.specs.Prelude.{◌≡◌, ℕ, ◌^◌, ◌<◌, ◌≤◌, List as Listing, length, OnOk, IfOk};
-ghost use Rattle.wasm_form.specs.Number.{IsShortest, Appends};
-ghost use Rattle.wasm_form.specs.Name.{SpellsName};
-ghost use Rattle.wasm_form.specs.Sequence.{SpellsEach, SpellsVec};
+ghost use Rattle.spec_binary.specs.Number.{IsShortest, Appends};
+ghost use Rattle.spec_binary.specs.Name.{SpellsName};
+ghost use Rattle.spec_binary.specs.Sequence.{SpellsEach, SpellsVec};
 ghost use Rattle.spec_linking.specs.Records.{most_align, empty_record, Subsections};
 ghost use Rattle.dyl_section.specs.Recorded.{record_of};
 ghost use Rattle.dyl_section.specs.Written.{
@@ -19,7 +19,8 @@ ghost use Rattle.dyl_section.specs.Written.{
 
 use crate::record::{Dylink, ExportInfo, ImportInfo};
 use std::alloc::Global;
-use wasm_form::{Memory, Text, put_name, put_u32};
+use wasm_form::{Memory, Text};
+use wasm_leb::{put_name, put_u32};
 
 // What stands in a list of a record.
 trait Note {

@@ -6,9 +6,9 @@ use Rattle.std.proofs.lemmas.Slice.Eq.{bytes_eq-Decides}
 use Rattle.wasm_form.specs.declared.module.Export.{Export}
 use Rattle.wasm_form.specs.declared.module.ExportDesc.{ExportDesc}
 use Rattle.wasm_form.specs.declared.module.Module.{Module}
-use Rattle.wasm_form.specs.Sequence.{SpellsVec, vec}
-use Rattle.wasm_form.proofs.Joined.{each_all}
-use Rattle.wasm_form.proofs.NameSpelling.{name_utf8}
+use Rattle.spec_binary.specs.Sequence.{SpellsVec, vec}
+use Rattle.spec_binary.proofs.Joined.{each_all}
+use Rattle.spec_binary.proofs.NameSpelling.{name_utf8}
 use Rattle.spec_binary.specs.declared.fault.DecodeFault.{DecodeFault}
 use Rattle.spec_binary.specs.Options.{◌>>=◌}
 use Rattle.spec_binary.specs.Parts.{SpellsExport, export}

@@ -13,9 +13,9 @@ use Rattle.wasm_form.specs.declared.module.Elem.{Elem}
 use Rattle.wasm_form.specs.declared.module.Code.{Code}
 use Rattle.wasm_form.specs.declared.module.Data.{Data}
 use Rattle.wasm_form.specs.declared.module.Module.{Module}
-use Rattle.wasm_form.specs.Name as names
-use Rattle.wasm_form.specs.Number.{SpellsUnsigned}
-use Rattle.wasm_form.proofs.UnsignedSpelling.{unsigned_some}
+use Rattle.spec_binary.specs.Name as names
+use Rattle.spec_binary.specs.Number.{SpellsUnsigned}
+use Rattle.spec_binary.proofs.UnsignedSpelling.{unsigned_some}
 use Rattle.spec_binary.specs.Types as types
 use Rattle.spec_binary.specs.Types.{SpellsFuncType, SpellsValType, SpellsRefType, SpellsTableType, SpellsGlobalType}
 use Rattle.spec_binary.specs.Parts.{SpellsImport, SpellsGlobal, SpellsExport, SpellsElem, SpellsCode, SpellsData}

@@ -13,10 +13,10 @@ use Rattle.wasm_form.specs.declared.module.DataMode.{DataMode}
 use Rattle.wasm_form.specs.declared.module.DataMode.TheVariants as data_mode
 use Rattle.wasm_form.specs.declared.module.Data.{Data}
 use Rattle.wasm_form.specs.declared.module.GlobalDef.{GlobalDef}
-use Rattle.wasm_form.specs.Number.{IsSigned}
+use Rattle.spec_binary.specs.Number.{IsSigned}
 use Rattle.wasm_form.specs.declared.module.Module.{Module}
-use Rattle.wasm_form.proofs.SignedSpelling.{signed_range}
-use Rattle.wasm_form.proofs.Joined.{each_all}
+use Rattle.spec_binary.proofs.SignedSpelling.{signed_range}
+use Rattle.spec_binary.proofs.Joined.{each_all}
 use Rattle.std.specs.List.{All}
 use Rattle.merge_module.proofs.SpelledParts.{AreSpelled}
 use Rattle.spec_binary.specs.Instructions.{SpellsInstr, SpellsInstrs, SpellsExpr}

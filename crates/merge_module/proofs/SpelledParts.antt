@@ -1,8 +1,8 @@
 -- What is spelled of each part of a module: each of its items, in no more bytes than there are.
 use Rattle.std.proofs.Common.{◌≡◌, ℕ, ◌+◌, ◌≤◌, List, [], ◌++◌, length, Result, Ok, ap, subst, arith, length-append}
 use Rattle.wasm_form.specs.declared.module.Module.{Module}
-use Rattle.wasm_form.specs.Number.{SpellsUnsigned}
-use Rattle.wasm_form.specs.Sequence.{SpellsEach, SpellsVec, none, vec}
+use Rattle.spec_binary.specs.Number.{SpellsUnsigned}
+use Rattle.spec_binary.specs.Sequence.{SpellsEach, SpellsVec, none, vec}
 use Rattle.spec_binary.specs.Types.{SpellsFuncType, SpellsTableType}
 use Rattle.spec_binary.specs.Parts.{SpellsImport, SpellsGlobal, SpellsExport, SpellsElem, SpellsCode, SpellsData}
 use Rattle.spec_binary.specs.Sections.{Progress, at_start, Contents, IsSection, Chain, custom, types, imports, funcs, tables, memories, globals, exports, start, elems, data_count, codes, datas, section}

@@ -1,3 +1,8 @@
+pub mod Number
+pub mod Name
+pub mod Sequence
+pub mod Joined
+pub mod Laws
 pub mod Options
 pub mod Saturated
 pub mod SameTypes

@@ -3,7 +3,7 @@ use Rattle.std.proofs.Common.{◌≡◌, ℕ, ◌≤◌, List, [], ◌++◌, len
 use Rattle.std.specs.Prelude.{◌⊎◌}
 use Rattle.std.proofs.lemmas.List.{append-nil}
 use Rattle.wasm_form.specs.declared.module.Code.{Code}
-use Rattle.wasm_form.specs.Number.{SpellsUnsigned}
+use Rattle.spec_binary.specs.Number.{SpellsUnsigned}
 use Rattle.spec_binary.specs.Trees.{nesting_all}
 use Rattle.spec_binary.specs.BodyLimits.{local_count, most_locals, most_nested}
 use Rattle.spec_binary.specs.Parts.{SpellsFunc, func, SpellsCode, code}

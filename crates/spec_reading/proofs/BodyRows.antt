@@ -3,7 +3,7 @@ use Rattle.std.proofs.Common.{◌≡◌, ℕ, zero, suc, ◌+◌, ◌<◌, List,
 use Rattle.std.specs.List.{All, AllByRecursion}
 use Rattle.std.proofs.lemmas.List.Elements.{All-nil, All-cons, recursion_from_All}
 use Rattle.wasm_form.specs.declared.module.Code.{Code}
-use Rattle.wasm_form.specs.Sequence.{SpellsEach, none, next}
+use Rattle.spec_binary.specs.Sequence.{SpellsEach, none, next}
 use Rattle.spec_binary.specs.Parts.{SpellsCode}
 use Rattle.spec_binary.specs.declared.fault.DecodeFault.{DecodeFault}
 use Rattle.spec_reading.specs.Steps.{Break, Broken, TooDeep, TooManyLocals}

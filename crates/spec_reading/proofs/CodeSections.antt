@@ -3,8 +3,8 @@ use Rattle.std.proofs.Common.{◌≡◌, ℕ, ◌+◌, ◌<◌, List, [], ◌∷
 use Rattle.std.specs.List.{All}
 use Rattle.std.proofs.lemmas.List.{append-nil}
 use Rattle.wasm_form.specs.declared.module.Code.{Code}
-use Rattle.wasm_form.specs.Number.{SpellsUnsigned}
-use Rattle.wasm_form.specs.Sequence.{SpellsEach, SpellsVec, vec}
+use Rattle.spec_binary.specs.Number.{SpellsUnsigned}
+use Rattle.spec_binary.specs.Sequence.{SpellsEach, SpellsVec, vec}
 use Rattle.spec_binary.specs.Parts.{SpellsCode}
 use Rattle.spec_binary.specs.DecodeAnswers.{PassesLocals, PassesNesting}
 use Rattle.spec_binary.specs.declared.fault.DecodeFault.{DecodeFault}

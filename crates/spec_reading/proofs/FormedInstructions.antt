@@ -6,10 +6,10 @@ use Rattle.wasm_form.specs.declared.types.ValType.{ValType}
 use Rattle.wasm_form.specs.declared.instr.Instr.{Instr}
 use Rattle.wasm_form.specs.declared.instr.Instr.TheOpen as Open
 use Rattle.wasm_form.specs.declared.instr.Expr.{Expr}
-use Rattle.wasm_form.specs.Name.{SpellsName, name}
-use Rattle.wasm_form.specs.Sequence.{SpellsVec, vec}
-use Rattle.wasm_form.proofs.UnsignedSpelling.{unsigned_small}
-use Rattle.wasm_form.proofs.Joined.{each_all}
+use Rattle.spec_binary.specs.Name.{SpellsName, name}
+use Rattle.spec_binary.specs.Sequence.{SpellsVec, vec}
+use Rattle.spec_binary.proofs.UnsignedSpelling.{unsigned_small}
+use Rattle.spec_binary.proofs.Joined.{each_all}
 use Rattle.spec_binary.specs.Types.{SpellsRefType, func_ref, extern_ref}
 use Rattle.spec_binary.specs.Instructions.{SpellsSecond, no_number, one_number, two_numbers, number_and_zero, one_zero, two_zeros, SpellsInstr, plain, index, block, loop, if_alone, if_else, labels, type_and_table, value_types, ref_type, memory_argument, memory_size, memory_grow, i32_const, i64_const, f32_const, f64_const, second, SpellsInstrs, done, next as next_instr, SpellsExpr, expr}
 use Rattle.spec_binary.specs.Trees.{every, every_of}

@@ -7,7 +7,7 @@ use Rattle.wasm_form.specs.declared.types.Limits.{Limits}
 use Rattle.wasm_form.specs.declared.module.Code.{Code}
 use Rattle.wasm_form.specs.declared.module.Custom.{Custom}
 use Rattle.wasm_form.specs.declared.module.Module.{Module}
-use Rattle.wasm_form.specs.Sequence.{SpellsVec}
+use Rattle.spec_binary.specs.Sequence.{SpellsVec}
 use Rattle.spec_binary.specs.BodyLimits.{IsWithinLimits}
 use Rattle.spec_binary.specs.Sections.{Progress, at_start, empty_module, Contents, custom, types, imports, funcs, tables, memories, globals, exports, elems, codes, datas, start, data_count, Chain, done, next as next_section}
 use Rattle.spec_binary.specs.Modules.{SpellsModule}

@@ -3,8 +3,8 @@ use Rattle.std.proofs.Common.{◌≡◌, ℕ, zero, suc, ◌+◌, ◌<◌, ◌�
 use Rattle.std.specs.Prelude.{◌⊎◌}
 use Rattle.std.proofs.lemmas.Bool.{ltb-false, le-ltb, lt-ltb, ltb-true}
 use Rattle.wasm_form.specs.declared.module.Group.{Group}
-use Rattle.wasm_form.specs.Number.{SpellsUnsigned}
-use Rattle.wasm_form.specs.Sequence.{SpellsEach, none, next, SpellsVec, vec}
+use Rattle.spec_binary.specs.Number.{SpellsUnsigned}
+use Rattle.spec_binary.specs.Sequence.{SpellsEach, none, next, SpellsVec, vec}
 use Rattle.spec_binary.specs.BodyLimits.{local_count, most_locals}
 use Rattle.spec_binary.specs.Parts.{SpellsGroup, group}
 use Rattle.spec_binary.specs.DecodeAnswers.{PassesLocals}

@@ -2,8 +2,8 @@
 use Rattle.std.proofs.Common.{◌≡◌, ℕ, ℤ, ◌≤◌, List, [], ◌∷◌, ◌++◌, Ok, refl, sym, ap, subst, ◌∙◌, append_assoc, arith}
 use Rattle.wasm_form.specs.declared.types.ValType.{ValType}
 use Rattle.wasm_form.specs.declared.instr.Instr.{Instr, Index, BrTable, CallIndirect, Select, Access, MemorySize, MemoryGrow, I32Const, I64Const, F32Const, F64Const, RefNull, Prefixed}
-use Rattle.wasm_form.specs.Number.{SpellsUnsigned, SpellsSigned}
-use Rattle.wasm_form.specs.Sequence.{SpellsVec}
+use Rattle.spec_binary.specs.Number.{SpellsUnsigned, SpellsSigned}
+use Rattle.spec_binary.specs.Sequence.{SpellsVec}
 use Rattle.spec_binary.specs.Types.{SpellsRefType, SpellsValType}
 use Rattle.spec_binary.specs.Operands.{OneIndex, Labels, TypeAndTable, ValueTypes, OneRefType, MemoryArgument, MemorySizeByte, MemoryGrowByte, OneI32, OneI64, OneF32, OneF64, SecondOpcode, operands, SecondOperands, NoNumber, OneNumber, TwoNumbers, NumberAndZero, OneZero, TwoZeros, NoSecondOpcode, second_operands}
 use Rattle.spec_binary.specs.Instructions.{SpellsBits, SpellsSecond, no_number, one_number, two_numbers, number_and_zero, one_zero, two_zeros, SpellsInstr, index, labels, type_and_table, value_types, ref_type, memory_argument, memory_size, memory_grow, i32_const, i64_const, f32_const, f64_const, second}

@@ -8,7 +8,7 @@ use Rattle.wasm_form.specs.declared.module.GlobalDef.{GlobalDef}
 use Rattle.wasm_form.specs.declared.module.ExportDesc.{ExportDesc}
 use Rattle.wasm_form.specs.declared.module.ExportDesc.TheVariants as exported
 use Rattle.wasm_form.specs.declared.module.Export.{Export}
-use Rattle.wasm_form.specs.Number.{SpellsUnsigned}
+use Rattle.spec_binary.specs.Number.{SpellsUnsigned}
 use Rattle.spec_binary.specs.Types.{SpellsLimits, SpellsTableType, SpellsGlobalType}
 use Rattle.spec_binary.specs.Parts as spells
 use Rattle.spec_binary.specs.Parts.{SpellsConstant, constant, SpellsImportDesc, SpellsImport, import, SpellsGlobal, SpellsExportDesc, SpellsExport, export}

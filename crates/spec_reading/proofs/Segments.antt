@@ -13,8 +13,8 @@ use Rattle.wasm_form.specs.declared.module.Elem.{Elem}
 use Rattle.wasm_form.specs.declared.module.DataMode.{DataMode}
 use Rattle.wasm_form.specs.declared.module.DataMode.TheVariants as data_mode
 use Rattle.wasm_form.specs.declared.module.Data.{Data}
-use Rattle.wasm_form.specs.Number.{SpellsUnsigned}
-use Rattle.wasm_form.specs.Sequence.{SpellsVec}
+use Rattle.spec_binary.specs.Number.{SpellsUnsigned}
+use Rattle.spec_binary.specs.Sequence.{SpellsVec}
 use Rattle.spec_binary.specs.Parts as spells
 use Rattle.spec_binary.specs.Parts.{SpellsConstant, SpellsElemMode, first_table, named_table, declarative, SpellsElemItems, functions, kind_and_functions, expressions, type_and_expressions, SpellsElem, SpellsDataMode, first_memory, named_memory, SpellsData}
 use Rattle.spec_reading.specs.Steps.{Break, ◌>>=◌}

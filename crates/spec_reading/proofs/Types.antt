@@ -7,8 +7,8 @@ use Rattle.wasm_form.specs.declared.types.FuncType.{FuncType}
 use Rattle.wasm_form.specs.declared.types.Limits.{Limits}
 use Rattle.wasm_form.specs.declared.types.TableType.{TableType}
 use Rattle.wasm_form.specs.declared.types.GlobalType.{GlobalType}
-use Rattle.wasm_form.specs.Number.{SpellsUnsigned}
-use Rattle.wasm_form.specs.Sequence.{SpellsVec}
+use Rattle.spec_binary.specs.Number.{SpellsUnsigned}
+use Rattle.spec_binary.specs.Sequence.{SpellsVec}
 use Rattle.spec_binary.specs.Types.{SpellsRefType, func_ref, extern_ref, SpellsValType, i32, i64, f32, f64, reference, SpellsFuncType, function, SpellsLimits, open_ended, bounded, SpellsTableType, table, SpellsMutability, constant, variable, SpellsGlobalType, global}
 use Rattle.spec_reading.specs.Steps.{Break, ◌>>=◌}
 use Rattle.spec_reading.specs.Values.{number_at, vec_at}

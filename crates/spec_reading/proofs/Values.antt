@@ -4,8 +4,8 @@ use Rattle.std.specs.Str.{is_utf8}
 use Rattle.std.proofs.lemmas.Str.{IsUtf8-from_is_utf8, is_utf8-from_IsUtf8}
 use Rattle.std.proofs.lemmas.List.{take_at, drop_at, take-append-drop, length-take-le}
 use Rattle.std.proofs.lemmas.Bool.{ltb-false, le-ltb, lt-ltb, ltb-true, eqb-true, eq-eqb}
-use Rattle.wasm_form.specs.Number.{SpellsUnsigned, SpellsSigned, last, last_below, more}
-use Rattle.wasm_form.specs.Name.{SpellsName, name}
+use Rattle.spec_binary.specs.Number.{SpellsUnsigned, SpellsSigned, last, last_below, more}
+use Rattle.spec_binary.specs.Name.{SpellsName, name}
 use Rattle.spec_binary.specs.Instructions.{SpellsBits}
 use Rattle.spec_binary.specs.Instructions as bits
 use Rattle.spec_reading.specs.Steps.{Break}

@@ -1,6 +1,6 @@
 -- Things one after the other, and with their number before them, are read as they are spelled.
 use Rattle.std.proofs.Common.{◌≡◌, ℕ, zero, suc, List, [], ◌∷◌, ◌++◌, length, Ok, refl, sym, ap, ◌∙◌, append_assoc}
-use Rattle.wasm_form.specs.Sequence.{SpellsEach, none, next, SpellsVec, vec}
+use Rattle.spec_binary.specs.Sequence.{SpellsEach, none, next, SpellsVec, vec}
 use Rattle.spec_binary.specs.Parts.{SpellsByte, byte}
 use Rattle.spec_reading.specs.Steps.{Break, Read}
 use Rattle.spec_reading.specs.Values.{number_at, cut_at, items_at, vec_at}

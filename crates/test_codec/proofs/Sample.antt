@@ -3,9 +3,9 @@ use Rattle.std.proofs.Common.{rules, ◌≡◌, ℕ, ◌<◌, List, [], ◌∷�
 use Rattle.std.specs.Prelude.{codes, map}
 use Rattle.std.specs.Str.{IsAscii}
 use Rattle.std.proofs.lemmas.Str.{IsUtf8-from_ascii}
-use Rattle.wasm_form.specs.Number.{last, more}
-use Rattle.wasm_form.specs.Name.{SpellsName, name}
-use Rattle.wasm_form.specs.Sequence.{none, next, SpellsVec, vec}
+use Rattle.spec_binary.specs.Number.{last, more}
+use Rattle.spec_binary.specs.Name.{SpellsName, name}
+use Rattle.spec_binary.specs.Sequence.{none, next, SpellsVec, vec}
 use Rattle.spec_linking.specs.Records.{SpellsExportNote, SpellsImportNote}
 use Rattle.spec_linking.specs.Records as records
 use Rattle.dyl_section.specs.declared.record.ExportInfo.{ExportInfo}

@@ -11,7 +11,7 @@ use test_files::put_section;
 use test_rows::{SMALLEST, bytes_of};
 use wasm_check::check;
 use wasm_decode::decode;
-use wasm_form::put_u32;
+use wasm_leb::put_u32;
 
 /// The smallest main module up to its type section.
 const DYLINK: &str = ". 00 0f 08 64 79 6c 69 6e 6b 2e 30 01 04 00 00 00 00";

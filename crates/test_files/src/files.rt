@@ -2,7 +2,8 @@
 use dyl_outside::MemFiles;
 use std::alloc::Global;
 use test_rows::bytes_of;
-use wasm_form::{Memory, put_u32};
+use wasm_form::Memory;
+use wasm_leb::put_u32;
 
 /// An import: its names, and what it is of, in hexadecimal.
 pub type Import = (&'static str, &'static str, &'static str);

@@ -9,7 +9,7 @@ use std::alloc::Global;
 use std::test::Fail;
 use wasm_check::{Checked, check};
 use wasm_decode::decode;
-use wasm_form::put_u32;
+use wasm_leb::put_u32;
 use wasm_single::{Event, Single};
 
 // Appends the number of the bytes and the bytes.

@@ -1,4 +1,4 @@
-//! Numbers, names, lists and texts, tried through the public functions of `wasm_form`.
+//! Numbers, names, lists and texts, tried through the public functions of `wasm_form` and `wasm_leb`.
 #![tactic(auto)]
 
 #[cfg(test)]

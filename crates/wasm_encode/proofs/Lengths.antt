@@ -18,11 +18,11 @@ use Rattle.wasm_form.specs.declared.module.DataMode.{DataMode}
 use Rattle.wasm_form.specs.declared.module.Data.{Data}
 use Rattle.wasm_form.specs.declared.module.Custom.{Custom}
 use Rattle.wasm_form.specs.declared.module.Module.{Module}
-use Rattle.wasm_form.specs.Number.{SpellsUnsigned}
-use Rattle.wasm_form.specs.Name.{SpellsName}
-use Rattle.wasm_form.specs.Name as names
-use Rattle.wasm_form.specs.Sequence.{SpellsEach, SpellsVec, none, next, vec}
-use Rattle.wasm_form.proofs.UnsignedSpelling.{unsigned_some, unsigned_few}
+use Rattle.spec_binary.specs.Number.{SpellsUnsigned}
+use Rattle.spec_binary.specs.Name.{SpellsName}
+use Rattle.spec_binary.specs.Name as names
+use Rattle.spec_binary.specs.Sequence.{SpellsEach, SpellsVec, none, next, vec}
+use Rattle.spec_binary.proofs.UnsignedSpelling.{unsigned_some, unsigned_few}
 use Rattle.spec_binary.specs.Types.{SpellsFuncType, SpellsLimits, SpellsTableType, SpellsMutability, SpellsGlobalType}
 use Rattle.spec_binary.specs.Types as types
 use Rattle.spec_binary.specs.Parts.{SpellsByte, SpellsConstant, SpellsImportDesc, SpellsImport, SpellsGlobal, SpellsExportDesc, SpellsExport, SpellsElemMode, SpellsElemItems, SpellsElem, SpellsGroup, SpellsFunc, SpellsCode, SpellsDataMode, SpellsData}

@@ -6,9 +6,9 @@ use Rattle.std.proofs.lemmas.Bool.{cases_lt}
 use Rattle.wasm_form.specs.declared.module.Custom.{Custom}
 use Rattle.wasm_form.specs.declared.module.Code.{Code}
 use Rattle.wasm_form.specs.declared.module.Module.{Module}
-use Rattle.wasm_form.specs.Number.{last, IsShortest}
-use Rattle.wasm_form.specs.Sequence.{SpellsEach, none, SpellsVec, vec}
-use Rattle.wasm_form.proofs.UnsignedSpelling.{unsigned_small}
+use Rattle.spec_binary.specs.Number.{last, IsShortest}
+use Rattle.spec_binary.specs.Sequence.{SpellsEach, none, SpellsVec, vec}
+use Rattle.spec_binary.proofs.UnsignedSpelling.{unsigned_small}
 use Rattle.spec_binary.specs.Parts.{SpellsCode, code}
 use Rattle.spec_binary.specs.Sections.{IsSection}
 use Rattle.spec_binary.specs.Modules.{header, SpellsModule}
@@ -19,7 +19,7 @@ use Rattle.wasm_encode.specs.SectionSizes.{IsContents, types, imports, funcs, ta
 use Rattle.wasm_encode.specs.Written.{AddsSection, nothing, section, IsLongList, whole, part, SpellsCustom, AddsCustoms, IsLongCustom}
 use Rattle.wasm_encode.specs.Begun.{so_far, Accounts, IsBegun}
 use Rattle.wasm_encode.specs.ListSections.{IsStep, IsListStep}
-use Rattle.wasm_form.proofs.Joined.{each_all}
+use Rattle.spec_binary.proofs.Joined.{each_all}
 use Rattle.wasm_encode.proofs.Chains.{chain_next}
 use Rattle.wasm_encode.proofs.Costs.{costs_least, accounts_of}
 use Rattle.wasm_encode.proofs.Begun.{rank_some, section_small, placed_all, placed_none, customs_begun}

@@ -12,8 +12,8 @@ use Rattle.wasm_form.specs.declared.module.Code.{Code}
 use Rattle.wasm_form.specs.declared.module.Data.{Data}
 use Rattle.wasm_form.specs.declared.module.Module.{Module}
 use Rattle.wasm_form.specs.declared.module.Custom.{Custom}
-use Rattle.wasm_form.specs.Number.{SpellsUnsigned}
-use Rattle.wasm_form.specs.Sequence.{SpellsVec}
+use Rattle.spec_binary.specs.Number.{SpellsUnsigned}
+use Rattle.spec_binary.specs.Sequence.{SpellsVec}
 use Rattle.spec_binary.specs.Types.{SpellsFuncType, SpellsLimits, SpellsTableType}
 use Rattle.spec_binary.specs.Parts.{SpellsImport, SpellsGlobal, SpellsExport, SpellsElem, SpellsCode, SpellsData}
 use Rattle.spec_binary.specs.Sections as chain

@@ -6,10 +6,10 @@ use Rattle.wasm_form.specs.declared.instr.Instr.{Instr, Plain, Index, Block, Loo
 use Rattle.wasm_form.specs.declared.instr.Instr.TheOpen as Open
 use Rattle.wasm_form.specs.declared.instr.Instr.TheVariants.{rolls-Plain, rolls-Index, rolls-Block, rolls-Loop, rolls-If, rolls-BrTable, rolls-CallIndirect, rolls-Select, rolls-Access, rolls-MemorySize, rolls-MemoryGrow, rolls-I32Const, rolls-I64Const, rolls-F32Const, rolls-F64Const, rolls-RefNull, rolls-Prefixed}
 use Rattle.wasm_form.specs.declared.instr.Expr.{Expr}
-use Rattle.wasm_form.specs.Number.{SpellsUnsigned}
-use Rattle.wasm_form.specs.Sequence.{SpellsEach, SpellsVec, none, next, vec}
-use Rattle.wasm_form.proofs.UnsignedSpelling.{unsigned_some, unsigned_few}
-use Rattle.wasm_form.proofs.SignedSpelling.{signed_length}
+use Rattle.spec_binary.specs.Number.{SpellsUnsigned}
+use Rattle.spec_binary.specs.Sequence.{SpellsEach, SpellsVec, none, next, vec}
+use Rattle.spec_binary.proofs.UnsignedSpelling.{unsigned_some, unsigned_few}
+use Rattle.spec_binary.proofs.SignedSpelling.{signed_length}
 use Rattle.wasm_form.proofs.Levels.{with_inside, fold_rolled}
 use Rattle.spec_binary.specs.Types.{SpellsValType, SpellsRefType}
 use Rattle.spec_binary.specs.Types as types

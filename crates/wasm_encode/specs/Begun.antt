@@ -2,8 +2,8 @@
 use Rattle.std.specs.Prelude.{◌≡◌, ℕ, zero, suc, ◌+◌, ◌*◌, ◌≤◌, Bool, true, false, List, [], ◌++◌, length, Contains, Option, None, nat_lt, ◌⊎◌}
 use Rattle.wasm_form.specs.declared.module.Custom.{Custom}
 use Rattle.wasm_form.specs.declared.module.Module.{Module}
-use Rattle.wasm_form.specs.Number.{SpellsUnsigned}
-use Rattle.wasm_form.specs.Sequence.{SpellsEach, SpellsVec}
+use Rattle.spec_binary.specs.Number.{SpellsUnsigned}
+use Rattle.spec_binary.specs.Sequence.{SpellsEach, SpellsVec}
 use Rattle.spec_binary.specs.Types.{SpellsFuncType, SpellsLimits, SpellsTableType}
 use Rattle.spec_binary.specs.Parts.{SpellsImport, SpellsGlobal, SpellsExport, SpellsElem, SpellsCode, SpellsData}
 use Rattle.spec_binary.specs.Sections.{Progress, at_start, IsSection, Chain}

@@ -1,9 +1,9 @@
 -- What writing sections does.
 use Rattle.std.specs.Prelude.{◌≡◌, ◌≢◌, ℕ, ◌^◌, ◌≤◌, List, ◌∷◌, ◌++◌, length, take, drop, All, Contains, Option, Some}
 use Rattle.wasm_form.specs.declared.module.Custom.{Custom}
-use Rattle.wasm_form.specs.Number.{SpellsUnsigned, IsShortest, Appends}
-use Rattle.wasm_form.specs.Name.{SpellsName}
-use Rattle.wasm_form.specs.Sequence.{SpellsEach, SpellsVec}
+use Rattle.spec_binary.specs.Number.{SpellsUnsigned, IsShortest, Appends}
+use Rattle.spec_binary.specs.Name.{SpellsName}
+use Rattle.spec_binary.specs.Sequence.{SpellsEach, SpellsVec}
 use Rattle.spec_binary.specs.Sections.{IsSection}
 use Rattle.wasm_encode.specs.SectionSizes.{IsTooLongCustom}
 

@@ -7,7 +7,8 @@ use crate::fault::PartFault;
 use crate::instr::put_expr;
 use crate::part::{Part, put_sized, put_vec};
 use std::alloc::Global;
-use wasm_form::{Code, Group, put_u32};
+use wasm_form::{Code, Group};
+use wasm_leb::put_u32;
 
 impl Part for Group {
     ghost writable = { λ _. Unit {0} };

@@ -1,6 +1,6 @@
 // Imports, globals and exports (sections 5.5.5, 5.5.9 and 5.5.10).
 ghost use Rattle.std.specs.Prelude.{◌≡◌, OnOk};
-ghost use Rattle.wasm_form.specs.Number.{IsShortest, Appends};
+ghost use Rattle.spec_binary.specs.Number.{IsShortest, Appends};
 ghost use Rattle.spec_binary.specs.Parts.{
   SpellsImportDesc,
   SpellsImport,
@@ -18,7 +18,8 @@ ghost use Rattle.spec_binary.specs.WellFormed.{
 use crate::fault::PartFault;
 use crate::part::{Part, put_numbered};
 use std::alloc::Global;
-use wasm_form::{Export, ExportDesc, GlobalDef, Import, ImportDesc, Memory, put_name};
+use wasm_form::{Export, ExportDesc, GlobalDef, Import, ImportDesc, Memory};
+use wasm_leb::put_name;
 
 /// Writes the kind of what is imported, and the number of its type or its type.
 impl Part for ImportDesc {

@@ -1,7 +1,7 @@
 // Instructions and expressions (section 5.4).
 ghost use Rattle.std.specs.Prelude.{◌≡◌, ◌<◌, ◌^◌, length, OnOk, IsTrue};
-ghost use Rattle.wasm_form.specs.Number.{IsShortest, Appends, SpellsUnsigned, SpellsSigned};
-ghost use Rattle.wasm_form.specs.Sequence.{SpellsVec};
+ghost use Rattle.spec_binary.specs.Number.{IsShortest, Appends, SpellsUnsigned, SpellsSigned};
+ghost use Rattle.spec_binary.specs.Sequence.{SpellsVec};
 ghost use Rattle.spec_binary.specs.Types.{SpellsRefType, SpellsValType};
 ghost use Rattle.spec_binary.specs.Instructions.{
   SpellsBlockType,
@@ -16,14 +16,15 @@ ghost use Rattle.spec_binary.specs.Trees.{every, every_of};
 ghost use Rattle.spec_binary.specs.WellFormed.{is_reference_type, has_form, IsFormedBody, IsFormedConstant};
 ghost use Rattle.wasm_form.specs.declared.instr.Instr.{If};
 ghost use Rattle.wasm_form.specs.declared.instr.Instr.TheOpen as Open;
-ghost use Rattle.wasm_form.specs.Joined.{IsByte, Joined};
+ghost use Rattle.spec_binary.specs.Joined.{IsByte, Joined};
 ghost use Rattle.wasm_encode.specs.Bodies.{IsBody, IsBodies};
 
 use crate::fault::PartFault;
 use crate::part::{Part, put_numbered, put_two, put_vec};
 use crate::types::{put_ref_type, type_byte};
 use std::alloc::Global;
-use wasm_form::{BlockType, Expr, Instr, Memory, ValType, put_s32, put_s33, put_s64, put_u32};
+use wasm_form::{BlockType, Expr, Instr, Memory, ValType};
+use wasm_leb::{put_s32, put_s33, put_s64, put_u32};
 
 /// Writes a block's type.
 fn put_block_type(alloc: Global, ty: BlockType, to: &mut Vec<u8>) -> Result<(), Memory>

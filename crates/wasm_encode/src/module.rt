@@ -1,6 +1,6 @@
 // Modules (section 5.5.16).
 ghost use Rattle.std.specs.Prelude.{◌≡◌, ℕ, suc, ◌+◌, ◌*◌, ◌<◌, ◌≤◌, ◌^◌, ◌⊎◌, length, All, OnOk, IfOk};
-ghost use Rattle.wasm_form.specs.Number.{IsShortest};
+ghost use Rattle.spec_binary.specs.Number.{IsShortest};
 ghost use Rattle.spec_binary.specs.Modules.{header, SpellsModule};
 ghost use Rattle.spec_binary.specs.WellFormed.{IsWellFormed};
 ghost use Rattle.wasm_encode.specs.SectionSizes.{IsFirstTooLong};

@@ -1,13 +1,14 @@
 // What stands in the vectors of the format, and vectors of it (section 5.1.3).
 ghost use Rattle.std.specs.Prelude.{◌≡◌, ℕ, ◌^◌, ◌<◌, ◌≤◌, List as Listing, length, All, Contains, OnOk};
-ghost use Rattle.wasm_form.specs.Number.{IsShortest, Appends, SpellsUnsigned};
-ghost use Rattle.wasm_form.specs.Sequence.{SpellsEach, SpellsVec};
+ghost use Rattle.spec_binary.specs.Number.{IsShortest, Appends, SpellsUnsigned};
+ghost use Rattle.spec_binary.specs.Sequence.{SpellsEach, SpellsVec};
 ghost use Rattle.spec_binary.specs.Parts.{SpellsByte};
-ghost use Rattle.wasm_form.specs.Joined.{IsByte, Joined, IsSized};
+ghost use Rattle.spec_binary.specs.Joined.{IsByte, Joined, IsSized};
 
 use crate::fault::PartFault;
 use std::alloc::Global;
-use wasm_form::{Memory, put_u32};
+use wasm_form::Memory;
+use wasm_leb::put_u32;
 
 /// What stands in a vector of the format.
 pub(crate) trait Part {

@@ -13,8 +13,8 @@ ghost use Rattle.std.specs.Prelude.{
   OnOk,
   IfOk,
 };
-ghost use Rattle.wasm_form.specs.Number.{IsShortest, Appends};
-ghost use Rattle.wasm_form.specs.Sequence.{SpellsVec};
+ghost use Rattle.spec_binary.specs.Number.{IsShortest, Appends};
+ghost use Rattle.spec_binary.specs.Sequence.{SpellsVec};
 ghost use Rattle.spec_binary.specs.Sections.{IsSection};
 ghost use Rattle.spec_binary.specs.WellFormed.{IsShort};
 ghost use Rattle.wasm_encode.specs.SectionSizes.{IsTooLongCustom};
@@ -31,7 +31,8 @@ ghost use Rattle.wasm_encode.specs.Written.{
 use crate::fault::{EncodeFault, PartFault};
 use crate::part::{Part, put_each, put_sized, put_vec};
 use std::alloc::Global;
-use wasm_form::{Custom, put_name, put_u32};
+use wasm_form::Custom;
+use wasm_leb::{put_name, put_u32};
 
 /// Writes the section with this number and these contents.
 fn put_framed(alloc: Global, id: u8, contents: &[u8], to: &mut Vec<u8>) -> Result<(), PartFault>

@@ -1,6 +1,6 @@
 // Element segments and data segments (sections 5.5.12 and 5.5.14).
 ghost use Rattle.std.specs.Prelude.{◌≡◌, OnOk};
-ghost use Rattle.wasm_form.specs.Number.{IsShortest, Appends};
+ghost use Rattle.spec_binary.specs.Number.{IsShortest, Appends};
 ghost use Rattle.spec_binary.specs.Parts.{SpellsElem, SpellsData};
 ghost use Rattle.spec_binary.specs.WellFormed.{
   IsFormedConstant,
@@ -16,7 +16,8 @@ use crate::fault::PartFault;
 use crate::part::{Part, put_vec};
 use crate::types::put_ref_type;
 use std::alloc::Global;
-use wasm_form::{Data, DataMode, Elem, ElemItems, ElemMode, Expr, ValType, put_u32};
+use wasm_form::{Data, DataMode, Elem, ElemItems, ElemMode, Expr, ValType};
+use wasm_leb::put_u32;
 
 /// Whether the items can stand without a kind or a type: functions, and expressions of type funcref.
 fn are_plain(items: &ElemItems) -> bool

@@ -1,6 +1,6 @@
 // Types (section 5.3).
 ghost use Rattle.std.specs.Prelude.{◌≡◌, List as Listing, [], ◌∷◌, OnOk, IsTrue};
-ghost use Rattle.wasm_form.specs.Number.{IsShortest, Appends};
+ghost use Rattle.spec_binary.specs.Number.{IsShortest, Appends};
 ghost use Rattle.spec_binary.specs.Types.{
   SpellsValType,
   SpellsRefType,
@@ -15,7 +15,8 @@ ghost use Rattle.spec_binary.specs.WellFormed.{is_reference_type, IsFormedType, 
 use crate::fault::PartFault;
 use crate::part::{Part, put_numbered, put_vec};
 use std::alloc::Global;
-use wasm_form::{FuncType, GlobalType, Limits, Memory, TableType, ValType, put_u32};
+use wasm_form::{FuncType, GlobalType, Limits, Memory, TableType, ValType};
+use wasm_leb::put_u32;
 
 /// The byte of a type.
 pub(crate) fn type_byte(ty: ValType) -> u8

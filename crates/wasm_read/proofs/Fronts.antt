@@ -4,7 +4,7 @@ use Rattle.std.specs.Str.{is_utf8, IsUtf8}
 use Rattle.std.proofs.Math.Seq.{take-length}
 use Rattle.std.proofs.lemmas.Str.{IsUtf8-from_is_utf8, is_utf8-from_IsUtf8}
 use Rattle.std.proofs.lemmas.List.{length-drop}
-use Rattle.wasm_form.specs.Number.{Begins}
+use Rattle.spec_binary.specs.Number.{Begins}
 use Rattle.spec_reading.specs.Steps.{Break, Broken, Read}
 use Rattle.spec_reading.specs.Values.{cut_at, name_at}
 use Rattle.spec_reading.proofs.Steps.{IsComplete, IsSound, IsPlain}

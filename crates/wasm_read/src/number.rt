@@ -1,13 +1,14 @@
 // Numbers and names (WebAssembly Core 2.0, sections 5.1 and 5.2). Each reader takes what stands at the front of the
 // bytes, and gives with it the bytes that follow.
 ghost use Rattle.std.specs.Prelude.{◌≡◌, ℕ, ◌≤◌, length, IfOk, string_bytes};
-ghost use Rattle.wasm_form.specs.Number.{IsSigned};
+ghost use Rattle.spec_binary.specs.Number.{IsSigned};
 ghost use Rattle.spec_reading.specs.Values.{number_at, signed_at, bits_at, byte_at, cut_at, name_at};
 ghost use Rattle.wasm_read.specs.Given.{Gives};
 
 use crate::broken::Break;
 use std::alloc::Global;
-use wasm_form::{Text, read_s32, read_s33, read_s64, read_u32};
+use wasm_form::Text;
+use wasm_leb::{read_s32, read_s33, read_s64, read_u32};
 
 /// An unsigned number of 32 bits.
 pub fn u32_of(bytes: &[u8]) -> Result<(u32, &[u8]), Break>

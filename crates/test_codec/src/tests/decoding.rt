@@ -6,7 +6,8 @@ use std::test::Fail;
 use test_rows::{SMALLEST, bytes_of, push_hex};
 use wasm_decode::{DecodeFault, decode};
 use wasm_encode::encode;
-use wasm_form::{ExportDesc, Instr, Memory, Module, put_u32};
+use wasm_form::{ExportDesc, Instr, Memory, Module};
+use wasm_leb::put_u32;
 
 // A name, the bytes, where a point stands for the header, and what they are: a module, or why there is none.
 const MODULES: &str = "\

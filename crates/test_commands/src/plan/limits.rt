@@ -6,7 +6,7 @@ use std::alloc::Global;
 use std::test::Fail;
 use test_files::{EMPTY, bytes_in, put_name, put_section};
 use test_rows::bytes_of;
-use wasm_form::put_u32;
+use wasm_leb::put_u32;
 
 const MERGE: &str = "wdyl merge main.wasm out.wasm";
 

@@ -3,7 +3,6 @@ ghost use Rattle.std.specs.Prelude.{IfSome};
 ghost use Rattle.test_units.specs.Runs.{StandsOpen};
 
 use super::{checked, push_sized};
-
 use std::alloc::Global;
 use std::process::Abort;
 use std::test::Fail;

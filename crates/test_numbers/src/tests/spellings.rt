@@ -2,9 +2,9 @@
 // width, and one call of each writer.
 use std::test::Fail;
 use test_rows::bytes_of;
-use wasm_form::{
-    List, Text, put_name, put_s32, put_s33, put_s64, put_u32, read_name, read_s32, read_s33,
-    read_s64, read_u32,
+use wasm_form::{List, Text};
+use wasm_leb::{
+    put_name, put_s32, put_s33, put_s64, put_u32, read_name, read_s32, read_s33, read_s64, read_u32,
 };
 
 // What is read, bytes in hexadecimal, and the number that they spell, if they do. Of a name it is the place where its

@@ -1,6 +1,6 @@
 use Rattle.std.proofs.Common.{◌+◌, ◌*◌, take}
-use Rattle.wasm_form.specs.Number.{IsShortest, Appends}
-use Rattle.wasm_form.specs.Sequence.{SpellsEach}
+use Rattle.spec_binary.specs.Number.{IsShortest, Appends}
+use Rattle.spec_binary.specs.Sequence.{SpellsEach}
 use Rattle.spec_binary.specs.Instructions.{SpellsInstr}
 use Rattle.wasm_form.specs.declared.instr.Instr.{If}
 use Rattle.wasm_encode.proofs.Weights.{weight, weights}

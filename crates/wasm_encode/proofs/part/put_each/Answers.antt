@@ -1,4 +1,4 @@
-use Rattle.wasm_form.proofs.Joined.{each_next, each_started}
+use Rattle.spec_binary.proofs.Joined.{each_next, each_started}
 use Rattle.wasm_encode.proofs.part.put_each.Goals as goal
 
 pub loop-item-init : goal.loop-item-init

@@ -1,6 +1,6 @@
 use Rattle.std.proofs.Common.{rules, FitsSigned, w32}
 use Rattle.std.proofs.lemmas.Int.{to_z-of_z}
-use Rattle.wasm_form.specs.Number.{SpellsSigned}
+use Rattle.spec_binary.specs.Number.{SpellsSigned}
 use Rattle.spec_reading.specs.Values.{signed_at}
 use Rattle.spec_reading.proofs.Values.{signed_complete, signed_sound, signed_plain}
 use Rattle.wasm_read.proofs.Fronts.{slice_read, not_begun}

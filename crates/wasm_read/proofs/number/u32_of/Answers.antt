@@ -1,4 +1,4 @@
-use Rattle.wasm_form.specs.Number.{SpellsUnsigned}
+use Rattle.spec_binary.specs.Number.{SpellsUnsigned}
 use Rattle.spec_reading.specs.Values.{number_at}
 use Rattle.spec_reading.proofs.Values.{number_complete, number_sound, number_plain}
 use Rattle.wasm_read.proofs.Fronts.{slice_read, not_begun}

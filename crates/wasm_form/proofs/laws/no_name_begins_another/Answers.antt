@@ -1,5 +1,0 @@
-use Rattle.wasm_form.proofs.NameSpelling.{one_name}
-use Rattle.wasm_form.proofs.laws.no_name_begins_another.Goals as goal
-
-pub returns : goal.returns
-returns c = one_name

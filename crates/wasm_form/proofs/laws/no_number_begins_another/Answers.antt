@@ -1,6 +1,0 @@
-use Rattle.wasm_form.proofs.UnsignedSpelling.{one_unsigned}
-use Rattle.wasm_form.proofs.SignedSpelling.{one_signed}
-use Rattle.wasm_form.proofs.laws.no_number_begins_another.Goals as goal
-
-pub returns : goal.returns
-returns c = record { unsigned = one_unsigned; signed = one_signed }

@@ -1,9 +1,0 @@
-use Rattle.wasm_form.proofs.UnsignedSpelling.{some_shortest_unsigned, unsigned_small}
-use Rattle.wasm_form.proofs.SignedSpelling.{some_shortest_signed, signed_range}
-use Rattle.wasm_form.proofs.laws.numbers_are_spelled.Goals as goal
-
-pub returns : goal.returns
-returns c = record {
-  unsigned = (some_shortest_unsigned, λ n v word s. unsigned_small s);
-  signed = (some_shortest_signed, λ n v word s. signed_range s);
-}
