@@ -5,11 +5,10 @@ ghost use Rattle.wasm_form.specs.declared.types.ValType.TheVariants.{I32};
 ghost use Rattle.spec_binary.specs.IndexSpaces.{imports_of, globals_in};
 
 use std::alloc::{AllocError, Global};
-use std::test::Fail;
 use test_rows::bytes_of;
-use wasm_check::{Checked, Constant, check, constant};
+use wasm_check::{CheckRefused, Checked, Constant, check, constant};
 use wasm_decode::decode;
-use wasm_form::{Expr, GlobalType, Import, ImportDesc, Instr, List, Module, Text, ValType};
+use wasm_form::{Expr, GlobalType, Import, ImportDesc, Instr, List, Memory, Module, Text, ValType};
 
 // A name, the bytes, where a point stands for the header, and the fault, or `ok`, or the heights of the bodies.
 const MODULES: &str = "\
@@ -505,7 +504,7 @@ fn height_at(checked: &Checked, body: usize) -> Option<u32> {
 }
 
 // The heights of the bodies, in order.
-fn heights_in(alloc: Global, checked: &Checked) -> Result<String, Fail> {
+fn heights_in(alloc: Global, checked: &Checked) -> Result<String, AllocError> {
     let mut told = String::from_str(alloc, "heights")?;
     for body in 0..checked.module().codes.items().len() {
         if let Some(height) = height_at(checked, body) {
@@ -515,32 +514,55 @@ fn heights_in(alloc: Global, checked: &Checked) -> Result<String, Fail> {
     Ok(told)
 }
 
-// The fault of a module, or else `ok` or the heights of its bodies.
-fn answer_of(alloc: Global, bytes: &[u8], heights: bool) -> Result<String, Fail> {
-    match check(alloc, decode(alloc, bytes)?) {
-        Ok(checked) if heights => heights_in(alloc, &checked),
-        Ok(_) => Ok(String::from_str(alloc, "ok")?),
-        Err(refused) => Ok(format!(in alloc; "{:?}", refused.fault)?),
+// Whether the check of a module gave this fault, or else `ok` or the heights of its bodies.
+fn is_told(
+    alloc: Global,
+    answer: &Result<Checked, CheckRefused>,
+    want: &str,
+) -> Result<bool, AllocError> {
+    match answer {
+        Ok(checked) if want.starts_with("heights") => Ok(
+            heights_in(alloc, checked)?.as_str() == want,
+        ),
+        Ok(_) => Ok(want == "ok"),
+        Err(refused) => Ok(format!(in alloc; "{:?}", refused.fault)?.as_str() == want),
+    }
+}
+
+// Whether there is a module of these bytes, and its check gives what the answer says.
+fn is_as_told(alloc: Global, bytes: &[u8], answer: &str) -> Result<bool, AllocError> {
+    match decode(alloc, bytes) {
+        Ok(m) => is_told(alloc, &check(alloc, m), answer),
+        Err(_) => Ok(false),
+    }
+}
+
+// The bytes and the answer of a row.
+fn parts_of(line: &str) -> Option<(&str, &str)> {
+    let (row, answer) = line.split_once(" = ")?;
+    let (_, bytes) = row.split_once(": ")?;
+    Some((bytes, answer))
+}
+
+// Whether the module of a row is what its answer says.
+fn holds(alloc: Global, line: &str) -> Result<bool, AllocError> {
+    match parts_of(line) {
+        Some((text, answer)) => is_as_told(alloc, &bytes_of(alloc, text)?, answer),
+        None => Ok(false),
     }
 }
 
 #[test]
-fn checks_modules(rt: HostRuntime) -> Result<(), Fail> {
-    let mut rows = 0u32;
+fn checks_modules(rt: HostRuntime) -> Result<(), AllocError> {
+    assert!(rt; MODULES.lines().count() == 320);
     for line in MODULES.lines() {
-        let (row, answer) = line.split_once(" = ").expect(&rt, "an answer");
-        let (_, text) = row.split_once(": ").expect(&rt, "a name");
-        let bytes = bytes_of(rt.alloc(), text)?;
-        let told = answer_of(rt.alloc(), &bytes, answer.starts_with("heights"))?;
-        assert_eq!(rt; told.as_str(), answer, "{line}");
-        rows = rows.saturating_add(1);
+        assert!(rt; holds(rt.alloc(), line)?, "{line}");
     }
-    assert_eq!(rt; rows, 320);
     Ok(())
 }
 
 // A module that imports one immutable i32 global.
-fn imports_a_number(alloc: Global) -> Result<Module, AllocError>
+fn imports_a_number(alloc: Global) -> Result<Module, Memory>
     ensures { IfOk result (λ m. imports_of globals_in m.imports ≡ record { value = I32; mutable = false } ∷ []) }
 {
     let ty = GlobalType {
@@ -569,7 +591,7 @@ fn imports_a_number(alloc: Global) -> Result<Module, AllocError>
     })
 }
 
-fn expr_of(alloc: Global, i: Instr) -> Result<Expr, AllocError>
+fn expr_of(alloc: Global, i: Instr) -> Result<Expr, Memory>
     ensures { IfOk result (λ e. e.list ≡ i ∷ []) }
 {
     Ok(Expr {
@@ -577,22 +599,38 @@ fn expr_of(alloc: Global, i: Instr) -> Result<Expr, AllocError>
     })
 }
 
-// The bits of numbers, null, and the value of an imported global.
 #[test]
-fn values_constants(rt: HostRuntime) -> Result<(), Fail> {
-    let alloc = rt.alloc();
-    let module = imports_a_number(alloc)?;
-    let small = expr_of(alloc, Instr::I32Const(-1))?;
-    let value = constant(alloc, &module, &small, &[0])?;
-    assert_eq!(rt; value, Constant::Num(4_294_967_295));
-    let large = expr_of(alloc, Instr::I64Const(-1))?;
-    let value = constant(alloc, &module, &large, &[0])?;
-    assert_eq!(rt; value, Constant::Num(18_446_744_073_709_551_615));
-    let null = expr_of(alloc, Instr::RefNull(ValType::FuncRef))?;
-    let value = constant(alloc, &module, &null, &[0])?;
-    assert_eq!(rt; value, Constant::Func(None));
-    let imported = expr_of(alloc, Instr::Index(0x23, 0))?;
-    let value = constant(alloc, &module, &imported, &[1024])?;
-    assert_eq!(rt; value, Constant::Num(1024));
+fn values_an_i32(rt: HostRuntime) -> Result<(), Memory> {
+    let module = imports_a_number(rt.alloc())?;
+    let number = expr_of(rt.alloc(), Instr::I32Const(-1))?;
+    let value = constant(rt.alloc(), &module, &number, &[0]);
+    assert!(rt; value == Ok(Constant::Num(4_294_967_295)));
+    Ok(())
+}
+
+#[test]
+fn values_an_i64(rt: HostRuntime) -> Result<(), Memory> {
+    let module = imports_a_number(rt.alloc())?;
+    let number = expr_of(rt.alloc(), Instr::I64Const(-1))?;
+    let value = constant(rt.alloc(), &module, &number, &[0]);
+    assert!(rt; value == Ok(Constant::Num(18_446_744_073_709_551_615)));
+    Ok(())
+}
+
+#[test]
+fn values_null(rt: HostRuntime) -> Result<(), Memory> {
+    let module = imports_a_number(rt.alloc())?;
+    let null = expr_of(rt.alloc(), Instr::RefNull(ValType::FuncRef))?;
+    let value = constant(rt.alloc(), &module, &null, &[0]);
+    assert!(rt; value == Ok(Constant::Func(None)));
+    Ok(())
+}
+
+#[test]
+fn values_an_imported_global(rt: HostRuntime) -> Result<(), Memory> {
+    let module = imports_a_number(rt.alloc())?;
+    let imported = expr_of(rt.alloc(), Instr::Index(0x23, 0))?;
+    let value = constant(rt.alloc(), &module, &imported, &[1024]);
+    assert!(rt; value == Ok(Constant::Num(1024)));
     Ok(())
 }

@@ -42,16 +42,15 @@ imports_short =
 paths_short : IsShortlySpelled (SpellsVec SpellsName [])
 paths_short = record { word = 0 ∷ []; spelled = vec (last (omega arith) (omega arith)) none; short = omega arith }
 
-pub sample_writable : (x from field libc : List ℕ) (needed : List (List ℕ)) (exports : List ExportInfo) (imports : List ImportInfo) (paths : List (List ℕ))
-    → x ≡ codes "x" → from ≡ codes "env" → field ≡ codes "f" → libc ≡ codes "libc.so"
-    → needed ≡ libc ∷ [] → exports ≡ one_export x → imports ≡ one_import from field → paths ≡ []
+pub sample_writable : (needed : List (List ℕ)) (exports : List ExportInfo) (imports : List ImportInfo) (paths : List (List ℕ))
+    → needed ≡ codes "libc.so" ∷ [] → exports ≡ one_export (codes "x") → imports ≡ one_import (codes "env") (codes "f") → paths ≡ []
     → IsWritable (record { mem_size = 65536; mem_align = 4; table_size = 300; table_align = 0; needed = needed; exports = exports; imports = imports; paths = paths })
-sample_writable x from field libc needed exports imports paths ex em ef el en ee ei ep =
+sample_writable needed exports imports paths en ee ei ep =
     record {
       mem_align = omega arith;
       table_align = omega arith;
-      needed = rw (en, el) needed_short;
-      exports = rw (ee, ex) exports_short;
-      imports = rw (ei, em, ef) imports_short;
+      needed = rw en needed_short;
+      exports = rw ee exports_short;
+      imports = rw ei imports_short;
       paths = rw ep paths_short;
     }

@@ -1,12 +1,10 @@
 // Modules, from the rules of the standard and the limits of this program: which are well formed, and where and why others
 // are refused. Those that are decoded are written, and what is written is written again the same.
+use super::{is_written_as, parts_of, written};
 use std::alloc::{AllocError, Global};
-use std::process::Abort;
-use std::test::Fail;
 use test_rows::{SMALLEST, bytes_of, push_hex};
 use wasm_decode::{DecodeFault, decode};
-use wasm_encode::encode;
-use wasm_form::{ExportDesc, Instr, Memory, Module};
+use wasm_form::{Custom, Export, ExportDesc, Instr, Memory, Module};
 use wasm_leb::put_u32;
 
 // A name, the bytes, where a point stands for the header, and what they are: a module, or why there is none.
@@ -206,32 +204,39 @@ fn refused(alloc: Global, bytes: &[u8]) -> Option<DecodeFault> {
     }
 }
 
-// Whether the module of these bytes is written again the same once it is written, if there is one.
-fn is_kept(alloc: Global, bytes: &[u8]) -> Result<bool, Fail> {
-    match decode(alloc, bytes) {
-        Ok(m) => {
-            let once = encode(alloc, &m)?;
-            let again = decode(alloc, &once)?;
-            let twice = encode(alloc, &again)?;
-            Ok(once.as_slice() == twice.as_slice())
+// Whether there is a module of these bytes that is written again the same once it is written.
+fn is_kept(alloc: Global, bytes: &[u8]) -> bool {
+    match written(alloc, bytes) {
+        Some(once) => is_written_as(alloc, &once, &once),
+        None => false,
+    }
+}
+
+// Whether these bytes are what the answer says, and a module among them is kept.
+fn is_as_told(alloc: Global, bytes: &[u8], answer: &str) -> bool {
+    match fault_of(answer) {
+        Some(fault) => refused(alloc, bytes) == Some(fault),
+        None => is_kept(alloc, bytes),
+    }
+}
+
+// Whether the bytes of a row are what its answer says.
+fn holds(alloc: Global, line: &str) -> Result<bool, AllocError> {
+    match parts_of(line) {
+        Some((_, text, answer)) => {
+            let bytes = bytes_of(alloc, text)?;
+            Ok(is_as_told(alloc, &bytes, answer))
         }
-        Err(_) => Ok(true),
+        None => Ok(false),
     }
 }
 
 #[test]
-fn decodes_modules(rt: HostRuntime) -> Result<(), Fail> {
-    let mut rows = 0u32;
+fn decodes_modules(rt: HostRuntime) -> Result<(), AllocError> {
+    assert!(rt; MODULES.lines().count() == 154);
     for line in MODULES.lines() {
-        let (row, answer) = line.split_once(" = ").expect(&rt, "an answer");
-        let (_, text) = row.split_once(": ").expect(&rt, "a name");
-        let bytes = bytes_of(rt.alloc(), text)?;
-        assert_eq!(rt; refused(rt.alloc(), &bytes), fault_of(answer), "{line}");
-        let kept = is_kept(rt.alloc(), &bytes)?;
-        assert!(rt; kept, "{line}");
-        rows = rows.saturating_add(1);
+        assert!(rt; holds(rt.alloc(), line)?, "{line}");
     }
-    assert_eq!(rt; rows, 154);
     Ok(())
 }
 
@@ -249,31 +254,31 @@ fn answer_at(length: usize) -> Option<DecodeFault> {
 }
 
 #[test]
-fn decodes_prefixes(rt: HostRuntime) -> Result<(), Fail> {
+fn decodes_prefixes(rt: HostRuntime) -> Result<(), AllocError> {
     let bytes = bytes_of(rt.alloc(), SMALLEST)?;
-    assert_eq!(rt; bytes.len(), 53);
+    assert!(rt; bytes.len() == 53);
     for length in 0..bytes.len() + 1 {
-        assert_eq!(rt;
-            refused(rt.alloc(), &bytes[..length]),
-            answer_at(length),
-            "{length}"
-        );
+        let found = refused(rt.alloc(), &bytes[..length]);
+        assert!(rt; found == answer_at(length), "{length}");
+    }
+    Ok(())
+}
+
+// Appends these bytes, so often.
+fn push_often(alloc: Global, to: &mut Vec<u8>, times: u32, hex: &str) -> Result<(), AllocError> {
+    for _ in 0..times {
+        push_hex(alloc, to, hex)?;
     }
     Ok(())
 }
 
 // A body of nested blocks: the bytes that begin a block, so often, and the innermost block's, and their ends.
 fn nested_body(alloc: Global, outer: u32, innermost: &str) -> Result<Vec<u8>, AllocError> {
-    let mut body = Vec::new(alloc);
-    body.push(0x00)?;
-    for _ in 0..outer {
-        push_hex(alloc, &mut body, "02 40")?;
-    }
+    let mut body = bytes_of(alloc, "00")?;
+    push_often(alloc, &mut body, outer, "02 40")?;
     push_hex(alloc, &mut body, innermost)?;
-    for _ in 0..outer {
-        body.push(0x0B)?;
-    }
-    body.push(0x0B)?;
+    push_often(alloc, &mut body, outer, "0b")?;
+    push_hex(alloc, &mut body, "0b")?;
     Ok(body)
 }
 
@@ -284,18 +289,25 @@ fn no_memory(_: Memory) -> AllocError {
 
 // The number of the bytes, which are few.
 fn size_of_bytes(bytes: &[u8]) -> u32 {
-    u32::try_from(bytes.len()).unwrap_or(0)
+    if bytes.len() <= 0xFFFF_FFFF {
+        bytes.len() as u32
+    } else {
+        0
+    }
+}
+
+// Appends the number of these bytes, and the bytes.
+fn push_sized(alloc: Global, to: &mut Vec<u8>, bytes: &[u8]) -> Result<(), AllocError> {
+    put_u32(alloc, to, size_of_bytes(bytes)).map_err(no_memory)?;
+    to.extend_from_slice(bytes)
 }
 
 // A module of one function with this body.
 fn module_with(alloc: Global, body: &[u8]) -> Result<Vec<u8>, AllocError> {
-    let mut code = Vec::new(alloc);
-    code.push(0x01)?;
-    put_u32(alloc, &mut code, size_of_bytes(body)).map_err(no_memory)?;
-    code.extend_from_slice(body)?;
+    let mut code = bytes_of(alloc, "01")?;
+    push_sized(alloc, &mut code, body)?;
     let mut bytes = bytes_of(alloc, ". 01 04 01 60 00 00 03 02 01 00 0a")?;
-    put_u32(alloc, &mut bytes, size_of_bytes(&code)).map_err(no_memory)?;
-    bytes.extend_from_slice(&code)?;
+    push_sized(alloc, &mut bytes, &code)?;
     Ok(bytes)
 }
 
@@ -313,37 +325,78 @@ const NESTED: &str = "\
 1000 06 02 40 0b = malformed 2
 ";
 
+// The number of the blocks around it, the innermost block's bytes, and the answer of a row.
+fn nesting_of(line: &str) -> Option<(u32, &str, &str)> {
+    let (row, answer) = line.split_once(" = ")?;
+    let (outer, innermost) = row.split_once(" ")?;
+    Some((outer.parse::<u32>().ok()?, innermost, answer))
+}
+
+// Why there is no module of this body of nested blocks, if there is none.
+fn refused_nested(
+    alloc: Global,
+    outer: u32,
+    innermost: &str,
+) -> Result<Option<DecodeFault>, AllocError> {
+    let body = nested_body(alloc, outer, innermost)?;
+    let bytes = module_with(alloc, &body)?;
+    Ok(refused(alloc, &bytes))
+}
+
+// Whether the blocks of a row are what its answer says.
+fn holds_nested(alloc: Global, line: &str) -> Result<bool, AllocError> {
+    match nesting_of(line) {
+        Some((outer, innermost, answer)) => {
+            Ok(refused_nested(alloc, outer, innermost)? == fault_of(answer))
+        }
+        None => Ok(false),
+    }
+}
+
 #[test]
-fn limits_nesting(rt: HostRuntime) -> Result<(), Fail> {
+fn limits_nesting(rt: HostRuntime) -> Result<(), AllocError> {
     for line in NESTED.lines() {
-        let (row, answer) = line.split_once(" = ").expect(&rt, "an answer");
-        let (outer, innermost) = row.split_once(" ").expect(&rt, "a number");
-        let outer = outer.parse::<u32>().unwrap_or(0);
-        let body = nested_body(rt.alloc(), outer, innermost)?;
-        let bytes = module_with(rt.alloc(), &body)?;
-        assert_eq!(rt; refused(rt.alloc(), &bytes), fault_of(answer), "{line}");
+        assert!(rt; holds_nested(rt.alloc(), line)?, "{line}");
     }
     Ok(())
 }
 
-// Asserts that these are the parts of the smallest main.
-fn is_smallest(rt: &impl Abort, m: &Module) {
-    if let [export] = m.exports.items() {
-        assert_eq!(rt; export.name.as_str(), "_start");
-        assert_eq!(rt; export.desc, ExportDesc::Func(0));
-    }
-    if let [custom] = m.customs.items() {
-        assert_eq!(rt; custom.rank, 0);
-        assert_eq!(rt; custom.name.as_str(), "dylink.0");
-        assert_eq!(rt; custom.bytes.items(), [1, 4, 0, 0, 0, 0].as_slice());
-    }
-    assert_eq!(rt; m.funcs.items(), [0].as_slice());
-    assert!(rt; m.types.items().len() == 1 && m.exports.items().len() == 1);
-    assert!(rt; m.codes.items().len() == 1 && m.customs.items().len() == 1);
+// Whether the function 0 is exported, as `_start`.
+fn is_start(export: &Export) -> bool {
+    export.name.as_str() == "_start" && matches!(export.desc, ExportDesc::Func(0))
 }
 
-// Asserts that these instructions are a load, two constants and a block.
-fn is_sample(rt: &impl Abort, instrs: &[Instr]) {
+// Whether this is a `dylink.0` section before all others, which says four zeros.
+fn is_record(custom: &Custom) -> bool {
+    custom.rank == 0
+        && custom.name.as_str() == "dylink.0"
+        && custom.bytes.items() == [1, 4, 0, 0, 0, 0].as_slice()
+}
+
+// Whether these are the parts of the smallest main.
+fn is_smallest(m: &Module) -> bool {
+    match (m.exports.items(), m.customs.items()) {
+        ([export], [custom]) => {
+            is_start(export)
+                && is_record(custom)
+                && m.funcs.items() == [0].as_slice()
+                && m.types.items().len() == 1
+                && m.codes.items().len() == 1
+        }
+        _ => false,
+    }
+}
+
+#[test]
+fn gives_the_parts(rt: HostRuntime) -> Result<(), AllocError> {
+    let bytes = bytes_of(rt.alloc(), SMALLEST)?;
+    let decoded = decode(rt.alloc(), &bytes);
+    assert!(rt; matches!(&decoded, Ok(m) if is_smallest(m)));
+    Ok(())
+}
+
+// Whether these instructions are a load, two constants and a block.
+fn is_sample(instrs: &[Instr]) -> bool {
     match instrs {
         [
             Instr::Access { op, align, offset },
@@ -351,37 +404,52 @@ fn is_sample(rt: &impl Abort, instrs: &[Instr]) {
             Instr::F32Const(bits),
             Instr::Block(_, body),
         ] => {
-            assert!(rt; *op == 0x28 && *align == 2 && *offset == 300);
-            assert!(rt; *n == -64 && *bits == 0x3F80_0000);
-            assert_eq!(rt; body.list.items().len(), 2);
+            *op == 0x28
+                && *align == 2
+                && *offset == 300
+                && *n == -64
+                && *bits == 0x3F80_0000
+                && body.list.items().len() == 2
         }
-        _ => assert!(rt; false),
+        _ => false,
+    }
+}
+
+// Whether the module has one body, and it is the sample.
+fn has_the_sample(m: &Module) -> bool {
+    match m.codes.items() {
+        [code] => is_sample(code.body.list.items()),
+        _ => false,
     }
 }
 
 #[test]
-fn gives_the_parts(rt: HostRuntime) -> Result<(), Fail> {
-    let bytes = bytes_of(rt.alloc(), SMALLEST)?;
-    let m = decode(rt.alloc(), &bytes)?;
-    is_smallest(&rt, &m);
+fn gives_the_instructions(rt: HostRuntime) -> Result<(), AllocError> {
     let body = bytes_of(
         rt.alloc(),
         "00 28 02 ac 02 41 40 43 00 00 80 3f 02 40 00 01 0b 0b",
     )?;
     let bytes = module_with(rt.alloc(), &body)?;
-    let m = decode(rt.alloc(), &bytes)?;
-    assert_eq!(rt; m.codes.items().len(), 1);
-    for code in m.codes.items() {
-        is_sample(&rt, code.body.list.items());
-    }
+    let decoded = decode(rt.alloc(), &bytes);
+    assert!(rt; matches!(&decoded, Ok(m) if has_the_sample(m)));
     Ok(())
 }
 
+// Whether the fault is printed so.
+fn is_said(alloc: Global, fault: DecodeFault, want: &str) -> Result<bool, AllocError> {
+    Ok(format!(in alloc; "{fault}")?.as_str() == want)
+}
+
 #[test]
-fn says_its_faults(rt: HostRuntime) -> Result<(), Fail> {
-    let malformed = format!(in rt.alloc(); "{}", DecodeFault::Malformed { section: 3 })?;
-    assert_eq!(rt; malformed.as_str(), "no spelling goes on after 3 sections");
-    let memory = format!(in rt.alloc(); "{}", DecodeFault::Memory)?;
-    assert_eq!(rt; memory.as_str(), "out of memory");
+fn says_its_faults(rt: HostRuntime) -> Result<(), AllocError> {
+    let malformed = DecodeFault::Malformed { section: 3 };
+    assert!(rt;
+        is_said(
+            rt.alloc(),
+            malformed,
+            "no spelling goes on after 3 sections"
+        )?
+    );
+    assert!(rt; is_said(rt.alloc(), DecodeFault::Memory, "out of memory")?);
     Ok(())
 }

@@ -1,10 +1,10 @@
 // Records as the format spells them, and modules that have none.
-ghost use Rattle.std.specs.Prelude.{◌≡◌, IfOk};
+ghost use Rattle.std.specs.Prelude.{◌≡◌, [], ◌∷◌, codes, IfOk};
 ghost use Rattle.dyl_section.specs.Written.{IsWritable};
 
+use super::parts_of;
 use dyl_section::{Dylink, ExportInfo, ImportInfo, RecordFault, read_dylink, write_dylink};
 use std::alloc::{AllocError, Global};
-use std::test::Fail;
 use test_rows::bytes_of;
 use wasm_form::{Custom, List, Module, Text};
 
@@ -180,18 +180,25 @@ fn said_by(alloc: Global, bytes: &[u8]) -> Result<String, AllocError> {
     answer_of(alloc, &m)
 }
 
-#[test]
-fn reads_records(rt: HostRuntime) -> Result<(), Fail> {
-    let mut rows = 0u32;
-    for line in RECORDS.lines() {
-        let (bytes, want) = line.split_once("= ").expect(&rt, "an answer");
-        let (_, bytes) = bytes.split_once(": ").expect(&rt, "a name");
-        let bytes = bytes_of(rt.alloc(), bytes)?;
-        let found = said_by(rt.alloc(), &bytes)?;
-        assert_eq!(rt; found.as_str(), want, "{line}");
-        rows = rows.saturating_add(1);
+// Whether the record with these bytes says this.
+fn is_said_by(alloc: Global, bytes: &[u8], want: &str) -> Result<bool, AllocError> {
+    Ok(said_by(alloc, bytes)?.as_str() == want)
+}
+
+// Whether the record of a row says what the row tells.
+fn holds(alloc: Global, line: &str) -> Result<bool, AllocError> {
+    match parts_of(line) {
+        Some((_, bytes, want)) => is_said_by(alloc, &bytes_of(alloc, bytes)?, want),
+        None => Ok(false),
     }
-    assert_eq!(rt; rows, 50);
+}
+
+#[test]
+fn reads_records(rt: HostRuntime) -> Result<(), AllocError> {
+    assert!(rt; RECORDS.lines().count() == 50);
+    for line in RECORDS.lines() {
+        assert!(rt; holds(rt.alloc(), line)?, "{line}");
+    }
     Ok(())
 }
 
@@ -208,16 +215,23 @@ fn customs_at(alloc: Global, places: &str) -> Result<Vec<Custom>, AllocError> {
 
 // What the record of a module with these custom sections says.
 fn said_at(alloc: Global, places: &str) -> Result<String, AllocError> {
-    let m = module_of(alloc, customs_at(alloc, places)?);
+    let customs = customs_at(alloc, places)?;
+    let m = module_of(alloc, customs);
     answer_of(alloc, &m)
 }
 
+// Whether the custom sections of a row say what the row tells.
+fn holds_at(alloc: Global, line: &str) -> Result<bool, AllocError> {
+    match line.split_once("= ") {
+        Some((places, want)) => Ok(said_at(alloc, places.trim())?.as_str() == want),
+        None => Ok(false),
+    }
+}
+
 #[test]
-fn finds_sections(rt: HostRuntime) -> Result<(), Fail> {
+fn finds_sections(rt: HostRuntime) -> Result<(), AllocError> {
     for line in PLACES.lines() {
-        let (places, want) = line.split_once("= ").expect(&rt, "an answer");
-        let found = said_at(rt.alloc(), places.trim())?;
-        assert_eq!(rt; found.as_str(), want, "{line}");
+        assert!(rt; holds_at(rt.alloc(), line)?, "{line}");
     }
     Ok(())
 }
@@ -233,45 +247,71 @@ fn whole_within(length: usize) -> u32 {
     count
 }
 
+// Whether these bytes are a record that goes on no further than this many subsections.
+fn is_broken(alloc: Global, bytes: &[u8], whole: u32) -> Result<bool, AllocError> {
+    let want = format!(in alloc; "broken {whole}")?;
+    is_said_by(alloc, bytes, &want)
+}
+
 #[test]
-fn breaks_where_it_is_cut(rt: HostRuntime) -> Result<(), Fail> {
+fn breaks_where_it_is_cut(rt: HostRuntime) -> Result<(), AllocError> {
     let bytes = bytes_of(rt.alloc(), WHOLE)?;
-    assert_eq!(rt; bytes.len(), 39);
+    assert!(rt; bytes.len() == 39);
     for length in 1..bytes.len() {
-        let found = said_by(rt.alloc(), &bytes[..length])?;
-        let want = format!(in rt.alloc(); "broken {}", whole_within(length))?;
-        let is_cut = !ENDS.contains(&length);
-        assert!(rt; (found.as_str() == want.as_str()) == is_cut, "{length}");
+        let is_broken = is_broken(rt.alloc(), &bytes[..length], whole_within(length))?;
+        assert!(rt; is_broken == !ENDS.contains(&length), "{length}");
     }
-    let found = said_by(rt.alloc(), &bytes)?;
-    assert_eq!(rt;
-        found.as_str(),
-        "1 2 3 4 needs 'a' needs 'b' exports 'x' 2 imports 'e' 'f' 16 searches '/lib'"
-    );
     Ok(())
+}
+
+#[test]
+fn reads_a_whole_record(rt: HostRuntime) -> Result<(), AllocError> {
+    let bytes = bytes_of(rt.alloc(), WHOLE)?;
+    let want = "1 2 3 4 needs 'a' needs 'b' exports 'x' 2 imports 'e' 'f' 16 searches '/lib'";
+    assert!(rt; is_said_by(rt.alloc(), &bytes, want)?);
+    Ok(())
+}
+
+fn one_name(alloc: Global) -> Result<List<Text>, AllocError>
+    ensures { IfOk result (λ names. names ≡ codes "libc.so" ∷ []) }
+{
+    let name = text(alloc, "libc.so")?;
+    Ok(List::of(vec![in alloc; name]?))
+}
+
+fn one_export(alloc: Global) -> Result<List<ExportInfo>, AllocError>
+    ensures { IfOk result (λ notes. notes ≡ record { name = codes "x"; flags = 257 } ∷ []) }
+{
+    let export = ExportInfo {
+        name: text(alloc, "x")?,
+        flags: 257,
+    };
+    Ok(List::of(vec![in alloc; export]?))
+}
+
+fn one_import(alloc: Global) -> Result<List<ImportInfo>, AllocError>
+    ensures { IfOk result (λ notes. notes ≡ record { «module» = codes "env"; field = codes "f"; flags = 16 } ∷ []) }
+{
+    let import = ImportInfo {
+        module: text(alloc, "env")?,
+        field: text(alloc, "f")?,
+        flags: 16,
+    };
+    Ok(List::of(vec![in alloc; import]?))
 }
 
 // A record with one thing of each list but the paths.
 fn sample(alloc: Global) -> Result<Dylink, AllocError>
     ensures { IfOk result IsWritable }
 {
-    let export = ExportInfo {
-        name: text(alloc, "x")?,
-        flags: 257,
-    };
-    let import = ImportInfo {
-        module: text(alloc, "env")?,
-        field: text(alloc, "f")?,
-        flags: 16,
-    };
     Ok(Dylink {
         mem_size: 65536,
         mem_align: 4,
         table_size: 300,
         table_align: 0,
-        needed: List::of(vec![in alloc; text(alloc, "libc.so")?]?),
-        exports: List::of(vec![in alloc; export]?),
-        imports: List::of(vec![in alloc; import]?),
+        needed: one_name(alloc)?,
+        exports: one_export(alloc)?,
+        imports: one_import(alloc)?,
         paths: List::of(Vec::new(alloc)),
     })
 }
@@ -292,26 +332,41 @@ fn is_sample(alloc: Global, bytes: &[u8]) -> Result<bool, AllocError> {
     }
 }
 
+// The sample's bytes.
+const WRITTEN: &str =
+    "01 07 80 80 04 04 AC 02 00 02 09 01 07 6C 69 62 63 2E 73 6F 03 05 01 01 78 81 02 04 08 01 03 65 6E 76 01 66 10";
+
 #[test]
-fn reads_what_is_written(rt: HostRuntime) -> Result<(), Fail> {
-    let bytes = written(rt.alloc())?;
-    let want = bytes_of(
-        rt.alloc(),
-        "01 07 80 80 04 04 AC 02 00 02 09 01 07 6C 69 62 63 2E 73 6F 03 05 01 01 78 81 02 04 08 01 03 65 6E 76 01 66 10",
-    )?;
-    assert_eq!(rt; bytes.as_slice(), want.as_slice());
-    let is_same = is_sample(rt.alloc(), &bytes)?;
-    assert!(rt; is_same);
+fn writes_a_record(rt: HostRuntime) -> Result<(), AllocError> {
+    let found = written(rt.alloc())?;
+    let want = bytes_of(rt.alloc(), WRITTEN)?;
+    assert!(rt; found.as_slice() == want.as_slice());
     Ok(())
 }
 
 #[test]
-fn says_its_faults(rt: HostRuntime) -> Result<(), Fail> {
-    let none = format!(in rt.alloc(); "{}", RecordFault::NoDylink)?;
-    assert_eq!(rt; none.as_str(), "no dylink.0 section");
-    let broken = format!(in rt.alloc(); "{}", RecordFault::BadDylink { subsection: 3 })?;
-    assert_eq!(rt; broken.as_str(), "no dylink.0 subsection goes on after 3");
-    let memory = format!(in rt.alloc(); "{}", RecordFault::Memory)?;
-    assert_eq!(rt; memory.as_str(), "out of memory");
+fn reads_what_is_written(rt: HostRuntime) -> Result<(), AllocError> {
+    let bytes = written(rt.alloc())?;
+    assert!(rt; is_sample(rt.alloc(), &bytes)?);
+    Ok(())
+}
+
+// Whether the fault is printed so.
+fn is_said(alloc: Global, fault: &RecordFault, want: &str) -> Result<bool, AllocError> {
+    Ok(format!(in alloc; "{fault}")?.as_str() == want)
+}
+
+#[test]
+fn says_its_faults(rt: HostRuntime) -> Result<(), AllocError> {
+    let broken = RecordFault::BadDylink { subsection: 3 };
+    assert!(rt; is_said(rt.alloc(), &RecordFault::NoDylink, "no dylink.0 section")?);
+    assert!(rt;
+        is_said(
+            rt.alloc(),
+            &broken,
+            "no dylink.0 subsection goes on after 3"
+        )?
+    );
+    assert!(rt; is_said(rt.alloc(), &RecordFault::Memory, "out of memory")?);
     Ok(())
 }

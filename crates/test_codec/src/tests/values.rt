@@ -1,6 +1,6 @@
 // Values as the format spells them.
+use super::parts_of;
 use std::alloc::{AllocError, Global};
-use std::test::Fail;
 use test_rows::bytes_of;
 use wasm_form::List;
 use wasm_read::{
@@ -106,14 +106,21 @@ fn found(alloc: Global, reader: &str, bytes: &[u8]) -> Result<String, AllocError
     }
 }
 
+// Whether the reader of a row finds what the row tells.
+fn holds(alloc: Global, line: &str) -> Result<bool, AllocError> {
+    match parts_of(line) {
+        Some((reader, bytes, want)) => {
+            let bytes = bytes_of(alloc, bytes)?;
+            Ok(found(alloc, reader, &bytes)?.as_str() == want)
+        }
+        None => Ok(false),
+    }
+}
+
 #[test]
-fn reads_values(rt: HostRuntime) -> Result<(), Fail> {
+fn reads_values(rt: HostRuntime) -> Result<(), AllocError> {
     for line in VALUES.lines() {
-        let (reader, bytes) = line.split_once(": ").expect(&rt, "a reader");
-        let (bytes, want) = bytes.split_once("= ").expect(&rt, "an answer");
-        let bytes = bytes_of(rt.alloc(), bytes)?;
-        let got = found(rt.alloc(), reader, &bytes)?;
-        assert_eq!(rt; got.as_str(), want, "{line}");
+        assert!(rt; holds(rt.alloc(), line)?, "{line}");
     }
     Ok(())
 }

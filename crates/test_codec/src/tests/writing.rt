@@ -1,6 +1,6 @@
 // Modules whose numbers are as long as they may be, and their shortest bytes; and the smallest main, which is its own shortest spelling.
-use std::alloc::Global;
-use std::test::Fail;
+use super::{is_written_as, parts_of};
+use std::alloc::{AllocError, Global};
 use test_rows::{SMALLEST, bytes_of};
 use wasm_codec::round_trip;
 use wasm_decode::decode;
@@ -203,36 +203,50 @@ second opcodes 16 and 17: . 01 90 80 80 80 00 81 80 80 80 00 60 80 80 80 80 00 8
 11 82 01 0b
 ";
 
-// What is written of the module of these bytes.
-fn written(alloc: Global, bytes: &[u8]) -> Result<Vec<u8>, Fail> {
-    let m = decode(alloc, bytes)?;
-    Ok(encode(alloc, &m)?)
+// Whether the shortest bytes of a row are written of the module of its longest ones.
+fn holds(alloc: Global, line: &str) -> Result<bool, AllocError> {
+    match parts_of(line) {
+        Some((_, longest, shortest)) => {
+            let bytes = bytes_of(alloc, longest)?;
+            let want = bytes_of(alloc, shortest)?;
+            Ok(is_written_as(alloc, &bytes, &want))
+        }
+        None => Ok(false),
+    }
 }
 
 #[test]
-fn writes_the_shortest_bytes(rt: HostRuntime) -> Result<(), Fail> {
-    let mut rows = 0u32;
+fn writes_the_shortest_bytes(rt: HostRuntime) -> Result<(), AllocError> {
+    assert!(rt; LONGEST.lines().count() == 65);
     for line in LONGEST.lines() {
-        let (row, shortest) = line.split_once(" = ").expect(&rt, "the shortest bytes");
-        let (_, longest) = row.split_once(": ").expect(&rt, "a name");
-        let bytes = bytes_of(rt.alloc(), longest)?;
-        let expected = bytes_of(rt.alloc(), shortest)?;
-        let found = written(rt.alloc(), &bytes)?;
-        assert_eq!(rt; found.as_slice(), expected.as_slice(), "{line}");
-        rows = rows.saturating_add(1);
+        assert!(rt; holds(rt.alloc(), line)?, "{line}");
     }
-    assert_eq!(rt; rows, 65);
     Ok(())
 }
 
+// What is written of the module of these bytes once it went the way there and back, if there is one.
+fn written_again(alloc: Global, bytes: &[u8]) -> Option<Vec<u8>> {
+    match decode(alloc, bytes) {
+        Ok(m) => match round_trip(alloc, &m) {
+            Ok(again) => encode(alloc, &again).ok(),
+            Err(_) => None,
+        },
+        Err(_) => None,
+    }
+}
+
+// Whether what is written again is the same.
+fn is_same_again(alloc: Global, bytes: &[u8]) -> bool {
+    match written_again(alloc, bytes) {
+        Some(found) => found.as_slice() == bytes,
+        None => false,
+    }
+}
+
 #[test]
-fn the_smallest_main(rt: HostRuntime) -> Result<(), Fail> {
-    let alloc = rt.alloc();
-    let bytes = bytes_of(alloc, SMALLEST)?;
-    assert_eq!(rt; bytes.len(), 53);
-    let m = decode(alloc, &bytes)?;
-    let again = round_trip(alloc, &m).expect(&rt, "the module again");
-    let found = encode(alloc, &again)?;
-    assert_eq!(rt; found.as_slice(), bytes.as_slice());
+fn the_smallest_main(rt: HostRuntime) -> Result<(), AllocError> {
+    let bytes = bytes_of(rt.alloc(), SMALLEST)?;
+    assert!(rt; bytes.len() == 53);
+    assert!(rt; is_same_again(rt.alloc(), &bytes));
     Ok(())
 }

@@ -1,9 +1,10 @@
 // The adapters: files of the system in folders of the test's own, streams, and the real clock and random words.
+use super::answers::{fetches, takes};
 use super::readers::{BrokenReader, SlowReader, SlowWriter};
 use dyl_outside::{
-    Ambient, DiskFiles, FileFault, Files, HostAmbient, IoFault, Sink, Source, StreamSink,
-    StreamSource,
+    Ambient, DiskFiles, FileFault, Files, HostAmbient, IoFault, Sink, StreamSink, StreamSource,
 };
+use std::alloc::{AllocError, Global};
 use std::fs;
 use std::io::ErrorKind;
 use std::test::Fail;
@@ -24,97 +25,176 @@ const FETCHES: &[(&str, FileFault)] = &[
     ("test_hosts_folder/small/below", FileFault::Failed),
 ];
 
+/// The bytes 0 to 250 over and over, 5,000,000 in all.
+fn long_bytes(alloc: Global) -> Result<Vec<u8>, AllocError> {
+    let mut bytes = Vec::new(alloc);
+    for i in 0..5_000_000u32 {
+        bytes.push((i % 251) as u8)?;
+    }
+    Ok(bytes)
+}
+
+/// Whether a long file and a short one are stored, and then fetched up to their length.
+fn keeps<F: Files>(alloc: Global, files: &mut F) -> Result<bool, AllocError> {
+    let bytes = long_bytes(alloc)?;
+    Ok(
+        files.store(alloc, LARGE, &bytes).is_ok()
+            && files.store(alloc, SMALL, b"abc").is_ok()
+            && fetches(alloc, files, LARGE, 5_000_000, Ok(&bytes))
+            && fetches(alloc, files, LARGE, 4_999_999, Err(FileFault::TooLong))
+            && fetches(alloc, files, SMALL, 3, Ok(b"abc")),
+    )
+}
+
+/// Whether the short file is stored again without bytes, and then fetched.
+fn empties<F: Files>(alloc: Global, files: &mut F) -> bool {
+    files.store(alloc, SMALL, b"").is_ok() && fetches(alloc, files, SMALL, 0, Ok(b""))
+}
+
 #[test]
 fn files_on_disk(rt: HostRuntime) -> Result<(), Fail> {
     let alloc = rt.alloc();
     let _ = fs::remove_dir_all(&rt, FOLDER);
     fs::create_dir(&rt, FOLDER)?;
-    let mut bytes = Vec::new(alloc);
-    for i in 0..5_000_000u32 {
-        bytes.push((i % 251) as u8)?;
-    }
     let mut files = DiskFiles::new(&rt);
-    files.store(alloc, LARGE, &bytes)?;
-    files.store(alloc, SMALL, b"abc")?;
-    assert!(rt; files.fetch(alloc, LARGE, 5_000_000)? == bytes);
-    assert_eq!(rt;
-        files.fetch(alloc, LARGE, 4_999_999).err(),
-        Some(FileFault::TooLong)
-    );
-    assert_eq!(rt; files.fetch(alloc, SMALL, 3)?.as_slice(), b"abc".as_slice());
+    assert!(rt; keeps(alloc, &mut files)?);
     for (path, fault) in FETCHES {
-        assert_eq!(rt;
-            files.fetch(alloc, path, 9).err(),
-            Some(*fault),
+        assert!(rt;
+            fetches(alloc, &mut files, path, 9, Err(*fault)),
             "at {path}"
         );
     }
     for path in ["test_hosts_folder/missing/below", FOLDER, ""] {
-        assert_eq!(rt;
-            files.store(alloc, path, b"x").err(),
-            Some(IoFault::Failed),
+        assert!(rt;
+            files.store(alloc, path, b"x") == Err(IoFault::Failed),
             "at {path}"
         );
     }
-    files.store(alloc, SMALL, b"")?;
-    assert!(rt; files.fetch(alloc, SMALL, 0)?.is_empty());
+    assert!(rt; empties(alloc, &mut files));
     fs::remove_dir_all(&rt, FOLDER)?;
     Ok(())
 }
 
 #[test]
-fn source_over_a_reader(rt: HostRuntime) -> Result<(), Fail> {
+fn source_over_a_slow_reader(rt: HostRuntime) {
     let alloc = rt.alloc();
     let mut source = StreamSource::new(SlowReader {
         bytes: b"ab",
         is_interrupted: false,
     });
-    assert_eq!(rt; source.take(alloc, 5)?.as_slice(), b"a".as_slice());
-    assert_eq!(rt; source.take(alloc, 5)?.as_slice(), b"b".as_slice());
-    assert!(rt; source.take(alloc, 5)?.is_empty());
+    for want in ["a", "b", ""] {
+        assert!(rt; takes(alloc, &mut source, 5, Ok(want.as_bytes())), "{want}");
+    }
+}
+
+#[test]
+fn source_over_bytes(rt: HostRuntime) {
+    let alloc = rt.alloc();
     let bytes: &[u8] = b"abcdef";
     let mut source = StreamSource::new(bytes);
-    assert_eq!(rt; source.take(alloc, 4)?.as_slice(), b"abcd".as_slice());
-    assert_eq!(rt; source.take(alloc, 4)?.as_slice(), b"ef".as_slice());
-    let mut source = StreamSource::new(BrokenReader(ErrorKind::BrokenPipe));
-    assert_eq!(rt; source.take(alloc, 5).err(), Some(IoFault::Failed));
-    let mut source = StreamSource::new(BrokenReader(ErrorKind::OutOfMemory));
-    assert_eq!(rt; source.take(alloc, 5).err(), Some(IoFault::Memory));
-    Ok(())
-}
-
-#[test]
-fn sink_over_a_writer(rt: HostRuntime) -> Result<(), Fail> {
-    let alloc = rt.alloc();
-    let mut writer = SlowWriter::new(alloc, 5, None);
-    let mut sink = StreamSink::new(&mut writer);
-    sink.put(alloc, b"")?;
-    sink.put(alloc, b"abc")?;
-    sink.put(alloc, b"de")?;
-    assert_eq!(rt; sink.put(alloc, b"f").err(), Some(IoFault::Failed));
-    assert_eq!(rt; writer.bytes.as_slice(), b"abcde".as_slice());
-    for (room, kind, fault, held) in [
-        (2, ErrorKind::StorageFull, IoFault::Failed, b"ab".as_slice()),
-        (2, ErrorKind::OutOfMemory, IoFault::Failed, b"ab"),
-        (0, ErrorKind::OutOfMemory, IoFault::Memory, b""),
-    ] {
-        let mut writer = SlowWriter::new(alloc, room, Some(kind));
-        let mut sink = StreamSink::new(&mut writer);
-        assert_eq!(rt; sink.put(alloc, b"abc").err(), Some(fault));
-        assert_eq!(rt; writer.bytes.as_slice(), held);
+    for want in ["abcd", "ef"] {
+        assert!(rt; takes(alloc, &mut source, 4, Ok(want.as_bytes())), "{want}");
     }
-    Ok(())
 }
 
 #[test]
-fn real_clock_and_random_words(rt: HostRuntime) -> Result<(), Fail> {
+fn source_over_a_broken_reader(rt: HostRuntime) {
     let alloc = rt.alloc();
-    let mut ambient = HostAmbient::new(&rt);
-    let start_of_2020 = 1_577_836_800_000_000_000;
-    assert!(rt; ambient.now(alloc)? > start_of_2020);
+    for (kind, fault) in [
+        (ErrorKind::BrokenPipe, IoFault::Failed),
+        (ErrorKind::OutOfMemory, IoFault::Memory),
+    ] {
+        let mut source = StreamSource::new(BrokenReader(kind));
+        assert!(rt; takes(alloc, &mut source, 5, Err(fault)), "{fault:?}");
+    }
+}
+
+/// The room of a writer and its error past it, the pieces that it takes, a piece that it doesn't take whole, the fault then, and
+/// what it holds.
+type Put = (
+    usize,
+    Option<ErrorKind>,
+    &'static [&'static str],
+    &'static str,
+    IoFault,
+    &'static str,
+);
+
+const PUTS: &[Put] = &[
+    (5, None, &["", "abc", "de"], "f", IoFault::Failed, "abcde"),
+    (
+        2,
+        Some(ErrorKind::StorageFull),
+        &[],
+        "abc",
+        IoFault::Failed,
+        "ab",
+    ),
+    (
+        2,
+        Some(ErrorKind::OutOfMemory),
+        &[],
+        "abc",
+        IoFault::Failed,
+        "ab",
+    ),
+    (
+        0,
+        Some(ErrorKind::OutOfMemory),
+        &[],
+        "abc",
+        IoFault::Memory,
+        "",
+    ),
+];
+
+/// Whether a sink takes all pieces.
+fn puts<S: Sink>(alloc: Global, sink: &mut S, pieces: &[&str]) -> bool {
+    for piece in pieces {
+        if sink.put(alloc, piece.as_bytes()).is_err() {
+            return false;
+        }
+    }
+    true
+}
+
+/// Whether a sink over a writer does what the row says.
+fn holds(alloc: Global, row: &Put) -> bool {
+    let (room, when_full, pieces, last, fault, held) = row;
+    let mut writer = SlowWriter::new(alloc, *room, *when_full);
+    let mut sink = StreamSink::new(&mut writer);
+    puts(alloc, &mut sink, pieces)
+        && sink.put(alloc, last.as_bytes()) == Err(*fault)
+        && writer.bytes.as_slice() == held.as_bytes()
+}
+
+#[test]
+fn sink_over_a_writer(rt: HostRuntime) {
+    for row in PUTS {
+        assert!(rt; holds(rt.alloc(), row), "{row:?}");
+    }
+}
+
+/// Whether a clock tells a time after the start of 2020.
+fn tells_time<A: Ambient>(alloc: Global, ambient: &mut A) -> Result<bool, IoFault> {
+    Ok(ambient.now(alloc)? > 1_577_836_800_000_000_000)
+}
+
+/// Whether 1,200 random words are other than the one before them.
+fn draws_words<A: Ambient>(alloc: Global, ambient: &mut A) -> Result<bool, IoFault> {
     let first = ambient.word(alloc)?;
     for _ in 0..1200 {
-        assert!(rt; ambient.word(alloc)? != first);
+        if ambient.word(alloc)? == first {
+            return Ok(false);
+        }
     }
-    Ok(())
+    Ok(true)
+}
+
+#[test]
+fn real_clock_and_random_words(rt: HostRuntime) {
+    let alloc = rt.alloc();
+    let mut ambient = HostAmbient::new(&rt);
+    assert!(rt; tells_time(alloc, &mut ambient) == Ok(true));
+    assert!(rt; draws_words(alloc, &mut ambient) == Ok(true));
 }

@@ -1,5 +1,5 @@
 // Host functions and their names: each call once, and which of two declarations counts.
-ghost use Rattle.std.specs.Prelude.{◌≡◌, ◌<◌, ◌≤◌, ◌+◌, [], IfSome, IfOk};
+ghost use Rattle.std.specs.Prelude.{◌≡◌, ◌<◌, ◌≤◌, ◌+◌, [], None, IfSome, IfOk};
 
 use host_table::{AddFault, Callback, HostMatch, HostName, HostNames, HostTable, Put, Reply};
 use std::alloc::Global;
@@ -14,6 +14,32 @@ fn type_of(alloc: Global, params: &[ValType], results: &[ValType]) -> Result<Fun
         params: List::of(params),
         results: List::of(results),
     })
+}
+
+/// A host function that answers 0 and puts nothing.
+fn nothing(_args: &[u64], _size: u64) -> Reply
+    ensures result { result.result ≡ 0 }
+    ensures put { result.put ≡ None }
+{
+    Reply {
+        result: 0,
+        put: None,
+    }
+}
+
+/// Whether "first" of "env" alone has a number.
+fn is_first_numbered(table: &HostTable) -> bool {
+    table.find("env", "first") == Some(0) && table.find("other", "first").is_none()
+}
+
+/// Whether the answer is 5, and puts 7 as four bytes at 4.
+fn is_five_and_seven(reply: &Reply) -> bool {
+    let seven = Put {
+        at: 4,
+        bytes: 7,
+        len: 4,
+    };
+    reply.result == 5 && reply.put == Some(seven)
 }
 
 #[test]
@@ -46,23 +72,21 @@ fn host_functions_are_called(rt: HostRuntime) {
     )
     .expect(&rt, "memory");
     assert!(rt; table.add(alloc, "env", "first", ty, call).is_ok());
-    assert!(rt; table.find("env", "first") == Some(0));
-    assert!(rt; table.find("other", "first").is_none());
-    let reply = table.call(0, &[5], 65536);
-    assert!(rt; reply.result == 5);
-    assert!(rt;
-        reply.put
-            == Some(Put {
-                at: 4,
-                bytes: 7,
-                len: 4
-            })
-    );
+    assert!(rt; is_first_numbered(&table));
+    assert!(rt; is_five_and_seven(&table.call(0, &[5], 65536)));
+}
+
+#[test]
+fn host_functions_are_declared(rt: HostRuntime) {
+    let alloc = rt.alloc();
+    let mut table = HostTable::new(alloc);
+    let ty = type_of(alloc, &[ValType::I32], &[ValType::I32]).expect(&rt, "memory");
+    let call: Callback = Box::new(alloc, nothing).expect(&rt, "memory");
+    assert!(rt; table.add(alloc, "env", "first", ty, call).is_ok());
     let names = table
         .names(alloc, HostNames::new(alloc))
         .expect(&rt, "memory");
-    let ty = type_of(alloc, &[ValType::I32], &[ValType::I32]).expect(&rt, "memory");
-    assert!(rt; names.find("env", "first", &ty) == HostMatch::Fits);
+    assert!(rt; finds(alloc, &names, &("env", "first", SHORT, HostMatch::Fits)) == Ok(true));
 }
 
 #[test]
@@ -70,24 +94,10 @@ fn host_functions_have_names_of_their_own(rt: HostRuntime) {
     let alloc = rt.alloc();
     let mut table = HostTable::new(alloc);
     let ty = type_of(alloc, &[], &[]).expect(&rt, "memory");
-    let call: Callback = Box::new(
-        alloc,
-        |_args: &[u64], _size: u64| Reply {
-            result: 0,
-            put: None,
-        },
-    )
-    .expect(&rt, "memory");
+    let call: Callback = Box::new(alloc, nothing).expect(&rt, "memory");
     assert!(rt; table.add(alloc, "env", "first", ty, call).is_ok());
     let ty = type_of(alloc, &[], &[]).expect(&rt, "memory");
-    let again: Callback = Box::new(
-        alloc,
-        |_args: &[u64], _size: u64| Reply {
-            result: 0,
-            put: None,
-        },
-    )
-    .expect(&rt, "memory");
+    let again: Callback = Box::new(alloc, nothing).expect(&rt, "memory");
     match table.add(alloc, "env", "first", ty, again) {
         Ok(()) => assert!(rt; false),
         Err(refused) => {
@@ -98,69 +108,138 @@ fn host_functions_have_names_of_their_own(rt: HostRuntime) {
     }
 }
 
+/// The parameters and the results of a type.
+type Type = (&'static [ValType], &'static [ValType]);
+
+const NONE: Type = (&[], &[]);
+
+const SHORT: Type = (&[ValType::I32], &[ValType::I32]);
+
+const LONG: Type = (&[ValType::I64], &[ValType::I32]);
+
+const REAL: Type = (&[ValType::F32], &[ValType::I32]);
+
+/// A module, a name, a type, and what is found of them.
+type Found = (&'static str, &'static str, Type, HostMatch);
+
+/// What is found of `declared_names`.
+const FOUND: &[Found] = &[
+    ("env", "a", NONE, HostMatch::Fits),
+    ("env", "a", LONG, HostMatch::OtherType),
+    ("env", "b", LONG, HostMatch::Fits),
+    ("env", "b", NONE, HostMatch::OtherType),
+    ("env", "c", REAL, HostMatch::OtherType),
+    ("other", "a", NONE, HostMatch::Unknown),
+];
+
+/// What is found of `late_names`.
+const FOUND_LATE: &[Found] = &[
+    ("late", "a", LONG, HostMatch::Fits),
+    ("late", "a", NONE, HostMatch::OtherType),
+];
+
+/// Whether names have what a row says.
+fn finds(alloc: Global, names: &HostNames, row: &Found) -> Result<bool, Memory> {
+    let (from, name, (params, results), want) = row;
+    let ty = type_of(alloc, params, results)?;
+    Ok(names.find(from, name, &ty) == *want)
+}
+
+/// Declares a name without parameters and results.
+fn declare(alloc: Global, names: &mut HostNames, from: &str, name: &str) -> Result<(), Memory> {
+    let ty = type_of(alloc, &[], &[])?;
+    names.declare(alloc, from, name, ty)
+}
+
+/// The name "a" of "env" with two types, the rest of "env", and then its name "b".
+fn declared_names(alloc: Global) -> Result<HostNames, Memory> {
+    let mut names = HostNames::new(alloc);
+    declare(alloc, &mut names, "env", "a")?;
+    let second = type_of(alloc, &[ValType::I64], &[ValType::I32])?;
+    names.declare(alloc, "env", "a", second)?;
+    names.declare_rest(alloc, "env")?;
+    declare(alloc, &mut names, "env", "b")?;
+    Ok(names)
+}
+
+/// The same, and then the rest of "late" before its name "a".
+fn late_names(alloc: Global) -> Result<HostNames, Memory> {
+    let mut names = declared_names(alloc)?;
+    names.declare_rest(alloc, "late")?;
+    declare(alloc, &mut names, "late", "a")?;
+    Ok(names)
+}
+
+#[test]
+fn nothing_is_declared_at_first(rt: HostRuntime) {
+    let alloc = rt.alloc();
+    let names = HostNames::new(alloc);
+    assert!(rt; finds(alloc, &names, &("env", "a", NONE, HostMatch::Unknown)) == Ok(true));
+}
+
 #[test]
 fn first_declaration_counts(rt: HostRuntime) {
     let alloc = rt.alloc();
-    let mut names = HostNames::new(alloc);
-    let none = type_of(alloc, &[], &[]).expect(&rt, "memory");
-    let long = type_of(alloc, &[ValType::I64], &[ValType::I32]).expect(&rt, "memory");
-    let real = type_of(alloc, &[ValType::F32], &[ValType::I32]).expect(&rt, "memory");
-    let first = type_of(alloc, &[], &[]).expect(&rt, "memory");
-    let second = type_of(alloc, &[ValType::I64], &[ValType::I32]).expect(&rt, "memory");
-    let late = type_of(alloc, &[], &[]).expect(&rt, "memory");
-    assert!(rt; names.find("env", "a", &none) == HostMatch::Unknown);
-    names
-        .declare(alloc, "env", "a", first)
-        .expect(&rt, "memory");
-    names
-        .declare(alloc, "env", "a", second)
-        .expect(&rt, "memory");
-    names.declare_rest(alloc, "env").expect(&rt, "memory");
-    names.declare(alloc, "env", "b", late).expect(&rt, "memory");
-    assert!(rt; names.find("env", "a", &none) == HostMatch::Fits);
-    assert!(rt; names.find("env", "a", &long) == HostMatch::OtherType);
-    assert!(rt; names.find("env", "b", &long) == HostMatch::Fits);
-    assert!(rt; names.find("env", "b", &none) == HostMatch::OtherType);
-    assert!(rt; names.find("env", "c", &real) == HostMatch::OtherType);
-    assert!(rt; names.find("other", "a", &none) == HostMatch::Unknown);
-    assert!(rt; names.typed("env", "a").is_some());
-    assert!(rt; names.typed("env", "b").is_none());
-    let after = type_of(alloc, &[], &[]).expect(&rt, "memory");
-    names.declare_rest(alloc, "late").expect(&rt, "memory");
-    names
-        .declare(alloc, "late", "a", after)
-        .expect(&rt, "memory");
-    assert!(rt; names.find("late", "a", &long) == HostMatch::Fits);
-    assert!(rt; names.find("late", "a", &none) == HostMatch::OtherType);
+    let names = declared_names(alloc).expect(&rt, "memory");
+    for row in FOUND {
+        assert!(rt; finds(alloc, &names, row) == Ok(true), "{row:?}");
+    }
+    assert!(rt; names.typed("env", "a").is_some() && names.typed("env", "b").is_none());
+}
+
+#[test]
+fn the_rest_counts_before_later_names(rt: HostRuntime) {
+    let alloc = rt.alloc();
+    let names = late_names(alloc).expect(&rt, "memory");
+    for row in FOUND_LATE {
+        assert!(rt; finds(alloc, &names, row) == Ok(true), "{row:?}");
+    }
     assert!(rt; names.typed("late", "a").is_none());
+}
+
+/// What is found of a name that was declared without parameters and results before a table with another type for it.
+const FOUND_FIRST: &[Found] = &[
+    ("env", "a", NONE, HostMatch::Fits),
+    ("env", "a", LONG, HostMatch::OtherType),
+];
+
+/// The name "a" of "env", and then the names of a table.
+fn names_before(alloc: Global, table: &HostTable) -> Result<HostNames, Memory> {
+    let mut first = HostNames::new(alloc);
+    declare(alloc, &mut first, "env", "a")?;
+    table.names(alloc, first)
 }
 
 #[test]
 fn names_of_a_table_come_after_the_first(rt: HostRuntime) {
     let alloc = rt.alloc();
-    let none = type_of(alloc, &[], &[]).expect(&rt, "memory");
-    let long = type_of(alloc, &[ValType::I64], &[ValType::I32]).expect(&rt, "memory");
-    let mut first = HostNames::new(alloc);
-    let ty = type_of(alloc, &[], &[]).expect(&rt, "memory");
-    first.declare(alloc, "env", "a", ty).expect(&rt, "memory");
     let mut table = HostTable::new(alloc);
     let ty = type_of(alloc, &[ValType::I64], &[ValType::I32]).expect(&rt, "memory");
-    let call: Callback = Box::new(
-        alloc,
-        |_args: &[u64], _size: u64| Reply {
-            result: 0,
-            put: None,
-        },
-    )
-    .expect(&rt, "memory");
+    let call: Callback = Box::new(alloc, nothing).expect(&rt, "memory");
     assert!(rt; table.add(alloc, "env", "a", ty, call).is_ok());
-    let names = table.names(alloc, first).expect(&rt, "memory");
-    assert!(rt; names.find("env", "a", &none) == HostMatch::Fits);
-    assert!(rt; names.find("env", "a", &long) == HostMatch::OtherType);
-    let host = HostName::new(alloc, "env", "first", &long).expect(&rt, "memory");
-    assert!(rt; host.module.as_str() == "env");
-    assert!(rt; host.name.as_str() == "first");
-    assert!(rt; host.ty == long);
+    let names = names_before(alloc, &table).expect(&rt, "memory");
+    for row in FOUND_FIRST {
+        assert!(rt; finds(alloc, &names, row) == Ok(true), "{row:?}");
+    }
+}
+
+/// Whether a host name has the module, the name and the type that it is made of.
+fn keeps_its_parts(alloc: Global) -> Result<bool, Memory> {
+    let ty = type_of(alloc, &[ValType::I64], &[ValType::I32])?;
+    let host = HostName::new(alloc, "env", "first", &ty)?;
+    Ok(host.module.as_str() == "env" && host.name.as_str() == "first" && host.ty == ty)
+}
+
+#[test]
+fn host_names_keep_their_parts(rt: HostRuntime) {
+    assert!(rt; keeps_its_parts(rt.alloc()) == Ok(true));
+}
+
+/// Whether the two names have the numbers 0 and 1, and another name has none.
+fn are_numbered(table: &HostTable) -> bool {
+    table.find("env", "a") == Some(0)
+        && table.find("other", "b") == Some(1)
+        && table.find("other", "a").is_none()
 }
 
 #[test]
@@ -168,26 +247,10 @@ fn entries_are_numbered_in_order(rt: HostRuntime) {
     let alloc = rt.alloc();
     let mut table = HostTable::new(alloc);
     let ty = type_of(alloc, &[], &[]).expect(&rt, "memory");
-    let call: Callback = Box::new(
-        alloc,
-        |_args: &[u64], _size: u64| Reply {
-            result: 0,
-            put: None,
-        },
-    )
-    .expect(&rt, "memory");
+    let call: Callback = Box::new(alloc, nothing).expect(&rt, "memory");
     assert!(rt; table.add(alloc, "env", "a", ty, call).is_ok());
     let ty = type_of(alloc, &[], &[]).expect(&rt, "memory");
-    let other: Callback = Box::new(
-        alloc,
-        |_args: &[u64], _size: u64| Reply {
-            result: 0,
-            put: None,
-        },
-    )
-    .expect(&rt, "memory");
-    assert!(rt; table.add(alloc, "other", "b", ty, other).is_ok());
-    assert!(rt; table.find("env", "a") == Some(0));
-    assert!(rt; table.find("other", "b") == Some(1));
-    assert!(rt; table.find("other", "a").is_none());
+    let call: Callback = Box::new(alloc, nothing).expect(&rt, "memory");
+    assert!(rt; table.add(alloc, "other", "b", ty, call).is_ok());
+    assert!(rt; are_numbered(&table));
 }

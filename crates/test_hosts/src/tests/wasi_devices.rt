@@ -1,11 +1,14 @@
 // Uses of devices: what is put, taken, told and drawn, at most 65,536 bytes in one call, and devices that fail or have no more.
-use super::world::{World, memory};
-use std::alloc::Global;
-use std::fmt::Write as _;
+use super::world::{Row, World, memory};
+use std::alloc::{AllocError, Global};
 use std::test::Fail;
+use wasm_form::Memory;
+use wasm_space::Space;
 
 /// The arguments of fd_write, the answer that is wanted, and what is put to the output and to the errors.
-const PUTS: &[(&[u64], &str, &str, &str)] = &[
+type Put = (&'static [u64], &'static str, &'static str, &'static str);
+
+const PUTS: &[Put] = &[
     (&[1, 200, 1, 12], "0 12=05000000", "hello", ""),
     (&[2, 200, 1, 12], "0 12=05000000", "", "hello"),
     (&[1, 200, 2, 12], "0 12=08000000", "hellollo", ""),
@@ -16,7 +19,9 @@ const PUTS: &[(&[u64], &str, &str, &str)] = &[
 ];
 
 /// The input, the arguments of fd_read and the answer that is wanted.
-const TAKES: &[(&str, &[u64], &str)] = &[
+type Take = (&'static str, &'static [u64], &'static str);
+
+const TAKES: &[Take] = &[
     (
         "abcdefgh",
         &[0, 200, 2, 12],
@@ -43,8 +48,8 @@ const TAKES: &[(&str, &[u64], &str)] = &[
     ),
 ];
 
-/// A call, its arguments and the answer that is wanted of a clock with one time and of two random words.
-const TIMES_AND_WORDS: &[(&str, &[u64], &str)] = &[
+/// The answers that are wanted of a clock with one time and of two random words.
+const TIMES_AND_WORDS: &[Row] = &[
     ("clock_time_get", &[0, 0, 16], "0 16=0807060504030201"),
     (
         "clock_time_get",
@@ -65,8 +70,8 @@ const TIMES_AND_WORDS: &[(&str, &[u64], &str)] = &[
     ("random_get", &[0, 65536], "29"),
 ];
 
-/// A call, its arguments and the answer that is wanted where the first call of each device fails.
-const FAILS: &[(&str, &[u64], &str)] = &[
+/// The answers that are wanted where the first call of each device fails.
+const FAILS: &[Row] = &[
     ("fd_write", &[1, 200, 1, 12], "29"),
     ("fd_write", &[2, 200, 1, 12], "29"),
     ("fd_read", &[0, 200, 1, 12], "29"),
@@ -77,8 +82,8 @@ const FAILS: &[(&str, &[u64], &str)] = &[
     ("random_get", &[100, 0], "0"),
 ];
 
-/// A call, its arguments and the answer that is wanted, one after the other over ten bytes of input and a memory of two pages.
-const ONE_BY_ONE: &[(&str, &[u64], &str)] = &[
+/// The answers that are wanted one after the other over ten bytes of input and a memory of two pages.
+const ONE_BY_ONE: &[Row] = &[
     (
         "fd_read",
         &[0, 200, 2, 12],
@@ -95,93 +100,188 @@ const ONE_BY_ONE: &[(&str, &[u64], &str)] = &[
     ("clock_time_get", &[0, 0, 16], "29"),
 ];
 
-/// The answer to a call over this input, where the call with this number of each device fails, if one does; and what is put to the
-/// output and the errors then.
-fn answer(
+/// Whether the call of a row has the answer that is wanted over these devices, and just this is then put to the outputs.
+fn answers(
     alloc: Global,
-    input: &[u8],
-    failing: Option<u64>,
-    name: &str,
-    args: &[u64],
-) -> Result<String, Fail> {
-    let memory = memory(alloc, 1)?;
-    let mut world = World::new(alloc, input)?;
-    if let Some(call) = failing {
-        world.fail_at(alloc, call)?;
-    }
-    let mut text = world.ask(alloc, &memory, name, args)?;
-    for held in [world.output.held(), world.errors.held()] {
-        text.push_str("|")?;
-        for byte in held {
-            text.push(char::from(*byte))?;
-        }
-    }
-    Ok(text)
+    memory: &Space,
+    mut world: World,
+    row: &Row,
+    output: &str,
+    errors: &str,
+) -> Result<bool, Memory> {
+    Ok(world.answers(alloc, memory, row)? && world.has_put(output, errors))
+}
+
+/// Whether a row holds over devices without input.
+fn puts(alloc: Global, memory: &Space, row: &Put) -> Result<bool, Memory> {
+    let (args, want, output, errors) = row;
+    let world = World::new(alloc, b"")?;
+    answers(
+        alloc,
+        memory,
+        world,
+        &("fd_write", args, want),
+        output,
+        errors,
+    )
 }
 
 #[test]
-fn wasi_uses_devices(rt: HostRuntime) -> Result<(), Fail> {
+fn wasi_puts_bytes(rt: HostRuntime) -> Result<(), Fail> {
     let alloc = rt.alloc();
-    for (args, want, output, errors) in PUTS {
-        let got = answer(alloc, b"", None, "fd_write", args)?;
-        assert_eq!(rt;
-            got,
-            format!(in alloc; "{want}|{output}|{errors}")?,
-            "{args:?}"
-        );
-    }
-    for (input, args, want) in TAKES {
-        let got = answer(alloc, input.as_bytes(), None, "fd_read", args)?;
-        assert_eq!(rt; got, format!(in alloc; "{want}||")?, "{args:?} of {input}");
-    }
-    for (name, args, want) in TIMES_AND_WORDS {
-        let got = answer(alloc, b"", None, name, args)?;
-        assert_eq!(rt; got, format!(in alloc; "{want}||")?, "{name} {args:?}");
-    }
-    for (name, args, want) in FAILS {
-        let got = answer(alloc, b"abcde", Some(0), name, args)?;
-        assert_eq!(rt; got, format!(in alloc; "{want}||")?, "{name} {args:?}");
-    }
-    let got = answer(alloc, b"", Some(1), "random_get", &[100, 9])?;
-    assert_eq!(rt; got.as_str(), "29||");
-    let memory = memory(alloc, 2)?;
-    let mut world = World::new(alloc, b"abcdefghij")?;
-    for (name, args, want) in ONE_BY_ONE {
-        let got = world.ask(alloc, &memory, name, args)?;
-        assert_eq!(rt; got.as_str(), *want, "{name} {args:?}");
+    let memory = memory(alloc, 1)?;
+    for row in PUTS {
+        assert!(rt; puts(alloc, &memory, row)?, "{row:?}");
     }
     Ok(())
 }
 
+/// Whether a row holds over devices with its input, and nothing is put.
+fn takes(alloc: Global, memory: &Space, row: &Take) -> Result<bool, Memory> {
+    let (input, args, want) = row;
+    let world = World::new(alloc, input.as_bytes())?;
+    answers(alloc, memory, world, &("fd_read", args, want), "", "")
+}
+
 #[test]
-fn wasi_moves_at_most_65536_bytes(rt: HostRuntime) -> Result<(), Fail> {
+fn wasi_takes_bytes(rt: HostRuntime) -> Result<(), Fail> {
     let alloc = rt.alloc();
     let memory = memory(alloc, 1)?;
-    let input = vec![in alloc; b'z'; 65540]?;
-    let mut world = World::new(alloc, &input)?;
+    for row in TAKES {
+        assert!(rt; takes(alloc, &memory, row)?, "{row:?}");
+    }
+    Ok(())
+}
+
+/// Whether a row holds over devices without input, and nothing is put.
+fn tells(alloc: Global, memory: &Space, row: &Row) -> Result<bool, Memory> {
+    let world = World::new(alloc, b"")?;
+    answers(alloc, memory, world, row, "", "")
+}
+
+#[test]
+fn wasi_tells_times_and_draws_words(rt: HostRuntime) -> Result<(), Fail> {
+    let alloc = rt.alloc();
+    let memory = memory(alloc, 1)?;
+    for row in TIMES_AND_WORDS {
+        assert!(rt; tells(alloc, &memory, row)?, "{row:?}");
+    }
+    Ok(())
+}
+
+/// Whether a row holds over devices with this input, each of which fails at the call with this number, and nothing is put.
+fn fails(
+    alloc: Global,
+    memory: &Space,
+    input: &[u8],
+    call: u64,
+    row: &Row,
+) -> Result<bool, Memory> {
+    let mut world = World::new(alloc, input)?;
+    world.fail_at(alloc, call)?;
+    answers(alloc, memory, world, row, "", "")
+}
+
+#[test]
+fn wasi_answers_for_devices_that_fail(rt: HostRuntime) -> Result<(), Fail> {
+    let alloc = rt.alloc();
+    let memory = memory(alloc, 1)?;
+    for row in FAILS {
+        assert!(rt; fails(alloc, &memory, b"abcde", 0, row)?, "{row:?}");
+    }
+    assert!(rt; fails(alloc, &memory, b"", 1, &("random_get", &[100, 9], "29"))?);
+    Ok(())
+}
+
+/// The first wrong row of those that come one after the other.
+fn first_wrong(alloc: Global, memory: &Space) -> Result<Option<Row>, Memory> {
+    let mut world = World::new(alloc, b"abcdefghij")?;
+    world.first_wrong(alloc, memory, ONE_BY_ONE)
+}
+
+#[test]
+fn wasi_uses_devices_one_by_one(rt: HostRuntime) -> Result<(), Fail> {
+    let alloc = rt.alloc();
+    let memory = memory(alloc, 2)?;
+    let wrong = first_wrong(alloc, &memory).expect(&rt, "memory");
+    assert!(rt; wrong.is_none(), "{wrong:?}");
+    Ok(())
+}
+
+/// A write of a page and a byte, of which the page is put.
+const FULL_WRITE: Row = ("fd_write", &[1, 272, 2, 12], "0 12=00000100");
+
+/// The same write where the output fails.
+const FAILED_WRITE: Row = ("fd_write", &[1, 272, 2, 12], "29");
+
+/// Whether these are the bytes of the first page.
+fn is_first_page(held: &[u8]) -> bool {
+    held.len() == 65536
+        && held.get(100..105) == Some(b"hello".as_slice())
+        && held.last() == Some(&b'!')
+}
+
+/// Devices whose output fails at its second call.
+fn failing_output(alloc: Global) -> Result<World, Memory> {
+    let mut world = World::new(alloc, b"")?;
     world.output.fail_at(alloc, 1)?;
-    let got = world.ask(alloc, &memory, "fd_write", &[1, 272, 2, 12])?;
-    assert_eq!(rt; got.as_str(), "0 12=00000100");
-    let held = world.output.held();
-    assert_eq!(rt; held.len(), 65536);
-    assert_eq!(rt; held.get(100..105), Some(b"hello".as_slice()));
-    assert_eq!(rt; held.last(), Some(&b'!'));
-    let got = world.ask(alloc, &memory, "fd_write", &[1, 272, 2, 12])?;
-    assert_eq!(rt; got.as_str(), "29");
-    let got = world.ask(alloc, &memory, "fd_read", &[0, 272, 2, 12])?;
-    let want = full_read(alloc)?;
-    assert!(rt; got == want);
-    let got = world.ask(alloc, &memory, "fd_read", &[0, 272, 2, 12])?;
-    assert_eq!(rt; got.as_str(), "0 0=7a7a7a7a 12=04000000");
+    Ok(world)
+}
+
+/// Whether a write puts the first page, and the next one fails.
+fn puts_first_page(alloc: Global, memory: &Space, world: &mut World) -> Result<bool, Memory> {
+    Ok(
+        world.answers(alloc, memory, &FULL_WRITE)?
+            && is_first_page(world.output.held())
+            && world.answers(alloc, memory, &FAILED_WRITE)?,
+    )
+}
+
+#[test]
+fn wasi_puts_at_most_65536_bytes(rt: HostRuntime) -> Result<(), Fail> {
+    let alloc = rt.alloc();
+    let memory = memory(alloc, 1)?;
+    let mut world = failing_output(alloc).expect(&rt, "memory");
+    assert!(rt; puts_first_page(alloc, &memory, &mut world) == Ok(true));
     Ok(())
 }
 
 /// The answer to a read of 65,536 bytes "z" at 0, whose number goes to 12.
-fn full_read(alloc: Global) -> Result<String, Fail> {
+fn full_read(alloc: Global) -> Result<String, AllocError> {
     let mut text = String::from_str(alloc, "0 0=")?;
     for _ in 0..65536 {
         text.push_str("7a")?;
     }
-    write!(text, " 12=00000100")?;
+    text.push_str(" 12=00000100")?;
     Ok(text)
+}
+
+/// The read after it, which gives the last four of 65,540 bytes.
+const LAST_READ: Row = ("fd_read", &[0, 272, 2, 12], "0 0=7a7a7a7a 12=04000000");
+
+/// Devices with 65,540 bytes "z" of input.
+fn long_input(alloc: Global) -> Result<World, Memory> {
+    let input = vec![in alloc; b'z'; 65540]?;
+    World::new(alloc, &input)
+}
+
+/// Whether a read gives the bytes of a page.
+fn takes_page(alloc: Global, memory: &Space, world: &mut World) -> Result<bool, Memory> {
+    let got = world.ask(alloc, memory, "fd_read", &[0, 272, 2, 12])?;
+    let want = full_read(alloc)?;
+    Ok(got == want)
+}
+
+/// Whether a read gives the bytes of a page, and the next one the last four.
+fn takes_page_and_rest(alloc: Global, memory: &Space, world: &mut World) -> Result<bool, Memory> {
+    Ok(takes_page(alloc, memory, world)? && world.answers(alloc, memory, &LAST_READ)?)
+}
+
+#[test]
+fn wasi_takes_at_most_65536_bytes(rt: HostRuntime) -> Result<(), Fail> {
+    let alloc = rt.alloc();
+    let memory = memory(alloc, 1)?;
+    let mut world = long_input(alloc).expect(&rt, "memory");
+    assert!(rt; takes_page_and_rest(alloc, &memory, &mut world) == Ok(true));
+    Ok(())
 }

@@ -2,13 +2,14 @@
 use host_table::{HostMatch, HostNames};
 use host_wasi::declare;
 use std::alloc::Global;
-use std::test::Fail;
 use wasm_form::{FuncType, List, Memory, ValType};
 
 const MODULE: &str = "wasi_snapshot_preview1";
 
 /// A name, its parameters, an i for an i32 and an l for an i64, and whether it has the result i32.
-const NAMES: &[(&str, &str, bool)] = &[
+type Name = (&'static str, &'static str, bool);
+
+const NAMES: &[Name] = &[
     ("args_sizes_get", "ii", true),
     ("args_get", "ii", true),
     ("environ_sizes_get", "ii", true),
@@ -23,6 +24,21 @@ const NAMES: &[(&str, &str, bool)] = &[
     ("clock_time_get", "ili", true),
     ("random_get", "ii", true),
     ("proc_exit", "i", false),
+];
+
+/// A module, a name, its parameters, whether it has the result i32, and what is found of them.
+type Found = (&'static str, &'static str, &'static str, bool, HostMatch);
+
+const OTHERS: &[Found] = &[
+    (MODULE, "path_open", "iiiiillii", true, HostMatch::Fits),
+    (MODULE, "path_open", "i", false, HostMatch::OtherType),
+    (
+        "wasi_unstable",
+        "fd_close",
+        "iiiiillii",
+        true,
+        HostMatch::Unknown,
+    ),
 ];
 
 fn ty(alloc: Global, params: &str, has_result: bool) -> Result<FuncType, Memory> {
@@ -44,23 +60,35 @@ fn ty(alloc: Global, params: &str, has_result: bool) -> Result<FuncType, Memory>
     })
 }
 
+/// Whether names have what a row says.
+fn finds(alloc: Global, names: &HostNames, row: &Found) -> Result<bool, Memory> {
+    let (from, name, params, has_result, want) = row;
+    let ty = ty(alloc, params, *has_result)?;
+    Ok(names.find(from, name, &ty) == *want)
+}
+
+/// Whether a name is declared with the type of a row, and not with five parameters i32.
+fn is_declared(alloc: Global, names: &HostNames, row: &Name) -> Result<bool, Memory> {
+    let (name, params, has_result) = *row;
+    let own = (MODULE, name, params, has_result, HostMatch::Fits);
+    let other = (MODULE, name, "iiiii", has_result, HostMatch::OtherType);
+    Ok(finds(alloc, names, &own)? && finds(alloc, names, &other)?)
+}
+
 #[test]
-fn wasi_declares_its_names(rt: HostRuntime) -> Result<(), Fail> {
+fn wasi_declares_its_names(rt: HostRuntime) {
     let alloc = rt.alloc();
-    let names = declare(alloc, HostNames::new(alloc))?;
-    for (name, params, has_result) in NAMES {
-        let own = ty(alloc, params, *has_result)?;
-        assert!(rt; names.find(MODULE, name, &own) == HostMatch::Fits, "{name}");
-        let other = ty(alloc, "iiiii", *has_result)?;
-        assert!(rt;
-            names.find(MODULE, name, &other) == HostMatch::OtherType,
-            "{name}"
-        );
+    let names = declare(alloc, HostNames::new(alloc)).expect(&rt, "memory");
+    for row in NAMES {
+        assert!(rt; is_declared(alloc, &names, row) == Ok(true), "{row:?}");
     }
-    let open = ty(alloc, "iiiiillii", true)?;
-    let no_result = ty(alloc, "i", false)?;
-    assert!(rt; names.find(MODULE, "path_open", &open) == HostMatch::Fits);
-    assert!(rt; names.find(MODULE, "path_open", &no_result) == HostMatch::OtherType);
-    assert!(rt; names.find("wasi_unstable", "fd_close", &open) == HostMatch::Unknown);
-    Ok(())
+}
+
+#[test]
+fn wasi_declares_the_rest_of_its_module(rt: HostRuntime) {
+    let alloc = rt.alloc();
+    let names = declare(alloc, HostNames::new(alloc)).expect(&rt, "memory");
+    for row in OTHERS {
+        assert!(rt; finds(alloc, &names, row) == Ok(true), "{row:?}");
+    }
 }

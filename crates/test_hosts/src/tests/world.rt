@@ -12,6 +12,9 @@ use wasm_form::{List, Memory, Text, ValType};
 use wasm_runtime::{Answer, Asked, Write};
 use wasm_space::Space;
 
+/// A call, its arguments and the answer that is wanted: the errno, and then each write by its address and its bytes.
+pub(crate) type Row = (&'static str, &'static [u64], &'static str);
+
 /// The calls of a program with the arguments "prog", "a" and "", and its devices.
 #[derive(Drop)]
 pub(crate) struct World {
@@ -59,11 +62,25 @@ impl World {
         if !do_fit(name, args) {
             return Ok(String::from_str(alloc, "unfit")?);
         }
+        let answer = self.answer(alloc, memory, name, args)?;
+        Ok(shown(alloc, &answer)?)
+    }
+
+    /// The answer to a call whose arguments fit it.
+    fn answer(
+        &mut self,
+        alloc: Global,
+        memory: &Space,
+        name: &str,
+        args: &[u64],
+    ) -> Result<Answer, Memory>
+        requires { ArgumentsFit name.now args.now }
+    {
         let asked = Asked {
             entry: 0,
             args: List::of(args.to_vec(alloc)?),
         };
-        let answer = self.wasi.ask(
+        self.wasi.ask(
             alloc,
             name,
             &asked,
@@ -72,8 +89,39 @@ impl World {
             &mut self.output,
             &mut self.errors,
             &mut self.ambient,
-        )?;
-        Ok(shown(alloc, &answer)?)
+        )
+    }
+
+    /// Whether the answer to the call of a row is the one that is wanted.
+    pub(crate) fn answers(
+        &mut self,
+        alloc: Global,
+        memory: &Space,
+        row: &Row,
+    ) -> Result<bool, Memory> {
+        let (name, args, want) = row;
+        let got = self.ask(alloc, memory, name, args)?;
+        Ok(got.as_str() == *want)
+    }
+
+    /// The first row whose answer isn't the one that is wanted, where the calls come one after the other.
+    pub(crate) fn first_wrong(
+        &mut self,
+        alloc: Global,
+        memory: &Space,
+        rows: &[Row],
+    ) -> Result<Option<Row>, Memory> {
+        for row in rows {
+            if !self.answers(alloc, memory, row)? {
+                return Ok(Some(*row));
+            }
+        }
+        Ok(None)
+    }
+
+    /// Whether just this was put to the output and to the errors.
+    pub(crate) fn has_put(&self, output: &str, errors: &str) -> bool {
+        self.output.held() == output.as_bytes() && self.errors.held() == errors.as_bytes()
     }
 }
 

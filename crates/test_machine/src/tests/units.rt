@@ -3,8 +3,7 @@ ghost use Rattle.std.specs.Prelude.{IfSome};
 ghost use Rattle.test_units.specs.Runs.{StandsOpen};
 
 use super::{checked, push_sized};
-use std::alloc::Global;
-use std::process::Abort;
+use std::alloc::{AllocError, Global};
 use std::test::Fail;
 use test_rows::{bytes_of, push_hex};
 use test_units::{OutsideTypes, Pair, Run};
@@ -49,253 +48,288 @@ calls without an end: 10 00 | 10 00 = deep
 no memory: 41 00 40 00 1a | 01 = no memory
 ";
 
-// The module of a unit whose function 5 has this body.
-fn module_of(alloc: Global, body: &str) -> Result<Checked, Fail> {
-    let mut code = Vec::new(alloc);
-    code.push(0)?;
+// The contents of the code section.
+fn codes_of(alloc: Global, body: &str) -> Result<Vec<u8>, Memory> {
+    let mut code = bytes_of(alloc, "00")?;
     push_hex(alloc, &mut code, body)?;
-    code.push(0x0b)?;
-    let mut codes = Vec::new(alloc);
-    codes.push(2)?;
+    push_hex(alloc, &mut code, "0b")?;
+    let mut codes = bytes_of(alloc, "02")?;
     push_sized(alloc, &mut codes, &code)?;
     push_hex(alloc, &mut codes, SECOND)?;
+    Ok(codes)
+}
+
+// The module of a unit whose function 5 has this body.
+fn module_of(alloc: Global, body: &str) -> Result<Vec<u8>, Memory> {
+    let codes = codes_of(alloc, body)?;
     let mut bytes = bytes_of(alloc, BEFORE)?;
-    bytes.push(10)?;
+    push_hex(alloc, &mut bytes, "0a")?;
     push_sized(alloc, &mut bytes, &codes)?;
-    checked(alloc, &bytes)
+    Ok(bytes)
 }
 
-// What an allowed call gave.
-fn allowed<T>(answer: Option<T>) -> Result<T, Fail> {
-    match answer {
-        Some(value) => Ok(value),
-        None => Err(Fail::from("the call isn't allowed")),
-    }
-}
+// Below, none is answered where a call isn't allowed or wants memory.
 
-// What an allowed call told, where there was memory.
-fn told(answer: Option<Result<Event, Memory>>) -> Result<Event, Fail> {
-    Ok(allowed(answer)??)
+// Puts a mark over a waiting `dlopen`, and calls function 5 of the second unit over it.
+fn calls_over_mark(alloc: Global, run: &mut Run) -> Option<()> {
+    run.mark(alloc, 9)?.ok()?;
+    run.begin(alloc, true)?.ok()?;
+    Some(())
 }
 
 // Does what a `dlopen` with these flags asks for.
-fn opens(alloc: Global, run: &mut Run, name: u32, flags: u32) -> Result<(), Fail> {
+fn opens(alloc: Global, run: &mut Run, name: u32, flags: u32) -> Option<()> {
     match flags {
-        0 => allowed(run.give(name)),
-        1 => {
-            allowed(run.mark(alloc, 9))??;
-            told(run.begin(alloc, true))?;
-            Ok(())
-        }
-        _ => allowed(run.trap(Trap::MemoryBounds)),
+        0 => run.give(name),
+        1 => calls_over_mark(alloc, run),
+        _ => run.trap(Trap::MemoryBounds),
     }
 }
 
 // Answers the first host call, and ends the program at another.
-fn answers(alloc: Global, run: &mut Run, hosts: &mut u32) -> Result<(), Fail> {
+fn answers(alloc: Global, run: &mut Run, hosts: &mut u32) -> Option<()> {
     *hosts = hosts.saturating_add(1);
     if *hosts == 1 {
-        allowed(run.answer(alloc))
+        run.answer(alloc)
     } else {
-        allowed(run.exit(3))
+        run.exit(3)
     }
 }
 
-// Goes on after an event that isn't the end, and adds what is seen of it. Whether it isn't.
-fn goes_on(
+// Takes the mark away, and gives 1 to the `dlopen` under it.
+fn takes_mark(run: &mut Run) -> Option<()> {
+    run.unmark()?;
+    run.give(1)
+}
+
+// Goes on after an event. Whether it isn't the end.
+fn goes_on(alloc: Global, run: &mut Run, event: &Event, hosts: &mut u32) -> Option<bool> {
+    match event {
+        Event::Moved => {}
+        Event::Waits(_) => answers(alloc, run, hosts)?,
+        Event::Loader { first, second, .. } => opens(alloc, run, *first, *second)?,
+        Event::Marked(_) => takes_mark(run)?,
+        _ => return Some(false),
+    }
+    Some(true)
+}
+
+// What is seen of a return.
+fn return_seen(alloc: Global, global: Value) -> Result<String, AllocError> {
+    match global {
+        Value::Num(n) => Ok(format!(in alloc; "returned {n}")?),
+        Value::Func(_) => String::from_str(alloc, "returned a reference"),
+    }
+}
+
+// What is seen of an event.
+fn event_seen(alloc: Global, run: &Run, event: &Event) -> Result<String, AllocError> {
+    match event {
+        Event::Moved => Ok(String::new(alloc)),
+        Event::Waits(_) => String::from_str(alloc, "host, "),
+        Event::Loader { first, second, .. } => Ok(format!(in alloc; "dlopen {first} {second}, ")?),
+        Event::Marked(tag) => Ok(format!(in alloc; "mark {tag}, ")?),
+        Event::Returned => return_seen(alloc, run.global()),
+        Event::Trapped(trap) => Ok(format!(in alloc; "trap {trap:?}")?),
+        Event::Exited(code) => Ok(format!(in alloc; "exited {code}")?),
+        Event::Deep => String::from_str(alloc, "deep"),
+        Event::Stuck => String::from_str(alloc, "stuck"),
+    }
+}
+
+// Adds what is seen of an event, and goes on after it. Whether it isn't the end.
+fn passes(
     alloc: Global,
     run: &mut Run,
     event: &Event,
     hosts: &mut u32,
     seen: &mut String,
-) -> Result<bool, Fail> {
-    match event {
-        Event::Moved => {}
-        Event::Waits(_) => {
-            seen.push_str("host, ")?;
-            answers(alloc, run, hosts)?;
-        }
-        Event::Loader { first, second, .. } => {
-            seen.push_str(format!(in alloc; "dlopen {first} {second}, ")?.as_str())?;
-            opens(alloc, run, *first, *second)?;
-        }
-        Event::Marked(tag) => {
-            seen.push_str(format!(in alloc; "mark {tag}, ")?.as_str())?;
-            allowed(run.unmark())?;
-            allowed(run.give(1))?;
-        }
-        _ => return Ok(false),
-    }
-    Ok(true)
+) -> Option<bool> {
+    let text = event_seen(alloc, run, event).ok()?;
+    seen.push_str(text.as_str()).ok()?;
+    goes_on(alloc, run, event, hosts)
 }
 
-// Adds what is seen of an end.
-fn push_end(alloc: Global, run: &Run, event: &Event, seen: &mut String) -> Result<(), Fail> {
-    match event {
-        Event::Returned => match run.global() {
-            Value::Num(n) => seen.push_str(format!(in alloc; "returned {n}")?.as_str())?,
-            Value::Func(_) => seen.push_str("returned a reference")?,
-        },
-        Event::Trapped(trap) => seen.push_str(format!(in alloc; "trap {trap:?}")?.as_str())?,
-        Event::Exited(code) => seen.push_str(format!(in alloc; "exited {code}")?.as_str())?,
-        Event::Deep => seen.push_str("deep")?,
-        Event::Stuck => seen.push_str("stuck")?,
-        _ => seen.push_str("no end")?,
-    }
-    Ok(())
+fn wants_memory(told: Option<Result<Event, Memory>>) -> bool {
+    matches!(told, Some(Err(_)))
 }
 
 // Whether each call that may want memory wants it.
 fn is_lost(alloc: Global, run: &mut Run) -> bool {
-    matches!(run.step(alloc), Some(Err(_)))
-        && matches!(run.begin(alloc, false), Some(Err(_)))
+    wants_memory(run.step(alloc))
+        && wants_memory(run.begin(alloc, false))
         && matches!(run.mark(alloc, 9), Some(Err(_)))
-        && matches!(run.step(alloc), Some(Err(_)))
+        && wants_memory(run.step(alloc))
 }
 
-// Adds what is seen where a step may have wanted memory.
-fn push_want(alloc: Global, run: &mut Run, seen: &mut String) -> Result<(), Fail> {
+// What is seen where a step wanted memory.
+fn want_seen(alloc: Global, run: &mut Run) -> &'static str {
     if is_lost(alloc, run) {
-        seen.push_str("no memory")?;
+        "no memory"
     } else {
-        seen.push_str("some memory")?;
+        "some memory"
     }
-    Ok(())
 }
 
-// The event of one step; none where it wanted memory.
-fn next_event(alloc: Global, run: &mut Run, seen: &mut String) -> Result<Option<Event>, Fail> {
-    match allowed(run.step(alloc))? {
-        Ok(next) => Ok(Some(next)),
+// Makes a further step after an event, and puts its event in that one's place. Whether there is one: where the step wanted memory,
+// what is seen of that is added.
+fn makes_step(alloc: Global, run: &mut Run, event: &mut Event, seen: &mut String) -> Option<bool> {
+    match run.step(alloc)? {
+        Ok(next) => {
+            *event = next;
+            Some(true)
+        }
         Err(_) => {
-            push_want(alloc, run, seen)?;
-            Ok(None)
+            seen.push_str(want_seen(alloc, run)).ok()?;
+            Some(false)
         }
     }
 }
 
-// What comes after an event: the event of a further step, or none at an end, of which what is seen is added.
-fn after(
+// Goes on from an event to the next one. Whether there is one.
+fn advances(
     alloc: Global,
     run: &mut Run,
-    event: &Event,
+    event: &mut Event,
     hosts: &mut u32,
     seen: &mut String,
-) -> Result<Option<Event>, Fail> {
-    if goes_on(alloc, run, event, hosts, seen)? {
-        next_event(alloc, run, seen)
-    } else {
-        push_end(alloc, run, event, seen)?;
-        Ok(None)
-    }
+) -> Option<bool> {
+    Some(passes(alloc, run, event, hosts, seen)? && makes_step(alloc, run, event, seen)?)
 }
 
-// What is seen of a call of function 5 of the first unit, for at most 100,000 steps.
-fn seen_of(alloc: Global, run: &mut Run) -> Result<String, Fail> {
-    let mut seen = String::new(alloc);
+// Adds what is seen from an event on, for at most 100,000 steps.
+fn push_events(alloc: Global, run: &mut Run, event: &mut Event, seen: &mut String) -> Option<()> {
     let mut hosts = 0;
-    let mut event = told(run.begin(alloc, false))?;
     for _ in 0..100_000u32 {
-        match after(alloc, run, &event, &mut hosts, &mut seen)? {
-            Some(next) => event = next,
-            None => return Ok(seen),
+        if !advances(alloc, run, event, &mut hosts, seen)? {
+            break;
         }
     }
-    Ok(seen)
+    Some(())
 }
 
-// What is seen of a call of function 5 of the first unit of a pair.
-fn pair_seen(alloc: Global, pair: Pair) -> Result<String, Fail>
+// Adds what is seen of a call of function 5 of the first unit.
+fn push_seen(alloc: Global, run: &mut Run, seen: &mut String) -> Option<()> {
+    let mut event = run.begin(alloc, false)?.ok()?;
+    push_events(alloc, run, &mut event, seen)
+}
+
+// Whether this is seen of a call of function 5 of the first unit of a pair.
+fn pair_shows(alloc: Global, pair: Pair, expected: &str) -> Option<bool>
     requires { StandsOpen pair }
 {
     let mut run = Run::new(alloc, pair);
-    seen_of(alloc, &mut run)
+    let mut seen = String::new(alloc);
+    push_seen(alloc, &mut run, &mut seen)?;
+    Some(seen.as_str() == expected)
 }
 
 // The same of a pair, if there is one.
-fn seen_if(alloc: Global, pair: Option<Pair>) -> Result<String, Fail>
+fn shows_if(alloc: Global, pair: Option<Pair>, expected: &str) -> Option<bool>
     requires { IfSome pair StandsOpen }
 {
     match pair {
-        Some(pair) => pair_seen(alloc, pair),
-        None => Err(Fail::from("there is no pair")),
+        Some(pair) => pair_shows(alloc, pair, expected),
+        None => None,
     }
-}
-
-// The same of two modules, with the types of what is outside them.
-fn seen_with(
-    alloc: Global,
-    first: &Checked,
-    second: &Checked,
-    types: &OutsideTypes,
-) -> Result<String, Fail> {
-    seen_if(alloc, Pair::new(alloc, first, second, types))
 }
 
 // The same of two modules.
-fn modules_seen(alloc: Global, first: &Checked, second: &Checked) -> Result<String, Fail> {
-    let types = OutsideTypes::new(alloc)?;
-    seen_with(alloc, first, second, &types)
+fn modules_show(alloc: Global, first: &Checked, second: &Checked, expected: &str) -> Option<bool> {
+    let types = OutsideTypes::new(alloc).ok()?;
+    shows_if(alloc, Pair::new(alloc, first, second, &types), expected)
+}
+
+// The same of a module and of one that the bytes spell.
+fn second_shows(alloc: Global, first: &Checked, second: &[u8], expected: &str) -> Option<bool> {
+    let second = checked(alloc, second)?;
+    modules_show(alloc, first, &second, expected)
+}
+
+// The same of two modules that the bytes spell.
+fn units_show(alloc: Global, first: &[u8], second: &[u8], expected: &str) -> Option<bool> {
+    let first = checked(alloc, first)?;
+    second_shows(alloc, &first, second, expected)
 }
 
 // The same of two units whose functions 5 have these bodies.
-fn units_seen(alloc: Global, first: &str, second: &str) -> Result<String, Fail> {
-    let first = module_of(alloc, first)?;
-    let second = module_of(alloc, second)?;
-    modules_seen(alloc, &first, &second)
+fn bodies_show(alloc: Global, first: &str, second: &str, expected: &str) -> Option<bool> {
+    let first = module_of(alloc, first).ok()?;
+    let second = module_of(alloc, second).ok()?;
+    units_show(alloc, &first, &second, expected)
 }
 
-fn row_holds(alloc: Global, line: &str) -> Result<bool, Fail> {
-    let (row, expected) = line.split_once(" = ").ok_or("no result")?;
-    let (_, bodies) = row.split_once(": ").ok_or("no name")?;
-    let (first, second) = bodies.split_once(" | ").ok_or("no second body")?;
-    let seen = units_seen(alloc, first, second)?;
-    Ok(seen.as_str() == expected)
+fn row_holds(alloc: Global, line: &str) -> Option<bool> {
+    let (row, expected) = line.split_once(" = ")?;
+    let (_, bodies) = row.split_once(": ")?;
+    let (first, second) = bodies.split_once(" | ")?;
+    bodies_show(alloc, first, second, expected)
 }
 
 #[test]
-fn runs_two_units(rt: HostRuntime) -> Result<(), Fail> {
-    let mut rows = 0u32;
+fn runs_two_units(rt: HostRuntime) {
     for line in ROWS.lines() {
-        assert!(rt; row_holds(rt.alloc(), line)?, "{line}");
-        rows = rows.saturating_add(1);
+        assert!(rt; row_holds(rt.alloc(), line) == Some(true), "{line}");
     }
-    assert_eq!(rt; rows, 17);
-    Ok(())
+    assert!(rt; ROWS.lines().count() == 17);
 }
 
-// The host function is called over nothing: its answer is the end. Nothing else may be called meanwhile.
-fn calls_host(rt: &impl Abort, alloc: Global, run: &mut Run) -> Result<(), Fail> {
-    assert!(rt; run.step(alloc).is_none() && run.give(1).is_none() && run.unmark().is_none());
-    assert!(rt; matches!(told(run.begin_host(alloc))?, Event::Waits(_)));
-    assert!(rt; run.step(alloc).is_none() && run.begin(alloc, false).is_none());
-    assert!(rt; run.mark(alloc, 1).is_none());
-    allowed(run.answer(alloc))?;
-    assert!(rt; matches!(told(run.step(alloc))?, Event::Returned));
-    Ok(())
+fn is_refused(told: Option<Result<Event, Memory>>) -> bool {
+    told.is_none()
 }
 
-// The same over a pair, if there is one.
-fn pair_calls_host(rt: &impl Abort, alloc: Global, pair: Option<Pair>) -> Result<(), Fail>
+fn is_host_call(told: Option<Result<Event, Memory>>) -> bool {
+    matches!(told, Some(Ok(Event::Waits(_))))
+}
+
+fn is_return(told: Option<Result<Event, Memory>>) -> bool {
+    matches!(told, Some(Ok(Event::Returned)))
+}
+
+// Whether the host function is called over nothing, and nothing else may be called before and after.
+fn begins_host(alloc: Global, run: &mut Run) -> bool {
+    is_refused(run.step(alloc))
+        && run.give(1).is_none()
+        && run.unmark().is_none()
+        && is_host_call(run.begin_host(alloc))
+        && is_refused(run.step(alloc))
+        && is_refused(run.begin(alloc, false))
+        && run.mark(alloc, 1).is_none()
+}
+
+// Whether its answer is the end.
+fn ends_host(alloc: Global, run: &mut Run) -> bool {
+    run.answer(alloc).is_some() && is_return(run.step(alloc))
+}
+
+// Whether both hold over a pair, if there is one.
+fn pair_calls_host(alloc: Global, pair: Option<Pair>) -> bool
     requires { IfSome pair StandsOpen }
 {
     match pair {
         Some(pair) => {
             let mut run = Run::new(alloc, pair);
-            calls_host(rt, alloc, &mut run)
+            begins_host(alloc, &mut run) && ends_host(alloc, &mut run)
         }
-        None => Err(Fail::from("there is no pair")),
+        None => false,
     }
 }
 
 // The same over one module as both units.
-fn unit_calls_host(rt: &impl Abort, alloc: Global, unit: &Checked) -> Result<(), Fail> {
-    let types = OutsideTypes::new(alloc)?;
-    pair_calls_host(rt, alloc, Pair::new(alloc, unit, unit, &types))
+fn unit_calls_host(alloc: Global, unit: &Checked) -> Option<bool> {
+    let types = OutsideTypes::new(alloc).ok()?;
+    Some(pair_calls_host(alloc, Pair::new(alloc, unit, unit, &types)))
+}
+
+// The same over the module that the bytes spell.
+fn calls_host(alloc: Global, bytes: &[u8]) -> Option<bool> {
+    let unit = checked(alloc, bytes)?;
+    unit_calls_host(alloc, &unit)
 }
 
 #[test]
 fn calls_the_host_function(rt: HostRuntime) -> Result<(), Fail> {
-    let unit = module_of(rt.alloc(), "01")?;
-    unit_calls_host(&rt, rt.alloc(), &unit)
+    let bytes = module_of(rt.alloc(), "01")?;
+    assert!(rt; calls_host(rt.alloc(), &bytes) == Some(true));
+    Ok(())
 }

@@ -1,9 +1,10 @@
 // What is gathered from files of the system: a folder stands where a library is searched.
-use crate::tests::files::{file_of, options, shown};
+use crate::tests::files::{file_of, gives, options};
 use dyl_outside::{DiskFiles, Files};
-use dyl_search::gather;
-use std::fs;
+use std::alloc::{AllocError, Global};
+use std::rt::Files as FileSystem;
 use std::test::Fail;
+use std::{fs, io};
 
 const FOLDER: &str = "test_search_folder";
 
@@ -20,21 +21,45 @@ const ROWS: &[(&str, &str)] = &[
     ),
 ];
 
+// Makes the folder anew, with a folder in it where a library is searched.
+fn make_folders<R: Alloc + FileSystem>(rt: &R) -> io::Result<()> {
+    let _ = fs::remove_dir_all(rt, FOLDER);
+    fs::create_dir(rt, FOLDER)?;
+    fs::create_dir(rt, "test_search_folder/a.so")
+}
+
+// Whether the file of a member is stored.
+fn is_stored<F: Files>(
+    alloc: Global,
+    files: &mut F,
+    path: &str,
+    words: &str,
+) -> Result<bool, AllocError> {
+    let file = file_of(alloc, words)?;
+    Ok(files.store(alloc, path, &file).is_ok())
+}
+
+// Whether a row has its answer.
+fn row_holds<F: Files>(
+    alloc: Global,
+    files: &mut F,
+    words: &str,
+    wanted: &str,
+) -> Result<bool, AllocError> {
+    let asked = options(alloc, MAIN, "", "")?;
+    Ok(is_stored(alloc, files, MAIN, words)? && gives(alloc, files, &asked, wanted)?)
+}
+
 #[test]
 fn a_folder_in_place_of_a_library(rt: HostRuntime) -> Result<(), Fail> {
-    let alloc = rt.alloc();
-    let _ = fs::remove_dir_all(&rt, FOLDER);
-    fs::create_dir(&rt, FOLDER)?;
-    fs::create_dir(&rt, "test_search_folder/a.so")?;
+    make_folders(&rt)?;
     let mut files = DiskFiles::new(&rt);
-    let library = file_of(alloc, "")?;
-    files.store(alloc, "test_search_folder/c.so", &library)?;
-    let asked = options(alloc, MAIN, "", "")?;
+    assert!(rt; is_stored(rt.alloc(), &mut files, "test_search_folder/c.so", "")?);
     for (words, wanted) in ROWS {
-        let main = file_of(alloc, words)?;
-        files.store(alloc, MAIN, &main)?;
-        let gathered = gather(alloc, &mut files, &asked);
-        assert_eq!(rt; shown(alloc, &gathered)?.as_str(), *wanted);
+        assert!(rt;
+            row_holds(rt.alloc(), &mut files, words, wanted)?,
+            "{words}"
+        );
     }
     fs::remove_dir_all(&rt, FOLDER)?;
     Ok(())

@@ -1,7 +1,7 @@
 // Files of members, and what is gathered from them as text.
-use dyl_search::{ClosedSet, SetFault, SetOptions};
+use dyl_outside::Files;
+use dyl_search::{ClosedSet, Member, SetFault, SetOptions, gather};
 use std::alloc::{AllocError, Global};
-use std::test::Fail;
 use wasm_form::{List, Text};
 
 /// The magic bytes and version 1 (WebAssembly Core 2.0, section 5.5.16).
@@ -108,43 +108,71 @@ pub fn options(alloc: Global, main: &str, dl: &str, paths: &str) -> Result<SetOp
     })
 }
 
-/// Each member as its name, its path and the numbers that it needs, and then the numbers that start; or the fault.
-pub fn shown(alloc: Global, gathered: &Result<ClosedSet, SetFault>) -> Result<String, Fail> {
+/// Whether this is gathered from some files: each member as its name, its path and the numbers that it needs, and then the numbers that
+/// start; or the fault.
+pub fn gives<F: Files>(
+    alloc: Global,
+    files: &mut F,
+    asked: &SetOptions,
+    wanted: &str,
+) -> Result<bool, AllocError> {
+    let gathered = gather(alloc, files, asked);
+    let text = shown(alloc, &gathered)?;
+    Ok(text.as_str() == wanted)
+}
+
+fn shown(alloc: Global, gathered: &Result<ClosedSet, SetFault>) -> Result<String, AllocError> {
     match gathered {
         Ok(set) => shown_set(alloc, set),
         Err(fault) => shown_fault(alloc, fault),
     }
 }
 
-fn shown_set(alloc: Global, set: &ClosedSet) -> Result<String, Fail> {
+fn shown_set(alloc: Global, set: &ClosedSet) -> Result<String, AllocError> {
     let mut text = String::new(alloc);
     for member in set.members.items() {
-        text.push_str(format!(in alloc;
-            "{}@{}",
-            member.name.as_str(),
-            member.path.as_str()
-        )?.as_str())?;
-        for n in member.needed.items() {
-            text.push_str(format!(in alloc; " {n}")?.as_str())?;
-        }
-        text.push_str("; ")?;
+        push_member(alloc, &mut text, member)?;
     }
     text.push_str("starts")?;
-    for n in set.startup.items() {
-        text.push_str(format!(in alloc; " {n}")?.as_str())?;
-    }
+    push_numbers(alloc, &mut text, set.startup.items())?;
     Ok(text)
 }
 
-fn shown_fault(alloc: Global, fault: &SetFault) -> Result<String, Fail> {
-    Ok(match fault {
-        SetFault::Missing { name } => format!(in alloc; "missing {}", name.as_str())?,
-        SetFault::ReadFault { path } => format!(in alloc; "read fault {}", path.as_str())?,
-        SetFault::Decode { module, .. } => format!(in alloc; "decode {module}")?,
-        SetFault::Record { module, .. } => format!(in alloc; "record {module}")?,
-        SetFault::Check { module, .. } => format!(in alloc; "check {module}")?,
-        SetFault::ModuleCount => format!(in alloc; "module count")?,
-        SetFault::SetSize => format!(in alloc; "set size")?,
-        SetFault::Memory => format!(in alloc; "memory")?,
-    })
+fn push_member(alloc: Global, to: &mut String, member: &Member) -> Result<(), AllocError> {
+    to.push_str(member.name.as_str())?;
+    to.push_str("@")?;
+    to.push_str(member.path.as_str())?;
+    push_numbers(alloc, to, member.needed.items())?;
+    to.push_str("; ")
+}
+
+// Each number behind a space.
+fn push_numbers(alloc: Global, to: &mut String, numbers: &[u32]) -> Result<(), AllocError> {
+    for n in numbers {
+        to.push_str(format!(in alloc; " {n}")?.as_str())?;
+    }
+    Ok(())
+}
+
+fn shown_fault(alloc: Global, fault: &SetFault) -> Result<String, AllocError> {
+    match fault {
+        SetFault::Missing { name } => fault_at(alloc, "missing", name.as_str()),
+        SetFault::ReadFault { path } => fault_at(alloc, "read fault", path.as_str()),
+        SetFault::Decode { module, .. } => fault_of(alloc, "decode", *module),
+        SetFault::Record { module, .. } => fault_of(alloc, "record", *module),
+        SetFault::Check { module, .. } => fault_of(alloc, "check", *module),
+        SetFault::ModuleCount => String::from_str(alloc, "module count"),
+        SetFault::SetSize => String::from_str(alloc, "set size"),
+        SetFault::Memory => String::from_str(alloc, "memory"),
+    }
+}
+
+// A fault at a name or a path.
+fn fault_at(alloc: Global, fault: &str, place: &str) -> Result<String, AllocError> {
+    Ok(format!(in alloc; "{fault} {place}")?)
+}
+
+// A fault of a module.
+fn fault_of(alloc: Global, fault: &str, module: u32) -> Result<String, AllocError> {
+    Ok(format!(in alloc; "{fault} {module}")?)
 }

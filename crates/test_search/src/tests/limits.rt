@@ -1,10 +1,11 @@
 // How many members and how many bytes there may be.
-use crate::tests::files::{file_of, options, push_custom, shown};
+use crate::tests::files::{file_of, gives, options, push_custom};
 use dyl_outside::MemFiles;
 use dyl_search::gather;
 use std::alloc::{AllocError, Global};
 use std::test::Fail;
 use test_rows::{SMALLEST, bytes_of};
+use wasm_form::Memory;
 
 // A main module that needs so many others.
 fn needs_many(alloc: Global, count: u32) -> Result<Vec<u8>, AllocError> {
@@ -15,15 +16,20 @@ fn needs_many(alloc: Global, count: u32) -> Result<Vec<u8>, AllocError> {
     file_of(alloc, words.as_str())
 }
 
-fn many(alloc: Global, count: u32) -> Result<MemFiles, Fail> {
+// Adds the other with this number.
+fn add_other(alloc: Global, files: &mut MemFiles, i: u32) -> Result<(), Memory> {
+    let name = format!(in alloc; "a{i}")?;
+    let file = file_of(alloc, "")?;
+    files.add(alloc, name.as_str(), &file)
+}
+
+// The main module and the others.
+fn many(alloc: Global, count: u32) -> Result<MemFiles, Memory> {
     let mut files = MemFiles::new(alloc);
-    files.add(alloc, "m", &needs_many(alloc, count)?)?;
+    let main = needs_many(alloc, count)?;
+    files.add(alloc, "m", &main)?;
     for i in 0..count {
-        files.add(
-            alloc,
-            format!(in alloc; "a{i}")?.as_str(),
-            &file_of(alloc, "")?,
-        )?;
+        add_other(alloc, &mut files, i)?;
     }
     Ok(files)
 }
@@ -36,72 +42,100 @@ fn longest(alloc: Global, zeros: usize) -> Result<Vec<u8>, AllocError> {
     Ok(file)
 }
 
+// Whether the main module and 255 others start.
+fn all_start(alloc: Global) -> Result<bool, Memory> {
+    let asked = options(alloc, "m", "", "")?;
+    let mut files = many(alloc, 255)?;
+    match gather(alloc, &mut files, &asked) {
+        Ok(set) => Ok(set.startup.items().len() == 256),
+        Err(_) => Ok(false),
+    }
+}
+
+// Whether the main module needs too many others.
+fn are_too_many(alloc: Global) -> Result<bool, Memory> {
+    let asked = options(alloc, "m", "", "")?;
+    let mut files = many(alloc, 256)?;
+    Ok(gives(alloc, &mut files, &asked, "module count")?)
+}
+
 #[test]
 fn members(rt: HostRuntime) -> Result<(), Fail> {
-    let alloc = rt.alloc();
-    let o = options(alloc, "m", "", "")?;
-    match gather(alloc, &mut many(alloc, 255)?, &o) {
-        Ok(set) => assert_eq!(rt; set.startup.items().len(), 256),
-        Err(_) => assert!(rt; false),
-    }
-    assert_eq!(rt;
-        shown(alloc, &gather(alloc, &mut many(alloc, 256)?, &o))?.as_str(),
-        "module count"
-    );
-    let later = options(alloc, "m", "a254 a255", "")?;
-    let mut files = many(alloc, 255)?;
-    assert_eq!(rt;
-        shown(alloc, &gather(alloc, &mut files, &later))?.as_str(),
-        "module count"
-    );
-    files.add(alloc, "a254", &file_of(alloc, "faulty")?)?;
-    assert_eq!(rt;
-        shown(alloc, &gather(alloc, &mut files, &later))?.as_str(),
-        "check 255"
-    );
+    assert!(rt; all_start(rt.alloc())?);
+    assert!(rt; are_too_many(rt.alloc())?);
     Ok(())
+}
+
+// Whether a name that may be opened later is one member too many.
+fn later_is_too_many(alloc: Global, files: &mut MemFiles) -> Result<bool, AllocError> {
+    let asked = options(alloc, "m", "a254 a255", "")?;
+    gives(alloc, files, &asked, "module count")
+}
+
+// Whether the last member that there may be is found faulty before the one too many is counted.
+fn faulty_comes_first(alloc: Global, files: &mut MemFiles) -> Result<bool, Memory> {
+    let asked = options(alloc, "m", "a254 a255", "")?;
+    let faulty = file_of(alloc, "faulty")?;
+    files.add(alloc, "a254", &faulty)?;
+    Ok(gives(alloc, files, &asked, "check 255")?)
+}
+
+#[test]
+fn members_with_names_opened_later(rt: HostRuntime) -> Result<(), Fail> {
+    let mut files = many(rt.alloc(), 255)?;
+    assert!(rt; later_is_too_many(rt.alloc(), &mut files)?);
+    assert!(rt; faulty_comes_first(rt.alloc(), &mut files)?);
+    Ok(())
+}
+
+// Whether a file with so many zeros has this length, and this is gathered from it.
+fn one_gives(alloc: Global, zeros: usize, length: usize, wanted: &str) -> Result<bool, Memory> {
+    let file = longest(alloc, zeros)?;
+    let mut files = MemFiles::new(alloc);
+    files.add(alloc, "main.wasm", &file)?;
+    let asked = options(alloc, "main.wasm", "", "")?;
+    Ok(file.len() == length && gives(alloc, &mut files, &asked, wanted)?)
 }
 
 #[test]
 fn bytes_of_one_file(rt: HostRuntime) -> Result<(), Fail> {
-    let alloc = rt.alloc();
-    let o = options(alloc, "main.wasm", "", "")?;
-    let mut files = MemFiles::new(alloc);
-    let file = longest(alloc, 16_777_157)?;
-    assert_eq!(rt; file.len(), 16_777_216);
-    files.add(alloc, "main.wasm", &file)?;
-    assert_eq!(rt;
-        shown(alloc, &gather(alloc, &mut files, &o))?.as_str(),
-        "main.wasm@main.wasm; starts 0"
-    );
-    files.add(alloc, "main.wasm", &longest(alloc, 16_777_158)?)?;
-    assert_eq!(rt;
-        shown(alloc, &gather(alloc, &mut files, &o))?.as_str(),
-        "set size"
-    );
+    let whole = "main.wasm@main.wasm; starts 0";
+    assert!(rt; one_gives(rt.alloc(), 16_777_157, 16_777_216, whole)?);
+    assert!(rt; one_gives(rt.alloc(), 16_777_158, 16_777_217, "set size")?);
     Ok(())
 }
 
-#[test]
-fn bytes_of_several_files(rt: HostRuntime) -> Result<(), Fail> {
-    let alloc = rt.alloc();
-    let o = options(alloc, "m", "", "")?;
-    let mut files = MemFiles::new(alloc);
-    let main = file_of(alloc, "needs=a.so")?;
+// A main module that needs a library.
+fn main_with_library(alloc: Global) -> Result<Vec<u8>, AllocError> {
+    file_of(alloc, "needs=a.so")
+}
+
+// The zeros of a library that has 16,777,216 bytes together with that main module.
+fn zeros_beside_main(alloc: Global) -> Result<usize, AllocError> {
+    let main = main_with_library(alloc)?;
     let library = longest(alloc, 16_777_100)?;
     let rest = 16_777_216usize
         .saturating_sub(main.len())
         .saturating_sub(library.len());
+    Ok(16_777_100 + rest)
+}
+
+// Whether this is gathered from the main module and a library with so many zeros.
+fn two_give(alloc: Global, zeros: usize, wanted: &str) -> Result<bool, Memory> {
+    let mut files = MemFiles::new(alloc);
+    let main = main_with_library(alloc)?;
     files.add(alloc, "m", &main)?;
-    files.add(alloc, "a.so", &longest(alloc, 16_777_100 + rest)?)?;
-    assert_eq!(rt;
-        shown(alloc, &gather(alloc, &mut files, &o))?.as_str(),
-        "m@m 1; a.so@a.so; starts 0 1"
-    );
-    files.add(alloc, "a.so", &longest(alloc, 16_777_101 + rest)?)?;
-    assert_eq!(rt;
-        shown(alloc, &gather(alloc, &mut files, &o))?.as_str(),
-        "set size"
-    );
+    let library = longest(alloc, zeros)?;
+    files.add(alloc, "a.so", &library)?;
+    let asked = options(alloc, "m", "", "")?;
+    Ok(gives(alloc, &mut files, &asked, wanted)?)
+}
+
+#[test]
+fn bytes_of_several_files(rt: HostRuntime) -> Result<(), Fail> {
+    let zeros = zeros_beside_main(rt.alloc())?;
+    let one_more = zeros.saturating_add(1);
+    assert!(rt; two_give(rt.alloc(), zeros, "m@m 1; a.so@a.so; starts 0 1")?);
+    assert!(rt; two_give(rt.alloc(), one_more, "set size")?);
     Ok(())
 }

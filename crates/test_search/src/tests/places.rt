@@ -1,8 +1,8 @@
 // The plans of some regions, worked out by hand.
-ghost use Rattle.std.specs.Prelude.{IfOk, OnOk, All};
+ghost use Rattle.std.specs.Prelude.{◌≡◌, ◌≤◌, length, IfOk, OnOk, All};
 ghost use Rattle.dyl_plan.specs.Regions.{HasAligns};
 
-use dyl_plan::{Region, Sizes, place};
+use dyl_plan::{Plan, Region, Sizes, place};
 use spec_linking::PlanFault;
 use std::alloc::{AllocError, Global};
 use std::test::Fail;
@@ -70,23 +70,24 @@ fn sizes_of(text: &str) -> Sizes {
     }
 }
 
-// The plan of some regions as text.
-fn shown(alloc: Global, regions: &[Region], sizes: &Sizes) -> Result<String, Fail>
-    requires { All HasAligns regions.now }
-{
-    if regions.len() > 256 || sizes.pages_max > 16_384 || sizes.table_max > 983_040 {
-        return Ok(String::new(alloc));
+fn shown_fault(alloc: Global, fault: PlanFault) -> Result<String, AllocError> {
+    match fault {
+        PlanFault::MemoryLimit { pages, max } => {
+            Ok(format!(in alloc; "{pages} pages above {max}")?)
+        }
+        PlanFault::TableLimit { entries, max } => {
+            Ok(format!(in alloc; "{entries} entries above {max}")?)
+        }
+        PlanFault::Memory => String::from_str(alloc, "no memory"),
     }
-    let plan = match place(alloc, regions, sizes) {
-        Ok(plan) => plan,
-        Err(PlanFault::MemoryLimit { pages, max }) => {
-            return Ok(format!(in alloc; "{pages} pages above {max}")?);
-        }
-        Err(PlanFault::TableLimit { entries, max }) => {
-            return Ok(format!(in alloc; "{entries} entries above {max}")?);
-        }
-        Err(PlanFault::Memory) => return Ok(format!(in alloc; "no memory")?),
-    };
+}
+
+// What a plan of so many regions gives, as text.
+fn shown_plan(alloc: Global, plan: &Plan, count: usize) -> Result<String, AllocError>
+    requires bases { length plan.now.bases ≡ count }
+    requires table_bases { length plan.now.table_bases ≡ count }
+    requires few { count ≤ 256 }
+{
     let mut text = format!(in alloc;
         "{} {} {} {} {}",
         plan.stack_top(),
@@ -95,27 +96,41 @@ fn shown(alloc: Global, regions: &[Region], sizes: &Sizes) -> Result<String, Fai
         plan.pages(),
         plan.table_end()
     )?;
-    if regions.len() > 0 {
-        let last = regions.len() as u32 - 1;
-        text.push_str(format!(in alloc;
-            ": {} {}",
-            plan.base(last),
-            plan.table_base(last)
-        )?.as_str())?;
+    if count > 0 {
+        let last = count as u32 - 1;
+        let bases = format!(in alloc; ": {} {}", plan.base(last), plan.table_base(last))?;
+        text.push_str(bases.as_str())?;
     }
     Ok(text)
 }
 
+// The plan of some regions as text.
+fn shown(alloc: Global, regions: &[Region], sizes: &Sizes) -> Result<String, AllocError>
+    requires { All HasAligns regions.now }
+{
+    if regions.len() > 256 || sizes.pages_max > 16_384 || sizes.table_max > 983_040 {
+        return Ok(String::new(alloc));
+    }
+    match place(alloc, regions, sizes) {
+        Ok(plan) => shown_plan(alloc, &plan, regions.len()),
+        Err(fault) => shown_fault(alloc, fault),
+    }
+}
+
+// Whether a row has its plan.
+fn row_holds(alloc: Global, row: &str) -> Result<bool, AllocError> {
+    let (sizes, rest) = row.split_once('|').unwrap_or(("", ""));
+    let (regions, wanted) = rest.split_once('|').unwrap_or(("", ""));
+    let regions = regions_of(alloc, regions)?;
+    let plan = shown(alloc, &regions, &sizes_of(sizes))?;
+    Ok(plan.as_str() == wanted)
+}
+
 #[test]
 fn plans(rt: HostRuntime) -> Result<(), Fail> {
-    let alloc = rt.alloc();
     for row in ROWS.lines() {
-        let (sizes, rest) = row.split_once('|').unwrap_or(("", ""));
-        let (regions, wanted) = rest.split_once('|').unwrap_or(("", ""));
-        let regions = regions_of(alloc, regions)?;
-        let plan = shown(alloc, &regions, &sizes_of(sizes))?;
-        assert_eq!(rt; plan.as_str(), wanted);
+        assert!(rt; row_holds(rt.alloc(), row)?, "{row}");
     }
-    assert_eq!(rt; ROWS.lines().count(), 12);
+    assert!(rt; ROWS.lines().count() == 12);
     Ok(())
 }
