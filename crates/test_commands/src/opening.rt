@@ -4,7 +4,7 @@ mod nested;
 mod phases;
 mod programs;
 
-use crate::commands::called_over;
+use crate::commands::{DONE, called_over, does};
 use dyl_app::status;
 use dyl_outside::{MemFiles, MemSink};
 use host_table::HostTable;
@@ -18,4 +18,15 @@ fn puts(alloc: Global, line: &str, files: &mut MemFiles, wanted: &[u8]) -> Resul
     let errors = MemSink::new(alloc);
     let report = called_over(alloc, line, files, &host, output, errors)?;
     Ok(status(&report.outcome) == 0 && report.output.held() == wanted)
+}
+
+/// Whether files are merged by a line, and a run of what was merged puts these bytes.
+fn puts_merged(
+    alloc: Global,
+    line: &str,
+    files: &mut MemFiles,
+    wanted: &[u8],
+) -> Result<bool, Fail> {
+    let merged = does(alloc, line, files, &HostTable::new(alloc), DONE)?;
+    Ok(merged && puts(alloc, "wdyl exec out.wasm", files, wanted)?)
 }

@@ -163,9 +163,18 @@ fn row_answers(
     answers(alloc, words, &mut files, code, line, written)
 }
 
+// What the rows are isn't looked into where they are gone through.
+fn merges() -> &'static [(&'static str, u8, &'static str)] {
+    MERGES
+}
+
+fn refused() -> &'static [(&'static str, &'static str)] {
+    REFUSED
+}
+
 #[test]
 fn files_that_are_merged_or_not(rt: HostRuntime) -> Result<(), Fail> {
-    for (row, code, line) in MERGES {
+    for (row, code, line) in merges() {
         let written = *code == 0;
         assert!(rt;
             row_answers(rt.alloc(), MERGE, row, *code, line, written)?,
@@ -175,31 +184,41 @@ fn files_that_are_merged_or_not(rt: HostRuntime) -> Result<(), Fail> {
     Ok(())
 }
 
+/// Whether the file of a row is neither merged nor run, but refused with this line.
+fn is_refused(alloc: Global, row: &str, line: &str) -> Result<bool, Fail> {
+    Ok(
+        row_answers(alloc, MERGE, row, 65, line, false)?
+            && row_answers(alloc, EXEC, row, 65, line, false)?,
+    )
+}
+
 #[test]
 fn files_that_are_refused(rt: HostRuntime) -> Result<(), Fail> {
-    for (row, line) in REFUSED {
-        for words in [MERGE, EXEC] {
-            assert!(rt;
-                row_answers(rt.alloc(), words, row, 65, line, false)?,
-                "{row}"
-            );
-        }
+    for (row, line) in refused() {
+        assert!(rt; is_refused(rt.alloc(), row, line)?, "{row}");
     }
     Ok(())
 }
 
+/// Whether the bytes at the output's path are a module that has no fault.
+fn is_valid(alloc: Global, files: &mut MemFiles) -> Result<bool, Fail> {
+    match files.fetch(alloc, "out.wasm", 1_000_000_000) {
+        Ok(output) => Ok(check(alloc, decode(alloc, &output)?).is_ok()),
+        Err(_) => Ok(false),
+    }
+}
+
+/// Whether what is merged of the file of a row is valid.
+fn is_merged_to_valid(alloc: Global, row: &str) -> Result<bool, Fail> {
+    let mut files = holding(alloc, &file_of(alloc, row)?)?;
+    called(alloc, MERGE, &mut files, MemSink::new(alloc))?;
+    is_valid(alloc, &mut files)
+}
+
 #[test]
 fn what_is_merged_is_valid(rt: HostRuntime) -> Result<(), Fail> {
-    let alloc = rt.alloc();
-    for (row, code, _) in MERGES {
-        let mut files = holding(alloc, &file_of(alloc, row)?)?;
-        called(alloc, MERGE, &mut files, MemSink::new(alloc))?;
-        if *code == 0 {
-            let output = files
-                .fetch(alloc, "out.wasm", 1_000_000_000)
-                .expect(&rt, "the output");
-            assert!(rt; check(alloc, decode(alloc, &output)?).is_ok(), "{row}");
-        }
+    for (row, code, _) in merges() {
+        assert!(rt; *code != 0 || is_merged_to_valid(rt.alloc(), row)?, "{row}");
     }
     Ok(())
 }
@@ -219,15 +238,20 @@ fn line_of_prefix(count: usize) -> &'static str {
     }
 }
 
+/// Whether the first bytes of a file, so many of them, are refused with their line.
+fn is_prefix_refused(alloc: Global, prefix: &[u8]) -> Result<bool, Fail> {
+    let line = line_of_prefix(prefix.len());
+    let mut files = holding(alloc, prefix)?;
+    answers(alloc, MERGE, &mut files, 65, line, false)
+}
+
 #[test]
 fn prefixes(rt: HostRuntime) -> Result<(), Fail> {
-    let alloc = rt.alloc();
-    let file = bytes_of(alloc, SMALLEST)?;
+    let file = bytes_of(rt.alloc(), SMALLEST)?;
     assert_eq!(rt; file.len(), 53);
     for count in 0..file.len() {
-        let mut files = holding(alloc, &file[..count])?;
         assert!(rt;
-            answers(alloc, MERGE, &mut files, 65, line_of_prefix(count), false)?,
+            is_prefix_refused(rt.alloc(), &file[..count])?,
             "the prefix of {count}"
         );
     }
@@ -243,12 +267,10 @@ fn fails_so(alloc: Global, call: u64, code: u8, line: &str) -> Result<bool, Fail
 
 #[test]
 fn files_that_fail(rt: HostRuntime) -> Result<(), Fail> {
-    for (call, code, line) in [
-        (0, 66, "wdyl: read fault main.wasm\n"),
-        (1, 74, "wdyl: write fault\n"),
-    ] {
-        assert!(rt; fails_so(rt.alloc(), call, code, line)?, "{line}");
-    }
+    assert!(rt;
+        fails_so(rt.alloc(), 0, 66, "wdyl: read fault main.wasm\n")?
+            && fails_so(rt.alloc(), 1, 74, "wdyl: write fault\n")?
+    );
     Ok(())
 }
 
@@ -284,9 +306,11 @@ fn longest(alloc: Global, zeros: usize) -> Result<MemFiles, Fail> {
 fn the_longest_file(rt: HostRuntime) -> Result<(), Fail> {
     let alloc = rt.alloc();
     let mut files = longest(alloc, 16_777_158)?;
-    for words in [MERGE, EXEC_MERGED, RUN] {
-        assert!(rt; answers(alloc, words, &mut files, 0, "", true)?);
-    }
+    assert!(rt;
+        answers(alloc, MERGE, &mut files, 0, "", true)?
+            && answers(alloc, EXEC_MERGED, &mut files, 0, "", true)?
+            && answers(alloc, RUN, &mut files, 0, "", true)?
+    );
     Ok(())
 }
 
@@ -354,15 +378,20 @@ const WRONG: &[(&[&str], &str)] = &[
     ),
 ];
 
+fn wrong() -> &'static [(&'static [&'static str], &'static str)] {
+    WRONG
+}
+
+/// Whether words are refused as no order with this line.
+fn are_no_order(alloc: Global, words: &[&str], line: &str) -> Result<bool, Fail> {
+    let mut files = holding(alloc, &bytes_of(alloc, SMALLEST)?)?;
+    answers(alloc, words, &mut files, 64, line, false)
+}
+
 #[test]
 fn words_that_are_no_order(rt: HostRuntime) -> Result<(), Fail> {
-    let alloc = rt.alloc();
-    for (words, line) in WRONG {
-        let mut files = holding(alloc, &bytes_of(alloc, SMALLEST)?)?;
-        assert!(rt;
-            answers(alloc, words, &mut files, 64, line, false)?,
-            "{line}"
-        );
+    for (words, line) in wrong() {
+        assert!(rt; are_no_order(rt.alloc(), words, line)?, "{line}");
     }
     Ok(())
 }

@@ -1,9 +1,7 @@
 // Three libraries whose constructors open each other, in each order, beside a model.
 use super::modules::{MAINS, OF_P, OF_Q, OF_R, Opener};
-use super::puts;
-use crate::commands::{DONE, does};
+use super::{puts, puts_merged};
 use dyl_outside::MemFiles;
-use host_table::HostTable;
 use std::alloc::Global;
 use std::test::Fail;
 use test_files::{File, bytes_in};
@@ -108,6 +106,14 @@ impl Model {
         self.say(false, library)
     }
 
+    /// Opens what the main module opens.
+    fn enter(&mut self, set: Set) -> Result<(), Memory> {
+        for library in set.opened_first() {
+            self.first(set, *library)?;
+        }
+        Ok(())
+    }
+
     /// Opens one from the main module.
     fn first(&mut self, set: Set, library: usize) -> Result<(), Memory> {
         if self.open(library) {
@@ -129,9 +135,7 @@ fn modelled(alloc: Global, set: Set) -> Result<Vec<u8>, Memory> {
         q: false,
         r: false,
     };
-    for library in set.opened_first() {
-        model.first(set, *library)?;
-    }
+    model.enter(set)?;
     Ok(model.put)
 }
 
@@ -162,12 +166,8 @@ fn is_run(alloc: Global, set: Set) -> Result<bool, Fail> {
 fn is_merged(alloc: Global, set: Set) -> Result<bool, Fail> {
     let wanted = modelled(alloc, set)?;
     let mut files = files_of(alloc, set)?;
-    let host = HostTable::new(alloc);
     let merge = "wdyl merge --dl p.so,q.so,r.so main.wasm out.wasm";
-    Ok(
-        does(alloc, merge, &mut files, &host, DONE)?
-            && puts(alloc, "wdyl exec out.wasm", &mut files, &wanted)?,
-    )
+    puts_merged(alloc, merge, &mut files, &wanted)
 }
 
 fn agrees(alloc: Global, merged: bool, set: Set) -> Result<bool, Fail> {

@@ -5,9 +5,8 @@ use super::modules::{
 use super::phases::{
     CONSTRUCTS_LAST, ENTERED, PLACED_BEHIND, RELOCATES_BADLY, SEARCHED, STARTS_BADLY,
 };
-use super::puts;
-use crate::commands::{DONE, Row, Wanted, are_merged, are_run, does};
-use host_table::HostTable;
+use super::{puts, puts_merged};
+use crate::commands::{DONE, Row, Wanted, are_merged, are_run};
 use std::alloc::Global;
 use std::test::Fail;
 use test_files::{DIAMOND, File, holding};
@@ -42,6 +41,9 @@ const OPENED: &[Row] = &[
             ..DONE
         },
     ),
+];
+
+const CALLED: &[Row] = &[
     (
         LATE,
         "",
@@ -60,7 +62,7 @@ const OPENED: &[Row] = &[
     ),
 ];
 
-const PLACED: &[Row] = &[
+const LATER: &[Row] = &[
     (
         LATE_DATA,
         "--dl d.so",
@@ -77,6 +79,9 @@ const PLACED: &[Row] = &[
             ..DONE
         },
     ),
+];
+
+const PLACED: &[Row] = &[
     (
         ENTERED,
         "--dl c.so",
@@ -118,6 +123,9 @@ const BREAKING: &[Row] = &[
             ..UNREACHABLE
         },
     ),
+];
+
+const STOPPING: &[Row] = &[
     (
         CONSTRUCTS_LAST,
         "--dl d.so",
@@ -167,6 +175,14 @@ fn opened() -> &'static [Row] {
     OPENED
 }
 
+fn called() -> &'static [Row] {
+    CALLED
+}
+
+fn later() -> &'static [Row] {
+    LATER
+}
+
 fn placed() -> &'static [Row] {
     PLACED
 }
@@ -179,24 +195,36 @@ fn breaking() -> &'static [Row] {
     BREAKING
 }
 
+fn stopping() -> &'static [Row] {
+    STOPPING
+}
+
 fn answers() -> &'static [Answers] {
     ANSWERS
 }
 
 #[test]
 fn runs_that_open(rt: HostRuntime) -> Result<(), Fail> {
-    are_run(rt.alloc(), opened())?;
-    are_run(rt.alloc(), placed())?;
-    are_run(rt.alloc(), ending())?;
-    are_run(rt.alloc(), breaking())
+    let alloc = rt.alloc();
+    for rows in [opened(), called(), later(), placed()] {
+        are_run(alloc, rows)?;
+    }
+    for rows in [ending(), breaking(), stopping()] {
+        are_run(alloc, rows)?;
+    }
+    Ok(())
 }
 
 #[test]
 fn merged_sets_that_open(rt: HostRuntime) -> Result<(), Fail> {
-    are_merged(rt.alloc(), opened())?;
-    are_merged(rt.alloc(), placed())?;
-    are_merged(rt.alloc(), ending())?;
-    are_merged(rt.alloc(), breaking())
+    let alloc = rt.alloc();
+    for rows in [opened(), called(), later(), placed()] {
+        are_merged(alloc, rows)?;
+    }
+    for rows in [ending(), breaking(), stopping()] {
+        are_merged(alloc, rows)?;
+    }
+    Ok(())
 }
 
 /// Whether a run of a set with options puts these bytes.
@@ -214,11 +242,7 @@ fn is_answered_merged(
 ) -> Result<bool, Fail> {
     let line = format!(in alloc; "wdyl merge {options} main.wasm out.wasm")?;
     let mut files = holding(alloc, set)?;
-    let host = HostTable::new(alloc);
-    Ok(
-        does(alloc, &line, &mut files, &host, DONE)?
-            && puts(alloc, "wdyl exec out.wasm", &mut files, wanted)?,
-    )
+    puts_merged(alloc, &line, &mut files, wanted)
 }
 
 #[test]

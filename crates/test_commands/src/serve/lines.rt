@@ -34,26 +34,36 @@ fn text(alloc: Global, name: &str) -> Result<Text, Fail> {
     Ok(Text::of(String::from_str(alloc, name)?))
 }
 
+/// What is wrong with words, and the lines.
+const USAGES: &[(UsageKind, &str)] = &[
+    (UsageKind::NoCommand, "wdyl: usage: no command\n"),
+    (UsageKind::UnknownCommand, "wdyl: usage: unknown command\n"),
+    (UsageKind::Words, "wdyl: usage: words\n"),
+];
+
+// What the rows are isn't looked into where they are gone through.
+fn usages() -> &'static [(UsageKind, &'static str)] {
+    USAGES
+}
+
+#[test]
+fn lines_of_words(rt: HostRuntime) -> Result<(), Fail> {
+    for (kind, line) in usages() {
+        assert!(rt; tells(rt.alloc(), Outcome::Usage(*kind), line)?, "{line}");
+    }
+    Ok(())
+}
+
 #[test]
 fn lines_of_outcomes(rt: HostRuntime) -> Result<(), Fail> {
     let alloc = rt.alloc();
-    for (outcome, line) in [
-        (Outcome::done(alloc), ""),
-        (Outcome::Gen(GenFault::Range), "wdyl: N must be 1 to 255\n"),
-        (Outcome::WriteFault, "wdyl: write fault\n"),
-        (Outcome::Memory, "wdyl: out of memory\n"),
-        (
-            Outcome::Usage(UsageKind::NoCommand),
-            "wdyl: usage: no command\n",
-        ),
-        (
-            Outcome::Usage(UsageKind::UnknownCommand),
-            "wdyl: usage: unknown command\n",
-        ),
-        (Outcome::Usage(UsageKind::Words), "wdyl: usage: words\n"),
-    ] {
-        assert!(rt; tells(alloc, outcome, line)?, "{line}");
-    }
+    let range = "wdyl: N must be 1 to 255\n";
+    assert!(rt;
+        tells(alloc, Outcome::done(alloc), "")?
+            && tells(alloc, Outcome::Gen(GenFault::Range), range)?
+            && tells(alloc, Outcome::WriteFault, "wdyl: write fault\n")?
+            && tells(alloc, Outcome::Memory, "wdyl: out of memory\n")?
+    );
     Ok(())
 }
 
@@ -67,30 +77,37 @@ fn tells_end(alloc: Global, end: RunEnd, text: &str) -> Result<bool, Fail> {
     tells(alloc, Outcome::Ran(ran), text)
 }
 
+/// How runs end, and the lines.
+const ENDS: &[(RunEnd, &str)] = &[
+    (RunEnd::Return, ""),
+    (RunEnd::Exit(7), ""),
+    (RunEnd::Trap(Trap::Unreachable), "wdyl: trap unreachable\n"),
+    (
+        RunEnd::Trap(Trap::MemoryBounds),
+        "wdyl: trap memory bounds\n",
+    ),
+    (RunEnd::Trap(Trap::TableBounds), "wdyl: trap table bounds\n"),
+    (RunEnd::Trap(Trap::NullEntry), "wdyl: trap null entry\n"),
+    (RunEnd::Trap(Trap::WrongType), "wdyl: trap wrong type\n"),
+    (
+        RunEnd::Trap(Trap::DivideByZero),
+        "wdyl: trap divide by zero\n",
+    ),
+    (RunEnd::Trap(Trap::Overflow), "wdyl: trap overflow\n"),
+    (RunEnd::StepLimit, "wdyl: step limit\n"),
+    (RunEnd::DepthLimit, "wdyl: depth limit\n"),
+    (RunEnd::HostCallLimit, "wdyl: host call limit\n"),
+    (RunEnd::Stuck, "wdyl: stuck\n"),
+];
+
+fn ends() -> &'static [(RunEnd, &'static str)] {
+    ENDS
+}
+
 #[test]
 fn lines_of_ends(rt: HostRuntime) -> Result<(), Fail> {
-    for (end, line) in [
-        (RunEnd::Return, ""),
-        (RunEnd::Exit(7), ""),
-        (RunEnd::Trap(Trap::Unreachable), "wdyl: trap unreachable\n"),
-        (
-            RunEnd::Trap(Trap::MemoryBounds),
-            "wdyl: trap memory bounds\n",
-        ),
-        (RunEnd::Trap(Trap::TableBounds), "wdyl: trap table bounds\n"),
-        (RunEnd::Trap(Trap::NullEntry), "wdyl: trap null entry\n"),
-        (RunEnd::Trap(Trap::WrongType), "wdyl: trap wrong type\n"),
-        (
-            RunEnd::Trap(Trap::DivideByZero),
-            "wdyl: trap divide by zero\n",
-        ),
-        (RunEnd::Trap(Trap::Overflow), "wdyl: trap overflow\n"),
-        (RunEnd::StepLimit, "wdyl: step limit\n"),
-        (RunEnd::DepthLimit, "wdyl: depth limit\n"),
-        (RunEnd::HostCallLimit, "wdyl: host call limit\n"),
-        (RunEnd::Stuck, "wdyl: stuck\n"),
-    ] {
-        assert!(rt; tells_end(rt.alloc(), end, line)?, "{line}");
+    for (end, line) in ends() {
+        assert!(rt; tells_end(rt.alloc(), *end, line)?, "{line}");
     }
     Ok(())
 }
@@ -101,15 +118,22 @@ fn tells_missing(alloc: Global, name: &str, line: &str) -> Result<bool, Fail> {
     tells_set(alloc, SetFault::Missing { name }, line)
 }
 
+/// Names of files that are missing, and the lines.
+const MISSING: &[(&str, &str)] = &[
+    ("lib.wasm", "wdyl: missing lib.wasm\n"),
+    ("a b", "wdyl: missing a\\20b\n"),
+    ("a\\b", "wdyl: missing a\\5cb\n"),
+    ("~\x7F!", "wdyl: missing ~\\7f!\n"),
+    ("\u{E9}", "wdyl: missing \\c3\\a9\n"),
+];
+
+fn missing() -> &'static [(&'static str, &'static str)] {
+    MISSING
+}
+
 #[test]
 fn lines_of_missing_files(rt: HostRuntime) -> Result<(), Fail> {
-    for (name, line) in [
-        ("lib.wasm", "wdyl: missing lib.wasm\n"),
-        ("a b", "wdyl: missing a\\20b\n"),
-        ("a\\b", "wdyl: missing a\\5cb\n"),
-        ("~\x7F!", "wdyl: missing ~\\7f!\n"),
-        ("\u{E9}", "wdyl: missing \\c3\\a9\n"),
-    ] {
+    for (name, line) in missing() {
         assert!(rt; tells_missing(rt.alloc(), name, line)?, "{line}");
     }
     Ok(())
@@ -137,48 +161,51 @@ fn tells_import(alloc: Global, from: &str, is_there: bool, line: &str) -> Result
 
 #[test]
 fn lines_of_host_imports(rt: HostRuntime) -> Result<(), Fail> {
-    for (from, is_there, line) in [
-        ("e v", false, "wdyl: no host import e\\20v f\n"),
-        ("env", true, "wdyl: ill-typed host import env f\n"),
-    ] {
-        assert!(rt; tells_import(rt.alloc(), from, is_there, line)?, "{line}");
-    }
+    let alloc = rt.alloc();
+    assert!(rt;
+        tells_import(alloc, "e v", false, "wdyl: no host import e\\20v f\n")?
+            && tells_import(alloc, "env", true, "wdyl: ill-typed host import env f\n")?
+    );
     Ok(())
 }
 
 #[test]
 fn lines_of_single_modules(rt: HostRuntime) -> Result<(), Fail> {
-    for (fault, line) in [
-        (SingleFault::NoEntry, "wdyl: no entry\n"),
-        (SingleFault::SegmentTrap, "wdyl: segment out of bounds\n"),
-    ] {
-        assert!(rt; tells(rt.alloc(), Outcome::Single(fault), line)?, "{line}");
-    }
+    let alloc = rt.alloc();
+    let segment = Outcome::Single(SingleFault::SegmentTrap);
+    assert!(rt;
+        tells(
+            alloc,
+            Outcome::Single(SingleFault::NoEntry),
+            "wdyl: no entry\n"
+        )? && tells(alloc, segment, "wdyl: segment out of bounds\n")?
+    );
+    Ok(())
+}
+
+#[test]
+fn lines_of_limits(rt: HostRuntime) -> Result<(), Fail> {
+    let alloc = rt.alloc();
+    let memory = LinkFault::MemoryLimit {
+        pages: 1025,
+        max: 1024,
+    };
+    let table = LinkFault::TableLimit { entries: 8, max: 7 };
+    assert!(rt;
+        tells_link(alloc, memory, "wdyl: memory of 1025 pages is above 1024\n")?
+            && tells_link(alloc, table, "wdyl: table of 8 entries is above 7\n")?
+    );
     Ok(())
 }
 
 #[test]
 fn lines_of_links(rt: HostRuntime) -> Result<(), Fail> {
-    for (fault, line) in [
-        (
-            LinkFault::MemoryLimit {
-                pages: 1025,
-                max: 1024,
-            },
-            "wdyl: memory of 1025 pages is above 1024\n",
-        ),
-        (
-            LinkFault::TableLimit { entries: 8, max: 7 },
-            "wdyl: table of 8 entries is above 7\n",
-        ),
-        (
-            LinkFault::OwnMemory { module: 3 },
-            "wdyl: module 3 has its own memory\n",
-        ),
-        (LinkFault::NoEntry, "wdyl: no entry\n"),
-    ] {
-        assert!(rt; tells_link(rt.alloc(), fault, line)?, "{line}");
-    }
+    let alloc = rt.alloc();
+    let own = LinkFault::OwnMemory { module: 3 };
+    assert!(rt;
+        tells_link(alloc, own, "wdyl: module 3 has its own memory\n")?
+            && tells_link(alloc, LinkFault::NoEntry, "wdyl: no entry\n")?
+    );
     Ok(())
 }
 
@@ -193,15 +220,22 @@ fn tells_unresolved(alloc: Global, kind: Kind, line: &str) -> Result<bool, Fail>
     tells_link(alloc, fault, line)
 }
 
+/// Kinds of imports that nothing defines, and the lines.
+const KINDS: &[(Kind, &str)] = &[
+    (Kind::Function, "wdyl: unresolved function f in 2\n"),
+    (Kind::Mem, "wdyl: unresolved mem f in 2\n"),
+    (Kind::Func, "wdyl: unresolved func f in 2\n"),
+    (Kind::Other, "wdyl: unresolved other f in 2\n"),
+];
+
+fn kinds() -> &'static [(Kind, &'static str)] {
+    KINDS
+}
+
 #[test]
 fn lines_of_unresolved_imports(rt: HostRuntime) -> Result<(), Fail> {
-    for (kind, line) in [
-        (Kind::Function, "wdyl: unresolved function f in 2\n"),
-        (Kind::Mem, "wdyl: unresolved mem f in 2\n"),
-        (Kind::Func, "wdyl: unresolved func f in 2\n"),
-        (Kind::Other, "wdyl: unresolved other f in 2\n"),
-    ] {
-        assert!(rt; tells_unresolved(rt.alloc(), kind, line)?, "{line}");
+    for (kind, line) in kinds() {
+        assert!(rt; tells_unresolved(rt.alloc(), *kind, line)?, "{line}");
     }
     Ok(())
 }
@@ -241,129 +275,173 @@ fn line_of_a_duplicate(rt: HostRuntime) -> Result<(), Fail> {
 
 #[test]
 fn lines_of_sets(rt: HostRuntime) -> Result<(), Fail> {
-    for (fault, line) in [
-        (SetFault::SetSize, "wdyl: files too long\n"),
-        (SetFault::ModuleCount, "wdyl: more than 256 modules\n"),
-    ] {
-        assert!(rt; tells_set(rt.alloc(), fault, line)?, "{line}");
-    }
+    let alloc = rt.alloc();
+    assert!(rt;
+        tells_set(alloc, SetFault::SetSize, "wdyl: files too long\n")?
+            && tells_set(
+                alloc,
+                SetFault::ModuleCount,
+                "wdyl: more than 256 modules\n"
+            )?
+    );
     Ok(())
+}
+
+/// Why bytes aren't decoded, and the lines.
+const DECODING: &[(DecodeFault, &str)] = &[
+    (
+        DecodeFault::Malformed { section: 4 },
+        "wdyl: module 0 malformed after 4 sections\n",
+    ),
+    (DecodeFault::Counts, "wdyl: module 0 counts differ\n"),
+    (
+        DecodeFault::TooDeep { function: 10 },
+        "wdyl: module 0 too deep in function 10\n",
+    ),
+    (
+        DecodeFault::TooManyLocals {
+            function: 4_294_967_295,
+        },
+        "wdyl: module 0 too many locals in function 4294967295\n",
+    ),
+];
+
+fn decoding() -> &'static [(DecodeFault, &'static str)] {
+    DECODING
+}
+
+/// Whether a decode fault of the main module is told by this line.
+fn tells_decoding(alloc: Global, fault: DecodeFault, line: &str) -> Result<bool, Fail> {
+    tells_set(alloc, SetFault::Decode { module: 0, fault }, line)
 }
 
 #[test]
 fn lines_of_decoding(rt: HostRuntime) -> Result<(), Fail> {
-    let alloc = rt.alloc();
-    for (fault, line) in [
-        (
-            DecodeFault::Malformed { section: 4 },
-            "wdyl: module 0 malformed after 4 sections\n",
-        ),
-        (DecodeFault::Counts, "wdyl: module 0 counts differ\n"),
-        (
-            DecodeFault::TooDeep { function: 10 },
-            "wdyl: module 0 too deep in function 10\n",
-        ),
-        (
-            DecodeFault::TooManyLocals {
-                function: 4_294_967_295,
-            },
-            "wdyl: module 0 too many locals in function 4294967295\n",
-        ),
-    ] {
-        assert!(rt;
-            tells_set(alloc, SetFault::Decode { module: 0, fault }, line)?,
-            "{line}"
-        );
+    for (fault, line) in decoding() {
+        assert!(rt; tells_decoding(rt.alloc(), *fault, line)?, "{line}");
     }
     Ok(())
+}
+
+/// Whether a fault of the third member's record is told by this line.
+fn tells_record(alloc: Global, fault: RecordFault, line: &str) -> Result<bool, Fail> {
+    tells_set(alloc, SetFault::Record { module: 2, fault }, line)
 }
 
 #[test]
 fn lines_of_records(rt: HostRuntime) -> Result<(), Fail> {
     let alloc = rt.alloc();
-    for (fault, line) in [
-        (
-            RecordFault::NoDylink,
-            "wdyl: module 2 has no dylink.0 section\n",
-        ),
-        (
-            RecordFault::BadDylink { subsection: 3 },
-            "wdyl: module 2 dylink.0 malformed after 3 subsections\n",
-        ),
-    ] {
-        assert!(rt;
-            tells_set(alloc, SetFault::Record { module: 2, fault }, line)?,
-            "{line}"
-        );
+    let absent = "wdyl: module 2 has no dylink.0 section\n";
+    let bad = "wdyl: module 2 dylink.0 malformed after 3 subsections\n";
+    assert!(rt;
+        tells_record(alloc, RecordFault::NoDylink, absent)?
+            && tells_record(alloc, RecordFault::BadDylink { subsection: 3 }, bad)?
+    );
+    Ok(())
+}
+
+/// What a module is refused for, and the lines.
+const CHECKS: &[(CheckFault, &str)] = &[
+    (
+        CheckFault::UnsupportedOp {
+            function: 1,
+            opcode: 0x0E,
+        },
+        "wdyl: module 0 unsupported instruction 0e in function 1\n",
+    ),
+    (
+        CheckFault::UnsupportedOp {
+            function: 2,
+            opcode: 0xFC0A,
+        },
+        "wdyl: module 0 unsupported instruction fc0a in function 2\n",
+    ),
+    (
+        CheckFault::BadBody { function: 7 },
+        "wdyl: module 0 invalid body of function 7\n",
+    ),
+];
+
+/// Where a type stands that isn't supported, and the lines.
+const PLACES: &[(Place, &str)] = &[
+    (
+        Place::Import(0),
+        "wdyl: module 0 unsupported type in import 0\n",
+    ),
+    (
+        Place::Function(1),
+        "wdyl: module 0 unsupported type in function 1\n",
+    ),
+    (
+        Place::Table(2),
+        "wdyl: module 0 unsupported type in table 2\n",
+    ),
+    (
+        Place::Global(3),
+        "wdyl: module 0 unsupported type in global 3\n",
+    ),
+    (
+        Place::Element(4),
+        "wdyl: module 0 unsupported type in element 4\n",
+    ),
+    (
+        Place::Body(5),
+        "wdyl: module 0 unsupported type in body 5\n",
+    ),
+];
+
+/// Which field of a module isn't valid, and the lines.
+const FIELDS: &[(Field, &str)] = &[
+    (Field::Import, "wdyl: module 0 invalid import\n"),
+    (Field::Function, "wdyl: module 0 invalid function\n"),
+    (Field::Table, "wdyl: module 0 invalid table\n"),
+    (Field::Space, "wdyl: module 0 invalid memory\n"),
+    (Field::Global, "wdyl: module 0 invalid global\n"),
+    (Field::Export, "wdyl: module 0 invalid export\n"),
+    (Field::Start, "wdyl: module 0 invalid start\n"),
+    (Field::Element, "wdyl: module 0 invalid element\n"),
+    (Field::Data, "wdyl: module 0 invalid data\n"),
+];
+
+fn checks() -> &'static [(CheckFault, &'static str)] {
+    CHECKS
+}
+
+fn places() -> &'static [(Place, &'static str)] {
+    PLACES
+}
+
+fn fields() -> &'static [(Field, &'static str)] {
+    FIELDS
+}
+
+/// Whether a check fault of the main module is told by this line.
+fn tells_check(alloc: Global, fault: CheckFault, line: &str) -> Result<bool, Fail> {
+    tells_set(alloc, SetFault::Check { module: 0, fault }, line)
+}
+
+#[test]
+fn lines_of_checks(rt: HostRuntime) -> Result<(), Fail> {
+    for (fault, line) in checks() {
+        assert!(rt; tells_check(rt.alloc(), *fault, line)?, "{line}");
     }
     Ok(())
 }
 
 #[test]
-fn lines_of_checks(rt: HostRuntime) -> Result<(), Fail> {
-    let alloc = rt.alloc();
-    let unsupported = |place| CheckFault::UnsupportedType { place };
-    let invalid = |field| CheckFault::BadModule { field };
-    for (fault, line) in [
-        (
-            CheckFault::UnsupportedOp {
-                function: 1,
-                opcode: 0x0E,
-            },
-            "wdyl: module 0 unsupported instruction 0e in function 1\n",
-        ),
-        (
-            CheckFault::UnsupportedOp {
-                function: 2,
-                opcode: 0xFC0A,
-            },
-            "wdyl: module 0 unsupported instruction fc0a in function 2\n",
-        ),
-        (
-            CheckFault::BadBody { function: 7 },
-            "wdyl: module 0 invalid body of function 7\n",
-        ),
-        (
-            unsupported(Place::Import(0)),
-            "wdyl: module 0 unsupported type in import 0\n",
-        ),
-        (
-            unsupported(Place::Function(1)),
-            "wdyl: module 0 unsupported type in function 1\n",
-        ),
-        (
-            unsupported(Place::Table(2)),
-            "wdyl: module 0 unsupported type in table 2\n",
-        ),
-        (
-            unsupported(Place::Global(3)),
-            "wdyl: module 0 unsupported type in global 3\n",
-        ),
-        (
-            unsupported(Place::Element(4)),
-            "wdyl: module 0 unsupported type in element 4\n",
-        ),
-        (
-            unsupported(Place::Body(5)),
-            "wdyl: module 0 unsupported type in body 5\n",
-        ),
-        (invalid(Field::Import), "wdyl: module 0 invalid import\n"),
-        (
-            invalid(Field::Function),
-            "wdyl: module 0 invalid function\n",
-        ),
-        (invalid(Field::Table), "wdyl: module 0 invalid table\n"),
-        (invalid(Field::Space), "wdyl: module 0 invalid memory\n"),
-        (invalid(Field::Global), "wdyl: module 0 invalid global\n"),
-        (invalid(Field::Export), "wdyl: module 0 invalid export\n"),
-        (invalid(Field::Start), "wdyl: module 0 invalid start\n"),
-        (invalid(Field::Element), "wdyl: module 0 invalid element\n"),
-        (invalid(Field::Data), "wdyl: module 0 invalid data\n"),
-    ] {
-        assert!(rt;
-            tells_set(alloc, SetFault::Check { module: 0, fault }, line)?,
-            "{line}"
-        );
+fn lines_of_unsupported_types(rt: HostRuntime) -> Result<(), Fail> {
+    for (place, line) in places() {
+        let fault = CheckFault::UnsupportedType { place: *place };
+        assert!(rt; tells_check(rt.alloc(), fault, line)?, "{line}");
+    }
+    Ok(())
+}
+
+#[test]
+fn lines_of_invalid_fields(rt: HostRuntime) -> Result<(), Fail> {
+    for (field, line) in fields() {
+        let fault = CheckFault::BadModule { field: *field };
+        assert!(rt; tells_check(rt.alloc(), fault, line)?, "{line}");
     }
     Ok(())
 }
