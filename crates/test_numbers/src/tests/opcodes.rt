@@ -7,17 +7,22 @@ use wasm_opcode::{
 
 #[test]
 fn tells_opcodes(rt: HostRuntime) {
-    assert_eq!(rt; plain_form(0x0F), Some(PlainForm::Return));
     let binary = PlainForm::Operator(Operator::Binary(ValType::I64));
-    assert_eq!(rt; plain_form(0x7C), Some(binary));
-    assert_eq!(rt; plain_form(0x92), None);
-    assert_eq!(rt; index_form(0x10), Some(IndexForm::Call));
-    assert_eq!(rt; second_form(17), Some(SecondForm::TableFill));
+    assert!(rt;
+        plain_form(0x0F) == Some(PlainForm::Return)
+            && plain_form(0x7C) == Some(binary)
+            && plain_form(0x92) == None
+            && index_form(0x10) == Some(IndexForm::Call)
+            && second_form(17) == Some(SecondForm::TableFill)
+    );
+}
+
+#[test]
+fn tells_what_accesses_do(rt: HostRuntime) {
     let store8 = MemoryAccess {
         value: ValType::I32,
         exponent: 0,
         writes: true,
     };
-    assert_eq!(rt; memory_access(0x3A), Some(store8));
-    assert_eq!(rt; memory_access(0x2A), None);
+    assert!(rt; memory_access(0x3A) == Some(store8) && memory_access(0x2A) == None);
 }

@@ -1,8 +1,8 @@
 // Spellings from the rule of the standard (WebAssembly Core 2.0, sections 5.2.2 and 5.2.4), with the edges of each
 // width, and one call of each writer.
-use std::test::Fail;
+use std::alloc::{AllocError, Global};
 use test_rows::bytes_of;
-use wasm_form::{List, Text};
+use wasm_form::{List, Memory, Text};
 use wasm_leb::{
     put_name, put_s32, put_s33, put_s64, put_u32, read_name, read_s32, read_s33, read_s64, read_u32,
 };
@@ -134,69 +134,110 @@ name 81 80 00 61 = 3
 name 80 80 80 80 80 00 = none
 ";
 
-// What the bytes spell, where the spelling takes all of them.
-fn whole(kind: &str, bytes: &[u8]) -> Option<i64> {
-    let (value, end) = match kind {
+// What is read at the start of the bytes, and the place behind it.
+fn read(kind: &str, bytes: &[u8]) -> Option<(i64, usize)> {
+    match kind {
         "u32" => read_u32(bytes, 0).map(|(value, end)| (i64::from(value), end)),
         "s32" => read_s32(bytes, 0).map(|(value, end)| (i64::from(value), end)),
         "s33" => read_s33(bytes, 0),
         "s64" => read_s64(bytes, 0),
         _ => read_name(bytes, 0).map(|(start, end)| (i64::try_from(start).unwrap_or(-1), end)),
-    }?;
-    if end == bytes.len() {
-        Some(value)
-    } else {
-        None
     }
 }
 
-#[test]
-fn reads_spellings(rt: HostRuntime) -> Result<(), Fail> {
-    let mut rows = 0u32;
-    for line in SPELLINGS.lines() {
-        let (spelling, value) = line.split_once("= ").expect(&rt, "a value");
-        let (kind, hex) = spelling.split_once(" ").expect(&rt, "a kind");
-        let bytes = bytes_of(rt.alloc(), hex)?;
-        assert_eq!(rt; whole(kind, &bytes), value.parse::<i64>().ok(), "{line}");
-        rows = rows.saturating_add(1);
+// What the bytes spell, where the spelling takes all of them.
+fn whole(kind: &str, bytes: &[u8]) -> Option<i64> {
+    match read(kind, bytes) {
+        Some((value, end)) if end == bytes.len() => Some(value),
+        _ => None,
     }
-    assert_eq!(rt; rows, 122);
+}
+
+// What is read, the bytes and the number of a row.
+fn parts_of(line: &str) -> Option<(&str, &str, &str)> {
+    let (spelling, value) = line.split_once("= ")?;
+    let (kind, hex) = spelling.split_once(" ")?;
+    Some((kind, hex, value))
+}
+
+// Whether the bytes of a row spell what the row tells.
+fn holds(alloc: Global, line: &str) -> Result<bool, AllocError> {
+    match parts_of(line) {
+        Some((kind, hex, value)) => {
+            Ok(whole(kind, &bytes_of(alloc, hex)?) == value.parse::<i64>().ok())
+        }
+        None => Ok(false),
+    }
+}
+
+fn rows() -> &'static str {
+    SPELLINGS
+}
+
+#[test]
+fn reads_spellings(rt: HostRuntime) -> Result<(), AllocError> {
+    assert!(rt; rows().lines().count() == 122);
+    for line in rows().lines() {
+        assert!(rt; holds(rt.alloc(), line)?, "{line}");
+    }
     Ok(())
 }
 
 #[test]
 fn reads_at_a_place(rt: HostRuntime) {
     let bytes = [0x80, 0xac, 0x02, 0x7f, 0xff];
-    assert_eq!(rt; read_u32(&bytes, 1), Some((300, 3)));
-    assert_eq!(rt; read_s32(&bytes, 3), Some((-1, 4)));
-    assert_eq!(rt; read_s64(&bytes, 4), None);
-    assert_eq!(rt; read_s33(&bytes, 5), None);
-    assert_eq!(rt; read_name(&[0xff, 0x02, 0x61, 0x62, 0x63], 1), Some((2, 4)));
+    assert!(rt;
+        read_u32(&bytes, 1) == Some((300, 3))
+            && read_s32(&bytes, 3) == Some((-1, 4))
+            && read_s64(&bytes, 4) == None
+            && read_s33(&bytes, 5) == None
+    );
 }
 
 #[test]
-fn writes_the_shortest(rt: HostRuntime) -> Result<(), Fail> {
-    let mut to = Vec::new(rt.alloc());
-    put_u32(rt.alloc(), &mut to, 624485)?;
-    put_s32(rt.alloc(), &mut to, -123456)?;
-    put_s33(rt.alloc(), &mut to, -4294967296)?;
-    put_s64(rt.alloc(), &mut to, 64)?;
-    put_name(rt.alloc(), &mut to, "é")?;
-    let want = [
-        0xe5, 0x8e, 0x26, 0xc0, 0xbb, 0x78, 0x80, 0x80, 0x80, 0x80, 0x70, 0xc0, 0x00, 0x02, 0xc3,
-        0xa9,
-    ];
-    assert_eq!(rt; to.as_slice(), want.as_slice());
+fn reads_a_name_at_a_place(rt: HostRuntime) {
+    assert!(rt; read_name(&[0xff, 0x02, 0x61, 0x62, 0x63], 1) == Some((2, 4)));
+}
+
+// A spelling of each writer.
+fn written(alloc: Global) -> Result<Vec<u8>, Memory> {
+    let mut to = Vec::new(alloc);
+    put_u32(alloc, &mut to, 624485)?;
+    put_s32(alloc, &mut to, -123456)?;
+    put_s33(alloc, &mut to, -4294967296)?;
+    put_s64(alloc, &mut to, 64)?;
+    put_name(alloc, &mut to, "é")?;
+    Ok(to)
+}
+
+// What the writers write.
+const WRITTEN: &[u8] = &[
+    0xe5, 0x8e, 0x26, 0xc0, 0xbb, 0x78, 0x80, 0x80, 0x80, 0x80, 0x70, 0xc0, 0x00, 0x02, 0xc3, 0xa9,
+];
+
+#[test]
+fn writes_the_shortest(rt: HostRuntime) -> Result<(), Memory> {
+    let found = written(rt.alloc())?;
+    assert!(rt; found.as_slice() == WRITTEN);
     Ok(())
 }
 
 #[test]
-fn holds_lists_and_texts(rt: HostRuntime) -> Result<(), Fail> {
+fn holds_lists(rt: HostRuntime) -> Result<(), AllocError> {
     let list = List::of(Vec::from_slice(rt.alloc(), &[3, 1, 2])?);
-    assert_eq!(rt; list.items(), [3, 1, 2].as_slice());
-    let text = Text::of(String::from_str(rt.alloc(), "env")?);
-    assert_eq!(rt; text.as_str(), "env");
-    let same = text == Text::of(String::from_str(rt.alloc(), "env")?);
-    assert!(rt; same);
+    assert!(rt; list.items() == [3, 1, 2].as_slice());
+    Ok(())
+}
+
+// A text.
+fn env(alloc: Global) -> Result<Text, AllocError> {
+    Ok(Text::of(String::from_str(alloc, "env")?))
+}
+
+#[test]
+fn holds_texts(rt: HostRuntime) -> Result<(), AllocError> {
+    let text = env(rt.alloc())?;
+    let same = env(rt.alloc())?;
+    assert!(rt; text.as_str() == "env" && text == same);
     Ok(())
 }
