@@ -552,10 +552,14 @@ fn holds(alloc: Global, line: &str) -> Result<bool, AllocError> {
     }
 }
 
+fn rows() -> &'static str {
+    MODULES
+}
+
 #[test]
 fn checks_modules(rt: HostRuntime) -> Result<(), AllocError> {
-    assert!(rt; MODULES.lines().count() == 320);
-    for line in MODULES.lines() {
+    assert!(rt; rows().lines().count() == 320);
+    for line in rows().lines() {
         assert!(rt; holds(rt.alloc(), line)?, "{line}");
     }
     Ok(())
@@ -601,36 +605,40 @@ fn expr_of(alloc: Global, i: Instr) -> Result<Expr, Memory>
 
 #[test]
 fn values_an_i32(rt: HostRuntime) -> Result<(), Memory> {
-    let module = imports_a_number(rt.alloc())?;
     let number = expr_of(rt.alloc(), Instr::I32Const(-1))?;
+    let module = imports_a_number(rt.alloc())?;
     let value = constant(rt.alloc(), &module, &number, &[0]);
+    drop(module);
     assert!(rt; value == Ok(Constant::Num(4_294_967_295)));
     Ok(())
 }
 
 #[test]
 fn values_an_i64(rt: HostRuntime) -> Result<(), Memory> {
-    let module = imports_a_number(rt.alloc())?;
     let number = expr_of(rt.alloc(), Instr::I64Const(-1))?;
+    let module = imports_a_number(rt.alloc())?;
     let value = constant(rt.alloc(), &module, &number, &[0]);
+    drop(module);
     assert!(rt; value == Ok(Constant::Num(18_446_744_073_709_551_615)));
     Ok(())
 }
 
 #[test]
 fn values_null(rt: HostRuntime) -> Result<(), Memory> {
-    let module = imports_a_number(rt.alloc())?;
     let null = expr_of(rt.alloc(), Instr::RefNull(ValType::FuncRef))?;
+    let module = imports_a_number(rt.alloc())?;
     let value = constant(rt.alloc(), &module, &null, &[0]);
+    drop(module);
     assert!(rt; value == Ok(Constant::Func(None)));
     Ok(())
 }
 
 #[test]
 fn values_an_imported_global(rt: HostRuntime) -> Result<(), Memory> {
-    let module = imports_a_number(rt.alloc())?;
     let imported = expr_of(rt.alloc(), Instr::Index(0x23, 0))?;
+    let module = imports_a_number(rt.alloc())?;
     let value = constant(rt.alloc(), &module, &imported, &[1024]);
+    drop(module);
     assert!(rt; value == Ok(Constant::Num(1024)));
     Ok(())
 }
