@@ -1,10 +1,13 @@
 // Modules whose numbers are as long as they may be, and their shortest bytes; and the smallest main, which is its own shortest spelling.
+ghost use Rattle.spec_binary.specs.WellFormed.{IsWellFormed};
+
 use super::{is_written_as, parts_of};
 use std::alloc::{AllocError, Global};
 use test_rows::{SMALLEST, bytes_of};
 use wasm_codec::round_trip;
 use wasm_decode::decode;
 use wasm_encode::encode;
+use wasm_form::Module;
 
 // A name, bytes in which every number is as long as it may be, where a point stands for the header, and the shortest bytes
 // of the same module.
@@ -224,13 +227,20 @@ fn writes_the_shortest_bytes(rt: HostRuntime) -> Result<(), AllocError> {
     Ok(())
 }
 
-// What is written of the module of these bytes once it went the way there and back, if there is one.
+// What is written of the module once it went the way there and back.
+fn encoded_again(alloc: Global, m: &Module) -> Option<Vec<u8>>
+    requires { IsWellFormed m.now }
+{
+    match round_trip(alloc, m) {
+        Ok(again) => encode(alloc, &again).ok(),
+        Err(_) => None,
+    }
+}
+
+// What is written so of the module of these bytes, if there is one.
 fn written_again(alloc: Global, bytes: &[u8]) -> Option<Vec<u8>> {
     match decode(alloc, bytes) {
-        Ok(m) => match round_trip(alloc, &m) {
-            Ok(again) => encode(alloc, &again).ok(),
-            Err(_) => None,
-        },
+        Ok(m) => encoded_again(alloc, &m),
         Err(_) => None,
     }
 }
