@@ -2,42 +2,63 @@
 use dyl_front::{
     LinkOptions, Opt, Order, SetOptions, UsageKind, WordFault, read_words, usage_line,
 };
-use std::alloc::Global;
+use std::alloc::{AllocError, Global};
 use std::test::Fail;
-use wasm_form::{List, Text};
+use wasm_form::{List, Memory, Text};
+
+// Adds a word.
+fn push_word(alloc: Global, to: &mut Vec<String>, word: &str) -> Result<(), AllocError> {
+    let text = String::from_str(alloc, word)?;
+    to.push(text)?;
+    Ok(())
+}
+
+// What a word of a row stands for.
+fn meant(word: &str) -> &str {
+    match word {
+        "." => "",
+        "*" => "a\0b",
+        other => other,
+    }
+}
 
 /// Words that stand in a row, with a space between two. A point stands for the empty word, and a star for a word with a zero character.
-fn words_of(alloc: Global, row: &str) -> Result<Vec<String>, Fail> {
+fn words_of(alloc: Global, row: &str) -> Result<Vec<String>, AllocError> {
     let mut words = Vec::new(alloc);
-    words.push(String::from_str(alloc, "wdyl")?)?;
+    push_word(alloc, &mut words, "wdyl")?;
     for word in row.split(' ') {
-        let text = match word {
-            "." => "",
-            "*" => "a\0b",
-            other => other,
-        };
-        words.push(String::from_str(alloc, text)?)?;
+        push_word(alloc, &mut words, meant(word))?;
     }
     Ok(words)
 }
 
+// The line of what is wrong, or of a want of memory.
+fn fault_line(alloc: Global, fault: &WordFault) -> Result<Vec<u8>, Memory> {
+    match fault {
+        WordFault::Usage(kind) => usage_line(alloc, kind),
+        WordFault::Memory => Ok(Vec::from_slice(alloc, b"memory")?),
+    }
+}
+
+// Nothing, where an order is in range.
+fn order_line(order: &Order) -> &'static [u8] {
+    if order.is_in_range() {
+        b""
+    } else {
+        b"out of range"
+    }
+}
+
 /// The line of what is wrong with words, or nothing where they are an order.
-fn line_of(alloc: Global, words: &[String]) -> Result<Vec<u8>, Fail> {
+fn line_of(alloc: Global, words: &[String]) -> Result<Vec<u8>, Memory> {
     match read_words(alloc, words) {
-        Ok(order) => {
-            if order.is_in_range() {
-                Ok(Vec::new(alloc))
-            } else {
-                Ok(Vec::from_slice(alloc, b"out of range")?)
-            }
-        }
-        Err(WordFault::Usage(kind)) => Ok(usage_line(alloc, &kind)?),
-        Err(WordFault::Memory) => Ok(Vec::from_slice(alloc, b"memory")?),
+        Ok(order) => Ok(Vec::from_slice(alloc, order_line(&order))?),
+        Err(fault) => fault_line(alloc, &fault),
     }
 }
 
 /// Texts with a comma between two.
-fn joined(alloc: Global, texts: &List<Text>) -> Result<String, Fail> {
+fn joined(alloc: Global, texts: &List<Text>) -> Result<String, AllocError> {
     let mut all = String::new(alloc);
     for text in texts.items() {
         if !all.is_empty() {
@@ -48,46 +69,63 @@ fn joined(alloc: Global, texts: &List<Text>) -> Result<String, Fail> {
     Ok(all)
 }
 
-fn set_shown(alloc: Global, set: &SetOptions, link: &LinkOptions) -> Result<String, Fail> {
-    let main = set.main.as_str();
+fn lists_shown(alloc: Global, set: &SetOptions) -> Result<String, AllocError> {
     let dl = joined(alloc, &set.dl)?;
     let paths = joined(alloc, &set.paths)?;
+    format!(in alloc; "[{dl}] [{paths}]")
+}
+
+fn set_shown(alloc: Global, set: &SetOptions, link: &LinkOptions) -> Result<String, AllocError> {
+    let main = set.main.as_str();
+    let lists = lists_shown(alloc, set)?;
     let (pages, stack) = (link.pages, link.stack);
     let once = if link.no_duplicates { "once" } else { "many" };
-    Ok(format!(in alloc; "{main} [{dl}] [{paths}] {pages} {stack} {once}")?)
+    format!(in alloc; "{main} {lists} {pages} {stack} {once}")
+}
+
+fn run_shown(
+    alloc: Global,
+    set: &str,
+    steps: u64,
+    args: &List<Text>,
+) -> Result<String, AllocError> {
+    let args = joined(alloc, args)?;
+    format!(in alloc; "run {set} {steps} [{args}]")
+}
+
+fn exec_shown(
+    alloc: Global,
+    file: &Text,
+    steps: u64,
+    args: &List<Text>,
+) -> Result<String, AllocError> {
+    let args = joined(alloc, args)?;
+    format!(in alloc; "exec {} {steps} [{args}]", file.as_str())
+}
+
+fn gen_shown(alloc: Global, n: u32, pages: u32, steps: u64) -> Result<String, AllocError> {
+    format!(in alloc; "gen {n} {pages} {steps}")
+}
+
+// An order that has a set, which is shown already.
+fn order_shown(alloc: Global, order: &Order, set: &str) -> Result<String, AllocError> {
+    match order {
+        Order::Merge { out, .. } => format!(in alloc; "merge {set} {}", out.as_str()),
+        Order::Run { steps, args, .. } => run_shown(alloc, set, *steps, args),
+        _ => format!(in alloc; "plan {set}"),
+    }
 }
 
 /// An order as a row.
-fn shown(alloc: Global, order: &Order) -> Result<String, Fail> {
+fn shown(alloc: Global, order: &Order) -> Result<String, AllocError> {
     match order {
-        Order::Merge { set, link, out } => {
-            let set = set_shown(alloc, set, link)?;
-            let out = out.as_str();
-            Ok(format!(in alloc; "merge {set} {out}")?)
-        }
-        Order::Run {
-            set,
-            link,
-            steps,
-            args,
-        } => {
-            let set = set_shown(alloc, set, link)?;
-            let args = joined(alloc, args)?;
-            Ok(format!(in alloc; "run {set} {steps} [{args}]")?)
-        }
-        Order::Exec { file, steps, args } => {
-            let file = file.as_str();
-            let args = joined(alloc, args)?;
-            Ok(format!(in alloc; "exec {file} {steps} [{args}]")?)
-        }
-        Order::Plan { set, link } => {
-            let set = set_shown(alloc, set, link)?;
-            Ok(format!(in alloc; "plan {set}")?)
-        }
-        Order::Gen { n, pages, steps } => {
-            let (n, pages, steps) = (*n, *pages, *steps);
-            Ok(format!(in alloc; "gen {n} {pages} {steps}")?)
-        }
+        Order::Merge { set, link, .. } | Order::Run { set, link, .. } | Order::Plan { set, link } =>
+            {
+                let set = set_shown(alloc, set, link)?;
+                order_shown(alloc, order, set.as_str())
+            }
+        Order::Exec { file, steps, args } => exec_shown(alloc, file, *steps, args),
+        Order::Gen { n, pages, steps } => gen_shown(alloc, *n, *pages, *steps),
     }
 }
 
@@ -310,56 +348,85 @@ const RIGHT: &[(&str, &str)] = &[
     ),
 ];
 
+// What the rows are isn't looked into where they are gone through.
+fn wrong() -> &'static [(&'static str, &'static str)] {
+    WRONG
+}
+
+fn right() -> &'static [(&'static str, &'static str)] {
+    RIGHT
+}
+
+// Whether there is no command in these words.
+fn has_no_command(alloc: Global, words: &[String]) -> Result<bool, Memory> {
+    let line = line_of(alloc, words)?;
+    Ok(line.as_slice() == "wdyl: usage: no command\n".as_bytes())
+}
+
+// The name of the program alone.
+fn program(alloc: Global) -> Result<Vec<String>, AllocError> {
+    let mut words = Vec::new(alloc);
+    push_word(alloc, &mut words, "wdyl")?;
+    Ok(words)
+}
+
 #[test]
 fn no_command(rt: HostRuntime) -> Result<(), Fail> {
-    let alloc = rt.alloc();
-    let mut words = Vec::new(alloc);
-    let line = line_of(alloc, &words)?;
-    assert!(rt; line.as_slice() == "wdyl: usage: no command\n".as_bytes());
-    words.push(String::from_str(alloc, "wdyl")?)?;
-    let line = line_of(alloc, &words)?;
-    assert!(rt; line.as_slice() == "wdyl: usage: no command\n".as_bytes());
+    assert!(rt; has_no_command(rt.alloc(), &[])?);
+    let words = program(rt.alloc())?;
+    assert!(rt; has_no_command(rt.alloc(), &words)?);
     Ok(())
+}
+
+// Whether this is the line of what is wrong with the words of a row.
+fn has_line(alloc: Global, row: &str, wanted: &str) -> Result<bool, Memory> {
+    let words = words_of(alloc, row)?;
+    let line = line_of(alloc, &words)?;
+    Ok(line.as_slice() == wanted.as_bytes())
 }
 
 #[test]
 fn wrong_words(rt: HostRuntime) -> Result<(), Fail> {
-    let alloc = rt.alloc();
-    for (row, line) in WRONG {
-        let words = words_of(alloc, row)?;
-        let told = line_of(alloc, &words)?;
-        assert!(rt; told.as_slice() == line.as_bytes(), "{row}");
+    for (row, line) in wrong() {
+        assert!(rt; has_line(rt.alloc(), row, line)?, "{row}");
     }
     Ok(())
+}
+
+// Whether an order is in range, and shown so.
+fn is_shown(alloc: Global, order: &Order, wanted: &str) -> Result<bool, AllocError> {
+    let shown = shown(alloc, order)?;
+    Ok(order.is_in_range() && shown.as_str() == wanted)
+}
+
+// Whether the words of a row are this order.
+fn are_order(alloc: Global, row: &str, wanted: &str) -> Result<bool, AllocError> {
+    let words = words_of(alloc, row)?;
+    match read_words(alloc, &words) {
+        Ok(order) => is_shown(alloc, &order, wanted),
+        Err(_) => Ok(false),
+    }
 }
 
 #[test]
 fn right_words(rt: HostRuntime) -> Result<(), Fail> {
-    let alloc = rt.alloc();
-    for (row, wanted) in RIGHT {
-        let words = words_of(alloc, row)?;
-        match read_words(alloc, &words) {
-            Ok(order) => {
-                let shown = shown(alloc, &order)?;
-                assert!(rt; order.is_in_range() && shown.as_str() == *wanted, "{row}");
-            }
-            Err(_) => assert!(rt; false, "{row}"),
-        }
+    for (row, wanted) in right() {
+        assert!(rt; are_order(rt.alloc(), row, wanted)?, "{row}");
     }
     Ok(())
 }
 
+// Whether this is the line of what is wrong.
+fn is_line(alloc: Global, kind: UsageKind, wanted: &str) -> Result<bool, Memory> {
+    let line = usage_line(alloc, &kind)?;
+    Ok(line.as_slice() == wanted.as_bytes())
+}
+
 #[test]
 fn lines_of_options(rt: HostRuntime) -> Result<(), Fail> {
-    let alloc = rt.alloc();
-    for (kind, line) in [
-        (UsageKind::Number(Opt::N), "wdyl: usage: number for N\n"),
-        (UsageKind::Name(Opt::Dl), "wdyl: usage: name for --dl\n"),
-    ] {
-        assert!(rt;
-            usage_line(alloc, &kind)?.as_slice() == line.as_bytes(),
-            "{line}"
-        );
-    }
+    let number = UsageKind::Number(Opt::N);
+    let name = UsageKind::Name(Opt::Dl);
+    assert!(rt; is_line(rt.alloc(), number, "wdyl: usage: number for N\n")?);
+    assert!(rt; is_line(rt.alloc(), name, "wdyl: usage: name for --dl\n")?);
     Ok(())
 }

@@ -10,10 +10,11 @@ use dyl_link::Linked;
 use dyl_world::{Errors, Stages, close_answer, error_answer, open_answer, symbol_answer};
 use std::alloc::{AllocError, Global};
 use std::test::Fail;
+use wasm_form::Memory;
 use wasm_space::Space;
 
 // Names in a memory of two pages, each followed by a zero byte. The last one doesn't end, and 80 is where a name stands that isn't UTF-8.
-const NAMES: [(u32, &str); 6] = [
+const NAMES: &[(u32, &str)] = &[
     (16, "d.so"),
     (32, "f"),
     (48, "x"),
@@ -64,17 +65,31 @@ error 3 0 0 = 66601 then 0
 error 4 0 0 = 66619 then 0
 error 5 0 0 = 66641 then 0";
 
-fn memory(alloc: Global) -> Result<Space, Fail> {
-    let mut memory = Space::new(alloc, 2, 2)?;
-    for (at, name) in NAMES {
-        memory.put(at, name.as_bytes()).unwrap_or(());
+// What the rows and the names are isn't looked into where they are gone through.
+fn rows() -> &'static str {
+    ROWS
+}
+
+fn names() -> &'static [(u32, &'static str)] {
+    NAMES
+}
+
+// Puts each name at its place, and a byte that is no UTF-8.
+fn put_names(memory: &mut Space) {
+    for (at, name) in names() {
+        memory.put(*at, name.as_bytes()).unwrap_or(());
     }
     memory.put(80, &[0xff]).unwrap_or(());
+}
+
+fn memory(alloc: Global) -> Result<Space, Memory> {
+    let mut memory = Space::new(alloc, 2, 2)?;
+    put_names(&mut memory);
     Ok(memory)
 }
 
 // The main module is constructed, and the library has this stage.
-fn stages(alloc: Global, stage: u8) -> Result<Stages, Fail>
+fn stages(alloc: Global, stage: u8) -> Result<Stages, Memory>
     ensures { IfOk result (λ s. length s ≡ 2) }
 {
     let mut stages = Stages::new(alloc, 2)?;
@@ -125,40 +140,60 @@ fn call_of(row: &str) -> Call {
     }
 }
 
-fn answered(alloc: Global, linked: &Linked, call: &Call) -> Result<String, Fail>
+fn opening(alloc: Global, linked: &Linked, call: &Call) -> Result<String, Memory>
+    requires { (L : LinkedSet) × IsLinked L linked.now }
+{
+    let memory = memory(alloc)?;
+    let answer = open_answer(linked, &memory, call.first, call.second);
+    Ok(format!(in alloc; "{answer:?}")?)
+}
+
+fn finding(alloc: Global, linked: &Linked, call: &Call) -> Result<String, Memory>
     requires linked { (L : LinkedSet) × IsLinked L linked.now }
     requires members { length linked.now.set.members ≡ 2 }
 {
     let memory = memory(alloc)?;
     let stages = stages(alloc, call.stage)?;
-    let (a, b) = (call.first, call.second);
-    let told = match call.name {
-        "open" => format!(in alloc; "{:?}", open_answer(linked, &memory, a, b))?,
-        "find" => format!(in alloc; "{:?}", symbol_answer(linked, &stages, &memory, a, b))?,
-        "close" => format!(in alloc; "{}", close_answer(linked, &stages, a))?,
-        _ => error_twice(alloc, linked, (a % 6) as u8)?,
-    };
-    Ok(told)
+    let answer = symbol_answer(linked, &stages, &memory, call.first, call.second);
+    Ok(format!(in alloc; "{answer:?}")?)
+}
+
+fn closing(alloc: Global, linked: &Linked, call: &Call) -> Result<String, Memory> {
+    let stages = stages(alloc, call.stage)?;
+    let answer = close_answer(linked, &stages, call.first);
+    Ok(format!(in alloc; "{answer}")?)
+}
+
+fn answered(alloc: Global, linked: &Linked, call: &Call) -> Result<String, Memory>
+    requires linked { (L : LinkedSet) × IsLinked L linked.now }
+    requires members { length linked.now.set.members ≡ 2 }
+{
+    match call.name {
+        "open" => opening(alloc, linked, call),
+        "find" => finding(alloc, linked, call),
+        "close" => closing(alloc, linked, call),
+        _ => Ok(error_twice(alloc, linked, (call.first % 6) as u8)?),
+    }
 }
 
 // Whether a row has its answer.
-fn is_right(alloc: Global, linked: &Linked, row: &str, answer: &str) -> Result<bool, Fail>
+fn row_holds(alloc: Global, linked: &Linked, row: &str) -> Result<bool, Memory>
     requires { (L : LinkedSet) × IsLinked L linked.now }
 {
+    let (call, wanted) = row.split_once(" = ").unwrap_or(("", ""));
     if linked.set().members.items().len() != 2 {
         return Ok(false);
     }
-    let told = answered(alloc, linked, &call_of(row))?;
-    Ok(told.as_str() == answer)
+    let told = answered(alloc, linked, &call_of(call))?;
+    Ok(told.as_str() == wanted)
 }
 
 #[test]
 fn functions_of_the_loader_answer(rt: HostRuntime) -> Result<(), Fail> {
     let linked = linked_set(rt.alloc())?.expect(&rt, "a linked set");
-    for line in ROWS.lines() {
-        let (row, answer) = line.split_once(" = ").expect(&rt, "an answer");
-        assert!(rt; is_right(rt.alloc(), &linked, row, answer)?, "{line}");
+    for row in rows().lines() {
+        assert!(rt; row_holds(rt.alloc(), &linked, row)?, "{row}");
     }
-    assert_eq!(rt; ROWS.lines().count(), 38);
+    assert!(rt; rows().lines().count() == 38);
     Ok(())
 }
