@@ -25,6 +25,9 @@ const FETCHES: &[(&str, FileFault)] = &[
     ("test_hosts_folder/small/below", FileFault::Failed),
 ];
 
+/// Paths at which no file is stored.
+const STORES: &[&str] = &["test_hosts_folder/missing/below", FOLDER, ""];
+
 /// The bytes 0 to 250 over and over, 5,000,000 in all.
 fn long_bytes(alloc: Global) -> Result<Vec<u8>, AllocError> {
     let mut bytes = Vec::new(alloc);
@@ -51,6 +54,26 @@ fn empties<F: Files>(alloc: Global, files: &mut F) -> bool {
     files.store(alloc, SMALL, b"").is_ok() && fetches(alloc, files, SMALL, 0, Ok(b""))
 }
 
+/// The first path of which something else than its fault is told when a file is fetched.
+fn first_fetched<F: Files>(alloc: Global, files: &mut F) -> Option<&'static str> {
+    for (path, fault) in FETCHES {
+        if !fetches(alloc, files, path, 9, Err(*fault)) {
+            return Some(*path);
+        }
+    }
+    None
+}
+
+/// The first path at which storing a file doesn't fail.
+fn first_stored<F: Files>(alloc: Global, files: &mut F) -> Option<&'static str> {
+    for path in STORES {
+        if files.store(alloc, path, b"x") != Err(IoFault::Failed) {
+            return Some(*path);
+        }
+    }
+    None
+}
+
 #[test]
 fn files_on_disk(rt: HostRuntime) -> Result<(), Fail> {
     let alloc = rt.alloc();
@@ -58,18 +81,8 @@ fn files_on_disk(rt: HostRuntime) -> Result<(), Fail> {
     fs::create_dir(&rt, FOLDER)?;
     let mut files = DiskFiles::new(&rt);
     assert!(rt; keeps(alloc, &mut files)?);
-    for (path, fault) in FETCHES {
-        assert!(rt;
-            fetches(alloc, &mut files, path, 9, Err(*fault)),
-            "at {path}"
-        );
-    }
-    for path in ["test_hosts_folder/missing/below", FOLDER, ""] {
-        assert!(rt;
-            files.store(alloc, path, b"x") == Err(IoFault::Failed),
-            "at {path}"
-        );
-    }
+    assert_eq!(rt; first_fetched(alloc, &mut files), None);
+    assert_eq!(rt; first_stored(alloc, &mut files), None);
     assert!(rt; empties(alloc, &mut files));
     fs::remove_dir_all(&rt, FOLDER)?;
     Ok(())

@@ -1,5 +1,8 @@
 // Host functions and their names: each call once, and which of two declarations counts.
-ghost use Rattle.std.specs.Prelude.{◌≡◌, ◌<◌, ◌≤◌, ◌+◌, [], None, IfSome, IfOk};
+ghost use Rattle.std.specs.Prelude.{◌≡◌, ◌<◌, ◌≤◌, ◌+◌, [], None, length, IfSome, IfOk, IsTrue};
+ghost use Rattle.spec_runtime.specs.Names.{has_integers};
+ghost use Rattle.host_table.specs.Answers.{Keeps};
+ghost use Rattle.host_table.specs.Table.{entry_count};
 
 use host_table::{AddFault, Callback, HostMatch, HostName, HostNames, HostTable, Put, Reply};
 use std::alloc::Global;
@@ -24,6 +27,38 @@ fn nothing(_args: &[u64], _size: u64) -> Reply
     Reply {
         result: 0,
         put: None,
+    }
+}
+
+/// The parameters and the results of a type.
+type Type = (&'static [ValType], &'static [ValType]);
+
+const NONE: Type = (&[], &[]);
+
+const SHORT: Type = (&[ValType::I32], &[ValType::I32]);
+
+const LONG: Type = (&[ValType::I64], &[ValType::I32]);
+
+const REAL: Type = (&[ValType::F32], &[ValType::I32]);
+
+/// Whether a host function of this type is added.
+fn adds(
+    alloc: Global,
+    table: &mut HostTable,
+    from: &str,
+    name: &str,
+    ty: Type,
+    call: Callback,
+) -> bool
+    requires room { entry_count table.old < 4294967295 }
+    requires integers { IsTrue (has_integers (record { params = ty.0.now; results = ty.1.now })) }
+    requires results { length ty.1.now ≤ 1 }
+    requires keeps { Keeps (Callback.pre call) (Callback.post call) (record { params = ty.0.now; results = ty.1.now }) }
+    ensures { entry_count table.new ≤ entry_count table.old + 1 }
+{
+    match type_of(alloc, ty.0, ty.1) {
+        Ok(ty) => table.add(alloc, from, name, ty, call).is_ok(),
+        Err(_) => false,
     }
 }
 
@@ -76,48 +111,43 @@ fn host_functions_are_called(rt: HostRuntime) {
     assert!(rt; is_five_and_seven(&table.call(0, &[5], 65536)));
 }
 
+/// Whether a table declares "first" of "env".
+fn is_first_declared(alloc: Global, table: &HostTable) -> Result<bool, Memory> {
+    let names = table.names(alloc, HostNames::new(alloc))?;
+    finds(alloc, &names, &("env", "first", SHORT, HostMatch::Fits))
+}
+
 #[test]
 fn host_functions_are_declared(rt: HostRuntime) {
     let alloc = rt.alloc();
     let mut table = HostTable::new(alloc);
-    let ty = type_of(alloc, &[ValType::I32], &[ValType::I32]).expect(&rt, "memory");
     let call: Callback = Box::new(alloc, nothing).expect(&rt, "memory");
-    assert!(rt; table.add(alloc, "env", "first", ty, call).is_ok());
-    let names = table
-        .names(alloc, HostNames::new(alloc))
-        .expect(&rt, "memory");
-    assert!(rt; finds(alloc, &names, &("env", "first", SHORT, HostMatch::Fits)) == Ok(true));
+    assert!(rt; adds(alloc, &mut table, "env", "first", SHORT, call));
+    assert!(rt; is_first_declared(alloc, &table) == Ok(true));
+}
+
+/// Whether a host function answers 0.
+fn answers_zero(call: Callback) -> bool
+    requires { (args : _) (size : _) → Callback.pre call args size }
+{
+    call(&[1], 0).result == 0
 }
 
 #[test]
 fn host_functions_have_names_of_their_own(rt: HostRuntime) {
     let alloc = rt.alloc();
     let mut table = HostTable::new(alloc);
-    let ty = type_of(alloc, &[], &[]).expect(&rt, "memory");
     let call: Callback = Box::new(alloc, nothing).expect(&rt, "memory");
-    assert!(rt; table.add(alloc, "env", "first", ty, call).is_ok());
+    assert!(rt; adds(alloc, &mut table, "env", "first", NONE, call));
     let ty = type_of(alloc, &[], &[]).expect(&rt, "memory");
     let again: Callback = Box::new(alloc, nothing).expect(&rt, "memory");
     match table.add(alloc, "env", "first", ty, again) {
         Ok(()) => assert!(rt; false),
         Err(refused) => {
-            assert!(rt; refused.fault == AddFault::SameName);
-            let reply = (refused.call)(&[1], 0);
-            assert!(rt; reply.result == 0);
+            assert!(rt; refused.fault == AddFault::SameName && answers_zero(refused.call));
         }
     }
 }
-
-/// The parameters and the results of a type.
-type Type = (&'static [ValType], &'static [ValType]);
-
-const NONE: Type = (&[], &[]);
-
-const SHORT: Type = (&[ValType::I32], &[ValType::I32]);
-
-const LONG: Type = (&[ValType::I64], &[ValType::I32]);
-
-const REAL: Type = (&[ValType::F32], &[ValType::I32]);
 
 /// A module, a name, a type, and what is found of them.
 type Found = (&'static str, &'static str, Type, HostMatch);
@@ -145,20 +175,46 @@ fn finds(alloc: Global, names: &HostNames, row: &Found) -> Result<bool, Memory> 
     Ok(names.find(from, name, &ty) == *want)
 }
 
-/// Declares a name without parameters and results.
-fn declare(alloc: Global, names: &mut HostNames, from: &str, name: &str) -> Result<(), Memory> {
-    let ty = type_of(alloc, &[], &[])?;
+/// The first row that names don't have.
+fn first_wrong(
+    alloc: Global,
+    names: &HostNames,
+    rows: &'static [Found],
+) -> Result<Option<&'static Found>, Memory> {
+    for row in rows {
+        if !finds(alloc, names, row)? {
+            return Ok(Some(row));
+        }
+    }
+    Ok(None)
+}
+
+/// Declares a name with a type.
+fn declare(
+    alloc: Global,
+    names: &mut HostNames,
+    from: &str,
+    name: &str,
+    ty: Type,
+) -> Result<(), Memory>
+    requires { IsTrue (has_integers (record { params = ty.0.now; results = ty.1.now })) }
+{
+    let ty = type_of(alloc, ty.0, ty.1)?;
     names.declare(alloc, from, name, ty)
 }
 
-/// The name "a" of "env" with two types, the rest of "env", and then its name "b".
+/// Declares the name "a" of "env" with two types, the rest of "env", and then its name "b".
+fn declare_all(alloc: Global, names: &mut HostNames) -> Result<(), Memory> {
+    declare(alloc, names, "env", "a", NONE)?;
+    declare(alloc, names, "env", "a", LONG)?;
+    names.declare_rest(alloc, "env")?;
+    declare(alloc, names, "env", "b", NONE)
+}
+
+/// Those names.
 fn declared_names(alloc: Global) -> Result<HostNames, Memory> {
     let mut names = HostNames::new(alloc);
-    declare(alloc, &mut names, "env", "a")?;
-    let second = type_of(alloc, &[ValType::I64], &[ValType::I32])?;
-    names.declare(alloc, "env", "a", second)?;
-    names.declare_rest(alloc, "env")?;
-    declare(alloc, &mut names, "env", "b")?;
+    declare_all(alloc, &mut names)?;
     Ok(names)
 }
 
@@ -166,7 +222,7 @@ fn declared_names(alloc: Global) -> Result<HostNames, Memory> {
 fn late_names(alloc: Global) -> Result<HostNames, Memory> {
     let mut names = declared_names(alloc)?;
     names.declare_rest(alloc, "late")?;
-    declare(alloc, &mut names, "late", "a")?;
+    declare(alloc, &mut names, "late", "a", NONE)?;
     Ok(names)
 }
 
@@ -181,9 +237,8 @@ fn nothing_is_declared_at_first(rt: HostRuntime) {
 fn first_declaration_counts(rt: HostRuntime) {
     let alloc = rt.alloc();
     let names = declared_names(alloc).expect(&rt, "memory");
-    for row in FOUND {
-        assert!(rt; finds(alloc, &names, row) == Ok(true), "{row:?}");
-    }
+    let wrong = first_wrong(alloc, &names, FOUND).expect(&rt, "memory");
+    assert!(rt; wrong.is_none(), "{wrong:?}");
     assert!(rt; names.typed("env", "a").is_some() && names.typed("env", "b").is_none());
 }
 
@@ -191,9 +246,8 @@ fn first_declaration_counts(rt: HostRuntime) {
 fn the_rest_counts_before_later_names(rt: HostRuntime) {
     let alloc = rt.alloc();
     let names = late_names(alloc).expect(&rt, "memory");
-    for row in FOUND_LATE {
-        assert!(rt; finds(alloc, &names, row) == Ok(true), "{row:?}");
-    }
+    let wrong = first_wrong(alloc, &names, FOUND_LATE).expect(&rt, "memory");
+    assert!(rt; wrong.is_none(), "{wrong:?}");
     assert!(rt; names.typed("late", "a").is_none());
 }
 
@@ -206,28 +260,36 @@ const FOUND_FIRST: &[Found] = &[
 /// The name "a" of "env", and then the names of a table.
 fn names_before(alloc: Global, table: &HostTable) -> Result<HostNames, Memory> {
     let mut first = HostNames::new(alloc);
-    declare(alloc, &mut first, "env", "a")?;
+    declare(alloc, &mut first, "env", "a", NONE)?;
     table.names(alloc, first)
+}
+
+/// The first row that they don't have.
+fn first_wrong_before(alloc: Global, table: &HostTable) -> Result<Option<&'static Found>, Memory> {
+    let names = names_before(alloc, table)?;
+    first_wrong(alloc, &names, FOUND_FIRST)
 }
 
 #[test]
 fn names_of_a_table_come_after_the_first(rt: HostRuntime) {
     let alloc = rt.alloc();
     let mut table = HostTable::new(alloc);
-    let ty = type_of(alloc, &[ValType::I64], &[ValType::I32]).expect(&rt, "memory");
     let call: Callback = Box::new(alloc, nothing).expect(&rt, "memory");
-    assert!(rt; table.add(alloc, "env", "a", ty, call).is_ok());
-    let names = names_before(alloc, &table).expect(&rt, "memory");
-    for row in FOUND_FIRST {
-        assert!(rt; finds(alloc, &names, row) == Ok(true), "{row:?}");
-    }
+    assert!(rt; adds(alloc, &mut table, "env", "a", LONG, call));
+    let wrong = first_wrong_before(alloc, &table).expect(&rt, "memory");
+    assert!(rt; wrong.is_none(), "{wrong:?}");
+}
+
+/// Whether a host name is "first" of "env" with this type.
+fn is_first(host: &HostName, ty: &FuncType) -> bool {
+    host.module.as_str() == "env" && host.name.as_str() == "first" && host.ty == *ty
 }
 
 /// Whether a host name has the module, the name and the type that it is made of.
 fn keeps_its_parts(alloc: Global) -> Result<bool, Memory> {
     let ty = type_of(alloc, &[ValType::I64], &[ValType::I32])?;
     let host = HostName::new(alloc, "env", "first", &ty)?;
-    Ok(host.module.as_str() == "env" && host.name.as_str() == "first" && host.ty == ty)
+    Ok(is_first(&host, &ty))
 }
 
 #[test]
@@ -246,11 +308,9 @@ fn are_numbered(table: &HostTable) -> bool {
 fn entries_are_numbered_in_order(rt: HostRuntime) {
     let alloc = rt.alloc();
     let mut table = HostTable::new(alloc);
-    let ty = type_of(alloc, &[], &[]).expect(&rt, "memory");
     let call: Callback = Box::new(alloc, nothing).expect(&rt, "memory");
-    assert!(rt; table.add(alloc, "env", "a", ty, call).is_ok());
-    let ty = type_of(alloc, &[], &[]).expect(&rt, "memory");
+    assert!(rt; adds(alloc, &mut table, "env", "a", NONE, call));
     let call: Callback = Box::new(alloc, nothing).expect(&rt, "memory");
-    assert!(rt; table.add(alloc, "other", "b", ty, call).is_ok());
+    assert!(rt; adds(alloc, &mut table, "other", "b", NONE, call));
     assert!(rt; are_numbered(&table));
 }

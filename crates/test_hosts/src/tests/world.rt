@@ -8,7 +8,7 @@ use host_wasi::{Wasi, call_named};
 use std::alloc::{AllocError, Global};
 use std::fmt::Write as _;
 use std::test::Fail;
-use wasm_form::{List, Memory, Text, ValType};
+use wasm_form::{List, Memory, Text, Trap, ValType};
 use wasm_runtime::{Answer, Asked, Write};
 use wasm_space::Space;
 
@@ -25,21 +25,39 @@ pub(crate) struct World {
     pub ambient: MemAmbient,
 }
 
+/// The arguments of the program.
+fn arguments(alloc: Global) -> Result<List<Text>, AllocError> {
+    let mut args = Vec::new(alloc);
+    for arg in ["prog", "a", ""] {
+        args.push(Text::of(String::from_str(alloc, arg)?))?;
+    }
+    Ok(List::of(args))
+}
+
+/// One time and two random words.
+fn ambient(alloc: Global) -> Result<MemAmbient, AllocError> {
+    let times = [0x0102_0304_0506_0708].to_vec(alloc)?;
+    let words = [0x1716_1514_1312_1110, 0x2726_2524_2322_2120].to_vec(alloc)?;
+    Ok(MemAmbient::new(alloc, times, words))
+}
+
+/// These bytes of input.
+fn source(alloc: Global, input: &[u8]) -> Result<MemSource, AllocError> {
+    Ok(MemSource::new(alloc, input.to_vec(alloc)?))
+}
+
 impl World {
     /// The devices with these bytes of input, one time and two random words.
     pub(crate) fn new(alloc: Global, input: &[u8]) -> Result<World, Memory> {
-        let mut args = Vec::new(alloc);
-        for arg in ["prog", "a", ""] {
-            args.push(Text::of(String::from_str(alloc, arg)?))?;
-        }
-        let times = [0x0102_0304_0506_0708].to_vec(alloc)?;
-        let words = [0x1716_1514_1312_1110, 0x2726_2524_2322_2120].to_vec(alloc)?;
+        let args = arguments(alloc)?;
+        let input = source(alloc, input)?;
+        let ambient = ambient(alloc)?;
         Ok(World {
-            wasi: Wasi::new(List::of(args)),
-            input: MemSource::new(alloc, input.to_vec(alloc)?),
+            wasi: Wasi::new(args),
+            input,
             output: MemSink::new(alloc),
             errors: MemSink::new(alloc),
-            ambient: MemAmbient::new(alloc, times, words),
+            ambient,
         })
     }
 
@@ -196,6 +214,12 @@ pub(crate) fn memory(alloc: Global, pages: u32) -> Result<Space, Fail>
     requires { pages ≤ 65536 }
 {
     let mut memory = Space::new(alloc, pages, pages)?;
+    put_texts(&mut memory)?;
+    Ok(memory)
+}
+
+/// Puts the texts and the vectors.
+fn put_texts(memory: &mut Space) -> Result<(), Trap> {
     for (at, bytes) in TEXTS {
         memory.put(*at, bytes)?;
     }
@@ -203,7 +227,7 @@ pub(crate) fn memory(alloc: Global, pages: u32) -> Result<Space, Fail>
         memory.store(*at, 0, 4, *pointer)?;
         memory.store(*at, 4, 4, *len)?;
     }
-    Ok(memory)
+    Ok(())
 }
 
 const TEXTS: &[(u32, &[u8])] = &[(100, b"hello"), (65535, b"!")];
