@@ -122,18 +122,35 @@ fn return_seen(alloc: Global, global: Value) -> Result<String, AllocError> {
     }
 }
 
-// What is seen of an event.
-fn event_seen(alloc: Global, run: &Run, event: &Event) -> Result<String, AllocError> {
+// What is seen of an event after which the run goes on.
+fn pause_seen(alloc: Global, event: &Event) -> Result<String, AllocError> {
     match event {
-        Event::Moved => Ok(String::new(alloc)),
         Event::Waits(_) => String::from_str(alloc, "host, "),
         Event::Loader { first, second, .. } => Ok(format!(in alloc; "dlopen {first} {second}, ")?),
         Event::Marked(tag) => Ok(format!(in alloc; "mark {tag}, ")?),
-        Event::Returned => return_seen(alloc, run.global()),
+        _ => Ok(String::new(alloc)),
+    }
+}
+
+// What is seen of an end other than a return.
+fn end_seen(alloc: Global, event: &Event) -> Result<String, AllocError> {
+    match event {
         Event::Trapped(trap) => Ok(format!(in alloc; "trap {trap:?}")?),
         Event::Exited(code) => Ok(format!(in alloc; "exited {code}")?),
         Event::Deep => String::from_str(alloc, "deep"),
         Event::Stuck => String::from_str(alloc, "stuck"),
+        _ => Ok(String::new(alloc)),
+    }
+}
+
+// What is seen of an event.
+fn event_seen(alloc: Global, run: &Run, event: &Event) -> Result<String, AllocError> {
+    match event {
+        Event::Returned => return_seen(alloc, run.global()),
+        Event::Moved | Event::Waits(_) | Event::Loader { .. } | Event::Marked(_) => {
+            pause_seen(alloc, event)
+        }
+        Event::Trapped(_) | Event::Exited(_) | Event::Deep | Event::Stuck => end_seen(alloc, event),
     }
 }
 
@@ -259,19 +276,30 @@ fn bodies_show(alloc: Global, first: &str, second: &str, expected: &str) -> Opti
     units_show(alloc, &first, &second, expected)
 }
 
+// The same of a text with both bodies.
+fn text_shows(alloc: Global, text: &str, expected: &str) -> Option<bool> {
+    let (first, second) = text.split_once(" | ")?;
+    bodies_show(alloc, first, second, expected)
+}
+
+// Whether a row has what is seen of it.
 fn row_holds(alloc: Global, line: &str) -> Option<bool> {
     let (row, expected) = line.split_once(" = ")?;
-    let (_, bodies) = row.split_once(": ")?;
-    let (first, second) = bodies.split_once(" | ")?;
-    bodies_show(alloc, first, second, expected)
+    let (_, text) = row.split_once(": ")?;
+    text_shows(alloc, text, expected)
+}
+
+// The rows.
+fn rows() -> &'static str {
+    ROWS
 }
 
 #[test]
 fn runs_two_units(rt: HostRuntime) {
-    for line in ROWS.lines() {
+    for line in rows().lines() {
         assert!(rt; row_holds(rt.alloc(), line) == Some(true), "{line}");
     }
-    assert!(rt; ROWS.lines().count() == 17);
+    assert!(rt; rows().lines().count() == 17);
 }
 
 fn is_refused(told: Option<Result<Event, Memory>>) -> bool {
