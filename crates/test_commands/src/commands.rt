@@ -1,7 +1,7 @@
 // Commands over files in memory, and what comes of them.
 ghost use Rattle.std.specs.Prelude.{◌≡◌, ◌<◌, ◌∷◌, [], IfOk, None};
 
-use dyl_app::{Outcome, serve, status};
+use dyl_app::{Outcome, RunEnd, serve, status};
 use dyl_outside::{Files, MemAmbient, MemFiles, MemSink, MemSource};
 use host_table::{Callback, HostTable, Reply};
 use std::alloc::Global;
@@ -99,6 +99,37 @@ pub fn is_wanted(report: &Report, wanted: Wanted) -> bool {
         && report.errors.held() == wanted.errors.as_bytes()
 }
 
+/// Whether a run ended at the most host calls, each of which has an answer.
+pub fn has_most_answers(outcome: &Outcome) -> bool {
+    match outcome {
+        Outcome::Ran(ran) => {
+            ran.end == RunEnd::HostCallLimit && ran.answers.items().len() == 1_048_576
+        }
+        _ => false,
+    }
+}
+
+/// A file at `main.wasm`.
+pub fn holding_main(alloc: Global, file: &[u8]) -> Result<MemFiles, Memory> {
+    let mut files = MemFiles::new(alloc);
+    files.add(alloc, "main.wasm", file)?;
+    Ok(files)
+}
+
+/// Whether a command over files and these outputs comes to what is wanted.
+pub fn does_over(
+    alloc: Global,
+    line: &str,
+    files: &mut MemFiles,
+    host: &HostTable,
+    output: MemSink,
+    errors: MemSink,
+    wanted: Wanted,
+) -> Result<bool, Fail> {
+    let report = called_over(alloc, line, files, host, output, errors)?;
+    Ok(is_wanted(&report, wanted))
+}
+
 /// Whether a command over files comes to what is wanted.
 pub fn does(
     alloc: Global,
@@ -109,8 +140,7 @@ pub fn does(
 ) -> Result<bool, Fail> {
     let output = MemSink::new(alloc);
     let errors = MemSink::new(alloc);
-    let report = called_over(alloc, line, files, host, output, errors)?;
-    Ok(is_wanted(&report, wanted))
+    does_over(alloc, line, files, host, output, errors, wanted)
 }
 
 /// Whether a command over a set, without host functions, comes to what is wanted.

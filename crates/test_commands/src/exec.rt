@@ -2,7 +2,9 @@
 mod hosts;
 mod modules;
 
-use crate::commands::{Report, called_over, called_with, words_of};
+use crate::commands::{
+    DONE, Report, Wanted, called_with, does, has_most_answers, holding_main, words_of,
+};
 use dyl_app::{Outcome, RunEnd, status};
 use dyl_outside::{MemFiles, MemSink, MemSource};
 use host_table::HostTable;
@@ -17,7 +19,7 @@ fn run_with(
     input: &[u8],
     host: &HostTable,
 ) -> Result<Report, Fail> {
-    let mut files = holding(alloc, file)?;
+    let mut files = holding_main(alloc, file)?;
     let words = words_of(alloc, line)?;
     let input = MemSource::new(alloc, input.to_vec(alloc)?);
     let output = MemSink::new(alloc);
@@ -95,31 +97,26 @@ fn many_host_calls(rt: HostRuntime) -> Result<(), Fail> {
     let alloc = rt.alloc();
     let host = HostTable::new(alloc);
     let called = run_with(alloc, EXEC, modules::CLOSES, b"", &host)?;
-    assert!(rt; called.errors.held() == b"wdyl: host call limit\n".as_slice());
-    match &called.outcome {
-        Outcome::Ran(ran) => {
-            assert!(rt; ran.end == RunEnd::HostCallLimit);
-            assert_eq!(rt; ran.answers.items().len(), 1_048_576);
-        }
-        _ => assert!(rt; false, "it was run"),
-    }
+    let told = called.errors.held() == b"wdyl: host call limit\n".as_slice();
+    assert!(rt; told && has_most_answers(&called.outcome));
     Ok(())
 }
 
 /// Whether a run of the smallest module ends with a status and a line where so many steps are allowed.
-fn stops(alloc: Global, steps: u64, code: u8, errors: &[u8]) -> Result<bool, Fail> {
-    let host = HostTable::new(alloc);
+fn stops(alloc: Global, steps: u64, code: u8, errors: &'static str) -> Result<bool, Fail> {
+    let mut files = holding_main(alloc, modules::SMALLEST)?;
     let line = format!(in alloc; "wdyl exec --steps {steps} main.wasm")?;
-    let called = run_with(alloc, &line, modules::SMALLEST, b"", &host)?;
-    Ok(status(&called.outcome) == code && called.errors.held() == errors)
+    serves(alloc, &mut files, &line, code, errors)
 }
 
 #[test]
 fn step_limits(rt: HostRuntime) -> Result<(), Fail> {
     let alloc = rt.alloc();
-    assert!(rt; stops(alloc, 2, 0, b"")?);
-    assert!(rt; stops(alloc, 1, 124, b"wdyl: step limit\n")?);
-    assert!(rt; stops(alloc, 0, 124, b"wdyl: step limit\n")?);
+    assert!(rt;
+        stops(alloc, 2, 0, "")?
+            && stops(alloc, 1, 124, "wdyl: step limit\n")?
+            && stops(alloc, 0, 124, "wdyl: step limit\n")?
+    );
     Ok(())
 }
 
@@ -177,6 +174,14 @@ fn refused_modules(rt: HostRuntime) -> Result<(), Fail> {
     Ok(())
 }
 
+/// Whether a run exited with this code.
+fn exits_with(outcome: &Outcome, code: u32) -> bool {
+    match outcome {
+        Outcome::Ran(ran) => ran.end == RunEnd::Exit(code),
+        _ => false,
+    }
+}
+
 /// Two arguments, `program` and `-x`, of 8 and 3 bytes with their zeros: it exits with 100 times the one plus the other.
 #[test]
 fn guest_arguments(rt: HostRuntime) -> Result<(), Fail> {
@@ -184,66 +189,57 @@ fn guest_arguments(rt: HostRuntime) -> Result<(), Fail> {
     let host = HostTable::new(alloc);
     let line = "wdyl exec --steps 1000 main.wasm -- -x";
     let called = run_with(alloc, line, modules::COUNTS, b"", &host)?;
-    match &called.outcome {
-        Outcome::Ran(ran) => assert!(rt; ran.end == RunEnd::Exit(211)),
-        _ => assert!(rt; false, "it was run"),
-    }
+    assert!(rt; exits_with(&called.outcome, 211));
     Ok(())
 }
 
-/// Whether a command over files ends with a status and puts these errors.
+/// Whether a command over files ends with a status, and puts these errors and no output.
 fn serves(
     alloc: Global,
     files: &mut MemFiles,
     line: &str,
-    code: u8,
-    errors: &str,
+    status: u8,
+    errors: &'static str,
 ) -> Result<bool, Fail> {
-    let host = HostTable::new(alloc);
-    let report = called_over(
-        alloc,
-        line,
-        files,
-        &host,
-        MemSink::new(alloc),
-        MemSink::new(alloc),
-    )?;
-    Ok(status(&report.outcome) == code && report.errors.held() == errors.as_bytes())
-}
-
-/// Files that hold this one as `main.wasm`.
-fn holding(alloc: Global, file: &[u8]) -> Result<MemFiles, Fail> {
-    let mut files = MemFiles::new(alloc);
-    files.add(alloc, "main.wasm", file)?;
-    Ok(files)
+    let wanted = Wanted {
+        status,
+        errors,
+        ..DONE
+    };
+    does(alloc, line, files, &HostTable::new(alloc), wanted)
 }
 
 #[test]
 fn merged_and_run(rt: HostRuntime) -> Result<(), Fail> {
-    let mut files = holding(rt.alloc(), modules::TRAPS)?;
-    for (line, code, errors) in [
-        ("wdyl merge main.wasm out.wasm", 0, ""),
-        ("wdyl exec out.wasm", 134, "wdyl: trap unreachable\n"),
-    ] {
-        assert!(rt;
-            serves(rt.alloc(), &mut files, line, code, errors)?,
-            "{line}"
-        );
-    }
+    let alloc = rt.alloc();
+    let mut files = holding_main(alloc, modules::TRAPS)?;
+    let merge = "wdyl merge main.wasm out.wasm";
+    let trapped = "wdyl: trap unreachable\n";
+    assert!(rt;
+        serves(alloc, &mut files, merge, 0, "")?
+            && serves(alloc, &mut files, "wdyl exec out.wasm", 134, trapped)?
+    );
     Ok(())
+}
+
+/// Words of the command over a file that is run, with their statuses and lines.
+const WORDS: &[(&str, u8, &str)] = &[
+    ("wdyl exec main.wasm", 0, ""),
+    ("wdyl exec", 64, "wdyl: usage: words\n"),
+    ("wdyl exec a b", 65, "wdyl: missing a\n"),
+    ("wdyl exec other.wasm", 65, "wdyl: missing other.wasm\n"),
+];
+
+fn words() -> &'static [(&'static str, u8, &'static str)] {
+    WORDS
 }
 
 #[test]
 fn words_of_exec(rt: HostRuntime) -> Result<(), Fail> {
-    let mut files = holding(rt.alloc(), modules::PLAIN)?;
-    for (line, code, errors) in [
-        ("wdyl exec main.wasm", 0, ""),
-        ("wdyl exec", 64, "wdyl: usage: words\n"),
-        ("wdyl exec a b", 65, "wdyl: missing a\n"),
-        ("wdyl exec other.wasm", 65, "wdyl: missing other.wasm\n"),
-    ] {
+    let mut files = holding_main(rt.alloc(), modules::PLAIN)?;
+    for (line, code, errors) in words() {
         assert!(rt;
-            serves(rt.alloc(), &mut files, line, code, errors)?,
+            serves(rt.alloc(), &mut files, line, *code, errors)?,
             "{line}"
         );
     }

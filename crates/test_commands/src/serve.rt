@@ -1,7 +1,7 @@
 // Orders through `serve`, by rows.
 mod lines;
 
-use crate::commands::{Report, called_with, is_written};
+use crate::commands::{Report, called_with, holding_main, is_written};
 use dyl_app::status;
 use dyl_outside::{Files, MemFiles, MemSink, MemSource};
 use host_table::HostTable;
@@ -46,13 +46,6 @@ fn answers(
     let there = is_written(alloc, files);
     let told = report.errors.held() == line.as_bytes();
     Ok(status(&report.outcome) == code && told && there == written)
-}
-
-/// Files that hold this one as `main.wasm`.
-fn holding(alloc: Global, file: &[u8]) -> Result<MemFiles, Fail> {
-    let mut files = MemFiles::new(alloc);
-    files.add(alloc, "main.wasm", file)?;
-    Ok(files)
 }
 
 const MERGE: &[&str] = &["wdyl", "merge", "main.wasm", "out.wasm"];
@@ -159,7 +152,7 @@ fn row_answers(
     line: &str,
     written: bool,
 ) -> Result<bool, Fail> {
-    let mut files = holding(alloc, &file_of(alloc, row)?)?;
+    let mut files = holding_main(alloc, &file_of(alloc, row)?)?;
     answers(alloc, words, &mut files, code, line, written)
 }
 
@@ -210,7 +203,7 @@ fn is_valid(alloc: Global, files: &mut MemFiles) -> Result<bool, Fail> {
 
 /// Whether what is merged of the file of a row is valid.
 fn is_merged_to_valid(alloc: Global, row: &str) -> Result<bool, Fail> {
-    let mut files = holding(alloc, &file_of(alloc, row)?)?;
+    let mut files = holding_main(alloc, &file_of(alloc, row)?)?;
     called(alloc, MERGE, &mut files, MemSink::new(alloc))?;
     is_valid(alloc, &mut files)
 }
@@ -241,7 +234,7 @@ fn line_of_prefix(count: usize) -> &'static str {
 /// Whether the first bytes of a file, so many of them, are refused with their line.
 fn is_prefix_refused(alloc: Global, prefix: &[u8]) -> Result<bool, Fail> {
     let line = line_of_prefix(prefix.len());
-    let mut files = holding(alloc, prefix)?;
+    let mut files = holding_main(alloc, prefix)?;
     answers(alloc, MERGE, &mut files, 65, line, false)
 }
 
@@ -260,7 +253,7 @@ fn prefixes(rt: HostRuntime) -> Result<(), Fail> {
 
 /// Whether a merge in which a call of the files fails ends so, and writes nothing.
 fn fails_so(alloc: Global, call: u64, code: u8, line: &str) -> Result<bool, Fail> {
-    let mut files = holding(alloc, &bytes_of(alloc, SMALLEST)?)?;
+    let mut files = holding_main(alloc, &bytes_of(alloc, SMALLEST)?)?;
     files.fail_at(alloc, call)?;
     answers(alloc, MERGE, &mut files, code, line, false)
 }
@@ -298,7 +291,7 @@ fn longest(alloc: Global, zeros: usize) -> Result<MemFiles, Fail> {
     let mut file = bytes_of(alloc, SMALLEST)?;
     let contents = vec![in alloc; 0u8; zeros]?;
     put_section(alloc, &mut file, 0, &contents)?;
-    holding(alloc, &file)
+    Ok(holding_main(alloc, &file)?)
 }
 
 /// A file of 16,777,216 bytes.
@@ -384,7 +377,7 @@ fn wrong() -> &'static [(&'static [&'static str], &'static str)] {
 
 /// Whether words are refused as no order with this line.
 fn are_no_order(alloc: Global, words: &[&str], line: &str) -> Result<bool, Fail> {
-    let mut files = holding(alloc, &bytes_of(alloc, SMALLEST)?)?;
+    let mut files = holding_main(alloc, &bytes_of(alloc, SMALLEST)?)?;
     answers(alloc, words, &mut files, 64, line, false)
 }
 
@@ -453,7 +446,7 @@ fn many(alloc: Global, count: u32) -> Result<Vec<u8>, Fail> {
 #[test]
 fn many_exports(rt: HostRuntime) -> Result<(), Fail> {
     let alloc = rt.alloc();
-    let mut files = holding(alloc, &many(alloc, 65_537)?)?;
+    let mut files = holding_main(alloc, &many(alloc, 65_537)?)?;
     assert!(rt; answers(alloc, MERGE, &mut files, 0, "", true)?);
     Ok(())
 }

@@ -8,7 +8,6 @@ use std::test::Fail;
 use test_rows::bytes_of;
 use wasm_check::{Checked, check};
 use wasm_decode::decode;
-use wasm_form::Memory;
 
 // What is asked of a set, and the answer. Of each member its module is named, and the members that it needs are numbered.
 const SETS: &str = "\
@@ -103,11 +102,21 @@ fn checked(alloc: Global, module: &str) -> Result<Checked, Fail> {
 }
 
 // Tells of the next member.
-fn add(alloc: Global, maker: &mut Maker, checked: &Checked, needed: &[u32]) -> Result<(), Memory>
+fn add(alloc: Global, maker: &mut Maker, checked: &Checked, needed: &[u32]) -> Result<(), Fail>
     requires { length maker.old < 256 }
     ensures { OnOk result (length maker.new ≡ length maker.old + 1) }
 {
-    maker.add(alloc, checked, needed)
+    maker.add(alloc, checked, needed)?;
+    Ok(())
+}
+
+// The same by its module.
+fn add_module(alloc: Global, maker: &mut Maker, module: &str, needed: &[u32]) -> Result<(), Fail>
+    requires { length maker.old < 256 }
+    ensures { OnOk result (length maker.new ≡ length maker.old + 1) }
+{
+    let checked = checked(alloc, module)?;
+    add(alloc, maker, &checked, needed)
 }
 
 // Tells of a member: its module, and the numbers of those that it needs.
@@ -117,9 +126,7 @@ fn tell(alloc: Global, maker: &mut Maker, text: &str) -> Result<(), Fail>
 {
     let (module, words) = text.split_once(" ").unwrap_or((text, ""));
     let needed = numbers(alloc, words)?;
-    let checked = checked(alloc, module)?;
-    add(alloc, maker, &checked, &needed)?;
-    Ok(())
+    add_module(alloc, maker, module, &needed)
 }
 
 fn tell_all(alloc: Global, maker: &mut Maker, text: &str) -> Result<(), Fail>

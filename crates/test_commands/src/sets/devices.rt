@@ -1,6 +1,6 @@
 // Files and outputs that fail.
 use super::modules::{BASED, CYCLE, OUTSIDE};
-use crate::commands::{DONE, Wanted, called_over, does, is_wanted, is_written};
+use crate::commands::{DONE, Wanted, does, does_over, is_written};
 use dyl_outside::MemSink;
 use host_table::HostTable;
 use std::alloc::Global;
@@ -114,12 +114,11 @@ fn puts_so(
     errors: Option<u64>,
     wanted: Wanted,
 ) -> Result<bool, Fail> {
-    let mut files = holding(alloc, set)?;
-    let host = HostTable::new(alloc);
     let output = failing(alloc, output)?;
     let errors = failing(alloc, errors)?;
-    let report = called_over(alloc, line, &mut files, &host, output, errors)?;
-    Ok(is_wanted(&report, wanted))
+    let mut files = holding(alloc, set)?;
+    let host = HostTable::new(alloc);
+    does_over(alloc, line, &mut files, &host, output, errors, wanted)
 }
 
 #[test]

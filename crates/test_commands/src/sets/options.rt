@@ -1,6 +1,7 @@
 // What each option of each command does.
 use super::modules::{AWAY, BESIDE};
 use crate::commands::{DONE, REFUSED, Wanted, is_done};
+use std::alloc::Global;
 use std::test::Fail;
 use test_files::{FIRST_A, File, MAIN};
 
@@ -47,22 +48,30 @@ module 1 a.so 66661 0 1 0
     ..DONE
 };
 
-/// Lines of words, the files, and what comes of them.
-const ROWS: &[(&str, &[File], Wanted)] = &[
-    // the four phases, the call of the entry, and its return
+/// A line of words, the files, and what comes of them.
+type Command = (&'static str, &'static [File], Wanted);
+
+/// The four phases, the call of the entry, and its return.
+const STEPS: &[Command] = &[
     ("wdyl run --steps 6 main.wasm", &[MAIN], DONE),
     ("wdyl run main.wasm --steps=5", &[MAIN], STOPPED),
     ("wdyl run --steps=7 main.wasm -- -x", &[MAIN], DONE),
     ("wdyl exec --steps 2 main.wasm", &[MAIN], DONE),
     ("wdyl exec --steps 1 main.wasm", &[MAIN], STOPPED),
-    // directories in which libraries are searched
+];
+
+/// Directories in which libraries are searched.
+const PATHS: &[Command] = &[
     ("wdyl run main.wasm", AWAY, MISSING),
     ("wdyl run --path x main.wasm", AWAY, DONE),
     ("wdyl merge main.wasm out.wasm", AWAY, MISSING),
     ("wdyl merge --path=y:x main.wasm out.wasm", AWAY, DONE),
     ("wdyl plan main.wasm", AWAY, MISSING),
     ("wdyl plan main.wasm --path y:x", AWAY, TWO_MEMBERS),
-    // names that may be opened later
+];
+
+/// Names that may be opened later.
+const NAMES: &[Command] = &[
     ("wdyl run --dl a.so main.wasm", &[MAIN], MISSING),
     ("wdyl run --dl a.so main.wasm", BESIDE, DONE),
     ("wdyl merge --dl a.so main.wasm out.wasm", &[MAIN], MISSING),
@@ -72,7 +81,10 @@ const ROWS: &[(&str, &[File], Wanted)] = &[
         BESIDE,
         TWO_MEMBERS,
     ),
-    // the most pages, and the stack
+];
+
+/// The most pages, and the stack.
+const SIZES: &[Command] = &[
     ("wdyl run --pages 1 main.wasm", &[MAIN], TWO_PAGES),
     (
         "wdyl merge --pages=1 main.wasm out.wasm",
@@ -104,7 +116,10 @@ module 0 main.wasm 1157 0 1 0
             ..DONE
         },
     ),
-    // whether a name may be defined twice
+];
+
+/// Whether a name may be defined twice.
+const DUPLICATES: &[Command] = &[
     (
         "wdyl run --no-duplicates main.wasm",
         FIRST_A,
@@ -123,14 +138,41 @@ module 0 main.wasm 1157 0 1 0
 ];
 
 // What the rows are isn't looked into where they are gone through.
-fn rows() -> &'static [(&'static str, &'static [File], Wanted)] {
-    ROWS
+fn steps() -> &'static [Command] {
+    STEPS
+}
+
+fn paths() -> &'static [Command] {
+    PATHS
+}
+
+fn names() -> &'static [Command] {
+    NAMES
+}
+
+fn sizes() -> &'static [Command] {
+    SIZES
+}
+
+fn duplicates() -> &'static [Command] {
+    DUPLICATES
+}
+
+/// Fails by the line of a command that comes to something else.
+fn are_done(alloc: Global, rows: &[Command]) -> Result<(), Fail> {
+    for (line, set, wanted) in rows {
+        if !is_done(alloc, set, line, *wanted)? {
+            return Err(Fail::from(*line));
+        }
+    }
+    Ok(())
 }
 
 #[test]
 fn options_of_commands(rt: HostRuntime) -> Result<(), Fail> {
-    for (line, set, wanted) in rows() {
-        assert!(rt; is_done(rt.alloc(), set, line, *wanted)?, "{line}");
-    }
-    Ok(())
+    are_done(rt.alloc(), steps())?;
+    are_done(rt.alloc(), paths())?;
+    are_done(rt.alloc(), names())?;
+    are_done(rt.alloc(), sizes())?;
+    are_done(rt.alloc(), duplicates())
 }

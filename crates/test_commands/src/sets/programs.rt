@@ -3,10 +3,9 @@ use super::modules::{
     BASED, BY_TYPE, CLOSES, COUNTS, CYCLE, FIRST_B, GROWS, OUTSIDE, RECURSES, STRONG, TWICE, WEAK,
 };
 use crate::commands::{
-    DONE, Row, Wanted, are_merged, are_run, called_over, is_done, is_run_and_merged, is_wanted,
-    refuses, twice_table,
+    DONE, Report, Row, Wanted, are_merged, are_run, called_over, has_most_answers, is_done,
+    is_run_and_merged, is_wanted, refuses, twice_table,
 };
-use dyl_app::Outcome;
 use dyl_outside::MemSink;
 use host_table::HostTable;
 use std::alloc::Global;
@@ -239,27 +238,32 @@ fn twice() -> &'static [File] {
     TWICE
 }
 
+/// What comes of the run of a set that calls the host for ever.
+fn closing(alloc: Global) -> Result<Report, Fail> {
+    let mut files = holding(alloc, closes())?;
+    let host = HostTable::new(alloc);
+    let output = MemSink::new(alloc);
+    let errors = MemSink::new(alloc);
+    called_over(
+        alloc,
+        "wdyl run main.wasm",
+        &mut files,
+        &host,
+        output,
+        errors,
+    )
+}
+
 #[test]
 fn many_host_calls(rt: HostRuntime) -> Result<(), Fail> {
     let alloc = rt.alloc();
-    let report = called_over(
-        alloc,
-        "wdyl run main.wasm",
-        &mut holding(alloc, closes())?,
-        &HostTable::new(alloc),
-        MemSink::new(alloc),
-        MemSink::new(alloc),
-    )?;
+    let report = closing(alloc)?;
     let wanted = Wanted {
         status: 126,
         output: "",
         errors: "wdyl: host call limit\n",
     };
-    assert!(rt; is_wanted(&report, wanted));
-    match &report.outcome {
-        Outcome::Ran(ran) => assert_eq!(rt; ran.answers.items().len(), 1_048_576),
-        _ => assert!(rt; false, "it was run"),
-    }
+    assert!(rt; is_wanted(&report, wanted) && has_most_answers(&report.outcome));
     Ok(())
 }
 
