@@ -7,20 +7,15 @@ ghost use Rattle.host_calls.specs.Embedders.{names_of, embedder_of};
 ghost use Rattle.dyl_search.specs.Gathers.{options_of};
 ghost use Rattle.dyl_link.specs.Kept as links;
 ghost use Rattle.dyl_front.specs.Orders.{order_of, IsLinkInRange, IsInRange};
-ghost use Rattle.dyl_app.specs.Due.{DueFor, TellsFor, is_done, Yields, IsComplete};
-ghost use Rattle.dyl_app.specs.Files.{LeavesFor};
-ghost use Rattle.dyl_app.specs.Causes.{Caused, has_inner_memory};
-ghost use Rattle.dyl_app.specs.Told.{TellsErrors};
-ghost use Rattle.dyl_app.specs.Served.{Serves};
-ghost use Rattle.dyl_app.specs.Runs.{guest_arguments, PlanWorks, GenWorks};
-ghost use Rattle.dyl_app.specs.Clauses.{DoesBy, RunDoes, ExecDoes};
+ghost use Rattle.dyl_commands.specs.Due.{DueFor, TellsFor, is_done, Yields, IsComplete};
+ghost use Rattle.dyl_commands.specs.Files.{LeavesFor};
+ghost use Rattle.dyl_commands.specs.Causes.{Caused, has_inner_memory};
+ghost use Rattle.dyl_commands.specs.Told.{TellsErrors};
+ghost use Rattle.dyl_commands.specs.Served.{Serves};
+ghost use Rattle.dyl_commands.specs.Runs.{guest_arguments, PlanWorks, GenWorks};
+ghost use Rattle.dyl_commands.specs.Clauses.{DoesBy, RunDoes, ExecDoes};
 
-use crate::errors::tell;
-use crate::exec::exec_file;
-use crate::generated::gen_main;
-use crate::merge::merge_main;
-use crate::plan::plan_main;
-use crate::run::run_main;
+use dyl_commands::{exec_file, gen_main, merge_main, plan_main, run_main, tell};
 use dyl_front::{Order, Outcome, WordFault, read_words};
 use dyl_gen::generated_set_links;
 use dyl_link::LinkOptions;
@@ -92,10 +87,10 @@ fn perform_run<F: Files, I: Source, O: Sink, E: Sink, A: Ambient>(
     ensures does { RunDoes host.now (F.seen files.old) set.now link.now steps args.now result (I.seen input.old) (O.seen output.old) (E.seen errors.old) (A.seen ambient.old) (I.seen input.new) (O.seen output.new) (E.seen errors.new) (A.seen ambient.new) }
     ensures quiet { is_done result ≡ true → errors.new ≡ errors.old }
 {
-    let executed = run_main(
+    let ran = run_main(
         alloc, set, link, steps, args, files, input, output, errors, ambient, host,
     );
-    tell(alloc, executed, errors)
+    tell(alloc, ran, errors)
 }
 
 /// Runs a module, and tells what came of it.
@@ -144,8 +139,8 @@ fn perform_gen<O: Sink, E: Sink>(
     tell(alloc, made, errors)
 }
 
-/// Does what an order asks for, and tells what came of it.
-fn perform_order<F: Files, I: Source, O: Sink, E: Sink, A: Ambient>(
+/// Does what an order asks for, and answers what came of it, as `serve` does for words.
+pub fn perform<F: Files, I: Source, O: Sink, E: Sink, A: Ambient>(
     alloc: Global,
     order: &Order,
     files: &mut F,
@@ -156,10 +151,19 @@ fn perform_order<F: Files, I: Source, O: Sink, E: Sink, A: Ambient>(
     host: &HostTable,
 ) -> Outcome
     requires { IsInRange order.now }
-    ensures serves { Serves (names_of host.now) (Ok order.now) result (F.seen files.old) (F.seen files.new) (O.seen output.old).faults (O.seen output.new).faults }
+    ensures due { ForSome (F.seen files.old).told (λ told. (due : Outcome) → DueFor (names_of host.now) (get told) (Ok order.now) due → Yields due result) }
+    ensures tells { ForSome (F.seen files.old).told (λ told. TellsFor (names_of host.now) (get told) (Ok order.now) result) }
+    ensures files { ForSome (F.seen files.old).told (λ told. LeavesFor (names_of host.now) (Ok order.now) told result (F.seen files.old) (F.seen files.new)) }
+    ensures complete { ForSome (F.seen files.old).told (λ told. IsComplete (names_of host.now) (get told) (Ok order.now) result (F.seen files.old) (F.seen files.new) (O.seen output.old).faults (O.seen output.new).faults) }
+    ensures caused { Caused (names_of host.now) (Ok order.now) result (F.seen files.old) (F.seen files.new) (O.seen output.old).faults (O.seen output.new).faults }
+    ensures inner { has_inner_memory result ≡ false }
     ensures does { DoesBy host.now (F.seen files.old) (Ok order.now) result (I.seen input.old) (O.seen output.old) (E.seen errors.old) (A.seen ambient.old) (I.seen input.new) (O.seen output.new) (E.seen errors.new) (A.seen ambient.new) }
     ensures quiet { is_done result ≡ true → errors.new ≡ errors.old }
 {
+    reading_answers();
+    one_record_answer();
+    one_gathered();
+    generated_set_links();
     match order {
         Order::Merge { set, link, out } => {
             perform_merge(alloc, set, link, out.as_str(), files, errors, host)
@@ -199,56 +203,6 @@ fn perform_order<F: Files, I: Source, O: Sink, E: Sink, A: Ambient>(
             host,
         ),
     }
-}
-
-/// Does what words ask for, or tells what is wrong with them.
-fn serve_words<F: Files, I: Source, O: Sink, E: Sink, A: Ambient>(
-    alloc: Global,
-    words: &[String],
-    files: &mut F,
-    input: &mut I,
-    output: &mut O,
-    errors: &mut E,
-    ambient: &mut A,
-    host: &HostTable,
-) -> Outcome
-    ensures serves { Serves (names_of host.now) (order_of words.now) result (F.seen files.old) (F.seen files.new) (O.seen output.old).faults (O.seen output.new).faults }
-    ensures does { DoesBy host.now (F.seen files.old) (order_of words.now) result (I.seen input.old) (O.seen output.old) (E.seen errors.old) (A.seen ambient.old) (I.seen input.new) (O.seen output.new) (E.seen errors.new) (A.seen ambient.new) }
-    ensures quiet { is_done result ≡ true → errors.new ≡ errors.old }
-{
-    match read_words(alloc, words) {
-        Ok(order) => perform_order(alloc, &order, files, input, output, errors, ambient, host),
-        Err(WordFault::Usage(kind)) => tell(alloc, Outcome::Usage(kind), errors),
-        Err(WordFault::Memory) => tell(alloc, Outcome::Memory, errors),
-    }
-}
-
-/// Does what an order asks for, and answers what came of it, as `serve` does for words.
-pub fn perform<F: Files, I: Source, O: Sink, E: Sink, A: Ambient>(
-    alloc: Global,
-    order: &Order,
-    files: &mut F,
-    input: &mut I,
-    output: &mut O,
-    errors: &mut E,
-    ambient: &mut A,
-    host: &HostTable,
-) -> Outcome
-    requires { IsInRange order.now }
-    ensures due { ForSome (F.seen files.old).told (λ told. (due : Outcome) → DueFor (names_of host.now) (get told) (Ok order.now) due → Yields due result) }
-    ensures tells { ForSome (F.seen files.old).told (λ told. TellsFor (names_of host.now) (get told) (Ok order.now) result) }
-    ensures files { ForSome (F.seen files.old).told (λ told. LeavesFor (names_of host.now) (Ok order.now) told result (F.seen files.old) (F.seen files.new)) }
-    ensures complete { ForSome (F.seen files.old).told (λ told. IsComplete (names_of host.now) (get told) (Ok order.now) result (F.seen files.old) (F.seen files.new) (O.seen output.old).faults (O.seen output.new).faults) }
-    ensures caused { Caused (names_of host.now) (Ok order.now) result (F.seen files.old) (F.seen files.new) (O.seen output.old).faults (O.seen output.new).faults }
-    ensures inner { has_inner_memory result ≡ false }
-    ensures does { DoesBy host.now (F.seen files.old) (Ok order.now) result (I.seen input.old) (O.seen output.old) (E.seen errors.old) (A.seen ambient.old) (I.seen input.new) (O.seen output.new) (E.seen errors.new) (A.seen ambient.new) }
-    ensures quiet { is_done result ≡ true → errors.new ≡ errors.old }
-{
-    reading_answers();
-    one_record_answer();
-    one_gathered();
-    generated_set_links();
-    perform_order(alloc, order, files, input, output, errors, ambient, host)
 }
 
 /// Does what the words ask for, and answers what came of it.
@@ -292,9 +246,13 @@ pub fn serve<F: Files, I: Source, O: Sink, E: Sink, A: Ambient>(
     ensures does { DoesBy host.now (F.seen files.old) (order_of words.now) result (I.seen input.old) (O.seen output.old) (E.seen errors.old) (A.seen ambient.old) (I.seen input.new) (O.seen output.new) (E.seen errors.new) (A.seen ambient.new) }
     ensures quiet { is_done result ≡ true → errors.new ≡ errors.old }
 {
-    reading_answers();
-    one_record_answer();
-    one_gathered();
-    generated_set_links();
-    serve_words(alloc, words, files, input, output, errors, ambient, host)
+    match read_words(alloc, words) {
+        Ok(order) => {
+            let outcome = perform(alloc, &order, files, input, output, errors, ambient, host);
+            drop(order);
+            outcome
+        }
+        Err(WordFault::Usage(kind)) => tell(alloc, Outcome::Usage(kind), errors),
+        Err(WordFault::Memory) => tell(alloc, Outcome::Memory, errors),
+    }
 }

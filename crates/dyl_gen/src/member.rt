@@ -21,20 +21,28 @@ fn member(alloc: Global, n: u32, k: u32, note: Vec<u8>) -> Result<Module, Memory
     requires few { n ≤ 255 }
     ensures { IfOk result (λ m. m ≡ member n k note.items) }
 {
+    let customs = customs(alloc, note)?;
+    let types = types(alloc, k)?;
+    let imports = imports(alloc, n, k)?;
+    let funcs = funcs(alloc, k)?;
+    let globals = globals(alloc)?;
+    let exports = exports(alloc, k)?;
+    let codes = bodies(alloc, n, k)?;
+    let datas = datas(alloc, k)?;
     Ok(Module {
-        types: types(alloc, k)?,
-        imports: imports(alloc, n, k)?,
-        funcs: funcs(alloc, k)?,
+        types,
+        imports,
+        funcs,
         tables: List::of(Vec::new(alloc)),
         memories: List::of(Vec::new(alloc)),
-        globals: globals(alloc)?,
-        exports: exports(alloc, k)?,
+        globals,
+        exports,
         start: None,
         elems: List::of(Vec::new(alloc)),
         data_count: None,
-        codes: bodies(alloc, n, k)?,
-        datas: datas(alloc, k)?,
-        customs: customs(alloc, note)?,
+        codes,
+        datas,
+        customs,
     })
 }
 
@@ -42,6 +50,7 @@ fn member(alloc: Global, n: u32, k: u32, note: Vec<u8>) -> Result<Module, Memory
 fn further(alloc: Global, note: Vec<u8>) -> Result<Module, Memory>
     ensures { IfOk result (λ m. m ≡ further note.items) }
 {
+    let customs = customs(alloc, note)?;
     Ok(Module {
         types: List::of(Vec::new(alloc)),
         imports: List::of(Vec::new(alloc)),
@@ -55,7 +64,7 @@ fn further(alloc: Global, note: Vec<u8>) -> Result<Module, Memory>
         data_count: None,
         codes: List::of(Vec::new(alloc)),
         datas: List::of(Vec::new(alloc)),
-        customs: customs(alloc, note)?,
+        customs,
     })
 }
 
@@ -83,8 +92,11 @@ pub(crate) fn member_file(alloc: Global, n: u32, k: u32) -> Result<Vec<u8>, Memo
     written_is_recorded();
     let dylink = dylink(alloc, n, k)?;
     let note = write_dylink(alloc, &dylink)?;
+    drop(dylink);
     let module = member(alloc, n, k, note)?;
-    encoded(alloc, &module)
+    let bytes = encoded(alloc, &module);
+    drop(module);
+    bytes
 }
 
 // The further file.
@@ -94,6 +106,9 @@ pub(crate) fn further_file(alloc: Global) -> Result<Vec<u8>, Memory>
     written_is_recorded();
     let dylink = no_dylink(alloc);
     let note = write_dylink(alloc, &dylink)?;
+    drop(dylink);
     let module = further(alloc, note)?;
-    encoded(alloc, &module)
+    let bytes = encoded(alloc, &module);
+    drop(module);
+    bytes
 }

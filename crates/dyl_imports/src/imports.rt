@@ -25,7 +25,7 @@ impl<'a> Imports<'a> {
     ghost use Rattle.spec_linking.specs.Links.{type_in};
     ghost use Rattle.host_table.specs.Names.{host_name_of};
     ghost use Rattle.dyl_scope.specs.Scopes.{meaning_of};
-    ghost use Rattle.dyl_scope.specs.declared.def.Def.TheVariants as def;
+    ghost use Rattle.dyl_names.specs.declared.def.Def.TheVariants as def;
     ghost use Rattle.dyl_imports.specs.Kept.{AreImportsOf, AreOver};
 
     /// Looks at the imports of a set's members, over the names that the members define and the host functions that are declared.

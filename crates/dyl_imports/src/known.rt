@@ -35,7 +35,7 @@ impl<'a> Known<'a> {
     ghost use Rattle.spec_linking.specs.Links.{type_in};
     ghost use Rattle.spec_binary.specs.Indices.{function_type};
     ghost use Rattle.dyl_scope.specs.Scopes.{meaning_of};
-    ghost use Rattle.dyl_scope.specs.declared.def.Def.TheVariants as def;
+    ghost use Rattle.dyl_names.specs.declared.def.Def.TheVariants as def;
     ghost use Rattle.dyl_imports.specs.Weak.{weak_in};
     ghost use Rattle.dyl_imports.specs.Kept.{IsKnownOf, AreOver};
 

@@ -4,7 +4,7 @@ ghost use Rattle.spec_linking.specs.Links as links;
 ghost use Rattle.dyl_scope.specs.Scopes.{meaning_of};
 ghost use Rattle.dyl_link.specs.Answers.{Tells};
 
-use crate::notes::{ill_typed, unresolved};
+use dyl_names::{ill_typed, unresolved};
 use dyl_scope::Def;
 use spec_linking::{Kind, LinkFault};
 use std::alloc::Global;

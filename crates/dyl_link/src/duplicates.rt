@@ -10,7 +10,7 @@ ghost use Rattle.dyl_scope.specs.Scopes.{AreOf, meaning_of};
 ghost use Rattle.dyl_link.specs.Answers.{Tells};
 ghost use Rattle.dyl_link.specs.Duplicates.{member_in, duplicate_by};
 
-use crate::notes::named;
+use dyl_names::named;
 use dyl_scope::{Def, Symbols};
 use dyl_search::Member;
 use spec_linking::LinkFault;

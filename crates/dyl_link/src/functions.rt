@@ -11,8 +11,8 @@ ghost use Rattle.host_table.specs.Names.{match_of};
 ghost use Rattle.dyl_imports.specs.Kept.{AreImportsOf};
 ghost use Rattle.dyl_link.specs.Answers.{Tells};
 
-use crate::notes::{ill_typed, unresolved};
 use dyl_imports::Imports;
+use dyl_names::{ill_typed, unresolved};
 use dyl_scope::Def;
 use host_table::{HostMatch, HostNames};
 use spec_linking::{Kind, LinkFault};

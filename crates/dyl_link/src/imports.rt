@@ -11,8 +11,8 @@ ghost use Rattle.dyl_link.specs.Answers.{Tells};
 
 use crate::cells::{data_cell, slot_cell};
 use crate::functions::{env_function, host_function};
-use crate::notes::{ill_typed, unresolved};
 use dyl_imports::{Imports, Use, is_function_table, is_i32_global, is_memory, use_of};
+use dyl_names::{ill_typed, unresolved};
 use spec_linking::{Kind, LinkFault};
 use std::alloc::Global;
 use wasm_form::{Import, Module};

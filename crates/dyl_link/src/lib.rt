@@ -11,7 +11,6 @@ mod imports;
 mod linked;
 mod linking;
 mod members;
-mod notes;
 mod options;
 mod own;
 mod placed;

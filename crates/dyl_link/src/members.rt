@@ -11,9 +11,9 @@ ghost use Rattle.dyl_link.specs.Answers.{Tells};
 ghost use Rattle.dyl_link.specs.Faults.{before_imports};
 
 use crate::imports::import_faults;
-use crate::notes::named;
 use crate::own::loader_call;
 use dyl_imports::Imports;
+use dyl_names::named;
 use dyl_search::Member;
 use dyl_section::ExportInfo;
 use spec_linking::LinkFault;

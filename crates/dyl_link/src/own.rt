@@ -8,7 +8,7 @@ ghost use Rattle.spec_linking.specs.Definitions as defined;
 ghost use Rattle.spec_linking.specs.Links as links;
 ghost use Rattle.dyl_link.specs.Answers.{Tells};
 
-use crate::notes::ill_typed;
+use dyl_names::ill_typed;
 use spec_linking::{Kind, LinkFault};
 use std::alloc::Global;
 use wasm_check::Checked;

@@ -1,4 +1,3 @@
-pub mod Entries
 pub mod Lookups
 pub mod Resolved
 pub mod Distinct

@@ -16,7 +16,8 @@ use Rattle.dyl_scope.specs.Kept.{names_by}
 use Rattle.dyl_scope.specs.Scopes.{by_member, by_first}
 use Rattle.dyl_scope.specs.Definers.{Definers, by_text, definers_of, with_definer, with_definers, with_told, AreOnly, AreDefiners}
 use Rattle.dyl_scope.proofs.Distinct.{added, kept}
-use Rattle.dyl_scope.proofs.Entries.{keyed_insert}
+use Rattle.dyl_names.proofs.Entries.{keyed_insert}
+use Rattle.dyl_names.proofs.Only.{not_among}
 use Rattle.dyl_scope.proofs.Lookups.{lookup_all}
 
 same_name : (name : List ℕ) → bytes_eq name name ≡ true
@@ -143,12 +144,9 @@ on_ok (Err e) f p = p
 -- ---- the first of some members, by those that define the name
 
 module _ (names : List Defined) (name : List ℕ) where
-  pub not_among : (definers : List ℕ) → AreOnly names definers name → (m : ℕ) → is_among m definers ≡ false → by_member names m name ≡ defined.Undefined
-  not_among definers only m none = ap (defined.defined_by m) (only m none)
-
   none_first : AreOnly names [] name → (ms : List ℕ) → by_first names ms name ≡ defined.Undefined
   none_first only [] = refl
-  none_first only (m ∷ ms) = ap (λ d. defined.or_defined d (by_first names ms name)) (not_among [] only m refl) ∙ none_first only ms
+  none_first only (m ∷ ms) = ap (λ d. defined.or_defined d (by_first names ms name)) (not_among names name [] only m refl) ∙ none_first only ms
 
   pub no_first : (definers : List ℕ) → length definers ≡ 0 → AreOnly names definers name → (ms : List ℕ) → by_first names ms name ≡ defined.Undefined
   no_first [] none only ms = none_first only ms
@@ -172,4 +170,4 @@ module _ (names : List Defined) (name : List ℕ) where
       by false p rest =
           let other : nat_eq k m ≡ false = grind (arith, nat_tests) in
           let none : is_among m (k ∷ []) ≡ false = rw other refl in
-          rw p (ap (λ d. defined.or_defined d (by_first names ms name)) (not_among (k ∷ []) only m none) ∙ rest)
+          rw p (ap (λ d. defined.or_defined d (by_first names ms name)) (not_among names name (k ∷ []) only m none) ∙ rest)

@@ -1,11 +1,11 @@
 -- The members that define a name, by the names of all members.
-use Rattle.std.specs.Prelude.{◌≡◌, ℕ, ◌+◌, List, [], ◌∷◌, map, false, unwrap_or, slice_get, None, String, string_bytes, if◌then◌else◌}
+use Rattle.std.specs.Prelude.{ℕ, ◌+◌, List, [], ◌∷◌, map, unwrap_or, String, string_bytes, if◌then◌else◌}
 use Rattle.std.specs.Map.{lookup}
 use Rattle.std.specs.Str.{bytes_eq}
-use Rattle.spec_binary.specs.Options.{◌>>=◌}
-use Rattle.spec_linking.specs.Orders.{is_among, with_number}
+use Rattle.spec_linking.specs.Orders.{with_number}
 use Rattle.dyl_scope.specs.Names.{Defined, definition_value}
 use Rattle.dyl_scope.specs.declared.maker.Told.{Told}
+pub use Rattle.dyl_names.specs.First.{AreOnly}
 
 -- names, by their bytes, each with members that define it
 abbrev pub Definers : Type 0
@@ -34,9 +34,6 @@ abbrev pub with_told : ℕ → List Told → Definers → Definers
 with_told m [] ds = ds
 with_told m (t ∷ ts) ds = with_told (m + 1) ts (with_definers m (map definition_value t.definitions) ds)
 
--- no other members than these define a name
-abbrev pub AreOnly : List Defined → List ℕ → List ℕ → Type 0
-AreOnly names definers name = (m : ℕ) → is_among m definers ≡ false → (slice_get names m >>= lookup (bytes_eq name)) ≡ None
-
+-- no other members than those that are noted for a name define it
 abbrev pub AreDefiners : List Defined → Definers → Type 0
 AreDefiners names ds = (name : List ℕ) → AreOnly names (definers_of ds name) name

@@ -1,4 +1,3 @@
-pub mod Marks
 pub mod Names
 pub mod Orders
 pub mod Definers

@@ -9,23 +9,7 @@ use Rattle.spec_linking.specs.Orders.{closure, post_order, with_numbers}
 use Rattle.spec_linking.specs.Definitions as defined
 use Rattle.dyl_scope.specs.Names.{Defined, defined_in, definition_value}
 use Rattle.dyl_scope.specs.declared.maker.Told as declared
-use Rattle.dyl_scope.specs.declared.def.Def.{Def}
-use Rattle.dyl_scope.specs.declared.def.Def.TheVariants as def
-
--- a definition, as the meaning sees it
-abbrev pub meaning_of : Def → defined.Definition
-meaning_of (def.Loader call) = defined.LoaderFunction call
-meaning_of def.HeapBase = defined.HeapBase
-meaning_of def.HeapEnd = defined.HeapEnd
-meaning_of (def.Function m f) = defined.MemberFunction m f
-meaning_of (def.Datum m place) = defined.MemberData m place
-meaning_of (def.Host n) = defined.HostFunction
-meaning_of def.Weak = defined.WeakSymbol
-meaning_of def.Nothing = defined.Undefined
-
--- it isn't a host function
-abbrev pub IsInside : Def → Type 0
-IsInside d = (n : ℕ) → d ≡ def.Host n → ⊥
+pub use Rattle.dyl_names.specs.First.{meaning_of, IsInside, by_member, by_first}
 
 -- ---- what is told of a member: what its exports define, and the numbers of the members that it needs, each once
 
@@ -65,15 +49,7 @@ pub record AreOf (S : ClosedSet) (s : Scopes) : Type 0 where
   pub startup : S.startup ≡ closure S 0
   pub some : 0 < length S.members
 
--- ---- by the names that the members define, the definition of a name by a member
-
-abbrev pub by_member : List Defined → ℕ → List ℕ → defined.Definition
-by_member names m name = defined.defined_by m (slice_get names m >>= lookup (bytes_eq name))
-
--- and by the first of some members that defines it
-abbrev pub by_first : List Defined → List ℕ → List ℕ → defined.Definition
-by_first names [] name = defined.Undefined
-by_first names (m ∷ ms) name = defined.or_defined (by_member names m name) (by_first names ms name)
+-- ---- by the names that the members define, the definition of a name
 
 -- in a scope: in the startup list, or else in the closure of the member
 abbrev pub in_scope : List Defined → List ℕ → List ℕ → List ℕ → defined.Definition

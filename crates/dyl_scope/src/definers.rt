@@ -8,8 +8,7 @@ ghost use Rattle.dyl_scope.specs.Kept.{names_by};
 ghost use Rattle.dyl_scope.specs.Definers.{definers_of, with_definer, with_definers, AreDefiners};
 
 use crate::maker::Told;
-use crate::numbers::DistinctNumbers;
-use crate::symbol::Definition;
+use dyl_names::{Definition, DistinctNumbers};
 use indexmap::IndexMap;
 use std::alloc::Global;
 use std::marker::Model;

@@ -7,7 +7,7 @@ ghost use Rattle.spec_linking.specs.Definitions as defined;
 ghost use Rattle.dyl_scope.specs.Names.{maybe_symbol, symbol_value, definition_value, defined_as, defined_in, data_at, own_data, Counts};
 
 use crate::globals::data_symbol;
-use crate::symbol::{Definition, Symbol};
+use dyl_names::{Definition, Symbol};
 use std::alloc::Global;
 use wasm_form::{Export, ExportDesc, Import, ImportDesc, Memory, Module, Text};
 

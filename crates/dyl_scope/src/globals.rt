@@ -5,7 +5,7 @@ ghost use Rattle.spec_validation.specs.Faults.{global_fits};
 ghost use Rattle.spec_linking.specs.Definitions as defined;
 ghost use Rattle.dyl_scope.specs.Names.{maybe_symbol, i32_step, i32_constant};
 
-use crate::symbol::Symbol;
+use dyl_names::Symbol;
 use wasm_form::{GlobalDef, Instr, Module, ValType};
 
 fn i32_step(i: &Instr) -> Option<u32>

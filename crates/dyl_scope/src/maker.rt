@@ -10,11 +10,9 @@ ghost use Rattle.dyl_scope.specs.Kept.{names_by, kept_of};
 
 use crate::definers::definers_of;
 use crate::exports::definitions_of;
-use crate::names::Names;
-use crate::numbers::{DistinctNumbers, distinct};
 use crate::orders::{closure_of, post_order_of};
-use crate::symbol::Definition;
 use crate::symbols::Symbols;
+use dyl_names::{Definition, DistinctNumbers, Names, distinct};
 use std::alloc::Global;
 use std::marker::Model;
 use wasm_check::Checked;

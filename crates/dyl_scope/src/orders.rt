@@ -4,7 +4,7 @@ ghost use Rattle.spec_linking.specs.Orders.{with_numbers};
 ghost use Rattle.dyl_scope.specs.Orders.{needed_in, needed_at, closure_by, walk_by, walk_value, post_order_by};
 
 use crate::maker::Told;
-use crate::numbers::DistinctNumbers;
+use dyl_names::DistinctNumbers;
 use std::alloc::Global;
 use wasm_form::{List, Memory};
 

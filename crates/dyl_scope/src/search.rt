@@ -1,44 +1,9 @@
 // The first of some members that defines a name.
 ghost use Rattle.std.specs.Prelude.{◌≡◌, ◌∷◌, []};
 ghost use Rattle.dyl_scope.specs.Definers.{AreOnly};
-ghost use Rattle.dyl_scope.specs.Scopes.{meaning_of, list_at, by_member, by_first, in_scope, IsInside};
+ghost use Rattle.dyl_scope.specs.Scopes.{meaning_of, list_at, by_first, in_scope, IsInside};
 
-use crate::def::Def;
-use crate::names::Names;
-use crate::numbers::DistinctNumbers;
-use crate::symbol::Symbol;
-
-fn by_member(names: &[Names], m: u32, name: &str) -> Def
-    ensures meaning { meaning_of result ≡ by_member names.now m name.now }
-    ensures inside { IsInside result }
-{
-    match names.get(m as usize) {
-        Some(defined) => match defined.get(name) {
-            Some(Symbol::Function(func)) => Def::Function { module: m, func },
-            Some(Symbol::Datum(offset)) => Def::Datum { module: m, offset },
-            None => Def::Nothing,
-        },
-        None => Def::Nothing,
-    }
-}
-
-// The first of some members, where no others than the definers define the name.
-#[tactic(auto, using(crate::proofs::Noted::not_among))]
-pub(crate) fn by_first(names: &[Names], definers: &[u32], members: &[u32], name: &str) -> Def
-    requires { AreOnly names.now definers.now name.now }
-    ensures meaning { meaning_of result ≡ by_first names.now members.now name.now }
-    ensures inside { IsInside result }
-{
-    for m in members {
-        if definers.contains(m) {
-            match by_member(names, *m, name) {
-                Def::Nothing => {}
-                found => return found,
-            }
-        }
-    }
-    Def::Nothing
-}
+use dyl_names::{Def, DistinctNumbers, Names, by_first, by_member};
 
 // The one definer, if it is among some members.
 fn by_one(names: &[Names], definer: u32, members: &DistinctNumbers, name: &str) -> Def

@@ -5,13 +5,11 @@ ghost use Rattle.spec_linking.specs.Definitions as defined;
 ghost use Rattle.spec_linking.specs.Orders.{closure, post_order};
 ghost use Rattle.dyl_scope.specs.Definers.{AreDefiners};
 ghost use Rattle.dyl_scope.specs.Scopes.{meaning_of, outside, in_scope, resolved_in, list_at, by_first, AreOf, IsInside};
-ghost use Rattle.dyl_scope.specs.declared.def.Def.TheVariants as def;
+ghost use Rattle.dyl_names.specs.declared.def.Def.TheVariants as def;
 
-use crate::def::Def;
 use crate::definers::Definers;
-use crate::names::Names;
-use crate::numbers::DistinctNumbers;
-use crate::search::{by_first, in_scope};
+use crate::search::in_scope;
+use dyl_names::{Def, DistinctNumbers, Names, by_first};
 use std::marker::Model;
 use wasm_form::{List, LoaderCall};
 

@@ -4,9 +4,9 @@ use Rattle.wasm_form.specs.declared.runtime.LoaderCall.{LoaderCall}
 use Rattle.wasm_form.specs.declared.runtime.LoaderCall.TheVariants.{Dlopen, Dlsym, Dlclose, Dlerror}
 use Rattle.wasm_form.specs.declared.runtime.Ref.{Ref}
 use Rattle.wasm_form.specs.declared.runtime.Ref.TheVariants.{Own, Loader, Host, Stub}
-use Rattle.spec_binary.specs.Options.{◌>>=◌}
 use Rattle.merge_match.specs.Renumbering.{Numbers}
-use Rattle.merge_match.specs.Parts.{nowhere, number_of}
+use Rattle.merge_match.specs.Parts.{nowhere}
+pub use Rattle.merge_pieces.specs.Numbers.{number_at}
 use Rattle.merge_index.specs.declared.numbers.LoaderNumbers.{LoaderNumbers}
 
 -- Of each member, by its own numbers, the numbers of the functions that these name, and of its types, globals, tables and segments. The
@@ -24,10 +24,6 @@ pub record KeptNumbers : Type 0 where
   pub tables : List (List ℕ)
   pub elems : List (List ℕ)
   pub segments : List (List ℕ)
-
--- item i of the list of member m
-abbrev pub number_at : List (List ℕ) → ℕ → ℕ → ℕ
-number_at lists m i = number_of (slice_get lists m >>= λ list. slice_get list i)
 
 -- the number of a function of member m, by the numbers of those that each member defines, where so many are imported
 abbrev pub own_from : List (List ℕ) → ℕ → Option ℕ → ℕ → ℕ

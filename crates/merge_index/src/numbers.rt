@@ -4,30 +4,19 @@ ghost use Rattle.spec_linking.specs.LinkedSets.{LinkedSet};
 ghost use Rattle.dyl_link.specs.Kept.{IsLinked};
 ghost use Rattle.merge_index.specs.Numbering.{first_phase, loader_numbers, numbers_of};
 ghost use Rattle.merge_index.specs.Lists.{loader_where, kept_of};
-ghost use Rattle.merge_index.specs.Kept.{number_at, own_from, stub_number, call_in, numbers_in};
+ghost use Rattle.merge_index.specs.Kept.{own_from, stub_number, call_in, numbers_in};
 
 use crate::functions::{Known, all_stubs_end, loader_behind, named_lists};
 use crate::globals::global_lists;
 use crate::lists::{Space, end_of, imported_counts, numbered, table_lists, total};
 use dyl_link::Linked;
+use merge_pieces::number_at;
 use std::alloc::Global;
 use std::marker::Model;
 use wasm_form::{List, LoaderCall, Memory, Ref};
 
 // The number of what is out of range: no module has so many of anything.
 pub(crate) const NOWHERE: u32 = u32::MAX;
-
-pub(crate) fn number_at(lists: &[List<u32>], m: u32, i: u32) -> u32
-    ensures { result ≡ number_at lists.now m i }
-{
-    match lists.get(m as usize) {
-        Some(list) => match list.items().get(i as usize) {
-            Some(n) => *n,
-            None => NOWHERE,
-        },
-        None => NOWHERE,
-    }
-}
 
 // The number of a function of member m, by the numbers of those that each member defines, where so many are imported.
 pub(crate) fn own_from(owns: &[List<u32>], m: u32, imported: Option<u32>, f: u32) -> u32

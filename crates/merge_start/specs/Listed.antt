@@ -1,8 +1,8 @@
 -- The numbers that generated code names, as lists, and what is made by them.
-use Rattle.std.specs.Prelude.{◌≡◌, ℕ, All, ◌+◌, ◌-◌, ◌*◌, ◌<◌, ◌^◌, IsTrue, List, [], ◌∷◌, ◌++◌, length, map, slice_get, nat_lt, Option, Some, None, option_map, if◌then◌else◌}
+use Rattle.std.specs.Prelude.{◌≡◌, ℕ, ◌+◌, ◌-◌, ◌*◌, ◌<◌, ◌^◌, IsTrue, List, [], ◌∷◌, ◌++◌, length, map, slice_get, nat_lt, Option, Some, None, option_map, if◌then◌else◌}
 use Rattle.wasm_form.specs.declared.types.ValType.{ValType}
 use Rattle.wasm_form.specs.declared.types.ValType.TheVariants.{I32}
-use Rattle.wasm_form.specs.declared.instr.Instr.{Instr, Index}
+use Rattle.wasm_form.specs.declared.instr.Instr.{Instr}
 use Rattle.wasm_form.specs.declared.instr.Instr.TheOpen as Open
 use Rattle.wasm_form.specs.declared.instr.Expr.{Expr}
 use Rattle.wasm_form.specs.declared.module.ElemMode.{ElemMode}
@@ -33,6 +33,8 @@ use Rattle.dyl_search.specs.declared.set.Member.{Member}
 use Rattle.dyl_link.specs.Kept.{Kept, fresh_in, IsLinked}
 use Rattle.merge_match.specs.Renumbering.{Numbers}
 use Rattle.merge_match.specs.Parts.{nowhere, number_of}
+use Rattle.merge_pieces.specs.Code as pieces
+pub use Rattle.merge_pieces.specs.Code.{AreFew}
 use Rattle.merge_start.specs.Words.{Starts, effect_code, effects_code, call_code, guarded, phase_code, open_code}
 use Rattle.merge_start.specs.declared.numbers.StartNumbers.{StartNumbers}
 use Rattle.merge_start.specs.declared.numbers.Span.{Span}
@@ -223,16 +225,11 @@ IsMadeOf k s m spans slots parts = (L : LinkedSet) → IsLinked L k → (wasm : 
 
 -- the functions of the phase after so many are called for some members, in order
 abbrev pub phase_calls : StartNumbers → ℕ → List ℕ → List Instr
-phase_calls s before ms = map (λ m. Index 0x10 (s.first_function + 4 * m + before)) ms
+phase_calls s before ms = pieces.phase_calls s.first_function before ms
 
 -- the functions of the phases of some members, the last of them in an order of its own, and then an instruction
 abbrev pub opening_with : StartNumbers → List ℕ → List ℕ → Instr → List Instr
-opening_with s breadth post last =
-    phase_calls s 0 breadth ++ (phase_calls s 1 breadth ++ (phase_calls s 2 breadth ++ (phase_calls s 3 post ++ last ∷ [])))
-
--- numbers of members
-abbrev pub AreFew : List ℕ → Type 0
-AreFew ms = All (λ m. m < 2 ^ 16) ms
+opening_with s breadth post last = pieces.opening_code s.first_function breadth post last
 
 -- ---- what opens a member
 

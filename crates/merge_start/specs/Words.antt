@@ -1,9 +1,7 @@
 -- The code that a merged module has for the loader's work: the phases of each member, and what goes through them.
 use Rattle.std.specs.Prelude.{ℕ, ◌+◌, List, [], ◌∷◌, ◌++◌, length, Option, Some, None, option_map}
-use Rattle.std.specs.Int.{cast_signed, w32}
 use Rattle.wasm_form.specs.declared.types.ValType.TheVariants.{I32}
-use Rattle.wasm_form.specs.declared.instr.BlockType.TheVariants.{Empty}
-use Rattle.wasm_form.specs.declared.instr.Instr.{Instr, Plain, Index, If, I32Const, Prefixed}
+use Rattle.wasm_form.specs.declared.instr.Instr.{Instr, Index, Prefixed}
 use Rattle.wasm_form.specs.declared.module.Module.{Module}
 use Rattle.spec_binary.specs.Indices.{Function, nullary}
 use Rattle.spec_execution.specs.Activations.{Effect, TableInit, ElemDrop, MemoryInit, DataDrop}
@@ -21,6 +19,8 @@ use Rattle.spec_loading.specs.Addresses.{shared_table_address}
 use Rattle.spec_loading.specs.LoadedSet.{first_slot, own_functions}
 use Rattle.merge_match.specs.Renumbering.{Numbers}
 use Rattle.merge_match.specs.Moves.{effect}
+pub use Rattle.merge_pieces.specs.Code.{number}
+unfoldable pub use Rattle.merge_pieces.specs.Code.{guarded}
 
 -- The numbers of what the merger adds. The guard of member m is the m-th of some globals, and holds its stage; the segment of its fresh
 -- slots is the m-th of some segments; there is a function of each phase of it, and one that opens it. The entry function opens main.
@@ -32,10 +32,6 @@ pub record Starts : Type 0 where
   pub opening : ℕ → ℕ
 
 -- ---- effects
-
--- a number as a constant
-abbrev pub number : ℕ → Instr
-number k = I32Const (cast_signed w32 k)
 
 abbrev pub on_three : ℕ → ℕ → ℕ → Instr → List Instr
 on_three to from count i = number to ∷ number from ∷ number count ∷ i ∷ []
@@ -76,11 +72,6 @@ work_code L n x m wasm Place = place_code L n x m wasm
 work_code L n x m wasm Start = member_call n m (phase_function Start m wasm)
 work_code L n x m wasm Relocate = member_call n m (phase_function Relocate m wasm)
 work_code L n x m wasm Construct = member_call n m (phase_function Construct m wasm)
-
--- where the guard is below the stage it is raised to it, and then the work is done
-unfoldable pub guarded : ℕ → ℕ → List Instr → List Instr
-guarded guard stage work =
-    Index 0x23 guard ∷ number stage ∷ Plain 0x49 ∷ If Empty (record { list = number stage ∷ Index 0x24 guard ∷ work }) None ∷ []
 
 -- the body of the function of a phase
 abbrev pub phase_code : LinkedSet → Numbers → Starts → ℕ → Module → Phase → List Instr

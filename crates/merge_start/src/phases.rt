@@ -8,9 +8,10 @@ use crate::bases::bases_of;
 use crate::numbers::{Spans, StartNumbers, as_number, call_at, sum};
 use crate::part::{Part, nullary_part};
 use crate::segments::{datas_code, elems_code};
-use crate::words::{call, guarded, table_init};
+use crate::words::{call, table_init};
 use dyl_link::Linked;
 use dyl_search::Member;
+use merge_pieces::guarded;
 use std::alloc::Global;
 use wasm_form::{Instr, Memory, Module};
 
@@ -53,7 +54,7 @@ fn calling_part(alloc: Global, n: &StartNumbers, m: u32, before: u32) -> Result<
     ensures { IfOk result (λ x. x ≡ calling_part n.now m before) }
 {
     let work = call(alloc, call_at(n.calls.items(), 4 * m + before))?;
-    let code = guarded(alloc, n.guard + m, before + 1, work)?;
+    let code = guarded(alloc, n.guard, m, before + 1, work)?;
     Ok(nullary_part(alloc, code))
 }
 
@@ -63,7 +64,7 @@ fn parts_of(alloc: Global, n: &StartNumbers, m: u32, place: Vec<Instr>) -> Resul
     requires guard { n.now.guard < 2 ^ 31 }
     ensures { IfOk result (λ x. x.items ≡ parts_of n.now m place.items) }
 {
-    let place = guarded(alloc, n.guard + m, 1, place)?;
+    let place = guarded(alloc, n.guard, m, 1, place)?;
     let start = calling_part(alloc, n, m, 1)?;
     let relocate = calling_part(alloc, n, m, 2)?;
     let construct = calling_part(alloc, n, m, 3)?;

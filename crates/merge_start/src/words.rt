@@ -2,42 +2,13 @@
 ghost use Rattle.std.specs.Prelude.{◌≡◌, IfOk};
 ghost use Rattle.spec_execution.specs.Activations as effects;
 ghost use Rattle.spec_execution.specs.Segments.{elem_applied, data_applied};
-ghost use Rattle.merge_start.specs.Words.{number, effect_code, effects_code, guarded, call_code};
+ghost use Rattle.merge_start.specs.Words.{effect_code, effects_code, call_code};
 ghost use Rattle.merge_start.specs.Listed.{numbers_at, Fit};
 
 use crate::numbers::{Spans, StartNumbers, item};
+use merge_pieces::number;
 use std::alloc::Global;
-use wasm_form::{BlockType, Expr, Instr, List, Memory};
-
-pub(crate) fn number(k: u32) -> Instr
-    ensures { result ≡ number k }
-{
-    Instr::I32Const(k.cast_signed())
-}
-
-// Where the guard is below the stage it is raised to it, and then the work is done.
-#[tactic(auto, unfolding(crate::specs::Words::guarded))]
-pub(crate) fn guarded(
-    alloc: Global,
-    guard: u32,
-    stage: u32,
-    work: Vec<Instr>,
-) -> Result<Vec<Instr>, Memory>
-    ensures { IfOk result (λ x. x.items ≡ guarded guard stage work.items) }
-{
-    let mut work = work;
-    let mut body = vec![in alloc; number(stage), Instr::Index(0x24, guard)]?;
-    body.append(&mut work)?;
-    let body = Expr {
-        list: List::of(body),
-    };
-    Ok(vec![in alloc;
-        Instr::Index(0x23, guard),
-        number(stage),
-        Instr::Plain(0x49),
-        Instr::If(BlockType::Empty, body, None),
-    ]?)
-}
+use wasm_form::{Instr, Memory};
 
 // A function is called, if there is one.
 pub(crate) fn call(alloc: Global, f: Option<u32>) -> Result<Vec<Instr>, Memory>

@@ -1,5 +1,5 @@
 -- A module of these parts is the merged module.
-use Rattle.std.proofs.Common.{◌≡◌, ℕ, ◌+◌, ◌*◌, ◌-◌, List, [], ◌∷◌, length, Some, None, ap, ap₂, ◌∙◌, arith}
+use Rattle.std.proofs.Common.{◌≡◌, ℕ, ◌+◌, ◌*◌, ◌-◌, List, [], ◌∷◌, length, Option, Some, None, ap, ap₂, ◌∙◌, arith}
 use Rattle.wasm_form.specs.declared.types.FuncType.{FuncType}
 use Rattle.wasm_form.specs.declared.types.Limits.{Limits}
 use Rattle.wasm_form.specs.declared.types.TableType.{TableType}
@@ -29,8 +29,8 @@ starting_is L k h s listed n is =
     e
 
 abbrev made : List FuncType → List Import → List ℕ → List TableType → List Limits → List GlobalDef → List Export → List Elem → ℕ → List Code
-    → List Data → List Custom → Module
-made types imports funcs tables memories globals exports elems count codes datas customs = record {
+    → List Data → List Custom → Option ℕ → Module
+made types imports funcs tables memories globals exports elems count codes datas customs start = record {
   types = types;
   imports = imports;
   funcs = funcs;
@@ -38,7 +38,7 @@ made types imports funcs tables memories globals exports elems count codes datas
   memories = memories;
   globals = globals;
   exports = exports;
-  start = None;
+  start = start;
   elems = elems;
   data_count = Some count;
   codes = codes;
@@ -48,18 +48,18 @@ made types imports funcs tables memories globals exports elems count codes datas
 
 module _ (L : LinkedSet) (types : List FuncType) (imports : List Import) (funcs : List ℕ) (tables : List TableType) (memories : List Limits)
     (globals : List GlobalDef) (exports : List Export) (elems : List Elem) (count : ℕ) (codes : List Code) (datas : List Data)
-    (customs : List Custom) where
+    (customs : List Custom) (start : Option ℕ) where
   pub whole_is : types ≡ merged_types L → imports ≡ merged_imports L → funcs ≡ merged_funcs L (numbers_of L) → tables ≡ merged_tables L
       → memories ≡ shared_memory_type L ∷ [] → globals ≡ merged_globals L (numbers_of L) → exports ≡ entry_exports (starts_of L).starting
       → elems ≡ merged_elems L (numbers_of L) → count ≡ length datas → codes ≡ merged_codes L (numbers_of L) (starts_of L)
-      → datas ≡ merged_datas L → customs ≡ []
-      → made types imports funcs tables memories globals exports elems count codes datas customs ≡ merged_module L
-  whole_is a b c d e f g h i j k l =
-      ap (λ x. made x imports funcs tables memories globals exports elems count codes datas customs) a
-      ∙ ap (λ x. made (merged_types L) x funcs tables memories globals exports elems count codes datas customs) b
-      ∙ ap (λ x. made (merged_types L) (merged_imports L) x tables memories globals exports elems count codes datas customs) c
-      ∙ ap₂ (λ x y. made (merged_types L) (merged_imports L) (merged_funcs L (numbers_of L)) x y globals exports elems count codes datas customs) d e
-      ∙ ap₂ (λ x y. made (merged_types L) (merged_imports L) (merged_funcs L (numbers_of L)) (merged_tables L) (shared_memory_type L ∷ []) x y elems count codes datas customs) f g
-      ∙ ap₂ (λ x y. made (merged_types L) (merged_imports L) (merged_funcs L (numbers_of L)) (merged_tables L) (shared_memory_type L ∷ []) (merged_globals L (numbers_of L)) (entry_exports (starts_of L).starting) x y codes datas customs) h (i ∙ ap length k)
-      ∙ ap₂ (λ x y. made (merged_types L) (merged_imports L) (merged_funcs L (numbers_of L)) (merged_tables L) (shared_memory_type L ∷ []) (merged_globals L (numbers_of L)) (entry_exports (starts_of L).starting) (merged_elems L (numbers_of L)) (length (merged_datas L)) x y customs) j k
-      ∙ ap (λ x. made (merged_types L) (merged_imports L) (merged_funcs L (numbers_of L)) (merged_tables L) (shared_memory_type L ∷ []) (merged_globals L (numbers_of L)) (entry_exports (starts_of L).starting) (merged_elems L (numbers_of L)) (length (merged_datas L)) (merged_codes L (numbers_of L) (starts_of L)) (merged_datas L) x) l
+      → datas ≡ merged_datas L → customs ≡ [] → start ≡ None
+      → made types imports funcs tables memories globals exports elems count codes datas customs start ≡ merged_module L
+  whole_is a b c d e f g h i j k l m =
+      ap (λ x. made x imports funcs tables memories globals exports elems count codes datas customs start) a
+      ∙ ap (λ x. made (merged_types L) x funcs tables memories globals exports elems count codes datas customs start) b
+      ∙ ap (λ x. made (merged_types L) (merged_imports L) x tables memories globals exports elems count codes datas customs start) c
+      ∙ ap₂ (λ x y. made (merged_types L) (merged_imports L) (merged_funcs L (numbers_of L)) x y globals exports elems count codes datas customs start) d e
+      ∙ ap₂ (λ x y. made (merged_types L) (merged_imports L) (merged_funcs L (numbers_of L)) (merged_tables L) (shared_memory_type L ∷ []) x y elems count codes datas customs start) f g
+      ∙ ap₂ (λ x y. made (merged_types L) (merged_imports L) (merged_funcs L (numbers_of L)) (merged_tables L) (shared_memory_type L ∷ []) (merged_globals L (numbers_of L)) (entry_exports (starts_of L).starting) x y codes datas customs start) h (i ∙ ap length k)
+      ∙ ap₂ (λ x y. made (merged_types L) (merged_imports L) (merged_funcs L (numbers_of L)) (merged_tables L) (shared_memory_type L ∷ []) (merged_globals L (numbers_of L)) (entry_exports (starts_of L).starting) (merged_elems L (numbers_of L)) (length (merged_datas L)) x y customs start) j k
+      ∙ ap₂ (λ x y. made (merged_types L) (merged_imports L) (merged_funcs L (numbers_of L)) (merged_tables L) (shared_memory_type L ∷ []) (merged_globals L (numbers_of L)) (entry_exports (starts_of L).starting) (merged_elems L (numbers_of L)) (length (merged_datas L)) (merged_codes L (numbers_of L) (starts_of L)) (merged_datas L) x y) l m

@@ -55,5 +55,7 @@ pub fn merge_set(alloc: Global, linked: &Linked) -> Result<Vec<u8>, MergeFault>
     bytes_spell_one_module();
     check_brief(linked)?;
     let module = merged_module(alloc, linked)?;
-    encoded(alloc, &module)
+    let bytes = encoded(alloc, &module);
+    drop(module);
+    bytes
 }

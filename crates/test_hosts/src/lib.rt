@@ -1,4 +1,4 @@
-//! The devices, the host functions of a table, and the calls of WASI, through their public doors.
+//! The devices and the host functions of a table, through their public doors.
 #![tactic(auto)]
 
 #[cfg(test)]

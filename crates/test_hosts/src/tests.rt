@@ -1,11 +1,7 @@
-// What no clause says: that calls succeed, what the adapters do to the real outside, and the answers of WASI in numbers. The answers
-// that are wanted come from the document of WASI preview 1, and for its open questions from the definitions of the calls.
+// What no clause says and no row of commands shows: that calls succeed, what the adapters do to the real outside, and the names and numbers
+// of a table's host functions.
 mod adapters;
 mod answers;
 mod in_memory;
 mod readers;
 mod table;
-mod wasi_devices;
-mod wasi_names;
-mod wasi_rows;
-mod world;

@@ -1,4 +1,4 @@
-//! Memories and tables, and the machine over the run of one module and over a view of two units, by rows that were worked out from the standard.
+//! The machine over a view of two units, by rows that were worked out from the standard. Runs of one module are rows of commands.
 #![tactic(auto)]
 
 #[cfg(test)]

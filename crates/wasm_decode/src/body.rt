@@ -1,5 +1,5 @@
 // Bodies, with their limits (WebAssembly Core 2.0, section 5.5.13, and appendix A.1.2).
-ghost use Rattle.std.specs.Prelude.{◌≡◌, ℕ, ◌≤◌, ◌<◌, length, IfOk};
+ghost use Rattle.std.specs.Prelude.{◌≡◌, ℕ, ◌≤◌, ◌<◌, [], length, IfOk};
 ghost use Rattle.spec_reading.specs.Steps.{whole};
 ghost use Rattle.spec_reading.specs.Bodies.{usual_room, groups_at, locals_at, func_at, code_at, bodies_at};
 ghost use Rattle.spec_reading.specs.Sections.{codes_at};
@@ -58,6 +58,7 @@ fn func_of(alloc: Global, bytes: &[u8]) -> Result<Code, Break>
     if rest.is_empty() {
         Ok(Code { locals, body })
     } else {
+        drop(body);
         Err(Break::Broken)
     }
 }
@@ -71,6 +72,29 @@ fn code_of(alloc: Global, bytes: &[u8]) -> Result<(Code, &[u8]), Break>
     Ok((func_of(alloc, contents)?, rest))
 }
 
+// So many bodies, numbered from 0, where none was read before. It gives the bytes that follow.
+fn read_bodies<'a>(
+    codes: &mut Vec<Code>,
+    alloc: Global,
+    count: u32,
+    bytes: &'a [u8],
+    section: u32,
+) -> Result<&'a [u8], DecodeFault>
+    requires { codes.old.items ≡ [] }
+    ensures { Tells (λ rest. (codes.new.items, rest.now)) result (bodies_at usual_room section count 0 bytes.now) }
+{
+    let mut rest = bytes;
+    for function in 0..count {
+        let (code, after) = match code_of(alloc, rest) {
+            Ok(read) => read,
+            Err(why) => return Err(fault_in_body(why, section, function)),
+        };
+        codes.push(code)?;
+        rest = after;
+    }
+    Ok(rest)
+}
+
 // So many bodies, numbered from 0.
 fn bodies_of(
     alloc: Global,
@@ -81,16 +105,13 @@ fn bodies_of(
     ensures { Tells (λ x. (x.0.items, x.1.now)) result (bodies_at usual_room section count 0 bytes.now) }
 {
     let mut codes = Vec::new(alloc);
-    let mut rest = bytes;
-    for function in 0..count {
-        let (code, after) = match code_of(alloc, rest) {
-            Ok(read) => read,
-            Err(why) => return Err(fault_in_body(why, section, function)),
-        };
-        codes.push(code)?;
-        rest = after;
+    match read_bodies(&mut codes, alloc, count, bytes, section) {
+        Ok(rest) => Ok((codes, rest)),
+        Err(fault) => {
+            drop(codes);
+            Err(fault)
+        }
     }
-    Ok((codes, rest))
 }
 
 // The number of bodies, and the bodies, which take all of the bytes.
@@ -106,6 +127,7 @@ pub(crate) fn codes_of(alloc: Global, bytes: &[u8], section: u32) -> Result<List
     if rest.is_empty() {
         Ok(List::of(codes))
     } else {
+        drop(codes);
         Err(DecodeFault::Malformed { section })
     }
 }

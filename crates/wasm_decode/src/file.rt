@@ -47,6 +47,7 @@ fn module_of(alloc: Global, bytes: &[u8]) -> Result<Module, DecodeFault>
     if counts_agree(&m) {
         Ok(m)
     } else {
+        drop(m);
         Err(DecodeFault::Counts)
     }
 }

@@ -349,16 +349,30 @@ impl Progress {
     }
 }
 
-// The sections up to the end of the bytes.
-pub(crate) fn sections_of(alloc: Global, bytes: &[u8]) -> Result<Progress, DecodeFault>
-    ensures { (fuel : ℕ) → length bytes.now ≤ fuel → Tells (λ x. progress_of x) result (chain_at usual_room fuel 0 said.at_start bytes.now) }
+// The sections up to the end of the bytes, behind nothing.
+fn read_sections(progress: &mut Progress, alloc: Global, bytes: &[u8]) -> Result<(), DecodeFault>
+    requires { progress_of progress.old ≡ said.at_start }
+    ensures { (fuel : ℕ) → length bytes.now ≤ fuel → Tells (λ _. progress_of progress.new) result (chain_at usual_room fuel 0 said.at_start bytes.now) }
 {
-    let mut progress = Progress::new(alloc);
     let mut rest = bytes;
     let mut count = 0u32;
     while !rest.is_empty() {
         rest = progress.read_section(alloc, rest, count)?;
         count = count.saturating_add(1);
     }
-    Ok(progress)
+    Ok(())
+}
+
+// The sections up to the end of the bytes.
+pub(crate) fn sections_of(alloc: Global, bytes: &[u8]) -> Result<Progress, DecodeFault>
+    ensures { (fuel : ℕ) → length bytes.now ≤ fuel → Tells (λ x. progress_of x) result (chain_at usual_room fuel 0 said.at_start bytes.now) }
+{
+    let mut progress = Progress::new(alloc);
+    match read_sections(&mut progress, alloc, bytes) {
+        Ok(()) => Ok(progress),
+        Err(fault) => {
+            drop(progress);
+            Err(fault)
+        }
+    }
 }

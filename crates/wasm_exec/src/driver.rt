@@ -10,19 +10,14 @@ ghost use Rattle.wasm_exec.specs.Driving.{IsBoundTo, Runs, MayStep, Drives, Goes
 
 use crate::events::{asked_by, end_by};
 use crate::program::Program;
-use crate::written::bytes_written;
 use dyl_outside::{Ambient, Sink, Source};
 use host_calls::Hosts;
 use host_table::HostName;
+use run_limits::{are_many, bytes_written, may_step};
 use spec_hosts::{Ran, RunEnd};
 use std::alloc::Global;
 use wasm_form::Memory;
 use wasm_machine::{Answer, Asked};
-
-/// The most answers, and the most bytes that they may have written.
-const MOST_ANSWERS: usize = 1_048_576;
-
-const MOST_WRITTEN: u128 = 268_435_456;
 
 /// A run with the host call that it waits for, and how many bytes the answers so far have written.
 #[derive(Drop)]
@@ -83,7 +78,7 @@ impl<'m> Driver<'m> {
         ensures few { (recorded_of self.new.program).steps ≤ most }
     {
         self.program.advance(alloc, most)?;
-        Ok(self.program.steps() < most)
+        Ok(may_step(self.program.steps(), most))
     }
 
     /// Whether a host call is waited for and none is answered any more.
@@ -91,8 +86,7 @@ impl<'m> Driver<'m> {
         requires written { self.now.written ≡ sum (map bytes_written (recorded_of self.now.program).answers) }
         ensures { result ≡ (is_some self.now.asked && are_many (recorded_of self.now.program).answers) }
     {
-        self.asked.is_some()
-            && (self.program.answers().len() >= MOST_ANSWERS || self.written >= MOST_WRITTEN)
+        self.asked.is_some() && are_many(self.program.answers(), self.written)
     }
 
     /// Answers the host call that the run waits for, if it waits.

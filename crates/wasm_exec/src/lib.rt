@@ -5,7 +5,6 @@ mod driver;
 mod events;
 mod exec;
 mod program;
-mod written;
 
 pub use exec::{execute, execute_set, host_names};
 pub use spec_hosts::{Ran, RunEnd};

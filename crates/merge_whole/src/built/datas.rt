@@ -8,19 +8,10 @@ ghost use Rattle.merge_whole.specs.Built.{joined, datas_of, texts_at, datas_in};
 
 use dyl_link::Linked;
 use dyl_search::Member;
+use merge_pieces::passive_data;
 use spec_loading::error_texts;
 use std::alloc::Global;
 use wasm_form::{Data, DataMode, Expr, Instr, List, Memory};
-
-fn passive_data(alloc: Global, d: &Data) -> Result<Data, Memory>
-    ensures { IfOk result (λ x. x ≡ passive_data d.now) }
-{
-    let bytes = Vec::from_slice(alloc, d.bytes.items())?;
-    Ok(Data {
-        mode: DataMode::Passive,
-        bytes: List::of(bytes),
-    })
-}
 
 fn put_datas(alloc: Global, to: &mut Vec<Data>, datas: &[Data]) -> Result<(), Memory>
     ensures { OnOk result (to.new.items ≡ to.old.items ++ map passive_data datas.now) }

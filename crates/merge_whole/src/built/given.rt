@@ -1,8 +1,11 @@
 // The numbers of a linked set in its merged module, and its globals and element segments there.
-ghost use Rattle.std.specs.Prelude.{◌<◌, ◌^◌, IfOk};
+ghost use Rattle.std.specs.Prelude.{◌≡◌, ◌<◌, ◌^◌, IfOk};
 ghost use Rattle.spec_linking.specs.LinkedSets.{LinkedSet};
 ghost use Rattle.dyl_link.specs.Kept.{IsLinked};
 ghost use Rattle.merge_start.specs.Listed.{IsOfSet};
+ghost use Rattle.merge_index.specs.Kept.{numbers_in};
+ghost use Rattle.merge_index.specs.Numbering as numbering;
+ghost use Rattle.merge_index.specs.Numbering.{first_phase, numbers_of};
 ghost use Rattle.merge_whole.specs.Given.{IsGiven};
 
 use crate::built::elems::merged_elems;
@@ -25,6 +28,33 @@ pub(crate) struct Given {
     pub elems: List<Elem>,
 }
 
+// The same without the numbers.
+#[derive(Drop)]
+struct Rest {
+    starts: StartNumbers,
+    loader: Option<DlNumbers>,
+    globals: List<GlobalDef>,
+    elems: List<Elem>,
+}
+
+fn rest_of(alloc: Global, linked: &Linked, numbers: &Numbers) -> Result<Rest, Memory>
+    requires { IsOfSet linked.now }
+    ensures given { IfOk result (λ r. (L : LinkedSet) → IsLinked L linked.now → numbers_in numbers.now ≡ numbers_of L → numbers.now.first_phase ≡ first_phase L → numbers.now.loader ≡ numbering.loader_numbers L → IsGiven L (record { numbers = numbers.now; starts = r.starts; loader = r.loader; globals = r.globals; elems = r.elems })) }
+    ensures guard { IfOk result (λ r. r.starts.guard < 2 ^ 31) }
+    ensures first { IfOk result (λ r. r.starts.first_function < 2 ^ 31) }
+{
+    let (globals, guard) = merged_globals(alloc, linked, numbers)?;
+    let elems = merged_elems(alloc, linked, numbers)?;
+    let loader = loader_numbers(alloc, linked, numbers, guard)?;
+    let starts = set_starts(alloc, linked, numbers, guard)?;
+    Ok(Rest {
+        starts,
+        loader,
+        globals,
+        elems,
+    })
+}
+
 pub(crate) fn make_given(alloc: Global, linked: &Linked) -> Result<Given, Memory>
     requires { IsOfSet linked.now }
     ensures given { IfOk result (λ g. (L : LinkedSet) → IsLinked L linked.now → IsGiven L g) }
@@ -32,15 +62,17 @@ pub(crate) fn make_given(alloc: Global, linked: &Linked) -> Result<Given, Memory
     ensures first { IfOk result (λ g. g.starts.first_function < 2 ^ 31) }
 {
     let numbers = Numbers::of(alloc, linked)?;
-    let (globals, guard) = merged_globals(alloc, linked, &numbers)?;
-    let starts = set_starts(alloc, linked, &numbers, guard)?;
-    let loader = loader_numbers(alloc, linked, &numbers, guard)?;
-    let elems = merged_elems(alloc, linked, &numbers)?;
-    Ok(Given {
-        numbers,
-        starts,
-        loader,
-        globals,
-        elems,
-    })
+    match rest_of(alloc, linked, &numbers) {
+        Ok(rest) => Ok(Given {
+            numbers,
+            starts: rest.starts,
+            loader: rest.loader,
+            globals: rest.globals,
+            elems: rest.elems,
+        }),
+        Err(memory) => {
+            drop(numbers);
+            Err(memory)
+        }
+    }
 }

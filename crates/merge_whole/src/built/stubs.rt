@@ -10,8 +10,9 @@ ghost use Rattle.merge_whole.specs.Built.{stubs_at};
 use crate::built::counts::end_of;
 use dyl_link::Linked;
 use merge_index::Numbers;
+use merge_pieces::trap;
 use std::alloc::Global;
-use wasm_form::{Code, Expr, Import, ImportDesc, Instr, List, Memory, Ref};
+use wasm_form::{Code, Import, ImportDesc, Memory, Ref};
 
 fn is_stub(r: Option<Ref>) -> bool
     ensures { result ≡ numbering.is_stub r }
@@ -74,20 +75,6 @@ pub(crate) fn put_stub_types(
         f = end_of(f, 1)?;
     }
     Ok(())
-}
-
-// A body that traps.
-fn trap(alloc: Global) -> Result<Code, Memory>
-    ensures { IfOk result (λ c. c ≡ trap_code) }
-{
-    let mut list = Vec::new(alloc);
-    list.push(Instr::Plain(0))?;
-    Ok(Code {
-        locals: List::of(Vec::new(alloc)),
-        body: Expr {
-            list: List::of(list),
-        },
-    })
 }
 
 fn put_trap(

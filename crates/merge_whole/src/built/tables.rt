@@ -7,6 +7,7 @@ ghost use Rattle.merge_whole.specs.Built.{joined, tables_of, shared_table_in, ta
 
 use dyl_link::Linked;
 use dyl_search::Member;
+use merge_pieces::memory_type;
 use std::alloc::Global;
 use wasm_form::{Limits, List, Memory, TableType, ValType};
 
@@ -65,9 +66,6 @@ pub(crate) fn merged_memories(alloc: Global, linked: &Linked) -> Result<List<Lim
 {
     let plan = linked.plan();
     let mut memories = Vec::new(alloc);
-    memories.push(Limits {
-        min: plan.pages(),
-        max: Some(plan.pages_max()),
-    })?;
+    memories.push(memory_type(plan.pages(), plan.pages_max()))?;
     Ok(List::of(memories))
 }

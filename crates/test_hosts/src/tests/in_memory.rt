@@ -1,8 +1,6 @@
-// The objects in memory, on their way and at each call that fails.
-use super::answers::{fetches, takes};
-use dyl_outside::{
-    Ambient, FileFault, Files, IoFault, MemAmbient, MemFiles, MemSink, MemSource, Sink,
-};
+// Files in memory, on their way and at each call that fails.
+use super::answers::fetches;
+use dyl_outside::{FileFault, Files, IoFault, MemFiles};
 use std::alloc::Global;
 use std::test::Fail;
 use wasm_form::Memory;
@@ -32,21 +30,6 @@ const FAILING_FILE_CALLS: &[FileCall] = &[
     FileCall::Fetch("a", 5, Ok(b"three")),
     FileCall::Store("a", b"two", Err(IoFault::Failed)),
     FileCall::Fetch("a", 5, Ok(b"three")),
-];
-
-/// What is taken of "abcde" by three bytes, where the call with the number 1 fails.
-const TAKES: &[Result<&[u8], IoFault>] = &[Ok(b"abc"), Err(IoFault::Failed), Ok(b"de"), Ok(b"")];
-
-/// A call and its answer, where the calls with the numbers 1 and 3 fail, of the times 10 and 20 and the words 7 and 8.
-const TIMES_AND_WORDS: &[(&str, Result<u64, IoFault>)] = &[
-    ("now", Ok(10)),
-    ("now", Err(IoFault::Failed)),
-    ("word", Ok(7)),
-    ("word", Err(IoFault::Failed)),
-    ("now", Ok(20)),
-    ("word", Ok(8)),
-    ("now", Err(IoFault::Failed)),
-    ("word", Err(IoFault::Failed)),
 ];
 
 /// Whether a call has the answer that is wanted.
@@ -82,65 +65,5 @@ fn files_in_memory(rt: HostRuntime) -> Result<(), Fail> {
     files.fail_at(alloc, 9).expect(&rt, "memory");
     files.fail_at(alloc, 7).expect(&rt, "memory");
     assert_eq!(rt; first_wrong(alloc, &mut files, FAILING_FILE_CALLS), None);
-    Ok(())
-}
-
-/// The bytes "abcde", of which the call with the number 1 takes none.
-fn source(alloc: Global) -> Result<MemSource, Memory> {
-    let mut source = MemSource::new(alloc, b"abcde".to_vec(alloc)?);
-    source.fail_at(alloc, 1)?;
-    Ok(source)
-}
-
-#[test]
-fn source_in_memory(rt: HostRuntime) -> Result<(), Fail> {
-    let alloc = rt.alloc();
-    let mut source = source(alloc)?;
-    for want in TAKES {
-        assert!(rt; takes(alloc, &mut source, 3, *want), "{want:?}");
-    }
-    Ok(())
-}
-
-/// A sink without bytes, whose call with the number 1 fails.
-fn sink(alloc: Global) -> Result<MemSink, Memory> {
-    let mut sink = MemSink::new(alloc);
-    sink.fail_at(alloc, 1)?;
-    Ok(sink)
-}
-
-#[test]
-fn sink_in_memory(rt: HostRuntime) -> Result<(), Fail> {
-    let alloc = rt.alloc();
-    let mut sink = sink(alloc)?;
-    assert!(rt; sink.put(alloc, b"ab").is_ok());
-    assert!(rt; sink.put(alloc, b"cd") == Err(IoFault::Failed));
-    assert!(rt; sink.put(alloc, b"ef").is_ok());
-    assert!(rt; sink.held() == b"abef".as_slice());
-    Ok(())
-}
-
-/// The times 10 and 20 and the words 7 and 8, and calls with the numbers 1 and 3 that fail.
-fn ambient(alloc: Global) -> Result<MemAmbient, Memory> {
-    let times = [10, 20].to_vec(alloc)?;
-    let words = [7, 8].to_vec(alloc)?;
-    let mut ambient = MemAmbient::new(alloc, times, words);
-    ambient.fail_at(alloc, 1)?;
-    ambient.fail_at(alloc, 3)?;
-    Ok(ambient)
-}
-
-#[test]
-fn ambient_in_memory(rt: HostRuntime) -> Result<(), Fail> {
-    let alloc = rt.alloc();
-    let mut ambient = ambient(alloc)?;
-    for (name, want) in TIMES_AND_WORDS {
-        let got = if *name == "now" {
-            ambient.now(alloc)
-        } else {
-            ambient.word(alloc)
-        };
-        assert!(rt; got == *want, "{name}: {want:?}");
-    }
     Ok(())
 }

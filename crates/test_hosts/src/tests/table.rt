@@ -107,14 +107,18 @@ fn host_functions_are_called(rt: HostRuntime) {
     )
     .expect(&rt, "memory");
     assert!(rt; table.add(alloc, "env", "first", ty, call).is_ok());
-    assert!(rt; is_first_numbered(&table));
-    assert!(rt; is_five_and_seven(&table.call(0, &[5], 65536)));
+    let is_numbered = is_first_numbered(&table);
+    let reply = table.call(0, &[5], 65536);
+    drop(table);
+    assert!(rt; is_numbered && is_five_and_seven(&reply));
 }
 
 /// Whether a table declares "first" of "env".
 fn is_first_declared(alloc: Global, table: &HostTable) -> Result<bool, Memory> {
     let names = table.names(alloc, HostNames::new(alloc))?;
-    finds(alloc, &names, &("env", "first", SHORT, HostMatch::Fits))
+    let found = finds(alloc, &names, &("env", "first", SHORT, HostMatch::Fits));
+    drop(names);
+    found
 }
 
 #[test]
@@ -122,8 +126,10 @@ fn host_functions_are_declared(rt: HostRuntime) {
     let alloc = rt.alloc();
     let mut table = HostTable::new(alloc);
     let call: Callback = Box::new(alloc, nothing).expect(&rt, "memory");
-    assert!(rt; adds(alloc, &mut table, "env", "first", SHORT, call));
-    assert!(rt; is_first_declared(alloc, &table) == Ok(true));
+    let is_added = adds(alloc, &mut table, "env", "first", SHORT, call);
+    let declared = is_first_declared(alloc, &table);
+    drop(table);
+    assert!(rt; is_added && declared == Ok(true));
 }
 
 /// Whether a host function answers 0.
@@ -172,7 +178,9 @@ const FOUND_LATE: &[Found] = &[
 fn finds(alloc: Global, names: &HostNames, row: &Found) -> Result<bool, Memory> {
     let (from, name, (params, results), want) = row;
     let ty = type_of(alloc, params, results)?;
-    Ok(names.find(from, name, &ty) == *want)
+    let found = names.find(from, name, &ty);
+    drop(ty);
+    Ok(found == *want)
 }
 
 /// The first row that names don't have.
@@ -214,41 +222,64 @@ fn declare_all(alloc: Global, names: &mut HostNames) -> Result<(), Memory> {
 /// Those names.
 fn declared_names(alloc: Global) -> Result<HostNames, Memory> {
     let mut names = HostNames::new(alloc);
-    declare_all(alloc, &mut names)?;
-    Ok(names)
+    match declare_all(alloc, &mut names) {
+        Ok(()) => Ok(names),
+        Err(memory) => {
+            drop(names);
+            Err(memory)
+        }
+    }
 }
 
-/// The same, and then the rest of "late" before its name "a".
+/// Declares the rest of "late" before its name "a".
+fn declare_late(alloc: Global, names: &mut HostNames) -> Result<(), Memory> {
+    names.declare_rest(alloc, "late")?;
+    declare(alloc, names, "late", "a", NONE)
+}
+
+/// The same names, and then these.
 fn late_names(alloc: Global) -> Result<HostNames, Memory> {
     let mut names = declared_names(alloc)?;
-    names.declare_rest(alloc, "late")?;
-    declare(alloc, &mut names, "late", "a", NONE)?;
-    Ok(names)
+    match declare_late(alloc, &mut names) {
+        Ok(()) => Ok(names),
+        Err(memory) => {
+            drop(names);
+            Err(memory)
+        }
+    }
 }
 
 #[test]
 fn nothing_is_declared_at_first(rt: HostRuntime) {
     let alloc = rt.alloc();
     let names = HostNames::new(alloc);
-    assert!(rt; finds(alloc, &names, &("env", "a", NONE, HostMatch::Unknown)) == Ok(true));
+    let found = finds(alloc, &names, &("env", "a", NONE, HostMatch::Unknown));
+    drop(names);
+    assert!(rt; found == Ok(true));
 }
 
 #[test]
 fn first_declaration_counts(rt: HostRuntime) {
     let alloc = rt.alloc();
     let names = declared_names(alloc).expect(&rt, "memory");
-    let wrong = first_wrong(alloc, &names, FOUND).expect(&rt, "memory");
+    let wrong = first_wrong(alloc, &names, FOUND);
+    let is_typed = names.typed("env", "a").is_some() && names.typed("env", "b").is_none();
+    drop(names);
+    let wrong = wrong.expect(&rt, "memory");
     assert!(rt; wrong.is_none(), "{wrong:?}");
-    assert!(rt; names.typed("env", "a").is_some() && names.typed("env", "b").is_none());
+    assert!(rt; is_typed);
 }
 
 #[test]
 fn the_rest_counts_before_later_names(rt: HostRuntime) {
     let alloc = rt.alloc();
     let names = late_names(alloc).expect(&rt, "memory");
-    let wrong = first_wrong(alloc, &names, FOUND_LATE).expect(&rt, "memory");
+    let wrong = first_wrong(alloc, &names, FOUND_LATE);
+    let is_typed = names.typed("late", "a").is_none();
+    drop(names);
+    let wrong = wrong.expect(&rt, "memory");
     assert!(rt; wrong.is_none(), "{wrong:?}");
-    assert!(rt; names.typed("late", "a").is_none());
+    assert!(rt; is_typed);
 }
 
 /// What is found of a name that was declared without parameters and results before a table with another type for it.
@@ -260,14 +291,21 @@ const FOUND_FIRST: &[Found] = &[
 /// The name "a" of "env", and then the names of a table.
 fn names_before(alloc: Global, table: &HostTable) -> Result<HostNames, Memory> {
     let mut first = HostNames::new(alloc);
-    declare(alloc, &mut first, "env", "a", NONE)?;
-    table.names(alloc, first)
+    match declare(alloc, &mut first, "env", "a", NONE) {
+        Ok(()) => table.names(alloc, first),
+        Err(memory) => {
+            drop(first);
+            Err(memory)
+        }
+    }
 }
 
 /// The first row that they don't have.
 fn first_wrong_before(alloc: Global, table: &HostTable) -> Result<Option<&'static Found>, Memory> {
     let names = names_before(alloc, table)?;
-    first_wrong(alloc, &names, FOUND_FIRST)
+    let wrong = first_wrong(alloc, &names, FOUND_FIRST);
+    drop(names);
+    wrong
 }
 
 #[test]
@@ -275,9 +313,11 @@ fn names_of_a_table_come_after_the_first(rt: HostRuntime) {
     let alloc = rt.alloc();
     let mut table = HostTable::new(alloc);
     let call: Callback = Box::new(alloc, nothing).expect(&rt, "memory");
-    assert!(rt; adds(alloc, &mut table, "env", "a", LONG, call));
-    let wrong = first_wrong_before(alloc, &table).expect(&rt, "memory");
-    assert!(rt; wrong.is_none(), "{wrong:?}");
+    let is_added = adds(alloc, &mut table, "env", "a", LONG, call);
+    let wrong = first_wrong_before(alloc, &table);
+    drop(table);
+    let wrong = wrong.expect(&rt, "memory");
+    assert!(rt; is_added && wrong.is_none(), "{wrong:?}");
 }
 
 /// Whether a host name is "first" of "env" with this type.
@@ -288,8 +328,14 @@ fn is_first(host: &HostName, ty: &FuncType) -> bool {
 /// Whether a host name has the module, the name and the type that it is made of.
 fn keeps_its_parts(alloc: Global) -> Result<bool, Memory> {
     let ty = type_of(alloc, &[ValType::I64], &[ValType::I32])?;
-    let host = HostName::new(alloc, "env", "first", &ty)?;
-    Ok(is_first(&host, &ty))
+    let host = HostName::new(alloc, "env", "first", &ty);
+    let keeps = match &host {
+        Ok(host) => is_first(host, &ty),
+        Err(_) => false,
+    };
+    drop(host);
+    drop(ty);
+    Ok(keeps)
 }
 
 #[test]
@@ -311,6 +357,8 @@ fn entries_are_numbered_in_order(rt: HostRuntime) {
     let call: Callback = Box::new(alloc, nothing).expect(&rt, "memory");
     assert!(rt; adds(alloc, &mut table, "env", "a", NONE, call));
     let call: Callback = Box::new(alloc, nothing).expect(&rt, "memory");
-    assert!(rt; adds(alloc, &mut table, "other", "b", NONE, call));
-    assert!(rt; are_numbered(&table));
+    let is_added = adds(alloc, &mut table, "other", "b", NONE, call);
+    let numbered = are_numbered(&table);
+    drop(table);
+    assert!(rt; is_added && numbered);
 }

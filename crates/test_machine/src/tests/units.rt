@@ -228,7 +228,9 @@ fn push_events(alloc: Global, run: &mut Run, event: &mut Event, seen: &mut Strin
 // Adds what is seen of a call of function 5 of the first unit.
 fn push_seen(alloc: Global, run: &mut Run, seen: &mut String) -> Option<()> {
     let mut event = run.begin(alloc, false)?.ok()?;
-    push_events(alloc, run, &mut event, seen)
+    let pushed = push_events(alloc, run, &mut event, seen);
+    drop(event);
+    pushed
 }
 
 // Whether this is seen of a call of function 5 of the first unit of a pair.
@@ -237,7 +239,9 @@ fn pair_shows(alloc: Global, pair: Pair, expected: &str) -> Option<bool>
 {
     let mut run = Run::new(alloc, pair);
     let mut seen = String::new(alloc);
-    push_seen(alloc, &mut run, &mut seen)?;
+    let pushed = push_seen(alloc, &mut run, &mut seen);
+    drop(run);
+    pushed?;
     Some(seen.as_str() == expected)
 }
 
@@ -254,19 +258,25 @@ fn shows_if(alloc: Global, pair: Option<Pair>, expected: &str) -> Option<bool>
 // The same of two modules.
 fn modules_show(alloc: Global, first: &Checked, second: &Checked, expected: &str) -> Option<bool> {
     let types = OutsideTypes::new(alloc).ok()?;
-    shows_if(alloc, Pair::new(alloc, first, second, &types), expected)
+    let shown = shows_if(alloc, Pair::new(alloc, first, second, &types), expected);
+    drop(types);
+    shown
 }
 
 // The same of a module and of one that the bytes spell.
 fn second_shows(alloc: Global, first: &Checked, second: &[u8], expected: &str) -> Option<bool> {
     let second = checked(alloc, second)?;
-    modules_show(alloc, first, &second, expected)
+    let shown = modules_show(alloc, first, &second, expected);
+    drop(second);
+    shown
 }
 
 // The same of two modules that the bytes spell.
 fn units_show(alloc: Global, first: &[u8], second: &[u8], expected: &str) -> Option<bool> {
     let first = checked(alloc, first)?;
-    second_shows(alloc, &first, second, expected)
+    let shown = second_shows(alloc, &first, second, expected);
+    drop(first);
+    shown
 }
 
 // The same of two units whose functions 5 have these bodies.
@@ -337,7 +347,9 @@ fn pair_calls_host(alloc: Global, pair: Option<Pair>) -> bool
     match pair {
         Some(pair) => {
             let mut run = Run::new(alloc, pair);
-            begins_host(alloc, &mut run) && ends_host(alloc, &mut run)
+            let is_called = begins_host(alloc, &mut run) && ends_host(alloc, &mut run);
+            drop(run);
+            is_called
         }
         None => false,
     }
@@ -346,13 +358,17 @@ fn pair_calls_host(alloc: Global, pair: Option<Pair>) -> bool
 // The same over one module as both units.
 fn unit_calls_host(alloc: Global, unit: &Checked) -> Option<bool> {
     let types = OutsideTypes::new(alloc).ok()?;
-    Some(pair_calls_host(alloc, Pair::new(alloc, unit, unit, &types)))
+    let is_called = pair_calls_host(alloc, Pair::new(alloc, unit, unit, &types));
+    drop(types);
+    Some(is_called)
 }
 
 // The same over the module that the bytes spell.
 fn calls_host(alloc: Global, bytes: &[u8]) -> Option<bool> {
     let unit = checked(alloc, bytes)?;
-    unit_calls_host(alloc, &unit)
+    let is_called = unit_calls_host(alloc, &unit);
+    drop(unit);
+    is_called
 }
 
 #[test]

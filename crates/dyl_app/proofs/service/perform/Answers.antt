@@ -1,31 +1,132 @@
-use Rattle.std.proofs.Common.{Ok}
-use Rattle.std.specs.FinMap.{get}
-use Rattle.host_calls.specs.Embedders.{names_of}
+use Rattle.std.proofs.Common.{refl}
+use Rattle.spec_hosts.specs.Devices.{devices}
+use Rattle.host_calls.specs.Embedders.{names_of, embedder_of}
 use Rattle.host_table.specs.Table.{functions_of}
-use Rattle.dyl_app.proofs.Dues.{laws_of, told_yields, told_complete}
-use Rattle.dyl_app.proofs.Writing.{can_write}
+use Rattle.dyl_commands.specs.Runs.{Does}
+use Rattle.dyl_commands.specs.Served.{Serves}
+use Rattle.dyl_commands.proofs.Writing.{can_write}
+use Rattle.dyl_commands.proofs.Dues.{laws_of, served_due, served_complete}
+use Rattle.dyl_commands.proofs.Performing.{at_merge, at_run, at_exec, at_plan, at_gen, range_of_merge, range_of_run, range_of_plan, range_of_gen}
 use Rattle.dyl_app.proofs.service.perform.Goals as goal
 
-pub returns-clause-due : goal.returns-clause-due
-returns-clause-due g c = λ told is.
-    told_yields (laws_of c.reading_answers.ensures c.one_record_answer.ensures c.one_gathered.ensures c.generated_set_links.ensures.three) (names_of c.args.host.now) (can_write (functions_of c.args.host.now)) (get told) (Ok c.args.order.now) c.perform_order.result (c.perform_order.ensures.serves.tells told is)
+pub perform_merge-requires : goal.perform_merge-requires
+perform_merge-requires g c = range_of_merge c.args.order.now _ _ _ c.in-Merge.is c.requires
 
-pub returns-clause-tells : goal.returns-clause-tells
-returns-clause-tells g c = c.perform_order.ensures.serves.tells
+pub perform_run-requires : goal.perform_run-requires
+perform_run-requires g c = let r = range_of_run c.args.order.now _ _ _ _ c.in-Run.is c.requires in record { link = r.0; steps = r.1.0 }
 
-pub returns-clause-files : goal.returns-clause-files
-returns-clause-files g c = c.perform_order.ensures.serves.leaves
+pub perform_plan-requires : goal.perform_plan-requires
+perform_plan-requires g c = range_of_plan c.args.order.now _ _ c.in-Plan.is c.requires
 
-pub returns-clause-complete : goal.returns-clause-complete
-returns-clause-complete g c = λ told is.
-    told_complete (laws_of c.reading_answers.ensures c.one_record_answer.ensures c.one_gathered.ensures c.generated_set_links.ensures.three) (names_of c.args.host.now) (can_write (functions_of c.args.host.now)) (get told) (g.F.Files.seen c.args.files.now) (g.F.Files.seen c.perform_order.new.files) _ _ (Ok c.args.order.now) c.perform_order.result (c.perform_order.ensures.serves.tells told is)
-    c.perform_order.ensures.serves.caused
+pub perform_gen-requires : goal.perform_gen-requires
+perform_gen-requires g c = let r = range_of_gen c.args.order.now _ _ _ c.in-Gen.is c.requires in record { some = r.0; few = r.1; steps = r.2 }
 
-pub returns-clause-caused : goal.returns-clause-caused
-returns-clause-caused g c = c.perform_order.ensures.serves.caused
+pub returns-in-Merge : goal.returns-in-Merge
+returns-in-Merge g c =
+    let laws = (laws_of c.reading_answers.ensures c.one_record_answer.ensures c.one_gathered.ensures c.generated_set_links.ensures.three) in
+    let can = can_write (functions_of c.args.host.now) in
+    let serves =
+    at_merge (λ asked. Serves (names_of c.args.host.now) asked c.perform_merge.result (g.F.Files.seen c.args.files.now) (g.F.Files.seen c.perform_merge.new.files) (g.O.Sink.seen c.args.output.now).faults (g.O.Sink.seen c.args.output.now).faults)
+    c.args.order.now _ _ _ _ c.in-Merge.is c.as_str.ensures (c.perform_merge.ensures.serves _ _) in
+    record {
+      due = served_due laws (names_of c.args.host.now) can _ _ _ _ _ _ serves;
+      tells = serves.tells;
+      files = serves.leaves;
+      complete = served_complete laws (names_of c.args.host.now) can _ _ _ _ _ _ serves;
+      caused = serves.caused;
+      inner = serves.inner;
+      does = at_merge
+          (λ asked. Does (g.F.Files.seen c.args.files.now).told (λ texts. embedder_of texts c.args.host.now) asked c.perform_merge.result
+          (devices (g.I.Source.seen c.args.input.now) (g.O.Sink.seen c.args.output.now) (g.E.Sink.seen c.args.errors.now) (g.A.Ambient.seen c.args.ambient.now))
+          (devices (g.I.Source.seen c.args.input.now) (g.O.Sink.seen c.args.output.now) (g.E.Sink.seen c.perform_merge.new.errors) (g.A.Ambient.seen c.args.ambient.now)))
+          c.args.order.now _ _ _ _ c.in-Merge.is c.as_str.ensures (record { errors = g.E.Sink.seen c.args.errors.now; works = refl; line = c.perform_merge.ensures.told });
+      quiet = c.perform_merge.ensures.quiet;
+    }
 
-pub returns-clause-inner : goal.returns-clause-inner
-returns-clause-inner g c = c.perform_order.ensures.serves.inner
+pub returns-in-Run : goal.returns-in-Run
+returns-in-Run g c =
+    let laws = (laws_of c.reading_answers.ensures c.one_record_answer.ensures c.one_gathered.ensures c.generated_set_links.ensures.three) in
+    let can = can_write (functions_of c.args.host.now) in
+    let serves =
+    at_run (λ asked. Serves (names_of c.args.host.now) asked c.perform_run.result (g.F.Files.seen c.args.files.now) (g.F.Files.seen c.perform_run.new.files) (g.O.Sink.seen c.args.output.now).faults (g.O.Sink.seen c.perform_run.new.output).faults)
+    c.args.order.now _ _ _ _ _ c.in-Run.is c.items.ensures c.perform_run.ensures.serves in
+    record {
+      due = served_due laws (names_of c.args.host.now) can _ _ _ _ _ _ serves;
+      tells = serves.tells;
+      files = serves.leaves;
+      complete = served_complete laws (names_of c.args.host.now) can _ _ _ _ _ _ serves;
+      caused = serves.caused;
+      inner = serves.inner;
+      does = at_run
+          (λ asked. Does (g.F.Files.seen c.args.files.now).told (λ texts. embedder_of texts c.args.host.now) asked c.perform_run.result
+          (devices (g.I.Source.seen c.args.input.now) (g.O.Sink.seen c.args.output.now) (g.E.Sink.seen c.args.errors.now) (g.A.Ambient.seen c.args.ambient.now))
+          (devices (g.I.Source.seen c.perform_run.new.input) (g.O.Sink.seen c.perform_run.new.output) (g.E.Sink.seen c.perform_run.new.errors) (g.A.Ambient.seen c.perform_run.new.ambient)))
+          c.args.order.now _ _ _ _ _ c.in-Run.is c.items.ensures c.perform_run.ensures.does;
+      quiet = c.perform_run.ensures.quiet;
+    }
 
-pub returns-clause-does : goal.returns-clause-does
-returns-clause-does g c = c.perform_order.ensures.does
+pub returns-in-Exec : goal.returns-in-Exec
+returns-in-Exec g c =
+    let laws = (laws_of c.reading_answers.ensures c.one_record_answer.ensures c.one_gathered.ensures c.generated_set_links.ensures.three) in
+    let can = can_write (functions_of c.args.host.now) in
+    let serves =
+    at_exec (λ asked. Serves (names_of c.args.host.now) asked c.perform_exec.result (g.F.Files.seen c.args.files.now) (g.F.Files.seen c.perform_exec.new.files) (g.O.Sink.seen c.args.output.now).faults (g.O.Sink.seen c.perform_exec.new.output).faults)
+    c.args.order.now _ _ _ _ _ c.in-Exec.is c.as_str-in-Exec.ensures c.items-in-Exec.ensures c.perform_exec.ensures.serves in
+    record {
+      due = served_due laws (names_of c.args.host.now) can _ _ _ _ _ _ serves;
+      tells = serves.tells;
+      files = serves.leaves;
+      complete = served_complete laws (names_of c.args.host.now) can _ _ _ _ _ _ serves;
+      caused = serves.caused;
+      inner = serves.inner;
+      does = at_exec
+          (λ asked. Does (g.F.Files.seen c.args.files.now).told (λ texts. embedder_of texts c.args.host.now) asked c.perform_exec.result
+          (devices (g.I.Source.seen c.args.input.now) (g.O.Sink.seen c.args.output.now) (g.E.Sink.seen c.args.errors.now) (g.A.Ambient.seen c.args.ambient.now))
+          (devices (g.I.Source.seen c.perform_exec.new.input) (g.O.Sink.seen c.perform_exec.new.output) (g.E.Sink.seen c.perform_exec.new.errors) (g.A.Ambient.seen c.perform_exec.new.ambient)))
+          c.args.order.now _ _ _ _ _ c.in-Exec.is c.as_str-in-Exec.ensures c.items-in-Exec.ensures c.perform_exec.ensures.does;
+      quiet = c.perform_exec.ensures.quiet;
+    }
+
+pub returns-in-Plan : goal.returns-in-Plan
+returns-in-Plan g c =
+    let laws = (laws_of c.reading_answers.ensures c.one_record_answer.ensures c.one_gathered.ensures c.generated_set_links.ensures.three) in
+    let can = can_write (functions_of c.args.host.now) in
+    let serves =
+    at_plan (λ asked. Serves (names_of c.args.host.now) asked c.perform_plan.result (g.F.Files.seen c.args.files.now) (g.F.Files.seen c.perform_plan.new.files) (g.O.Sink.seen c.args.output.now).faults (g.O.Sink.seen c.perform_plan.new.output).faults)
+    c.args.order.now _ _ c.in-Plan.is c.perform_plan.ensures.serves in
+    record {
+      due = served_due laws (names_of c.args.host.now) can _ _ _ _ _ _ serves;
+      tells = serves.tells;
+      files = serves.leaves;
+      complete = served_complete laws (names_of c.args.host.now) can _ _ _ _ _ _ serves;
+      caused = serves.caused;
+      inner = serves.inner;
+      does = at_plan
+          (λ asked. Does (g.F.Files.seen c.args.files.now).told (λ texts. embedder_of texts c.args.host.now) asked c.perform_plan.result
+          (devices (g.I.Source.seen c.args.input.now) (g.O.Sink.seen c.args.output.now) (g.E.Sink.seen c.args.errors.now) (g.A.Ambient.seen c.args.ambient.now))
+          (devices (g.I.Source.seen c.args.input.now) (g.O.Sink.seen c.perform_plan.new.output) (g.E.Sink.seen c.perform_plan.new.errors) (g.A.Ambient.seen c.args.ambient.now)))
+          c.args.order.now _ _ c.in-Plan.is (record { errors = g.E.Sink.seen c.args.errors.now; works = (c.perform_plan.ensures.works, refl); line = c.perform_plan.ensures.told });
+      quiet = c.perform_plan.ensures.quiet;
+    }
+
+pub returns-in-Gen : goal.returns-in-Gen
+returns-in-Gen g c =
+    let laws = (laws_of c.reading_answers.ensures c.one_record_answer.ensures c.one_gathered.ensures c.generated_set_links.ensures.three) in
+    let can = can_write (functions_of c.args.host.now) in
+    let serves =
+    at_gen (λ asked. Serves (names_of c.args.host.now) asked c.perform_gen.result (g.F.Files.seen c.args.files.now) (g.F.Files.seen c.args.files.now) (g.O.Sink.seen c.args.output.now).faults (g.O.Sink.seen c.perform_gen.new.output).faults)
+    c.args.order.now _ _ _ c.in-Gen.is (c.perform_gen.ensures.serves (g.F.Files.seen c.args.files.now)) in
+    record {
+      due = served_due laws (names_of c.args.host.now) can _ _ _ _ _ _ serves;
+      tells = serves.tells;
+      files = serves.leaves;
+      complete = served_complete laws (names_of c.args.host.now) can _ _ _ _ _ _ serves;
+      caused = serves.caused;
+      inner = serves.inner;
+      does = at_gen
+          (λ asked. Does (g.F.Files.seen c.args.files.now).told (λ texts. embedder_of texts c.args.host.now) asked c.perform_gen.result
+          (devices (g.I.Source.seen c.args.input.now) (g.O.Sink.seen c.args.output.now) (g.E.Sink.seen c.args.errors.now) (g.A.Ambient.seen c.args.ambient.now))
+          (devices (g.I.Source.seen c.args.input.now) (g.O.Sink.seen c.perform_gen.new.output) (g.E.Sink.seen c.perform_gen.new.errors) (g.A.Ambient.seen c.args.ambient.now)))
+          c.args.order.now _ _ _ c.in-Gen.is (record { errors = g.E.Sink.seen c.args.errors.now; works = (c.perform_gen.ensures.works, refl); line = c.perform_gen.ensures.told });
+      quiet = c.perform_gen.ensures.quiet;
+    }

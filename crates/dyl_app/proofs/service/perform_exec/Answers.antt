@@ -2,8 +2,7 @@ use Rattle.std.proofs.Common.{Ok, sym, ◌∙◌, true≢false}
 use Rattle.spec_hosts.specs.Devices.{devices}
 use Rattle.host_calls.specs.Embedders.{names_of, embedder_of}
 use Rattle.dyl_front.specs.declared.order.Order.TheVariants.{Exec}
-use Rattle.dyl_app.proofs.Executing.{not_told_done}
-use Rattle.dyl_app.proofs.Telling.{told_serves, told_works}
+use Rattle.dyl_commands.proofs.Telling.{not_told_done, told_serves, told_works}
 use Rattle.dyl_app.proofs.service.perform_exec.Goals as goal
 
 pub returns-clause-serves : goal.returns-clause-serves

@@ -1,8 +1,8 @@
 use Rattle.std.proofs.Common.{[], Ok}
 use Rattle.host_calls.specs.Embedders.{names_of, embedder_of}
 use Rattle.dyl_front.specs.declared.order.Order.TheVariants.{Gen}
-use Rattle.dyl_app.specs.Runs.{guest_arguments}
-use Rattle.dyl_app.proofs.Telling.{done_silent, told_serves, told_gens}
+use Rattle.dyl_commands.specs.Runs.{guest_arguments}
+use Rattle.dyl_commands.proofs.Telling.{done_silent, told_serves, told_gens}
 use Rattle.dyl_app.proofs.service.perform_gen.Goals as goal
 
 pub returns-clause-serves : goal.returns-clause-serves

@@ -1,5 +1,5 @@
 use Rattle.host_calls.specs.Embedders.{names_of}
-use Rattle.dyl_app.proofs.Telling.{done_silent, told_serves}
+use Rattle.dyl_commands.proofs.Telling.{done_silent, told_serves}
 use Rattle.dyl_app.proofs.service.perform_merge.Goals as goal
 
 pub returns-clause-serves : goal.returns-clause-serves

@@ -3,7 +3,7 @@ use Rattle.host_calls.specs.Embedders.{names_of}
 use Rattle.dyl_search.specs.Gathers.{options_of}
 use Rattle.dyl_link.specs.Kept as links
 use Rattle.dyl_front.specs.declared.order.Order.TheVariants.{Plan}
-use Rattle.dyl_app.proofs.Telling.{done_silent, told_serves, told_plans}
+use Rattle.dyl_commands.proofs.Telling.{done_silent, told_serves, told_plans}
 use Rattle.dyl_app.proofs.service.perform_plan.Goals as goal
 
 pub returns-clause-serves : goal.returns-clause-serves

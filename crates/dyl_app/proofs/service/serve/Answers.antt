@@ -1,29 +1,63 @@
-use Rattle.host_calls.specs.Embedders.{names_of}
-use Rattle.host_table.specs.Table.{functions_of}
-use Rattle.dyl_app.proofs.Dues.{laws_of, told_yields, told_complete}
-use Rattle.dyl_app.proofs.Writing.{can_write}
+use Rattle.std.proofs.Common.{◌≡◌, Err}
+use Rattle.spec_hosts.specs.Devices.{devices}
+use Rattle.host_calls.specs.Embedders.{names_of, embedder_of}
+use Rattle.dyl_front.specs.Orders.{order_of}
+use Rattle.dyl_front.specs.declared.outcome.Outcome.TheVariants.{Usage, Memory}
+use Rattle.dyl_commands.proofs.Telling.{done_silent, told_serves, memory_serves, usage_serves}
+use Rattle.dyl_commands.proofs.Performing.{usage_due, memory_due, usage_complete, memory_complete, usage_does, memory_does}
 use Rattle.dyl_app.proofs.service.serve.Goals as goal
 
-pub returns-clause-due : goal.returns-clause-due
-returns-clause-due g c = λ told is.
-    told_yields (laws_of c.reading_answers.ensures c.one_record_answer.ensures c.one_gathered.ensures c.generated_set_links.ensures.three) (names_of c.args.host.now) (can_write (functions_of c.args.host.now)) _ _ c.serve_words.result (c.serve_words.ensures.serves.tells told is)
+pub returns-in-Ok-clause-due : goal.returns-in-Ok-clause-due
+returns-in-Ok-clause-due g c = rw c.in-Ok.ensures.reads c.perform-outcome.ensures.due
 
-pub returns-clause-tells : goal.returns-clause-tells
-returns-clause-tells g c = c.serve_words.ensures.serves.tells
+pub returns-in-Ok-clause-tells : goal.returns-in-Ok-clause-tells
+returns-in-Ok-clause-tells g c = rw c.in-Ok.ensures.reads c.perform-outcome.ensures.tells
 
-pub returns-clause-files : goal.returns-clause-files
-returns-clause-files g c = c.serve_words.ensures.serves.leaves
+pub returns-in-Ok-clause-files : goal.returns-in-Ok-clause-files
+returns-in-Ok-clause-files g c = rw c.in-Ok.ensures.reads c.perform-outcome.ensures.files
 
-pub returns-clause-complete : goal.returns-clause-complete
-returns-clause-complete g c = λ told is.
-    told_complete (laws_of c.reading_answers.ensures c.one_record_answer.ensures c.one_gathered.ensures c.generated_set_links.ensures.three) (names_of c.args.host.now) (can_write (functions_of c.args.host.now)) _ _ _ _ _ _ c.serve_words.result (c.serve_words.ensures.serves.tells told is)
-    c.serve_words.ensures.serves.caused
+pub returns-in-Ok-clause-complete : goal.returns-in-Ok-clause-complete
+returns-in-Ok-clause-complete g c = rw c.in-Ok.ensures.reads c.perform-outcome.ensures.complete
 
-pub returns-clause-caused : goal.returns-clause-caused
-returns-clause-caused g c = c.serve_words.ensures.serves.caused
+pub returns-in-Ok-clause-caused : goal.returns-in-Ok-clause-caused
+returns-in-Ok-clause-caused g c = rw c.in-Ok.ensures.reads c.perform-outcome.ensures.caused
 
-pub returns-clause-inner : goal.returns-clause-inner
-returns-clause-inner g c = c.serve_words.ensures.serves.inner
+pub returns-in-Ok-clause-does : goal.returns-in-Ok-clause-does
+returns-in-Ok-clause-does g c = rw c.in-Ok.ensures.reads c.perform-outcome.ensures.does
 
-pub returns-clause-does : goal.returns-clause-does
-returns-clause-does g c = c.serve_words.ensures.does
+pub returns-in-Err-Usage : goal.returns-in-Err-Usage
+returns-in-Err-Usage g c =
+    let is : order_of c.args.words.now ≡ Err c.in-Err-Usage.kind = rw c.in-Err-Usage.field-0-is at c.in-Err-Usage.ensures.reads in
+    let serves =
+    told_serves (names_of c.args.host.now) (order_of c.args.words.now) (Usage c.in-Err-Usage.kind) c.tell.result (g.F.Files.seen c.args.files.now) (g.F.Files.seen c.args.files.now) _ _ c.tell.ensures.answer
+    (usage_serves (names_of c.args.host.now) (order_of c.args.words.now) c.in-Err-Usage.kind is (g.F.Files.seen c.args.files.now) (g.O.Sink.seen c.args.output.now).faults (g.O.Sink.seen c.args.output.now).faults) in
+    record {
+      due = usage_due (names_of c.args.host.now) (order_of c.args.words.now) c.tell.result (g.F.Files.seen c.args.files.now) c.in-Err-Usage.kind is c.tell.ensures.answer;
+      tells = serves.tells;
+      files = serves.leaves;
+      complete = usage_complete (names_of c.args.host.now) (order_of c.args.words.now) c.tell.result (g.F.Files.seen c.args.files.now) (g.F.Files.seen c.args.files.now) _ _ c.in-Err-Usage.kind is;
+      caused = serves.caused;
+      inner = serves.inner;
+      does = usage_does (g.F.Files.seen c.args.files.now).told (λ texts. embedder_of texts c.args.host.now) (order_of c.args.words.now) c.in-Err-Usage.kind is c.tell.result
+          (devices (g.I.Source.seen c.args.input.now) (g.O.Sink.seen c.args.output.now) (g.E.Sink.seen c.args.errors.now) (g.A.Ambient.seen c.args.ambient.now))
+          (g.E.Sink.seen c.tell.new.errors) c.tell.ensures.told;
+      quiet = λ done. c.tell.ensures.quiet (done_silent c.tell.result done);
+    }
+
+pub returns-in-Err-Memory : goal.returns-in-Err-Memory
+returns-in-Err-Memory g c =
+    let serves =
+    told_serves (names_of c.args.host.now) (order_of c.args.words.now) Memory c.tell-in-Err-Memory.result (g.F.Files.seen c.args.files.now) (g.F.Files.seen c.args.files.now) _ _ c.tell-in-Err-Memory.ensures.answer
+    (memory_serves (names_of c.args.host.now) (order_of c.args.words.now) (g.F.Files.seen c.args.files.now) (g.O.Sink.seen c.args.output.now).faults (g.O.Sink.seen c.args.output.now).faults) in
+    record {
+      due = memory_due (names_of c.args.host.now) (order_of c.args.words.now) c.tell-in-Err-Memory.result (g.F.Files.seen c.args.files.now) c.tell-in-Err-Memory.ensures.answer;
+      tells = serves.tells;
+      files = serves.leaves;
+      complete = memory_complete (names_of c.args.host.now) (order_of c.args.words.now) c.tell-in-Err-Memory.result (g.F.Files.seen c.args.files.now) (g.F.Files.seen c.args.files.now) _ _ c.tell-in-Err-Memory.ensures.answer;
+      caused = serves.caused;
+      inner = serves.inner;
+      does = memory_does (g.F.Files.seen c.args.files.now).told (λ texts. embedder_of texts c.args.host.now) (order_of c.args.words.now) c.tell-in-Err-Memory.result
+          (devices (g.I.Source.seen c.args.input.now) (g.O.Sink.seen c.args.output.now) (g.E.Sink.seen c.args.errors.now) (g.A.Ambient.seen c.args.ambient.now))
+          (g.E.Sink.seen c.tell-in-Err-Memory.new.errors) c.tell-in-Err-Memory.ensures.answer c.tell-in-Err-Memory.ensures.told;
+      quiet = λ done. c.tell-in-Err-Memory.ensures.quiet (done_silent c.tell-in-Err-Memory.result done);
+    }

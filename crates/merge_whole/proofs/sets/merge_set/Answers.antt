@@ -10,25 +10,25 @@ use Rattle.merge_whole.proofs.BuiltBrief.{formed, short, merges, no_fault}
 use Rattle.merge_whole.proofs.ShortFits.{never_first_long}
 use Rattle.merge_whole.proofs.sets.merge_set.Goals as goal
 
-pub encoded-requires-clause-formed : goal.encoded-requires-clause-formed
-encoded-requires-clause-formed c =
+pub encoded-bytes-requires-clause-formed : goal.encoded-bytes-requires-clause-formed
+encoded-bytes-requires-clause-formed c =
     let set = c.requires.set in
     formed set.0 c.args.linked.now set.1 c.requires.pages c.requires.hosts c.in_ok-check_brief.ensures c.merged_modules_are_formed.ensures.formed
     c.in_ok-module.module (c.in_ok-module.ensures set.0 set.1)
 
-pub encoded-requires-clause-short : goal.encoded-requires-clause-short
-encoded-requires-clause-short c =
+pub encoded-bytes-requires-clause-short : goal.encoded-bytes-requires-clause-short
+encoded-bytes-requires-clause-short c =
     let set = c.requires.set in
     short set.0 c.args.linked.now set.1 c.requires.pages c.requires.hosts c.in_ok-check_brief.ensures c.merged_modules_are_formed.ensures.short
     c.in_ok-module.module (c.in_ok-module.ensures set.0 set.1)
 
-pub encoded-requires-clause-customs : goal.encoded-requires-clause-customs
-encoded-requires-clause-customs c =
+pub encoded-bytes-requires-clause-customs : goal.encoded-bytes-requires-clause-customs
+encoded-bytes-requires-clause-customs c =
     let set = c.requires.set in
     ap (λ (m : Module). m.customs) (c.in_ok-module.ensures set.0 set.1)
 
 pub returns-clause-merged : goal.returns-clause-merged
-returns-clause-merged c = all c.encoded.result c.encoded.ensures.spelled
+returns-clause-merged c = all c.encoded-bytes.result c.encoded-bytes.ensures.spelled
   where
     all : (r : Result (Vec ℕ Global) MergeFault) → IfOk r (λ bytes. SpellsModule c.in_ok-module.module bytes.items)
         → IfOk r (λ bytes. (L : LinkedSet) → IsLinked L c.args.linked.now → Merges L bytes.items)
@@ -38,10 +38,10 @@ returns-clause-merged c = all c.encoded.result c.encoded.ensures.spelled
     all (Err e) spelled = tt
 
 pub returns-clause-long : goal.returns-clause-long
-returns-clause-long c = λ id e L h. absurd (no_fault c.encoded.result c.encoded.ensures.fault id e)
+returns-clause-long c = λ id e L h. absurd (no_fault c.encoded-bytes.result c.encoded-bytes.ensures.fault id e)
 
 pub returns-clause-big : goal.returns-clause-big
-returns-clause-big c = λ id e L h. absurd (no_fault c.encoded.result c.encoded.ensures.fault id e)
+returns-clause-big c = λ id e L h. absurd (no_fault c.encoded-bytes.result c.encoded-bytes.ensures.fault id e)
 
 pub returns-clause-only_long : goal.returns-clause-only_long
 returns-clause-only_long c = λ id L h too.

@@ -1,0 +1,116 @@
+-- What comes of gathering and linking.
+use Rattle.std.proofs.Common.{◌≡◌, ◌≤◌, ℕ, List, [], ◌∷◌, true, Result, Ok, Err, refl, sym, ap, subst, le_refl, arith}
+use Rattle.std.specs.List.{All, list_all}
+use Rattle.std.proofs.lemmas.Bool.{true≢false, and_from, and_parts}
+use Rattle.std.proofs.lemmas.List.Elements.{All-weaker}
+use Rattle.std.specs.Option.{ForSome}
+use Rattle.std.specs.FinMap.{get}
+use Rattle.dyl_outside.specs.Faults.{Rises}
+use Rattle.dyl_outside.specs.Files.{FilesState}
+use Rattle.spec_binary.specs.declared.fault.DecodeFault.TheVariants as decode
+use Rattle.spec_validation.specs.declared.fault.CheckFault.TheVariants as check
+use Rattle.wasm_form.specs.declared.types.ValType.{ValType}
+use Rattle.wasm_form.specs.declared.types.ValType.TheVariants.{I32, I64, F32, F64, FuncRef, ExternRef}
+use Rattle.wasm_form.specs.declared.types.FuncType.{FuncType}
+use Rattle.spec_validation.specs.Faults.{is_supported, is_function_supported}
+use Rattle.spec_runtime.specs.Names.{HostNames, is_integer, has_integers}
+use Rattle.spec_linking.specs.declared.fault.RecordFault.TheVariants as records
+use Rattle.spec_linking.specs.declared.fault.SetFault.{SetFault}
+use Rattle.spec_linking.specs.declared.fault.SetFault.TheVariants as set
+use Rattle.spec_linking.specs.declared.fault.LinkFault.{LinkFault}
+use Rattle.spec_linking.specs.declared.fault.LinkFault.TheVariants as link
+use Rattle.spec_linking.specs.Sets.{ClosedSet, SetOptions}
+use Rattle.spec_linking.specs.Gathering.{IsGathered}
+use Rattle.spec_linking.specs.Plans.{LinkOptions, Plan, least_of, maxima, limits_in, memory_limits}
+use Rattle.spec_linking.specs.Slots.{linked_plan}
+use Rattle.spec_linking.specs.LinkedSets.{LinkedSet, hosts_of}
+use Rattle.spec_linking.specs.Links.{link_fault}
+use Rattle.dyl_search.specs.Found.{ReadsOf}
+use Rattle.dyl_search.specs.Gathers.{Stops, IsWhole}
+use Rattle.dyl_link.specs.Answers.{IsFirst}
+use Rattle.dyl_link.specs.Kept.{Kept, IsLinked}
+use Rattle.wasm_exec.specs.Executed.{HaveIntegers}
+use Rattle.wasm_exec.proofs.SetHosts.{IsDeclared, set_declared}
+use Rattle.merge_whole.specs.Merges.{IsSupported}
+use Rattle.dyl_front.specs.declared.outcome.Outcome.{Outcome}
+use Rattle.dyl_front.specs.declared.outcome.Outcome.TheVariants.{Set, Link, Memory}
+use Rattle.dyl_commands.specs.Linking.{linked}
+use Rattle.dyl_commands.specs.Served.{IsNotGot, Gets, LinksTo, set_outcome, link_outcome}
+
+-- a set that links, by the names that were declared
+pub links_to : (l : LinkOptions) (S : ClosedSet) (names also : HostNames) (k : Kept) → names ≡ also → IsLinked (linked names l S) k → HaveIntegers also → LinksTo (linked also l S) (Ok k)
+links_to l S names also k same h integers = (subst (λ n. IsLinked (linked n l S) k) same h, integers)
+
+-- one that doesn't
+first_fault_to : (L : LinkedSet) (fault : LinkFault) → IsFirst fault (link_fault L) → LinksTo L (Err (link_outcome fault))
+first_fault_to L link.Memory h = tt
+first_fault_to L fault h = h (λ is. cc)
+
+-- the most pages are no more than those of the options
+least_below : (bound : ℕ) (ns : List ℕ) → least_of bound ns ≤ bound
+least_below bound [] = le_refl bound
+least_below bound (n ∷ ns) = omega (arith, least_below bound ns)
+
+pub pages_below : (l : LinkOptions) (S : ClosedSet) (names : HostNames) (k : Kept) → IsLinked (linked names l S) k → l.pages ≤ 16384 → k.plan.pages_max ≤ 16384
+pages_below l S names k h few =
+    let same : k.plan.pages_max ≡ (linked_plan (linked names l S)).pages_max = ap (λ (p : Plan). p.pages_max) h.plan in
+    let below : (linked_plan (linked names l S)).pages_max ≤ l.pages = least_below l.pages (maxima (limits_in memory_limits S.members)) in
+    omega (arith, same, below, few)
+
+-- integers are supported, so host functions are that have integers alone
+integer_supported : (t : ValType) → is_integer t ≡ true → is_supported t ≡ true
+integer_supported I32 h = refl
+integer_supported I64 h = refl
+integer_supported F32 h = absurd (true≢false (sym h))
+integer_supported F64 h = absurd (true≢false (sym h))
+integer_supported FuncRef h = refl
+integer_supported ExternRef h = absurd (true≢false (sym h))
+
+integers_supported : (ts : List ValType) → list_all is_integer ts ≡ true → list_all is_supported ts ≡ true
+integers_supported [] h = refl
+integers_supported (t ∷ ts) h =
+    let both = and_parts (is_integer t) (list_all is_integer ts) h in
+    and_from (is_supported t) (list_all is_supported ts) (integer_supported t both.0) (integers_supported ts both.1)
+
+function_supported : (ty : FuncType) → has_integers ty ≡ true → is_function_supported ty ≡ true
+function_supported ty h =
+    let both = and_parts (list_all is_integer ty.params) (list_all is_integer ty.results) h in
+    and_from (list_all is_supported ty.params) (list_all is_supported ty.results) (integers_supported ty.params both.0) (integers_supported ty.results both.1)
+
+pub hosts_supported : (l : LinkOptions) (S : ClosedSet) (names : HostNames) (k : Kept) → IsLinked (linked names l S) k → HaveIntegers names → All IsSupported k.hosts
+hosts_supported l S names k h integers =
+    let L = linked names l S in
+    let supported : All IsSupported (hosts_of L) =
+    All-weaker (IsDeclared L) IsSupported (λ host declared. function_supported host.ty (integers host.module_name host.name host.ty declared)) (hosts_of L) (set_declared L h.links) in
+    subst (All IsSupported) (sym h.hosts) supported
+
+pub links_not : (l : LinkOptions) (S : ClosedSet) (names also : HostNames) (fault : LinkFault) → names ≡ also → IsFirst fault (link_fault (linked names l S)) → LinksTo (linked also l S) (Err (link_outcome fault))
+links_not l S names also fault same h = first_fault_to (linked also l S) fault (subst (λ n. IsFirst fault (link_fault (linked n l S))) same h)
+
+module _ (names : HostNames) (o : SetOptions) (l : LinkOptions) (old new : FilesState) (files : new.told ≡ old.told) (writes : new.write_faults ≡ old.write_faults) where
+  abbrev Found : Outcome → Type 0
+  Found answer = IsNotGot names o l answer old new
+
+  -- no set is linked
+  none : (answer : Outcome) → Found answer → Gets names o l (Err answer) old new
+  none answer h = record { got = tt; fault = h; files = files; writes = writes }
+
+  -- a set was gathered
+  pub got : (S : ClosedSet) (r : Result Kept Outcome) → ForSome old.told (λ m. IsGathered (get m) o (Ok S)) → LinksTo (linked names l S) r → Gets names o l r old new
+  got S (Ok k) gathered links = record { got = record { set = S; gathered = gathered; linked = links.0; integers = links.1 }; fault = tt; files = files; writes = writes }
+  got S (Err Memory) gathered links = none Memory (record { tells = λ m told. tt; caused = tt; inner = refl })
+  got S (Err (Link link.Memory)) gathered links = absurd links
+  got S (Err (Link fault)) gathered links =
+      none (Link fault) (record { tells = λ m told. record { set = S; gathered = gathered m told; found = links }; caused = tt; inner = refl })
+  got S (Err _) gathered links = absurd links
+
+  -- none was
+  pub not_got : (fault : SetFault) → ForSome old.told (λ m. Stops (get m) o fault) → IsWhole fault → ReadsOf {A = ClosedSet} (Err fault) old.read_faults new.read_faults
+      → ((name : List ℕ) → fault ≡ set.Missing name → Rises old.absents new.absents) → Gets names o l (Err (set_outcome fault)) old new
+  not_got set.Memory stops whole reads absent = none Memory (record { tells = λ m told. tt; caused = tt; inner = refl })
+  not_got (set.ReadFault path) stops whole reads absent = none (Set (set.ReadFault path)) (record { tells = stops; caused = reads; inner = refl })
+  not_got (set.Missing name) stops whole reads absent = none (Set (set.Missing name)) (record { tells = stops; caused = absent name refl; inner = refl })
+  not_got (set.Decode n decode.Memory) stops whole reads absent = absurd whole
+  not_got (set.Record n records.Memory) stops whole reads absent = absurd whole
+  not_got (set.Check n check.Memory) stops whole reads absent = absurd whole
+  not_got fault stops whole reads absent = none (Set fault) (record { tells = stops; caused = tt; inner = refl })

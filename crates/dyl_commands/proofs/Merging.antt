@@ -1,0 +1,90 @@
+-- What comes of merging a set that links.
+use Rattle.std.proofs.Common.{◌≡◌, ◌≤◌, ◌^◌, ℕ, List, [], Option, Some, None, Ok, refl, sym, ◌∙◌, subst, inl}
+use Rattle.std.specs.Prelude.{IsSomeAnd}
+use Rattle.std.specs.FinMap.{get}
+use Rattle.dyl_outside.specs.FileMap.{FileMap}
+use Rattle.dyl_outside.specs.Faults.{Rises}
+use Rattle.dyl_outside.specs.Files.{FilesState}
+use Rattle.spec_runtime.specs.Names.{HostNames}
+use Rattle.spec_linking.specs.LinkedSets.{LinkedSet}
+use Rattle.wasm_encode.specs.SectionSizes.{IsFirstTooLong}
+use Rattle.merge_whole.specs.Merges.{merged_module}
+use Rattle.spec_merging.specs.declared.fault.MergeFault.{MergeFault}
+use Rattle.spec_merging.specs.declared.fault.MergeFault.TheVariants as merge
+use Rattle.dyl_search.specs.declared.set.SetOptions.{SetOptions}
+use Rattle.dyl_search.specs.Gathers.{options_of}
+use Rattle.dyl_link.specs.declared.options.LinkOptions.{LinkOptions}
+use Rattle.dyl_link.specs.Kept as links
+use Rattle.dyl_link.specs.Kept.{Kept, IsLinked}
+use Rattle.dyl_front.specs.declared.order.Order.TheVariants as order
+use Rattle.dyl_front.specs.declared.outcome.Outcome.{Outcome}
+use Rattle.dyl_front.specs.declared.outcome.Outcome.TheVariants.{Done, Merge, WriteFault, Memory}
+use Rattle.dyl_commands.specs.Linking.{linked, LinksAt}
+use Rattle.merge_whole.specs.Merges as whole
+use Rattle.dyl_commands.specs.Files.{IsMerged}
+use Rattle.dyl_commands.specs.Served.{Serves, Gets, HoldsMerged, StoresOutput, WritesMerged, merge_outcome}
+
+-- what is stored is what was merged
+pub stored_merged : (k : Kept) (out bytes : List ℕ) (answer : Outcome) (old new : FilesState) → ((L : LinkedSet) → IsLinked L k → whole.Merges L bytes) → StoresOutput out bytes answer old new
+    → WritesMerged k out answer old new
+stored_merged k out bytes (Done []) old new merges h = λ files told. subst (λ after. IsSomeAnd after (HoldsMerged k out files)) (sym (h files told)) (record { output = bytes; merges = merges; written = refl })
+stored_merged k out bytes WriteFault old new merges h = h
+stored_merged k out bytes Memory old new merges h = h
+stored_merged k out bytes _ old new merges h = absurd h
+
+-- nothing is merged
+pub not_merged : (k : Kept) (out : List ℕ) (fault : MergeFault) (old : FilesState) → ((id : ℕ) → fault ≡ merge.SectionSize id → (L : LinkedSet) → IsLinked L k → IsFirstTooLong (merged_module L) id)
+    → ((id : ℕ) → fault ≡ merge.SectionSize id → (L : LinkedSet) → IsLinked L k → 2 ^ 32 ≤ whole.bulk L) → WritesMerged k out (merge_outcome fault) old old
+not_merged k out merge.Memory old first big = λ files told. told
+not_merged k out (merge.SectionSize id) old first big = (λ L is. record { first = first id refl L is; big = big id refl L is }, refl)
+
+module _ (names : HostNames) (o : SetOptions) (l : LinkOptions) (out : List ℕ) (k : Kept) (old mid new : FilesState) (gets : Gets names (options_of o) (links.options_of l) (Ok k) old mid) where
+  abbrev L : LinkedSet
+  L = linked names (links.options_of l) gets.got.set
+
+  links_at : (files : FileMap) → old.told ≡ Some files → LinksAt names (get files) (options_of o) (links.options_of l)
+  links_at files told = record { set = gets.got.set; gathered = gets.got.gathered files told; links = gets.got.linked.links }
+
+  merged_at : (files : FileMap) → old.told ≡ Some files → (after : Option FileMap) → IsSomeAnd after (HoldsMerged k out files)
+      → IsSomeAnd after (IsMerged names (options_of o) (links.options_of l) out files)
+  merged_at files told None h = h
+  merged_at files told (Some after) h = record {
+    set = gets.got.set;
+    gathered = gets.got.gathered files told;
+    links = gets.got.linked.links;
+    output = h.output;
+    merged = (h.merges L gets.got.linked).merged;
+    shape = (h.merges L gets.got.linked).shape;
+    written = h.written;
+  }
+
+  pub merge_serves : (answer : Outcome) → WritesMerged k out answer mid new → (before now : ℕ) → Serves names (Ok (order.Merge o l out)) answer old new before now
+  merge_serves (Done []) h before now = record {
+    tells = links_at;
+    leaves = λ files told. merged_at files told new.told (h files (gets.files ∙ told));
+    caused = refl;
+    inner = refl;
+  }
+  merge_serves WriteFault h before now = record {
+    tells = links_at;
+    leaves = λ files told. h.0 files (gets.files ∙ told);
+    caused = subst (λ n. Rises n new.write_faults) gets.writes h.1;
+    inner = refl;
+  }
+  merge_serves (Merge merge.Memory) h before now = absurd h
+  merge_serves (Merge (merge.SectionSize id)) h before now = record {
+    tells = λ files told. record {
+      merges = record { set = gets.got.set; gathered = gets.got.gathered files told; links = gets.got.linked.links };
+      long = h.0 L gets.got.linked;
+    };
+    leaves = λ files told. h.1 ∙ gets.files ∙ told;
+    caused = tt;
+    inner = refl;
+  }
+  merge_serves Memory h before now = record {
+    tells = λ files told. tt;
+    leaves = λ files told. inl (h files (gets.files ∙ told));
+    caused = tt;
+    inner = refl;
+  }
+  merge_serves _ h before now = absurd h

@@ -1,0 +1,102 @@
+-- What is so of an order and of words, from what is so of what they hold.
+use Rattle.std.proofs.Common.{◌≡◌, ℕ, ◌≤◌, List, Option, Result, Ok, Err, refl, sym, subst, inl, inr}
+use Rattle.std.specs.Option.{ForSome}
+use Rattle.std.specs.FinMap.{get}
+use Rattle.dyl_outside.specs.FileMap.{FileMap}
+use Rattle.dyl_outside.specs.Files.{FilesState}
+use Rattle.dyl_outside.specs.Sink.{SinkState}
+use Rattle.spec_runtime.specs.Names.{HostNames}
+use Rattle.spec_hosts.specs.Devices.{Devices}
+use Rattle.spec_hosts.specs.Hosted.{Embedder}
+use Rattle.dyl_search.specs.declared.set.SetOptions.{SetOptions}
+use Rattle.dyl_link.specs.declared.options.LinkOptions.{LinkOptions}
+use Rattle.dyl_front.specs.Orders.{IsLinkInRange, AreArgumentsInRange, IsInRange}
+use Rattle.dyl_front.specs.declared.order.Order.{Order}
+use Rattle.dyl_front.specs.declared.order.Order.TheVariants.{Merge, Run, Exec, Plan, Gen}
+use Rattle.dyl_front.specs.declared.outcome.UsageKind.{UsageKind}
+use Rattle.dyl_front.specs.declared.outcome.Outcome.{Outcome}
+use Rattle.dyl_front.specs.declared.outcome.Outcome.TheVariants.{Usage, Memory}
+use Rattle.dyl_commands.specs.Told.{IsTold, TellsErrors}
+use Rattle.dyl_commands.specs.Runs.{Works, Does}
+use Rattle.dyl_commands.specs.Due.{DueFor, Yields, IsComplete}
+use Rattle.dyl_commands.proofs.Telling.{told_keeps}
+
+abbrev Asked : Type 0
+Asked = Result Order UsageKind
+
+-- what is so of an order's parts is so of the order
+pub at_merge : (P : Asked → Type 0) (order : Order) (set : SetOptions) (link : LinkOptions) (out path : List ℕ) → order ≡ Merge set link out → path ≡ out → P (Ok (Merge set link path)) → P (Ok order)
+at_merge P order set link out path is same h = subst (λ o. P (Ok o)) (sym is) (subst (λ p. P (Ok (Merge set link p))) same h)
+
+pub at_run : (P : Asked → Type 0) (order : Order) (set : SetOptions) (link : LinkOptions) (steps : ℕ) (args items : List (List ℕ)) → order ≡ Run set link steps args → items ≡ args → P (Ok (Run set link steps items)) → P (Ok order)
+at_run P order set link steps args items is texts h = subst (λ o. P (Ok o)) (sym is) (subst (λ t. P (Ok (Run set link steps t))) texts h)
+
+pub at_plan : (P : Asked → Type 0) (order : Order) (set : SetOptions) (link : LinkOptions) → order ≡ Plan set link → P (Ok (Plan set link)) → P (Ok order)
+at_plan P order set link is h = subst (λ o. P (Ok o)) (sym is) h
+
+pub at_gen : (P : Asked → Type 0) (order : Order) (n pages steps : ℕ) → order ≡ Gen n pages steps → P (Ok (Gen n pages steps)) → P (Ok order)
+at_gen P order n pages steps is h = subst (λ o. P (Ok o)) (sym is) h
+
+-- the numbers of an order are in their ranges
+pub range_of_merge : (order : Order) (set : SetOptions) (link : LinkOptions) (out : List ℕ) → order ≡ Merge set link out → IsInRange order → IsLinkInRange link
+range_of_merge order set link out is h = (subst IsInRange is h).1
+
+pub range_of_run : (order : Order) (set : SetOptions) (link : LinkOptions) (steps : ℕ) (args : List (List ℕ)) → order ≡ Run set link steps args → IsInRange order → IsLinkInRange link × AreArgumentsInRange steps args
+range_of_run order set link steps args is h = let r = subst IsInRange is h in (r.1, r.2)
+
+pub range_of_plan : (order : Order) (set : SetOptions) (link : LinkOptions) → order ≡ Plan set link → IsInRange order → IsLinkInRange link
+range_of_plan order set link is h = (subst IsInRange is h).1
+
+pub range_of_gen : (order : Order) (n pages steps : ℕ) → order ≡ Gen n pages steps → IsInRange order → (1 ≤ pages) × (pages ≤ 16384) × (steps ≤ 9223372036854775807)
+range_of_gen order n pages steps is h = subst IsInRange is h
+
+pub at_exec : (P : Asked → Type 0) (order : Order) (file path : List ℕ) (steps : ℕ) (args items : List (List ℕ)) → order ≡ Exec file steps args → path ≡ file → items ≡ args → P (Ok (Exec path steps items)) → P (Ok order)
+at_exec P order file path steps args items is same texts h =
+    subst (λ o. P (Ok o)) (sym is) (subst (λ t. P (Ok (Exec file steps t))) texts (subst (λ p. P (Ok (Exec p steps items))) same h))
+
+-- Words that are no order, or no memory to read them: what is due, and that it is complete.
+module _ (names : HostNames) (asked : Asked) (answer : Outcome) (old : FilesState) where
+  pub usage_due : (kind : UsageKind) → asked ≡ Err kind → IsTold (Usage kind) answer → ForSome old.told (λ told. (due : Outcome) → DueFor names (get told) asked due → Yields due answer)
+  usage_due kind is told = λ files there due d. told_keeps (Yields due) (Usage kind) answer told (λ line. tt) (subst (λ a. DueFor names (get files) a due) is d)
+
+  pub memory_due : IsTold Memory answer → ForSome old.told (λ told. (due : Outcome) → DueFor names (get told) asked due → Yields due answer)
+  memory_due told = λ files there due d. told_keeps (Yields due) Memory answer told (λ line. tt) tt
+
+  module _ (new : FilesState) (before now : ℕ) where
+    pub usage_complete : (kind : UsageKind) → asked ≡ Err kind → ForSome old.told (λ told. IsComplete names (get told) asked answer old new before now)
+    usage_complete kind is = λ files there. subst (λ a. IsComplete names (get files) a answer old new before now) (sym is) tt
+
+    whole : (files : FileMap) (a : Asked) → IsComplete names (get files) a Memory old new before now
+    whole files (Err kind) = tt
+    whole files (Ok (Merge set link out)) = λ merges few reads writes. inr refl
+    whole files (Ok (Run set link steps args)) = λ links reads. inr refl
+    whole files (Ok (Exec file steps args)) = λ opens reads. inr refl
+    whole files (Ok (Plan set link)) = λ links reads puts. inr refl
+    whole files (Ok (Gen n pages steps)) = λ some few enough puts. inr refl
+
+    pub memory_complete : IsTold Memory answer → ForSome old.told (λ told. IsComplete names (get told) asked answer old new before now)
+    memory_complete told = λ files there. told_keeps (λ a. IsComplete names (get files) asked a old new before now) Memory answer told (λ line. whole files asked) (whole files asked)
+
+module _ (told : Option FileMap) (embedder : List (List ℕ) → Embedder) where
+  -- words that are no order: nothing is done, and that is told
+  pub usage_does : (asked : Asked) (kind : UsageKind) → asked ≡ Err kind → (answer : Outcome) (old : Devices) (errors : SinkState) → TellsErrors answer old.errors errors
+      → Does told embedder asked answer old (record old { errors = errors })
+  usage_does asked kind is answer old errors line =
+      subst (λ a. Does told embedder a answer old (record old { errors = errors })) (sym is) (record { errors = old.errors; works = refl; line = line })
+
+  -- nothing was done
+  nothing_works : (asked : Asked) (old : Devices) → Works told embedder asked Memory old old
+  nothing_works (Err kind) old = refl
+  nothing_works (Ok (Merge set link out)) old = refl
+  nothing_works (Ok (Run set link steps args)) old = inl refl
+  nothing_works (Ok (Exec file steps args)) old = inl refl
+  nothing_works (Ok (Plan set link)) old = (inl refl, refl)
+  nothing_works (Ok (Gen n pages steps)) old = (inl refl, refl)
+
+  -- memory was wanting before anything was done, and that is told
+  pub memory_does : (asked : Asked) (answer : Outcome) (old : Devices) (errors : SinkState) → IsTold Memory answer → TellsErrors answer old.errors errors → Does told embedder asked answer old (record old { errors = errors })
+  memory_does asked answer old errors is line = record {
+    errors = old.errors;
+    works = told_keeps (λ a. Works told embedder asked a old old) Memory answer is (λ line. nothing_works asked old) (nothing_works asked old);
+    line = line;
+  }

@@ -1,0 +1,67 @@
+-- What comes of reading a file, step by step.
+use Rattle.std.proofs.Common.{◌≡◌, ℕ, ◌≤◌, List, length, false, Some, Result, Ok, Err, IfOk, refl, sym, subst}
+use Rattle.std.specs.Prelude.{IsSomeAnd}
+use Rattle.wasm_form.specs.declared.module.Module.{Module}
+use Rattle.spec_binary.specs.declared.fault.DecodeFault.{DecodeFault}
+use Rattle.spec_binary.specs.declared.fault.DecodeFault.TheVariants as decode
+use Rattle.spec_binary.specs.DecodeAnswers.{DecodeAnswer}
+use Rattle.spec_validation.specs.declared.fault.CheckFault.{CheckFault}
+use Rattle.spec_validation.specs.declared.fault.CheckFault.TheVariants as check
+use Rattle.spec_validation.specs.Faults as validation
+use Rattle.spec_linking.specs.declared.fault.SetFault.{SetFault}
+use Rattle.spec_linking.specs.declared.fault.SetFault.TheVariants.{Missing, ReadFault, Decode, SetSize, Memory}
+use Rattle.spec_linking.specs.Sets.{Files}
+use Rattle.wasm_decode.specs.Decoded.{Decodes}
+use Rattle.wasm_check.specs.Answers.{IsFirst}
+use Rattle.dyl_commands.specs.OneFile.{most_run, OfModule, OfBytes, TellsFile}
+use Rattle.dyl_commands.specs.Causes.{wants_inside}
+use Rattle.dyl_commands.specs.Fetched.{decode_fault, check_fault, OrMemory, IsOfSome}
+
+-- no fault of a module carries want of memory
+pub decode_inside : (fault : DecodeFault) → wants_inside (decode_fault fault) ≡ false
+decode_inside decode.Memory = refl
+decode_inside _ = refl
+
+pub check_inside : (fault : CheckFault) → wants_inside (check_fault fault) ≡ false
+check_inside check.Memory = refl
+check_inside _ = refl
+
+-- ---- a module
+
+-- a fault of it that was found
+pub found_fault : (wasm : Module) (fault : CheckFault) → IsFirst fault (validation.fault wasm) → OrMemory (OfModule wasm) (Err (check_fault fault))
+found_fault wasm check.Memory first = tt
+found_fault wasm fault first = (refl, first (λ is. cc))
+
+-- what is so of a module that was decoded
+pub of_decoded : (bytes : List ℕ) (wasm : Module) (r : Result Module SetFault) → DecodeAnswer bytes (Ok wasm) → OrMemory (OfModule wasm) r → OrMemory (OfBytes bytes) r
+of_decoded bytes wasm (Err Memory) told h = tt
+of_decoded bytes wasm (Err (Decode member fault)) told h = absurd h
+of_decoded bytes wasm _ told h = (wasm, told, h)
+
+-- bytes that are no module
+pub of_undecoded : (bytes : List ℕ) (fault : DecodeFault) → Decodes bytes (Err fault) → OrMemory (OfBytes bytes) (Err (decode_fault fault))
+of_undecoded bytes decode.Memory told = tt
+of_undecoded bytes fault told = (refl, told)
+
+-- ---- a file
+
+-- what is so of its bytes
+pub of_fetched : (files : Files) (path bytes : List ℕ) (said : Result Module SetFault) → files path ≡ Some bytes → length bytes ≤ most_run → OrMemory (OfBytes bytes) said
+    → TellsFile files path said
+of_fetched files path bytes said file few h = go said h
+  where
+    there : (P : List ℕ → Type 0) → P bytes → IsSomeAnd (files path) P
+    there P p = subst (λ o. IsSomeAnd o P) (sym file) p
+
+    go : (said : Result Module SetFault) → OrMemory (OfBytes bytes) said → TellsFile files path said
+    go (Err Memory) h = tt
+    go (Err (ReadFault at)) h = absurd h.2
+    go (Err (Missing name)) h = absurd h.2
+    go (Err SetSize) h = absurd h.2
+    go said h = there (λ bytes. (length bytes ≤ most_run) × OfBytes bytes said) (few, h)
+
+-- some bytes spell it
+pub of_some : (bytes : List ℕ) (said : Result Module SetFault) → length bytes ≤ most_run → OrMemory (OfBytes bytes) said → IfOk said IsOfSome
+of_some bytes (Ok wasm) few h = record { bytes = bytes; few = few; said = h }
+of_some bytes (Err fault) few h = tt

@@ -1,0 +1,21 @@
+use Rattle.host_calls.specs.Embedders.{names_of}
+use Rattle.dyl_link.specs.Kept as links
+use Rattle.dyl_commands.specs.Linking.{linked}
+use Rattle.dyl_commands.proofs.Listing.{plan_serves, plan_works}
+use Rattle.dyl_commands.proofs.Refusing.{plan_refused, plan_idle}
+use Rattle.dyl_commands.proofs.plan.plan_main.Goals as goal
+
+pub put_listing-outcome-requires : goal.put_listing-outcome-requires
+put_listing-outcome-requires g c = let got = c.in-Ok.ensures.got in (linked (names_of c.args.host.now) (links.options_of c.args.link.now) got.set, got.linked)
+
+pub returns-in-Ok-clause-serves : goal.returns-in-Ok-clause-serves
+returns-in-Ok-clause-serves g c = plan_serves (names_of c.args.host.now) c.args.set.now c.args.link.now c.in-Ok.linked _ _ c.in-Ok.ensures _ _ c.put_listing-outcome.result c.put_listing-outcome.ensures
+
+pub returns-in-Ok-clause-works : goal.returns-in-Ok-clause-works
+returns-in-Ok-clause-works g c = plan_works (names_of c.args.host.now) c.args.set.now c.args.link.now c.in-Ok.linked _ _ c.in-Ok.ensures _ _ c.put_listing-outcome.result c.put_listing-outcome.ensures
+
+pub returns-in-Err-clause-serves : goal.returns-in-Err-clause-serves
+returns-in-Err-clause-serves g c = plan_refused (names_of c.args.host.now) c.args.set.now c.args.link.now _ _ _ _ c.in-Err.ensures.files c.in-Err.outcome c.in-Err.ensures.fault
+
+pub returns-in-Err-clause-works : goal.returns-in-Err-clause-works
+returns-in-Err-clause-works g c = plan_idle (names_of c.args.host.now) c.args.set.now c.args.link.now _ _ 0 0 c.in-Err.ensures.files _ c.in-Err.outcome _ c.in-Err.ensures.fault

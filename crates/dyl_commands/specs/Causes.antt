@@ -1,0 +1,116 @@
+-- When an answer may come, whatever the files tell.
+use Rattle.std.specs.Prelude.{◌≡◌, ◌⊎◌, List, [], ℕ, Bool, true, false, Result, Ok, Err}
+use Rattle.spec_binary.specs.declared.fault.DecodeFault.TheVariants as decode
+use Rattle.spec_validation.specs.declared.fault.CheckFault.TheVariants as check
+use Rattle.spec_execution.specs.declared.fault.SingleFault.TheVariants as single
+use Rattle.spec_linking.specs.declared.fault.RecordFault.TheVariants as record_fault
+use Rattle.spec_linking.specs.declared.fault.LinkFault.{LinkFault}
+use Rattle.spec_linking.specs.declared.fault.LinkFault.TheVariants as link
+use Rattle.spec_linking.specs.declared.fault.SetFault.{SetFault}
+use Rattle.spec_linking.specs.declared.fault.SetFault.TheVariants as set
+use Rattle.spec_linking.specs.Sets.{main_name}
+use Rattle.spec_runtime.specs.Names.{HostNames}
+use Rattle.spec_merging.specs.declared.fault.MergeFault.TheVariants as merge
+use Rattle.spec_hosts.specs.declared.ran.Ran as ran
+use Rattle.dyl_gen.specs.declared.fault.GenFault.{GenFault}
+use Rattle.dyl_gen.specs.declared.fault.GenFault.TheVariants as gen
+use Rattle.dyl_outside.specs.Faults.{Rises}
+use Rattle.dyl_outside.specs.Files.{FilesState}
+use Rattle.dyl_front.specs.declared.outcome.UsageKind.{UsageKind}
+use Rattle.dyl_front.specs.declared.outcome.Outcome.{Outcome}
+use Rattle.dyl_front.specs.declared.outcome.Outcome.TheVariants.{Done, Ran, Usage, Set, Link, Merge, Single, Gen, WriteFault, Memory}
+use Rattle.dyl_front.specs.declared.order.Order.{Order}
+use Rattle.dyl_front.specs.declared.order.Order.TheVariants as order
+use Rattle.dyl_commands.specs.Generated.{GenDue}
+
+-- a fault of a set comes with what the files counted
+abbrev pub SetCause : SetFault → FilesState → FilesState → Type 0
+SetCause (set.Missing name) old new = Rises old.absents new.absents
+SetCause (set.ReadFault path) old new = Rises old.read_faults new.read_faults
+SetCause fault old new = Unit {0}
+
+-- a fault of the one file at a path, which is module 0
+abbrev pub FileCause : List ℕ → SetFault → FilesState → FilesState → Type 0
+FileCause path (set.Missing name) old new = (name ≡ main_name path) × Rises old.absents new.absents
+FileCause path (set.ReadFault at) old new = (at ≡ path) × Rises old.read_faults new.read_faults
+FileCause path (set.Decode member fault) old new = member ≡ 0
+FileCause path (set.Record member fault) old new = ⊥
+FileCause path (set.Check member fault) old new = member ≡ 0
+FileCause path set.ModuleCount old new = ⊥
+FileCause path fault old new = Unit {0}
+
+-- of a set, or of the one file that is run; a generated set has none
+abbrev pub FaultCause : Order → SetFault → FilesState → FilesState → Type 0
+FaultCause (order.Exec file steps args) fault old new = FileCause file fault old new
+FaultCause (order.Gen n pages steps) fault old new = ⊥
+FaultCause _ fault old new = SetCause fault old new
+
+-- what a command writes couldn't be written: the output of a merge, a listing, or the summary of a generated set
+abbrev pub WriteCause : Order → FilesState → FilesState → ℕ → ℕ → Type 0
+WriteCause (order.Merge o l out) old new before now = Rises old.write_faults new.write_faults
+WriteCause (order.Plan o l) old new before now = Rises before now
+WriteCause (order.Gen n pages steps) old new before now = Rises before now
+WriteCause _ old new before now = ⊥
+
+-- only a generated set is run where it is done
+abbrev pub DoneCause : Order → List ran.Ran → Type 0
+DoneCause (order.Gen n pages steps) runs = Unit {0}
+DoneCause _ runs = runs ≡ []
+
+-- a generated set has at most too few pages, whatever files there are
+abbrev pub LinkCause : HostNames → Order → LinkFault → Type 0
+LinkCause names (order.Gen n pages steps) fault = GenDue names n pages (Link fault)
+LinkCause names _ fault = Unit {0}
+
+-- only for a generated set is there a number of members
+abbrev pub GenCause : HostNames → Order → GenFault → Type 0
+GenCause names (order.Gen n pages steps) fault = GenDue names n pages (Gen fault)
+GenCause names _ fault = ⊥
+
+-- only a set or a file is run
+abbrev pub IsRun : Order → Type 0
+IsRun (order.Run o l steps args) = Unit {0}
+IsRun (order.Exec file steps args) = Unit {0}
+IsRun _ = ⊥
+
+-- only such a file may be refused as it is opened
+abbrev pub IsExec : Order → Type 0
+IsExec (order.Exec file steps args) = Unit {0}
+IsExec _ = ⊥
+
+-- only what was merged can have too long a section
+abbrev pub IsMerge : Order → Type 0
+IsMerge (order.Merge o l out) = Unit {0}
+IsMerge _ = ⊥
+
+-- What an answer to what is asked says of the files before and after, and of the counts of the puts to the output that failed, where these
+-- host functions are declared.
+abbrev pub Caused : HostNames → Result Order UsageKind → Outcome → FilesState → FilesState → ℕ → ℕ → Type 0
+Caused names (Err kind) answer old new before now = (answer ≡ Usage kind) ⊎ (answer ≡ Memory)
+Caused names (Ok order) (Usage kind) old new before now = ⊥
+Caused names (Ok order) (Done runs) old new before now = DoneCause order runs
+Caused names (Ok order) (Ran ran) old new before now = IsRun order
+Caused names (Ok order) (Set fault) old new before now = FaultCause order fault old new
+Caused names (Ok order) (Link fault) old new before now = LinkCause names order fault
+Caused names (Ok order) (Merge fault) old new before now = IsMerge order
+Caused names (Ok order) (Single fault) old new before now = IsExec order
+Caused names (Ok order) (Gen fault) old new before now = GenCause names order fault
+Caused names (Ok order) WriteFault old new before now = WriteCause order old new before now
+Caused names (Ok order) Memory old new before now = Unit {0}
+
+-- ---- want of memory is answered as such, and within no other outcome
+
+abbrev pub wants_inside : SetFault → Bool
+wants_inside (set.Decode member decode.Memory) = true
+wants_inside (set.Record member record_fault.Memory) = true
+wants_inside (set.Check member check.Memory) = true
+wants_inside fault = false
+
+abbrev pub has_inner_memory : Outcome → Bool
+has_inner_memory (Set set.Memory) = true
+has_inner_memory (Set fault) = wants_inside fault
+has_inner_memory (Link link.Memory) = true
+has_inner_memory (Merge merge.Memory) = true
+has_inner_memory (Single single.Memory) = true
+has_inner_memory (Gen gen.Memory) = true
+has_inner_memory answer = false

@@ -1,0 +1,57 @@
+-- What is said of the devices where a host table answers, in short words.
+use Rattle.std.specs.Prelude.{ℕ, List, Result, Ok}
+use Rattle.wasm_form.specs.declared.module.Module.{Module}
+use Rattle.dyl_outside.specs.Files.{FilesState}
+use Rattle.dyl_outside.specs.Source.{SourceState}
+use Rattle.dyl_outside.specs.Sink.{SinkState}
+use Rattle.dyl_outside.specs.Ambient.{AmbientState}
+use Rattle.spec_hosts.specs.Devices.{devices}
+use Rattle.host_table.specs.declared.entry.HostTable.{HostTable}
+use Rattle.host_calls.specs.Embedders.{embedder_of}
+use Rattle.dyl_search.specs.declared.set.SetOptions.{SetOptions}
+use Rattle.dyl_link.specs.declared.options.LinkOptions.{LinkOptions}
+use Rattle.dyl_link.specs.Kept.{Kept}
+use Rattle.dyl_front.specs.declared.order.Order.{Order}
+use Rattle.dyl_front.specs.declared.order.Order.TheVariants.{Run, Exec}
+use Rattle.dyl_front.specs.declared.outcome.UsageKind.{UsageKind}
+use Rattle.dyl_front.specs.declared.outcome.Outcome.{Outcome}
+use Rattle.dyl_commands.specs.Runs.{guest_arguments, Works, Does}
+use Rattle.dyl_commands.specs.Served.{Runs, Executes}
+
+-- what is said of devices before and after, of their parts
+abbrev OfParts : Type 1
+OfParts = SourceState → SinkState → SinkState → AmbientState → SourceState → SinkState → SinkState → AmbientState → Type 0
+
+module _ {X : Type 0} {F : X → Type 0} {g : _} where
+  -- what an answer to what is asked does
+  abbrev pub DoesBy : HostTable X F g → FilesState → Result Order UsageKind → Outcome → OfParts
+  DoesBy host files asked answer i o e a input output errors ambient =
+      Does files.told (λ texts. embedder_of texts host) asked answer (devices i o e a) (devices input output errors ambient)
+
+  -- the same before the answer is told
+  abbrev pub WorksBy : HostTable X F g → FilesState → Order → Outcome → OfParts
+  WorksBy host files order answer i o e a input output errors ambient =
+      Works files.told (λ texts. embedder_of texts host) (Ok order) answer (devices i o e a) (devices input output errors ambient)
+
+  -- for running a set, or the module at a path
+  abbrev pub RunDoes : HostTable X F g → FilesState → SetOptions → LinkOptions → ℕ → List (List ℕ) → Outcome → OfParts
+  RunDoes host files set link steps args = DoesBy host files (Ok (Run set link steps args))
+
+  abbrev pub RunWorks : HostTable X F g → FilesState → SetOptions → LinkOptions → ℕ → List (List ℕ) → Outcome → OfParts
+  RunWorks host files set link steps args = WorksBy host files (Run set link steps args)
+
+  abbrev pub ExecDoes : HostTable X F g → FilesState → List ℕ → ℕ → List (List ℕ) → Outcome → OfParts
+  ExecDoes host files file steps args = DoesBy host files (Ok (Exec file steps args))
+
+  abbrev pub ExecWorks : HostTable X F g → FilesState → List ℕ → ℕ → List (List ℕ) → Outcome → OfParts
+  ExecWorks host files file steps args = WorksBy host files (Exec file steps args)
+
+  -- what running a linked set does
+  abbrev pub SetRuns : HostTable X F g → Kept → List (List ℕ) → ℕ → Outcome → OfParts
+  SetRuns host k args steps answer i o e a input output errors ambient =
+      Runs k (embedder_of (guest_arguments args) host) steps answer (devices i o e a) (devices input output errors ambient)
+
+  -- what running a module that was read does
+  abbrev pub ModuleDoes : HostTable X F g → Module → List (List ℕ) → ℕ → Outcome → OfParts
+  ModuleDoes host wasm args steps answer i o e a input output errors ambient =
+      Executes wasm (embedder_of (guest_arguments args) host) steps answer (devices i o e a) (devices input output errors ambient)

@@ -1,0 +1,136 @@
+-- The outcome that is due for what is asked over some files, if nothing outside fails and there is memory; and what an answer may be in its
+-- place. Each command has its own rows, and no other outcome is ever due for it.
+use Rattle.std.specs.Prelude.{◌≡◌, ◌≢◌, ◌⊎◌, ◌<◌, ◌≤◌, ◌^◌, List, [], ℕ, Bool, true, false, Result, Ok, Err}
+use Rattle.wasm_form.specs.declared.module.Module.{Module}
+use Rattle.dyl_outside.specs.Faults.{Rose}
+use Rattle.dyl_outside.specs.Files.{FilesState}
+use Rattle.spec_runtime.specs.Names.{HostNames}
+use Rattle.spec_execution.specs.declared.fault.SingleFault.{SingleFault}
+use Rattle.spec_execution.specs.OneModule.{ModuleState, module_opening}
+use Rattle.spec_linking.specs.declared.fault.SetFault.TheVariants.{ReadFault}
+use Rattle.spec_linking.specs.Sets.{Files, SetOptions}
+use Rattle.spec_linking.specs.Gathering as gathering
+use Rattle.spec_linking.specs.Plans.{LinkOptions}
+use Rattle.spec_merging.specs.declared.fault.MergeFault.{MergeFault}
+use Rattle.spec_merging.specs.declared.fault.MergeFault.TheVariants as merge
+use Rattle.merge_whole.specs.Merges.{bulk}
+use Rattle.dyl_search.specs.Gathers.{options_of}
+use Rattle.dyl_link.specs.Kept as links
+use Rattle.dyl_front.specs.declared.outcome.UsageKind.{UsageKind}
+use Rattle.dyl_front.specs.declared.outcome.Outcome.{Outcome}
+use Rattle.dyl_front.specs.declared.outcome.Outcome.TheVariants.{Done, Ran, Usage, Set, Merge, Single, WriteFault, Memory}
+use Rattle.dyl_front.specs.declared.order.Order.{Order}
+use Rattle.dyl_front.specs.declared.order.Order.TheVariants as order
+use Rattle.dyl_commands.specs.OneFile.{OfFile}
+use Rattle.dyl_commands.specs.Linking.{linked, LinksAt, IsLong, FaultDue}
+use Rattle.dyl_commands.specs.Generated.{GenDue}
+
+-- ---- merging, running and listing a set
+
+abbrev pub MergeDue : HostNames → Files → SetOptions → LinkOptions → Outcome → Type 0
+MergeDue names files o link (Done []) = LinksAt names files o link
+MergeDue names files o link due = FaultDue names files o link due
+
+-- a run is due, whatever comes of it
+abbrev pub RunDue : HostNames → Files → SetOptions → LinkOptions → Outcome → Type 0
+RunDue names files o link (Ran ran) = LinksAt names files o link
+RunDue names files o link due = FaultDue names files o link due
+
+abbrev pub PlanDue : HostNames → Files → SetOptions → LinkOptions → Outcome → Type 0
+PlanDue names files o link (Done []) = LinksAt names files o link
+PlanDue names files o link due = FaultDue names files o link due
+
+-- ---- running a module
+
+-- the module at a path has an opening state over these host functions
+pub record OpensAt (names : HostNames) (files : Files) (path : List ℕ) : Type 0 where
+  pub wasm : Module
+  pub file : OfFile files path (Ok wasm)
+  pub opening : ModuleState
+  pub opens : module_opening wasm names ≡ Ok opening
+
+-- it has none, and why
+pub record IsRefusedAt (names : HostNames) (files : Files) (path : List ℕ) (fault : SingleFault) : Type 0 where
+  pub wasm : Module
+  pub file : OfFile files path (Ok wasm)
+  pub refused : module_opening wasm names ≡ Err fault
+
+-- a run is due, whatever comes of it, where the module opens
+abbrev pub ExecDue : HostNames → Files → List ℕ → Outcome → Type 0
+ExecDue names files path (Ran ran) = OpensAt names files path
+ExecDue names files path (Set fault) = OfFile files path (Err fault)
+ExecDue names files path (Single fault) = IsRefusedAt names files path fault
+ExecDue names files path _ = ⊥
+
+-- ---- what is asked: an order, or words that are none
+
+abbrev pub DueFor : HostNames → Files → Result Order UsageKind → Outcome → Type 0
+DueFor names files (Err kind) due = due ≡ Usage kind
+DueFor names files (Ok (order.Merge o link out)) due = MergeDue names files (options_of o) (links.options_of link) due
+DueFor names files (Ok (order.Run o link steps args)) due = RunDue names files (options_of o) (links.options_of link) due
+DueFor names files (Ok (order.Exec file steps args)) due = ExecDue names files file due
+DueFor names files (Ok (order.Plan o link)) due = PlanDue names files (options_of o) (links.options_of link) due
+DueFor names files (Ok (order.Gen n pages steps)) due = GenDue names n pages due
+
+-- a path at which a file is sought
+abbrev pub Tries : Files → Result Order UsageKind → List ℕ → Type 0
+Tries files (Err kind) path = ⊥
+Tries files (Ok (order.Merge o link out)) path = gathering.Tries files (options_of o) path
+Tries files (Ok (order.Run o link steps args)) path = gathering.Tries files (options_of o) path
+Tries files (Ok (order.Exec file steps args)) path = path ≡ file
+Tries files (Ok (order.Plan o link)) path = gathering.Tries files (options_of o) path
+Tries files (Ok (order.Gen n pages steps)) path = ⊥
+
+-- a set that is merged has a section that is too long
+pub record HasLongSection (names : HostNames) (files : Files) (o : SetOptions) (link : LinkOptions) (id : ℕ) : Type 0 where
+  pub merges : LinksAt names files o link
+  pub long : IsLong (linked names link merges.set) id
+
+abbrev pub MergeFaultTells : HostNames → Files → Result Order UsageKind → MergeFault → Type 0
+MergeFaultTells names files (Ok (order.Merge o link out)) (merge.SectionSize id) = HasLongSection names files (options_of o) (links.options_of link) id
+MergeFaultTells names files _ _ = ⊥
+
+-- What an answer tells of the files: that it was due; at a write fault that Done was; and that a section is too long where it is told.
+abbrev pub TellsFor : HostNames → Files → Result Order UsageKind → Outcome → Type 0
+TellsFor names files asked Memory = Unit {0}
+TellsFor names files asked (Set (ReadFault at)) = Tries files asked at
+TellsFor names files asked WriteFault = DueFor names files asked (Done [])
+TellsFor names files asked (Merge fault) = MergeFaultTells names files asked fault
+TellsFor names files asked answer = DueFor names files asked answer
+
+abbrev pub is_run : Outcome → Bool
+is_run (Ran ran) = true
+is_run _ = false
+
+abbrev pub is_done : Outcome → Bool
+is_done (Done runs) = true
+is_done _ = false
+
+-- The answer is the outcome that is due, or it yields to a fault of the outside or to want of memory. A write fault, and a fault of what was
+-- merged, take the place of Done alone, and a read fault not that of Usage. What comes of runs isn't said here.
+abbrev pub Yields : Outcome → Outcome → Type 0
+Yields due Memory = Unit {0}
+Yields due (Set (ReadFault at)) = (kind : UsageKind) → due ≢ Usage kind
+Yields due WriteFault = is_done due ≡ true
+Yields due (Merge fault) = is_done due ≡ true
+Yields due (Ran ran) = is_run due ≡ true
+Yields due (Done runs) = is_done due ≡ true
+Yields due answer = due ≡ answer
+
+-- ---- completeness
+
+-- Where the command can be done over these files, and no read and nothing that it writes has failed, it is: merged where there isn't too much
+-- of the set, listed, run whatever the devices did, or generated and run: a generated set needs three pages. The numbers are the counts of the
+-- puts to the output that failed.
+abbrev pub IsComplete : HostNames → Files → Result Order UsageKind → Outcome → FilesState → FilesState → ℕ → ℕ → Type 0
+IsComplete names files (Err kind) answer old new before now = Unit {0}
+IsComplete names files (Ok (order.Merge o link out)) answer old new before now =
+    (merges : LinksAt names files (options_of o) (links.options_of link)) → bulk (linked names (links.options_of link) merges.set) < 2 ^ 32
+    → ¬ Rose old.read_faults new.read_faults → ¬ Rose old.write_faults new.write_faults → (answer ≡ Done []) ⊎ (answer ≡ Memory)
+IsComplete names files (Ok (order.Run o link steps args)) answer old new before now =
+    LinksAt names files (options_of o) (links.options_of link) → ¬ Rose old.read_faults new.read_faults → (is_run answer ≡ true) ⊎ (answer ≡ Memory)
+IsComplete names files (Ok (order.Exec file steps args)) answer old new before now =
+    OpensAt names files file → ¬ Rose old.read_faults new.read_faults → (is_run answer ≡ true) ⊎ (answer ≡ Memory)
+IsComplete names files (Ok (order.Plan o link)) answer old new before now =
+    LinksAt names files (options_of o) (links.options_of link) → ¬ Rose old.read_faults new.read_faults → ¬ Rose before now → (answer ≡ Done []) ⊎ (answer ≡ Memory)
+IsComplete names files (Ok (order.Gen n pages steps)) answer old new before now = 0 < n → n ≤ 255 → 3 ≤ pages → ¬ Rose before now → (is_done answer ≡ true) ⊎ (answer ≡ Memory)

@@ -1,0 +1,56 @@
+-- What comes of reading the file at a path.
+use Rattle.std.specs.Prelude.{◌≡◌, ◌≤◌, ℕ, List, length, false, IfOk, IfErr, Result, Ok, Err}
+use Rattle.std.specs.Option.{ForSome}
+use Rattle.std.specs.FinMap.{get}
+use Rattle.wasm_form.specs.declared.module.Module.{Module}
+use Rattle.dyl_outside.specs.Files.{FilesState}
+use Rattle.spec_binary.specs.declared.fault.DecodeFault.{DecodeFault}
+use Rattle.spec_binary.specs.declared.fault.DecodeFault.TheVariants as decode
+use Rattle.spec_validation.specs.declared.fault.CheckFault.{CheckFault}
+use Rattle.spec_validation.specs.declared.fault.CheckFault.TheVariants as check
+use Rattle.spec_linking.specs.declared.fault.SetFault.{SetFault}
+use Rattle.spec_linking.specs.declared.fault.SetFault.TheVariants.{Missing, ReadFault, Decode, Check, Memory}
+use Rattle.spec_linking.specs.Sets.{main_name}
+use Rattle.dyl_commands.specs.OneFile.{most_run, OfBytes, TellsFile}
+use Rattle.dyl_commands.specs.Causes.{FileCause, wants_inside}
+
+-- how a fault of module 0 is answered
+abbrev pub decode_fault : DecodeFault → SetFault
+decode_fault decode.Memory = Memory
+decode_fault fault = Decode 0 fault
+
+abbrev pub check_fault : CheckFault → SetFault
+check_fault check.Memory = Memory
+check_fault fault = Check 0 fault
+
+-- that there is no file at a path, or that it can't be read; or there was no memory to say so
+abbrev pub IsMissing : List ℕ → SetFault → Type 0
+IsMissing path (Missing name) = name ≡ main_name path
+IsMissing path Memory = Unit {0}
+IsMissing path _ = ⊥
+
+abbrev pub IsUnread : List ℕ → SetFault → Type 0
+IsUnread path (ReadFault at) = at ≡ path
+IsUnread path Memory = Unit {0}
+IsUnread path _ = ⊥
+
+-- this is said, or memory was wanting
+abbrev pub OrMemory : (Result Module SetFault → Type 0) → Result Module SetFault → Type 0
+OrMemory Said (Err Memory) = Unit {0}
+OrMemory Said said = Said said
+
+-- some bytes spell the module, no more than may be
+pub record IsOfSome (wasm : Module) : Type 0 where
+  pub bytes : List ℕ
+  pub few : length bytes ≤ most_run
+  pub said : OfBytes bytes (Ok wasm)
+
+-- What comes of reading the file: what there is to say of it where the files are told; and, whatever they tell, a module that some bytes
+-- spell, or a fault that has its cause.
+pub record Reads (path : List ℕ) (result : Result Module SetFault) (old new : FilesState) : Type 0 where
+  pub tells : ForSome old.told (λ told. TellsFile (get told) path result)
+  pub spelled : IfOk result IsOfSome
+  pub caused : IfErr result (λ fault. FileCause path fault old new)
+  pub inner : IfErr result (λ fault. wants_inside fault ≡ false)
+  pub files : new.told ≡ old.told
+  pub writes : new.write_faults ≡ old.write_faults

@@ -1,0 +1,44 @@
+-- What an answer leaves of the files.
+use Rattle.std.specs.Prelude.{◌≡◌, ◌⊎◌, ℕ, List, Some, Result, Ok, IsSomeAnd}
+use Rattle.std.specs.FinMap.{get, insert}
+use Rattle.dyl_outside.specs.Faults.{Rose}
+use Rattle.dyl_outside.specs.FileMap.{FileMap, SameBut}
+use Rattle.dyl_outside.specs.Files.{FilesState}
+use Rattle.spec_runtime.specs.Names.{HostNames}
+use Rattle.spec_linking.specs.Sets.{ClosedSet, SetOptions}
+use Rattle.spec_linking.specs.Gathering.{IsGathered}
+use Rattle.spec_linking.specs.Plans.{LinkOptions}
+use Rattle.spec_linking.specs.Links.{Links}
+use Rattle.spec_loading.specs.Merged.{Merged}
+use Rattle.merge_whole.specs.Merges.{HasShape}
+use Rattle.dyl_search.specs.Gathers.{options_of}
+use Rattle.dyl_link.specs.Kept as links
+use Rattle.dyl_front.specs.declared.outcome.UsageKind.{UsageKind}
+use Rattle.dyl_front.specs.declared.outcome.Outcome.{Outcome}
+use Rattle.dyl_front.specs.declared.outcome.Outcome.TheVariants.{Done, WriteFault, Memory}
+use Rattle.dyl_front.specs.declared.order.Order.{Order}
+use Rattle.dyl_front.specs.declared.order.Order.TheVariants as order
+use Rattle.dyl_commands.specs.Linking.{linked}
+
+-- The set is gathered from the files and links, and the path of the output holds bytes that merge it, whose module has the shape of a merged
+-- one. Every other path is as it was.
+pub record IsMerged (names : HostNames) (o : SetOptions) (link : LinkOptions) (out : List ℕ) (files after : FileMap) : Type 0 where
+  pub set : ClosedSet
+  pub gathered : IsGathered (get files) o (Ok set)
+  pub links : Links (linked names link set)
+  pub output : List ℕ
+  pub merged : Merged (linked names link set) output
+  pub shape : HasShape (linked names link set) merged.wasm
+  pub written : after ≡ insert files out output
+
+-- What an answer of merging leaves of these files. After a write fault the path of the output may hold anything.
+abbrev pub MergeLeaves : HostNames → SetOptions → LinkOptions → List ℕ → FileMap → Outcome → FilesState → FilesState → Type 0
+MergeLeaves names o link out files (Done runs) old new = IsSomeAnd new.told (IsMerged names o link out files)
+MergeLeaves names o link out files WriteFault old new = IsSomeAnd new.told (SameBut out files)
+MergeLeaves names o link out files Memory old new = (new.told ≡ Some files) ⊎ (Rose old.write_faults new.write_faults × IsSomeAnd new.told (SameBut out files))
+MergeLeaves names o link out files answer old new = new.told ≡ Some files
+
+-- only merging changes a file
+abbrev pub LeavesFor : HostNames → Result Order UsageKind → FileMap → Outcome → FilesState → FilesState → Type 0
+LeavesFor names (Ok (order.Merge o link out)) files answer old new = MergeLeaves names (options_of o) (links.options_of link) out files answer old new
+LeavesFor names _ files answer old new = new.told ≡ Some files

@@ -1,0 +1,107 @@
+-- What comes of generating a set and of its runs, step by step.
+use Rattle.std.specs.Prelude.{◌≡◌, ◌⊎◌, ◌<◌, ◌^◌, ℕ, List, ◌∷◌, [], Result, Ok, Err}
+use Rattle.std.specs.FinMap.{get}
+use Rattle.wasm_form.specs.declared.module.Module.{Module}
+use Rattle.dyl_outside.specs.declared.fault.IoFault.{IoFault}
+use Rattle.dyl_outside.specs.declared.fault.IoFault.TheVariants as io
+use Rattle.dyl_outside.specs.FileMap.{FileMap}
+use Rattle.dyl_outside.specs.MemFiles.{MemFilesState}
+use Rattle.dyl_outside.specs.Sink.{SinkState, Puts}
+use Rattle.spec_runtime.specs.Names.{HostNames}
+use Rattle.spec_execution.specs.OneModule.{ModuleState, module_opening}
+use Rattle.spec_linking.specs.Sets.{ClosedSet}
+use Rattle.spec_linking.specs.Gathering.{IsGathered}
+use Rattle.spec_linking.specs.LinkedSets.{LinkedSet}
+use Rattle.spec_loading.specs.Merged.{Merged}
+use Rattle.spec_hosts.specs.declared.ran.Ran.{Ran}
+use Rattle.spec_hosts.specs.Hosted.{Embedder}
+use Rattle.wasm_exec.specs.Executed.{HaveIntegers, IsSetRun, IsModuleRun}
+use Rattle.merge_whole.specs.Merges.{bulk}
+use Rattle.dyl_gen.specs.declared.fault.GenFault.TheVariants.{Range}
+use Rattle.dyl_gen.specs.Laws.{set_options}
+use Rattle.dyl_link.specs.Kept.{Kept, IsLinked}
+use Rattle.dyl_front.specs.Summary.{summary_of}
+use Rattle.dyl_front.specs.declared.reports.Report.{Report}
+use Rattle.dyl_front.specs.declared.outcome.Outcome.{Outcome}
+use Rattle.dyl_front.specs.declared.outcome.Outcome.TheVariants.{Done, Gen, WriteFault, Memory}
+use Rattle.dyl_commands.specs.Linking.{linked}
+use Rattle.dyl_commands.specs.Generated.{with_pages, AreMade, GenDue}
+use Rattle.dyl_commands.specs.Runs.{IsRunInside, AreBothRun}
+
+-- the files of the set of n members; none, where there is no such set or no memory
+abbrev pub MakesFiles : ℕ → Result MemFilesState Outcome → Type 0
+MakesFiles n (Ok s) = AreMade n s.files
+MakesFiles n (Err Memory) = Unit {0}
+MakesFiles n (Err (Gen Range)) = (n ≡ 0) ⊎ (255 < n)
+MakesFiles n (Err _) = ⊥
+
+-- why there is no set: what is due, or want of memory
+abbrev pub IsNotMade : HostNames → ℕ → ℕ → Outcome → Type 0
+IsNotMade names n pages Memory = Unit {0}
+IsNotMade names n pages (Done runs) = ⊥
+IsNotMade names n pages answer = GenDue names n pages answer
+
+-- what is kept of the set of n members that is linked
+pub record IsMade (names : HostNames) (n pages : ℕ) (k : Kept) : Type 0 where
+  pub files : FileMap
+  pub made : AreMade n files
+  pub set : ClosedSet
+  pub gathered : IsGathered (get files) set_options (Ok set)
+  pub linked : IsLinked (linked names (with_pages pages) set) k
+  pub integers : HaveIntegers names
+
+abbrev pub MakesSet : HostNames → ℕ → ℕ → Result Kept Outcome → Type 0
+MakesSet names n pages (Ok k) = IsMade names n pages k
+MakesSet names n pages (Err answer) = IsNotMade names n pages answer
+
+-- there is little of it
+abbrev pub IsLittle : Kept → Type 0
+IsLittle k = (L : LinkedSet) → IsLinked L k → bulk L < 2 ^ 32
+
+-- a run of the set of which this is kept, as loaded
+abbrev pub RunsLoaded : Kept → Embedder → ℕ → Report → Type 0
+RunsLoaded k embedder steps r = (L : LinkedSet) → IsLinked L k → IsRunInside (IsSetRun L embedder steps r.ran) r.output
+
+-- a module that some bytes spell which merge the set
+pub record IsMergedModule (L : LinkedSet) (wasm : Module) : Type 0 where
+  pub bytes : List ℕ
+  pub merges : Merged L bytes
+  pub is : merges.wasm ≡ wasm
+
+abbrev pub MergesTo : Kept → Module → Type 0
+MergesTo k wasm = (L : LinkedSet) → IsLinked L k → IsMergedModule L wasm
+
+-- a run of a module from its opening state
+pub record RunsModule (wasm : Module) (embedder : Embedder) (steps : ℕ) (r : Report) : Type 0 where
+  pub opening : ModuleState
+  pub opens : module_opening wasm embedder.names ≡ Ok opening
+  pub run : IsRunInside (IsModuleRun wasm embedder opening steps r.ran) r.output
+
+-- the summary of these runs of the set of which this is kept was put, with this result
+pub record PutsReports (k : Kept) (loaded merged : Report) (result : Result (Unit {0}) IoFault) (old new : SinkState) : Type 0 where
+  pub summary : List ℕ
+  pub sums : (L : LinkedSet) → IsLinked L k → summary ≡ summary_of L loaded merged
+  pub put : Puts summary result old new
+
+abbrev pub SumsUp : Kept → Report → Report → Outcome → SinkState → SinkState → Type 0
+SumsUp k loaded merged (Done runs) old new = (runs ≡ loaded.ran ∷ merged.ran ∷ []) × PutsReports k loaded merged (Ok tt) old new
+SumsUp k loaded merged WriteFault old new = PutsReports k loaded merged (Err io.Failed) old new
+SumsUp k loaded merged Memory old new = (new ≡ old) ⊎ PutsReports k loaded merged (Err io.Memory) old new
+SumsUp k loaded merged _ old new = ⊥
+
+-- both runs of the set of which this is kept were made, and their summary was put, with this result
+pub record PutsBoth (L : LinkedSet) (embedder : Embedder) (steps : ℕ) (runs : List Ran) (result : Result (Unit {0}) IoFault) (old new : SinkState) : Type 0 where
+  pub summary : List ℕ
+  pub both : AreBothRun L embedder steps runs summary
+  pub put : Puts summary result old new
+
+-- what that does to the output
+abbrev pub RunsBoth : LinkedSet → Embedder → ℕ → Outcome → SinkState → SinkState → Type 0
+RunsBoth L embedder steps (Done runs) old new = PutsBoth L embedder steps runs (Ok tt) old new
+RunsBoth L embedder steps WriteFault old new = (runs : List Ran) × PutsBoth L embedder steps runs (Err io.Failed) old new
+RunsBoth L embedder steps Memory old new = (new ≡ old) ⊎ ((runs : List Ran) × PutsBoth L embedder steps runs (Err io.Memory) old new)
+RunsBoth L embedder steps _ old new = ⊥
+
+-- of each set of which this is kept, over these host functions
+abbrev pub RunsKept : Kept → Embedder → ℕ → Outcome → SinkState → SinkState → Type 0
+RunsKept k embedder steps answer old new = (L : LinkedSet) → IsLinked L k → L.names ≡ embedder.names → RunsBoth L embedder steps answer old new

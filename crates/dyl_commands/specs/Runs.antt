@@ -1,0 +1,176 @@
+-- What a call does to the input, the output, the errors, the clock and the random words.
+use Rattle.std.specs.Prelude.{◌≡◌, ◌⊎◌, ℕ, List, [], ◌∷◌, true, Option, None, Some, Result, Ok, Err, codes}
+use Rattle.std.specs.Option.{ForSome}
+use Rattle.std.specs.FinMap.{get}
+use Rattle.wasm_form.specs.declared.module.Module.{Module}
+use Rattle.spec_validation.specs.Faults as validation
+use Rattle.spec_runtime.specs.Names.{HostNames}
+use Rattle.spec_execution.specs.OneModule.{ModuleState, module_opening}
+use Rattle.spec_linking.specs.Sets.{ClosedSet, SetOptions}
+use Rattle.spec_linking.specs.Gathering.{IsGathered, IsSet}
+use Rattle.spec_linking.specs.Plans.{LinkOptions}
+use Rattle.spec_linking.specs.LinkedSets.{LinkedSet}
+use Rattle.spec_linking.specs.Links.{Links}
+use Rattle.spec_loading.specs.Loading.{loaded_too_deep}
+use Rattle.spec_loading.specs.LoadedSet.{set_loading, set_system, set_opening}
+use Rattle.spec_loading.specs.Merged.{Merged}
+use Rattle.dyl_outside.specs.declared.fault.IoFault.{IoFault}
+use Rattle.dyl_outside.specs.declared.fault.IoFault.TheVariants as io
+use Rattle.dyl_outside.specs.FileMap.{FileMap}
+use Rattle.dyl_outside.specs.Sink.{SinkState, Puts}
+use Rattle.spec_hosts.specs.declared.ran.Ran as ran
+use Rattle.spec_hosts.specs.Devices.{Devices, devices}
+use Rattle.spec_hosts.specs.Ends.{IsRunOf, IsCutShort}
+use Rattle.spec_hosts.specs.Hosted.{Embedder}
+use Rattle.wasm_exec.specs.Executed.{IsModuleRun, IsModuleCut, IsSetRun}
+use Rattle.dyl_gen.specs.Laws.{set_options}
+use Rattle.dyl_search.specs.Gathers.{options_of}
+use Rattle.dyl_link.specs.Kept as links
+use Rattle.dyl_front.specs.Listing.{listing_of}
+use Rattle.dyl_front.specs.Summary.{summary_of}
+use Rattle.dyl_front.specs.declared.reports.Report.{Report}
+use Rattle.dyl_front.specs.declared.order.Order.{Order}
+use Rattle.dyl_front.specs.declared.order.Order.TheVariants as order
+use Rattle.dyl_front.specs.declared.outcome.UsageKind.{UsageKind}
+use Rattle.dyl_front.specs.declared.outcome.Outcome.{Outcome}
+use Rattle.dyl_front.specs.declared.outcome.Outcome.TheVariants.{Done, Ran, WriteFault, Memory}
+use Rattle.dyl_commands.specs.OneFile.{OfFile}
+use Rattle.dyl_commands.specs.Linking.{linked}
+use Rattle.dyl_commands.specs.Generated.{with_pages, AreMade}
+use Rattle.dyl_commands.specs.Told.{TellsErrors}
+
+-- the arguments that the guest sees: the name `program`, and then those of the order
+abbrev pub guest_arguments : List (List ℕ) → List (List ℕ)
+guest_arguments args = codes "program" ∷ args
+
+-- ---- one module
+
+-- the module at a path, where the files are told, is valid and opens over these host functions
+pub record Opens (told : Option FileMap) (path : List ℕ) (names : HostNames) (wasm : Module) (opening : ModuleState) : Type 0 where
+  pub file : ForSome told (λ files. OfFile (get files) path (Ok wasm))
+  pub valid : validation.fault wasm ≡ None
+  pub opens : module_opening wasm names ≡ Ok opening
+
+-- it was run from its opening state, as is told
+pub record IsRun (told : Option FileMap) (path : List ℕ) (steps : ℕ) (embedder : Embedder) (r : ran.Ran) (old new : Devices) : Type 0 where
+  pub wasm : Module
+  pub opening : ModuleState
+  pub begun : Opens told path embedder.names wasm opening
+  pub run : IsModuleRun wasm embedder opening steps r old new
+
+-- It was run from its opening state, and memory was wanting: some steps were made, and at most one use of a device was begun that a host
+-- call wanted.
+pub record IsCut (told : Option FileMap) (path : List ℕ) (steps : ℕ) (embedder : Embedder) (old new : Devices) : Type 0 where
+  pub wasm : Module
+  pub opening : ModuleState
+  pub begun : Opens told path embedder.names wasm opening
+  pub cut : IsModuleCut wasm embedder opening steps old new
+
+abbrev pub ExecWorks : Option FileMap → List ℕ → ℕ → Embedder → Outcome → Devices → Devices → Type 0
+ExecWorks told path steps embedder (Ran r) old new = IsRun told path steps embedder r old new
+ExecWorks told path steps embedder Memory old new = (new ≡ old) ⊎ IsCut told path steps embedder old new
+ExecWorks told path steps embedder answer old new = new ≡ old
+
+-- ---- a set
+
+-- a set with its shape is gathered, where the files are told, and links over these host functions
+pub record IsThere (told : Option FileMap) (names : HostNames) (o : SetOptions) (link : LinkOptions) (set : ClosedSet) : Type 0 where
+  pub gathered : ForSome told (λ files. IsGathered (get files) o (Ok set))
+  pub shape : IsSet set
+  pub links : Links (linked names link set)
+
+-- the loaded set was run from its opening state, as is told
+pub record IsLoadedRun (told : Option FileMap) (o : SetOptions) (link : LinkOptions) (steps : ℕ) (embedder : Embedder) (r : ran.Ran) (old new : Devices) : Type 0 where
+  pub set : ClosedSet
+  pub there : IsThere told embedder.names o link set
+  pub run : IsRunOf (set_system (linked embedder.names link set)) (loaded_too_deep (set_loading (linked embedder.names link set))) embedder
+      (set_opening (linked embedder.names link set)) steps r old new
+
+-- it was, and memory was wanting
+pub record IsLoadedCut (told : Option FileMap) (o : SetOptions) (link : LinkOptions) (steps : ℕ) (embedder : Embedder) (old new : Devices) : Type 0 where
+  pub set : ClosedSet
+  pub there : IsThere told embedder.names o link set
+  pub cut : IsCutShort (set_system (linked embedder.names link set)) (loaded_too_deep (set_loading (linked embedder.names link set))) embedder
+      (set_opening (linked embedder.names link set)) steps old new
+
+abbrev pub RunWorks : Option FileMap → SetOptions → LinkOptions → ℕ → Embedder → Outcome → Devices → Devices → Type 0
+RunWorks told o link steps embedder (Ran r) old new = IsLoadedRun told o link steps embedder r old new
+RunWorks told o link steps embedder Memory old new = (new ≡ old) ⊎ IsLoadedCut told o link steps embedder old new
+RunWorks told o link steps embedder answer old new = new ≡ old
+
+-- its listing was put to the output in one put, with this result
+pub record PutsListing (told : Option FileMap) (names : HostNames) (o : SetOptions) (link : LinkOptions) (result : Result (Unit {0}) IoFault) (old new : SinkState) : Type 0 where
+  pub set : ClosedSet
+  pub there : IsThere told names o link set
+  pub put : Puts (listing_of (linked names link set)) result old new
+
+-- what is done to the output
+abbrev pub PlanWorks : Option FileMap → HostNames → SetOptions → LinkOptions → Outcome → SinkState → SinkState → Type 0
+PlanWorks told names o link (Done runs) old new = PutsListing told names o link (Ok tt) old new
+PlanWorks told names o link WriteFault old new = PutsListing told names o link (Err io.Failed) old new
+PlanWorks told names o link Memory old new = (new ≡ old) ⊎ ((fault : IoFault) × PutsListing told names o link (Err fault) old new)
+PlanWorks told names o link answer old new = new ≡ old
+
+-- ---- a generated set
+
+-- what its two runs begin over: no bytes to read, nothing written, no times, no random words, and no use that failed
+abbrev pub nothing : Devices
+nothing =
+    let empty : SinkState = record { held = Some []; faults = 0 } in
+    devices (record { left = Some []; full = true; faults = 0 }) empty empty (record { times = Some []; words = Some []; faults = 0 })
+
+-- It was run over these devices, and put such bytes to the output. No use of the input or of an output failed.
+pub record IsRunInside (Run : Devices → Devices → Type 0) (output : List ℕ) : Type 0 where
+  pub after : Devices
+  pub run : Run nothing after
+  pub put : after.output.held ≡ Some output
+  pub input : after.input.faults ≡ 0
+  pub outputs : (after.output.faults ≡ 0) × (after.errors.faults ≡ 0)
+
+-- A linked set was run as loaded, and a module that merges it was run, each for steps of its own. These are the two runs, and their summary.
+pub record AreBothRun (L : LinkedSet) (embedder : Embedder) (steps : ℕ) (runs : List ran.Ran) (summary : List ℕ) : Type 0 where
+  pub loaded : Report
+  pub loaded_run : IsRunInside (IsSetRun L embedder steps loaded.ran) loaded.output
+  pub bytes : List ℕ
+  pub merges : Merged L bytes
+  pub merged : Report
+  pub merged_run : IsRunInside (IsModuleRun merges.wasm embedder merges.opening steps merged.ran) merged.output
+  pub two : runs ≡ loaded.ran ∷ merged.ran ∷ []
+  pub sums : summary ≡ summary_of L loaded merged
+
+-- the set of n members is generated and links, both its runs were made, and their summary was put to the output in one put, with this result
+pub record PutsSummary (embedder : Embedder) (n pages steps : ℕ) (runs : List ran.Ran) (result : Result (Unit {0}) IoFault) (old new : SinkState) : Type 0 where
+  pub files : FileMap
+  pub made : AreMade n files
+  pub set : ClosedSet
+  pub there : IsThere (Some files) embedder.names set_options (with_pages pages) set
+  pub summary : List ℕ
+  pub both : AreBothRun (linked embedder.names (with_pages pages) set) embedder steps runs summary
+  pub put : Puts summary result old new
+
+-- what is done to the output
+abbrev pub GenWorks : Embedder → ℕ → ℕ → ℕ → Outcome → SinkState → SinkState → Type 0
+GenWorks embedder n pages steps (Done runs) old new = PutsSummary embedder n pages steps runs (Ok tt) old new
+GenWorks embedder n pages steps WriteFault old new = (runs : List ran.Ran) × PutsSummary embedder n pages steps runs (Err io.Failed) old new
+GenWorks embedder n pages steps Memory old new = (new ≡ old) ⊎ ((runs : List ran.Ran) × (fault : IoFault) × PutsSummary embedder n pages steps runs (Err fault) old new)
+GenWorks embedder n pages steps answer old new = new ≡ old
+
+-- ---- what is asked
+
+-- What is done to the devices before the answer is told. Only a run, a listing and a summary do anything; so does a run in which memory was
+-- wanting. The names that are declared are the same whatever the arguments are.
+abbrev pub Works : Option FileMap → (List (List ℕ) → Embedder) → Result Order UsageKind → Outcome → Devices → Devices → Type 0
+Works told embedder (Ok (order.Run o link steps args)) answer old new =
+    RunWorks told (options_of o) (links.options_of link) steps (embedder (guest_arguments args)) answer old new
+Works told embedder (Ok (order.Exec file steps args)) answer old new = ExecWorks told file steps (embedder (guest_arguments args)) answer old new
+Works told embedder (Ok (order.Plan o link)) answer old new =
+    PlanWorks told (embedder []).names (options_of o) (links.options_of link) answer old.output new.output × (new ≡ record old { output = new.output })
+Works told embedder (Ok (order.Gen n pages steps)) answer old new =
+    GenWorks (embedder (guest_arguments [])) n pages steps answer old.output new.output × (new ≡ record old { output = new.output })
+Works told embedder asked answer old new = new ≡ old
+
+-- What is done to the devices: that, and then what is told of the answer is put to the errors.
+pub record Does (told : Option FileMap) (embedder : List (List ℕ) → Embedder) (asked : Result Order UsageKind) (answer : Outcome) (old new : Devices) : Type 0 where
+  pub errors : SinkState
+  pub works : Works told embedder asked answer old (record new { errors = errors })
+  pub line : TellsErrors answer errors new.errors

@@ -1,0 +1,74 @@
+// Merging a set.
+ghost use Rattle.std.specs.Prelude.{◌≡◌, ◌≤◌, ℕ, All, Ok};
+ghost use Rattle.host_calls.specs.Embedders.{names_of};
+ghost use Rattle.spec_linking.specs.LinkedSets.{LinkedSet};
+ghost use Rattle.dyl_link.specs.Kept.{IsLinked};
+ghost use Rattle.merge_whole.specs.Merges.{IsSupported};
+ghost use Rattle.dyl_front.specs.Orders.{IsLinkInRange};
+ghost use Rattle.dyl_commands.specs.Served.{Serves, StoresOutput, WritesMerged, merge_outcome};
+
+use crate::sets::linked_set;
+use dyl_front::{Order, Outcome};
+use dyl_link::{LinkOptions, Linked};
+use dyl_outside::{Files, IoFault};
+use dyl_search::SetOptions;
+use host_table::HostTable;
+use merge_whole::merge_set;
+use spec_merging::MergeFault;
+use std::alloc::Global;
+
+/// Stores the output.
+fn store_output<F: Files>(alloc: Global, out: &str, bytes: &[u8], files: &mut F) -> Outcome
+    ensures { StoresOutput out.now bytes.now result (F.seen files.old) (F.seen files.new) }
+{
+    match files.store(alloc, out, bytes) {
+        Ok(()) => Outcome::done(alloc),
+        Err(IoFault::Failed) => Outcome::WriteFault,
+        Err(IoFault::Memory) => Outcome::Memory,
+    }
+}
+
+/// What is answered where nothing is merged.
+fn unmerged(fault: MergeFault) -> Outcome
+    ensures { result ≡ merge_outcome fault }
+{
+    match fault {
+        MergeFault::Memory => Outcome::Memory,
+        fault => Outcome::Merge(fault),
+    }
+}
+
+/// Writes the merged module of a linked set.
+fn write_merged<F: Files>(alloc: Global, linked: &Linked, out: &str, files: &mut F) -> Outcome
+    requires set { (L : LinkedSet) × IsLinked L linked.now }
+    requires pages { linked.now.plan.pages_max ≤ 16384 }
+    requires hosts { All IsSupported linked.now.hosts }
+    ensures { WritesMerged linked.now out.now result (F.seen files.old) (F.seen files.new) }
+{
+    match merge_set(alloc, linked) {
+        Ok(bytes) => store_output(alloc, out, &bytes, files),
+        Err(fault) => unmerged(fault),
+    }
+}
+
+/// Merges the set that is asked for, and writes the merged module.
+pub fn merge_main<F: Files>(
+    alloc: Global,
+    set: &SetOptions,
+    link: &LinkOptions,
+    out: &str,
+    files: &mut F,
+    host: &HostTable,
+) -> Outcome
+    requires { IsLinkInRange link.now }
+    ensures { (before now : ℕ) → Serves (names_of host.now) (Ok (Order.Merge set.now link.now out.now)) result (F.seen files.old) (F.seen files.new) before now }
+{
+    match linked_set(alloc, set, link, files, host) {
+        Ok(linked) => {
+            let outcome = write_merged(alloc, &linked, out, files);
+            drop(linked);
+            outcome
+        }
+        Err(outcome) => outcome,
+    }
+}

@@ -1,0 +1,97 @@
+// What is told of a command, and what came of it.
+use crate::texts::shown;
+use std::alloc::{AllocError, Global};
+use wasm_form::Memory;
+
+/// Facts of a command: what each is of, and its bytes. Those of one thing belong together.
+#[derive(Drop)]
+pub struct Facts<'a> {
+    facts: Vec<(&'a str, Vec<u8>)>,
+}
+
+/// What may be told of a command, and what is told of it where it isn't named: a star for nothing.
+const KEYS: &[(&str, &str)] = &[
+    ("status", "0"),
+    ("out", ""),
+    ("err", ""),
+    ("wrote", ""),
+    ("order", ""),
+    ("has", "*"),
+    ("end", "*"),
+    ("steps", "*"),
+    ("answers", "*"),
+];
+
+// What the keys are isn't looked into where they are gone through.
+fn keys() -> &'static [(&'static str, &'static str)] {
+    KEYS
+}
+
+/// Whether a line with this first word tells something of a command.
+pub fn is_told(key: &str) -> bool {
+    keys().iter().any(|(other, _)| *other == key)
+}
+
+impl<'a> Facts<'a> {
+    /// None.
+    pub fn new(alloc: Global) -> Facts<'a> {
+        Facts {
+            facts: Vec::new(alloc),
+        }
+    }
+
+    /// Whether there are none.
+    pub fn is_empty(&self) -> bool {
+        self.facts.is_empty()
+    }
+
+    /// Whether something is said of one thing.
+    fn names(&self, key: &str) -> bool {
+        self.facts.iter().any(|(other, _)| *other == key)
+    }
+
+    /// Adds a fact.
+    pub fn add(&mut self, key: &'a str, bytes: Vec<u8>) -> Result<(), Memory> {
+        self.facts.push((key, bytes))?;
+        Ok(())
+    }
+
+    /// All that is said of one thing, else this.
+    fn of(&self, alloc: Global, key: &str, unnamed: &str) -> Result<String, AllocError> {
+        let mut all = Vec::new(alloc);
+        for (other, bytes) in &self.facts {
+            if *other == key {
+                all.extend_from_slice(bytes)?;
+            }
+        }
+        if all.is_empty() {
+            return String::from_str(alloc, unnamed);
+        }
+        shown(alloc, &all)
+    }
+
+    /// Appends each text that is told to stand in the output and doesn't.
+    fn seek(&self, alloc: Global, output: &str, to: &mut String) -> Result<(), AllocError> {
+        for (key, bytes) in &self.facts {
+            let text = shown(alloc, bytes)?;
+            if *key == "has" && !output.contains(text.as_str()) {
+                to.push_str(&format!(in alloc; " has told {text} came {output};")?)?;
+            }
+        }
+        Ok(())
+    }
+
+    /// Appends each thing that is told otherwise than it came.
+    pub fn compare(&self, alloc: Global, came: &Facts, to: &mut String) -> Result<(), AllocError> {
+        for (key, unnamed) in keys() {
+            let told = self.of(alloc, key, unnamed)?;
+            let came = came.of(alloc, key, unnamed)?;
+            if *key == "out" && self.names("has") {
+                self.seek(alloc, &came, to)?;
+            } else if *key != "has" && told.as_str() != "*" && told.as_str() != came.as_str() {
+                to.push_str(&format!(in alloc; " {key} told {told} came {came};")?)?;
+            }
+        }
+        Ok(())
+    }
+}

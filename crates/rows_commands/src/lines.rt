@@ -1,0 +1,33 @@
+// Outcomes that no command of a row comes to, and their lines.
+use crate::facts::Facts;
+use dyl_app::{Outcome, Ran, RunEnd, SetFault, status, tell};
+use dyl_outside::MemSink;
+use spec_binary::DecodeFault;
+use std::alloc::Global;
+use wasm_form::{List, Memory};
+
+/// The outcome that is named: want of memory, a run that is stuck, or too many locals in a function of the largest number.
+fn outcome_named(alloc: Global, name: &str) -> Outcome {
+    match name {
+        "memory" => Outcome::Memory,
+        "stuck" => Outcome::Ran(Ran {
+            end: RunEnd::Stuck,
+            steps: 0,
+            answers: List::of(Vec::new(alloc)),
+        }),
+        _ => Outcome::Set(SetFault::Decode {
+            module: 0,
+            fault: DecodeFault::TooManyLocals { function: u32::MAX },
+        }),
+    }
+}
+
+/// The status of the outcome that is named, and its line.
+pub fn note_line(alloc: Global, name: &str, came: &mut Facts) -> Result<(), Memory> {
+    let mut errors = MemSink::new(alloc);
+    let answer = tell(alloc, outcome_named(alloc, name), &mut errors);
+    let code = status(&answer);
+    drop(answer);
+    came.add("status", format!(in alloc; "{code}")?.into_bytes())?;
+    came.add("err", errors.held().to_vec(alloc)?)
+}

@@ -1,0 +1,98 @@
+// What words are read as.
+use crate::facts::Facts;
+use dyl_front::{LinkOptions, Order, SetOptions, WordFault, read_words, usage_line};
+use std::alloc::{AllocError, Global};
+use wasm_form::{List, Memory, Text};
+
+/// Texts with something between two.
+fn joined(alloc: Global, texts: &List<Text>, between: &str) -> Result<String, AllocError> {
+    let mut all = String::new(alloc);
+    let mut lead = "";
+    for text in texts.items() {
+        all.push_str(lead)?;
+        all.push_str(text.as_str())?;
+        lead = between;
+    }
+    Ok(all)
+}
+
+/// The words of a set and of how it is linked.
+fn set_shown(alloc: Global, set: &SetOptions, link: &LinkOptions) -> Result<String, AllocError> {
+    let dl = joined(alloc, &set.dl, ",")?;
+    let path = joined(alloc, &set.paths, ":")?;
+    let pages = format!(in alloc; "pages={} stack={}", link.pages, link.stack)?;
+    let once = if link.no_duplicates { "yes" } else { "no" };
+    let main = set.main.as_str();
+    format!(in alloc; "main={main} dl={dl} path={path} {pages} no-duplicates={once}")
+}
+
+/// The words of a run.
+fn run_shown(
+    alloc: Global,
+    what: &str,
+    steps: u64,
+    args: &List<Text>,
+) -> Result<String, AllocError> {
+    let args = joined(alloc, args, ",")?;
+    format!(in alloc; "{what} steps={steps} args={args}")
+}
+
+/// The words of an order that has a set.
+fn set_order_shown(alloc: Global, order: &Order, set: &str) -> Result<String, AllocError> {
+    match order {
+        Order::Merge { out, .. } => format!(in alloc; "merge {set} out={}", out.as_str()),
+        Order::Run { steps, args, .. } => {
+            run_shown(alloc, &format!(in alloc; "run {set}")?, *steps, args)
+        }
+        _ => format!(in alloc; "plan {set}"),
+    }
+}
+
+/// An order in a line.
+fn order_shown(alloc: Global, order: &Order) -> Result<String, AllocError> {
+    match order {
+        Order::Merge { set, link, .. } | Order::Run { set, link, .. } | Order::Plan { set, link } =>
+            {
+                let set = set_shown(alloc, set, link)?;
+                set_order_shown(alloc, order, &set)
+            }
+        Order::Exec { file, steps, args } => {
+            run_shown(
+                alloc,
+                &format!(in alloc; "exec file={}", file.as_str())?,
+                *steps,
+                args,
+            )
+        }
+        Order::Gen { n, pages, steps } => format!(in alloc;
+            "gen n={n} pages={pages} steps={steps}"
+        ),
+    }
+}
+
+/// What is told of an order, or of what is wrong with words.
+fn note_order(
+    alloc: Global,
+    read: &Result<Order, WordFault>,
+    came: &mut Facts,
+) -> Result<(), Memory> {
+    match read {
+        Ok(order) if order.is_in_range() => {
+            came.add("order", order_shown(alloc, order)?.into_bytes())
+        }
+        Ok(_) => came.add(
+            "order",
+            String::from_str(alloc, "out of range")?.into_bytes(),
+        ),
+        Err(WordFault::Usage(kind)) => came.add("err", usage_line(alloc, kind)?),
+        Err(WordFault::Memory) => Err(Memory),
+    }
+}
+
+/// What words are read as: an order in a line, or the line of what is wrong.
+pub fn note_words(alloc: Global, words: &[String], came: &mut Facts) -> Result<(), Memory> {
+    let read = read_words(alloc, words);
+    let noted = note_order(alloc, &read, came);
+    drop(read);
+    noted
+}

@@ -1,0 +1,74 @@
+// What a row's commands find.
+use dyl_outside::MemFiles;
+use std::alloc::{AllocError, Global};
+use wasm_form::Memory;
+
+/// A row: what its commands find, and what is told otherwise than it came.
+#[derive(Drop)]
+pub struct Row<'a> {
+    pub name: &'a str,
+    pub files: Vec<(String, Vec<u8>)>,
+    pub input: Vec<u8>,
+    pub clock: &'a str,
+    pub random: &'a str,
+    pub table: &'a str,
+    pub fails: Vec<&'a str>,
+    pub report: String,
+}
+
+impl<'a> Row<'a> {
+    /// A row of no files and no input, with no host functions, in which nothing fails.
+    pub fn new(alloc: Global, name: &'a str) -> Row<'a> {
+        Row {
+            name,
+            files: Vec::new(alloc),
+            input: Vec::new(alloc),
+            clock: "",
+            random: "",
+            table: "",
+            fails: Vec::new(alloc),
+            report: String::new(alloc),
+        }
+    }
+
+    /// Reports that something isn't performed, since a word has no bytes, a name stands for nothing, or no memory could be
+    /// had.
+    pub fn refuse(&mut self, alloc: Global, text: &str) -> Result<(), AllocError> {
+        let text = format!(in alloc; " {text} not performed;")?;
+        self.report.push_str(&text)
+    }
+
+    /// Adds the files.
+    pub fn put_files(&self, alloc: Global, to: &mut MemFiles) -> Result<(), Memory> {
+        for (path, bytes) in &self.files {
+            to.add(alloc, path, bytes)?;
+        }
+        Ok(())
+    }
+
+    /// The paths at which a command may write something: those of its words, and of all files.
+    pub fn paths(&self, alloc: Global, words: &[String]) -> Result<Vec<String>, Memory> {
+        let mut paths = Vec::new(alloc);
+        for word in words {
+            paths.push(word.clone()?)?;
+        }
+        for (path, _) in &self.files {
+            paths.push(path.clone()?)?;
+        }
+        Ok(paths)
+    }
+
+    /// Whether these bytes are new at a path. They stand there from now on.
+    pub fn changes(&mut self, alloc: Global, path: &str, bytes: Vec<u8>) -> Result<bool, Memory> {
+        let mut is_same = false;
+        for (other, held) in &self.files {
+            if other.as_str() == path {
+                is_same = held.as_slice() == bytes.as_slice();
+            }
+        }
+        if !is_same {
+            self.files.push((String::from_str(alloc, path)?, bytes))?;
+        }
+        Ok(!is_same)
+    }
+}

@@ -1,0 +1,243 @@
+// The lines of a text.
+use crate::facts::{Facts, is_told};
+use crate::lines::note_line;
+use crate::modules::Module;
+use crate::orders::note_words;
+use crate::row::Row;
+use crate::texts::{bytes_of, names_of, words_of};
+use crate::words::Words;
+use crate::world::{add_generated, perform};
+use std::alloc::{AllocError, Global};
+use wasm_form::Memory;
+
+/// How far a text has come: what words stand for, its modules, the row, a command with what is told of it, what is to
+/// be printed, how many rows there were and how many weren't as told.
+#[derive(Drop)]
+pub struct Script<'a> {
+    words: Words<'a>,
+    modules: Vec<Module<'a>>,
+    row: Row<'a>,
+    command: Option<(&'a str, &'a str)>,
+    told: Facts<'a>,
+    pub printed: String,
+    rows: u64,
+    others: u64,
+}
+
+/// Performs a command of a row, and reports what is told of it otherwise than it came.
+fn compare(
+    alloc: Global,
+    key: &str,
+    line: &str,
+    told: &Facts,
+    row: &mut Row,
+) -> Result<(), Memory> {
+    let words = words_of(alloc, line)?;
+    let mut came = Facts::new(alloc);
+    match key {
+        "order" => note_words(alloc, &words, &mut came)?,
+        "line" => note_line(alloc, line, &mut came)?,
+        _ => perform(alloc, &words, row, &mut came)?,
+    }
+    Ok(told.compare(alloc, &came, &mut row.report)?)
+}
+
+/// A run of a set, and a run of what is merged of it, before which no bytes stand at the output's path.
+fn compare_both(alloc: Global, options: &str, told: &Facts, row: &mut Row) -> Result<(), Memory> {
+    let run = format!(in alloc; "wdyl run {options} main.wasm")?;
+    let merge = format!(in alloc; "wdyl merge {options} main.wasm out.wasm")?;
+    let mut written = Facts::new(alloc);
+    written.add("wrote", bytes_of(alloc, "out.wasm")?)?;
+    let _ = row.changes(alloc, "out.wasm", Vec::new(alloc))?;
+    compare(alloc, "run", &run, told, row)?;
+    compare(alloc, "merge", &merge, &written, row)?;
+    compare(alloc, "exec", "wdyl exec out.wasm", told, row)
+}
+
+/// Performs a command as its first word says.
+fn perform_line(
+    alloc: Global,
+    key: &str,
+    text: &str,
+    told: &Facts,
+    row: &mut Row,
+) -> Result<(), Memory> {
+    match key {
+        "both" => compare_both(alloc, text, told, row),
+        "words" | "line" => compare(alloc, key, text, told, row),
+        _ => compare(alloc, key, &format!(in alloc; "wdyl {text}")?, told, row),
+    }
+}
+
+/// Adds files: a path, or more of one name, with a module, or a module at the path of its own name.
+fn add_files<'a>(
+    alloc: Global,
+    words: &Words<'a>,
+    modules: &[Module<'a>],
+    row: &mut Row<'a>,
+    word: &str,
+) -> Result<(), Memory> {
+    let (paths, name) = word.split_once('=').unwrap_or((word, word));
+    let mut bytes = Err(Memory);
+    for other in modules {
+        if other.name == name {
+            bytes = other.bytes(alloc, words);
+        }
+    }
+    let bytes = bytes?;
+    for path in names_of(alloc, paths)? {
+        row.files.push((path, bytes.clone()?))?;
+    }
+    Ok(())
+}
+
+/// Begins a module with the parts of another, if one is named.
+fn begin_module<'a>(
+    alloc: Global,
+    modules: &mut Vec<Module<'a>>,
+    text: &'a str,
+) -> Result<(), Memory> {
+    let (name, like) = text.split_once(" like ").unwrap_or((text, ""));
+    let mut parts = Vec::new(alloc);
+    for other in modules.iter() {
+        if other.name == like {
+            parts = Vec::from_slice(alloc, &other.parts)?;
+        }
+    }
+    modules.push(Module { name, parts })?;
+    Ok(())
+}
+
+impl<'a> Script<'a> {
+    /// One without lines.
+    pub fn new(alloc: Global) -> Script<'a> {
+        Script {
+            words: Words::new(alloc),
+            modules: Vec::new(alloc),
+            row: Row::new(alloc, ""),
+            command: None,
+            told: Facts::new(alloc),
+            printed: String::new(alloc),
+            rows: 0,
+            others: 0,
+        }
+    }
+
+    /// A part of the last module.
+    fn put_part(&mut self, key: &'a str, text: &'a str) -> Result<(), Memory> {
+        if let Some(last) = self.modules.last_mut() {
+            last.parts.push((key, text))?;
+        }
+        Ok(())
+    }
+
+    /// Puts what is to be printed of the last row, if there was one.
+    fn end_row(&mut self, alloc: Global) -> Result<(), AllocError> {
+        let (name, report) = (self.row.name, self.row.report.as_str());
+        if name.is_empty() && report.is_empty() {
+            return Ok(());
+        }
+        self.rows = self.rows.saturating_add(1);
+        if report.is_empty() {
+            return self
+                .printed
+                .push_str(&format!(in alloc; "{name}: as told\n")?);
+        }
+        self.others = self.others.saturating_add(1);
+        self.printed
+            .push_str(&format!(in alloc; "{name}:{report}\n")?)
+    }
+
+    /// Begins a row.
+    fn begin_row(&mut self, alloc: Global, text: &'a str) -> Result<(), Memory> {
+        self.end_row(alloc)?;
+        let (name, _) = text.split_once(':').unwrap_or((text, ""));
+        self.row = Row::new(alloc, name);
+        Ok(())
+    }
+
+    /// Performs the last command, if it isn't performed yet.
+    fn end_command(&mut self, alloc: Global) -> Result<(), Memory> {
+        let Some((key, text)) = self.command.take() else {
+            return Ok(());
+        };
+        let performed = perform_line(alloc, key, text, &self.told, &mut self.row);
+        self.told = Facts::new(alloc);
+        if performed.is_err() {
+            self.row.refuse(alloc, text)?;
+        }
+        Ok(())
+    }
+
+    /// A line that says what the commands of a row find, or a part of a module.
+    fn set(&mut self, alloc: Global, key: &'a str, text: &'a str) -> Result<(), Memory> {
+        match key {
+            "files" => {
+                for word in text.split_ascii_whitespace() {
+                    add_files(alloc, &self.words, &self.modules, &mut self.row, word)?;
+                }
+            }
+            "generated" => {
+                add_generated(alloc, text.parse::<u32>().unwrap_or(0), &mut self.row)?;
+            }
+            "fails" => self.row.fails.push(text)?,
+            "input" => self.row.input = bytes_of(alloc, text)?,
+            "reads" => self.row.input = self.words.bytes(alloc, text)?,
+            "clock" => self.row.clock = text,
+            "random" => self.row.random = text,
+            "table" => self.row.table = text,
+            _ => self.put_part(key, text)?,
+        }
+        Ok(())
+    }
+
+    /// A line that isn't told of a command.
+    fn begin(&mut self, alloc: Global, key: &'a str, text: &'a str) -> Result<(), Memory> {
+        self.end_command(alloc)?;
+        match key {
+            "word" => self.words.add(alloc, text),
+            "module" => begin_module(alloc, &mut self.modules, text),
+            "row" => self.begin_row(alloc, text),
+            "wdyl" | "words" | "both" | "order" | "line" => {
+                self.command = Some((key, text));
+                Ok(())
+            }
+            _ => self.set(alloc, key, text),
+        }
+    }
+
+    /// Whether a line with this first word is words to be read, and not what is told of such above it.
+    fn begins_order(&self, key: &str) -> bool {
+        let is_behind = matches!(self.command, Some(("order", _))) && self.told.is_empty();
+        key == "order" && !is_behind
+    }
+
+    /// A line.
+    fn read(&mut self, alloc: Global, line: &'a str) -> Result<(), Memory> {
+        let line = line.trim_start();
+        let (key, text) = line.split_once(' ').unwrap_or((line, ""));
+        if key.is_empty() || key.starts_with('#') {
+            return Ok(());
+        }
+        if is_told(key) && !self.begins_order(key) {
+            return self.told.add(key, bytes_of(alloc, text)?);
+        }
+        self.begin(alloc, key, text)
+    }
+
+    /// A line. One that can't be read is reported.
+    pub fn take(&mut self, alloc: Global, line: &'a str) -> Result<(), AllocError> {
+        match self.read(alloc, line) {
+            Ok(()) => Ok(()),
+            Err(Memory) => self.row.refuse(alloc, line),
+        }
+    }
+
+    /// The last line of what is printed.
+    pub fn end(&mut self, alloc: Global) -> Result<(), AllocError> {
+        self.take(alloc, "row ")?;
+        let (rows, others) = (self.rows, self.others);
+        self.printed
+            .push_str(&format!(in alloc; "{rows} rows, {others} not as told\n")?)
+    }
+}

@@ -1,0 +1,82 @@
+// Bytes as text in a line, and back.
+use std::alloc::{AllocError, Global};
+use wasm_form::Memory;
+
+/// Appends what stands behind a backslash: `n` is a line feed, and two hexadecimal digits are a byte.
+fn put_escaped(to: &mut Vec<u8>, text: &str) -> Result<(), AllocError> {
+    let (byte, rest) = match text.strip_prefix('n') {
+        Some(rest) => (b'\n', rest),
+        None => {
+            let (digits, rest) = text.split_at_checked(2).unwrap_or((text, ""));
+            (u8::from_str_radix(digits, 16).unwrap_or(b'?'), rest)
+        }
+    };
+    to.push(byte)?;
+    to.extend_from_slice(rest.as_bytes())
+}
+
+/// The bytes of a text. Behind a backslash stand another, an `n` for a line feed, or two hexadecimal digits of a byte.
+pub fn bytes_of(alloc: Global, text: &str) -> Result<Vec<u8>, AllocError> {
+    let mut bytes = Vec::new(alloc);
+    let mut is_plain = true;
+    for piece in text.split('\\') {
+        if is_plain {
+            bytes.extend_from_slice(piece.as_bytes())?;
+            is_plain = false;
+        } else if piece.is_empty() {
+            bytes.push(b'\\')?;
+            is_plain = true;
+        } else {
+            put_escaped(&mut bytes, piece)?;
+        }
+    }
+    Ok(bytes)
+}
+
+/// Bytes in a line, so that they are those of the text.
+pub fn shown(alloc: Global, bytes: &[u8]) -> Result<String, AllocError> {
+    let mut text = String::new(alloc);
+    for byte in bytes {
+        match *byte {
+            b'\n' => text.push_str("\\n")?,
+            b'\\' => text.push_str("\\\\")?,
+            b' '..=b'~' => text.push(char::from(*byte))?,
+            other => text.push_str(&format!(in alloc; "\\{other:02x}")?)?,
+        }
+    }
+    Ok(text)
+}
+
+/// A word with its escapes. Two quotation marks are the empty word.
+pub fn word_of(alloc: Global, word: &str) -> Result<String, Memory> {
+    if word == "\"\"" {
+        return Ok(String::new(alloc));
+    }
+    match String::from_utf8(bytes_of(alloc, word)?) {
+        Ok(text) => Ok(text),
+        Err(_) => Err(Memory),
+    }
+}
+
+/// The words of a line.
+pub fn words_of(alloc: Global, line: &str) -> Result<Vec<String>, Memory> {
+    let mut words = Vec::new(alloc);
+    for word in line.split_ascii_whitespace() {
+        words.push(word_of(alloc, word)?)?;
+    }
+    Ok(words)
+}
+
+/// The names that a word stands for: `f*3` for `f1`, `f2`, `f3`, each other word for itself.
+pub fn names_of(alloc: Global, word: &str) -> Result<Vec<String>, Memory> {
+    let mut names = Vec::new(alloc);
+    match word.split_once('*') {
+        Some((name, count)) => {
+            for number in 1..=count.parse::<u32>().unwrap_or(0) {
+                names.push(format!(in alloc; "{name}{number}")?)?;
+            }
+        }
+        None => names.push(word_of(alloc, word)?)?,
+    }
+    Ok(names)
+}

@@ -1,0 +1,211 @@
+// Commands over what stands in memory.
+use crate::facts::Facts;
+use crate::hosts::{perform_doubling, perform_knocking};
+use crate::row::Row;
+use crate::texts::words_of;
+use dyl_app::{Outcome, Ran, RunEnd, serve, status};
+use dyl_gen::make;
+use dyl_outside::{Files, MemAmbient, MemFiles, MemSink, MemSource};
+use host_table::HostTable;
+use std::alloc::{AllocError, Global};
+use wasm_form::Memory;
+
+/// All that a command is over but its host functions.
+#[derive(Drop)]
+struct World {
+    files: MemFiles,
+    input: MemSource,
+    output: MemSink,
+    errors: MemSink,
+    ambient: MemAmbient,
+}
+
+/// The numbers of a text.
+fn numbers_of(alloc: Global, text: &str) -> Result<Vec<u64>, AllocError> {
+    let mut numbers = Vec::new(alloc);
+    for word in text.split_ascii_whitespace() {
+        numbers.push(word.parse::<u64>().unwrap_or(0))?;
+    }
+    Ok(numbers)
+}
+
+/// What a row says of input, clock and random words, with no files.
+fn world_of(alloc: Global, row: &Row) -> Result<World, Memory> {
+    let input = row.input.clone()?;
+    let times = numbers_of(alloc, row.clock)?;
+    let words = numbers_of(alloc, row.random)?;
+    Ok(World {
+        files: MemFiles::new(alloc),
+        input: MemSource::new(alloc, input),
+        output: MemSink::new(alloc),
+        errors: MemSink::new(alloc),
+        ambient: MemAmbient::new(alloc, times, words),
+    })
+}
+
+/// Lets a call fail.
+fn set_failing(alloc: Global, world: &mut World, text: &str) -> Result<(), Memory> {
+    let (what, number) = text.split_once(' ').unwrap_or((text, ""));
+    let call = number.parse::<u64>().unwrap_or(0);
+    match what {
+        "files" => world.files.fail_at(alloc, call),
+        "input" => world.input.fail_at(alloc, call),
+        "output" => world.output.fail_at(alloc, call),
+        "errors" => world.errors.fail_at(alloc, call),
+        "clock" => world.ambient.fail_at(alloc, call),
+        _ => Err(Memory),
+    }
+}
+
+/// The words of how a run ended.
+fn end_shown(alloc: Global, end: RunEnd) -> Result<String, AllocError> {
+    match end {
+        RunEnd::Exit(code) => format!(in alloc; "exit {code}"),
+        RunEnd::Return => String::from_str(alloc, "return"),
+        RunEnd::Trap(_) => String::from_str(alloc, "trap"),
+        RunEnd::StepLimit => String::from_str(alloc, "step limit"),
+        RunEnd::DepthLimit => String::from_str(alloc, "depth limit"),
+        RunEnd::HostCallLimit => String::from_str(alloc, "host call limit"),
+        RunEnd::Stuck => String::from_str(alloc, "stuck"),
+    }
+}
+
+/// What came of a run, behind this text.
+fn note_run(alloc: Global, ran: &Ran, space: &str, came: &mut Facts) -> Result<(), Memory> {
+    let end = end_shown(alloc, ran.end)?;
+    let answers = ran.answers.items().len();
+    came.add("end", format!(in alloc; "{space}{end}")?.into_bytes())?;
+    came.add(
+        "steps",
+        format!(in alloc; "{space}{}", ran.steps)?.into_bytes(),
+    )?;
+    came.add(
+        "answers",
+        format!(in alloc; "{space}{answers}")?.into_bytes(),
+    )
+}
+
+/// What came of a command but what it put.
+fn note_outcome(alloc: Global, outcome: &Outcome, came: &mut Facts) -> Result<(), Memory> {
+    let code = status(outcome);
+    came.add("status", format!(in alloc; "{code}")?.into_bytes())?;
+    match outcome {
+        Outcome::Ran(ran) => note_run(alloc, ran, "", came),
+        Outcome::Done(runs) => {
+            let mut space = "";
+            for ran in runs.items() {
+                note_run(alloc, ran, space, came)?;
+                space = " ";
+            }
+            Ok(())
+        }
+        _ => Ok(()),
+    }
+}
+
+/// What stands at a path. The one call that fails may be the first of these two.
+fn fetched(alloc: Global, files: &mut MemFiles, path: &str) -> Option<Vec<u8>> {
+    match files.fetch(alloc, path, usize::MAX) {
+        Ok(bytes) => Some(bytes),
+        Err(_) => files.fetch(alloc, path, usize::MAX).ok(),
+    }
+}
+
+/// Notes the paths whose contents changed, which the row's files have from now on.
+fn note_written(
+    alloc: Global,
+    paths: &[String],
+    files: &mut MemFiles,
+    row: &mut Row,
+    came: &mut Facts,
+) -> Result<(), Memory> {
+    let mut written = String::new(alloc);
+    for path in paths {
+        if let Some(bytes) = fetched(alloc, files, path) {
+            if row.changes(alloc, path, bytes)? {
+                written.push_str(if written.is_empty() { "" } else { " " })?;
+                written.push_str(path)?;
+            }
+        }
+    }
+    came.add("wrote", written.into_bytes())
+}
+
+/// Adds the files of a generated set.
+pub fn add_generated(alloc: Global, n: u32, row: &mut Row) -> Result<(), Memory> {
+    let mut paths = words_of(alloc, "m0.wasm e.so")?;
+    for member in 1..=n.min(255) {
+        paths.push(format!(in alloc; "m{member}.so")?)?;
+    }
+    let Ok(mut files) = make(alloc, n) else {
+        return Err(Memory);
+    };
+    let noted = note_written(alloc, &paths, &mut files, row, &mut Facts::new(alloc));
+    drop(files);
+    noted
+}
+
+/// Performs a command over all that it needs, and notes what came of it.
+fn perform_in(
+    alloc: Global,
+    words: &[String],
+    host: &HostTable,
+    world: &mut World,
+    row: &mut Row,
+    came: &mut Facts,
+) -> Result<(), Memory> {
+    row.put_files(alloc, &mut world.files)?;
+    for text in &row.fails {
+        set_failing(alloc, world, text)?;
+    }
+    let outcome = serve(
+        alloc,
+        words,
+        &mut world.files,
+        &mut world.input,
+        &mut world.output,
+        &mut world.errors,
+        &mut world.ambient,
+        host,
+    );
+    let noted = note_outcome(alloc, &outcome, came);
+    drop(outcome);
+    noted?;
+    came.add("out", world.output.held().to_vec(alloc)?)?;
+    came.add("err", world.errors.held().to_vec(alloc)?)?;
+    let paths = row.paths(alloc, words)?;
+    note_written(alloc, &paths, &mut world.files, row, came)
+}
+
+/// Performs a command over these host functions.
+pub fn perform_with(
+    alloc: Global,
+    words: &[String],
+    host: &HostTable,
+    row: &mut Row,
+    came: &mut Facts,
+) -> Result<(), Memory> {
+    let mut world = world_of(alloc, row)?;
+    let performed = perform_in(alloc, words, host, &mut world, row, came);
+    drop(world);
+    performed
+}
+
+/// Performs a command of a row, and notes what came of it.
+pub fn perform(
+    alloc: Global,
+    words: &[String],
+    row: &mut Row,
+    came: &mut Facts,
+) -> Result<(), Memory> {
+    match row.table {
+        "knock" => perform_knocking(alloc, words, row, came),
+        "" => {
+            let host = HostTable::new(alloc);
+            let performed = perform_with(alloc, words, &host, row, came);
+            drop(host);
+            performed
+        }
+        name => perform_doubling(alloc, words, name, row, came),
+    }
+}

@@ -1,0 +1,5 @@
+// The tests, by what they look into.
+mod constants;
+mod numbers;
+mod parts;
+mod records;

@@ -1,4 +1,0 @@
-// The tables, each with its test.
-mod opcodes;
-mod operators;
-mod spellings;

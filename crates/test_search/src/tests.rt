@@ -1,5 +1,0 @@
-mod disk;
-mod files;
-mod limits;
-mod places;
-mod rows;
