@@ -1,29 +1,31 @@
 #!/usr/bin/env python3
 """Lists the definitions that the clauses of `serve` rest on: what one has to believe.
 
-    python3 docs/believe.py            prints the table that stands in docs/ARCHITECTURE.md
+    python3 docs/believe.py            prints the list that stands in docs/ARCHITECTURE.md
     python3 docs/believe.py --check    ends with status 1 where another one stands there
     python3 docs/believe.py --write    puts it there
     python3 docs/believe.py --names    prints each definition, with the one that led to it
 
 It begins with the names in the clauses of `serve`, finds each in the file that `use` names, and goes on with the names in its
-definition. Names that a definition binds itself (parameters, fields, what stands behind a lambda or `let`) count as no names of others.
-Words of `std` are passed over. A third column says what leads to a file, where one thing alone does.
+definition. Where it can't tell a name of a definition from one that is bound there, it takes it for a definition, so the list may have
+too much, and not too little. Names that a definition binds itself (parameters, fields, what stands behind a lambda or `let`) count as no names of others.
+Words of `std` are passed over. Apart stands what only `gen`, or only the answer that a section is too long, leads to.
 """
 import re
 import sys
+import textwrap
 from pathlib import Path
 
 TOP = Path(__file__).resolve().parent.parent
 CRATES = TOP / "crates"
 SERVICE = CRATES / "dyl_app/src/service.rt"
 PAGE = TOP / "docs/ARCHITECTURE.md"
-BEGIN, END = "<!-- made by docs/believe.py -->\n", "<!-- to here -->\n"
+BEGIN, END = "<!-- made by docs/believe.py -->\n\n", "\n<!-- to here -->\n"
 
 # What is left out to see what it alone leads to.
 ALONE = {
     "`gen`": ["dyl_commands.Generated.GenDue", "dyl_commands.Runs.GenWorks"],
-    "a section that is too long": ["dyl_commands.Linking.IsLong"],
+    "the answer that a section is too long": ["dyl_commands.Linking.IsLong"],
 }
 
 USE = re.compile(r"^(?:unfoldable )?(?:pub |ghost )?use\s+([\w.]+?)(?:\.\{([^}]*)\})?(?:\s+as\s+(\w+))?;?\s*$", re.M)
@@ -64,7 +66,8 @@ class Specs:
             elif current:
                 self.texts[current].append(line)
         for name, lines in self.texts.items():
-            if re.match(r" *(pub )?data ", lines[-1] if len(lines) == 1 else lines[1] if lines[0].startswith("module _") else lines[0]):
+            first = lines[1] if lines[0].startswith("module _") else lines[0]
+            if re.match(r" *(pub )?data ", first):
                 for line in lines[1:]:
                     case = re.match(r"\s+((?:[\w']+ )+):", line)
                     for part in case[1].split() if case else []:
@@ -214,7 +217,8 @@ class Reach:
         for model in re.finditer(r"^impl\b[^{]*\bModel for " + kind + r"\b[^{]*{", text, re.M):
             seen = braced(text, model)
             inner = read_uses("\n".join(line.strip() for line in seen.split("\n") if line.strip().startswith("ghost use")))
-            self.follow(re.sub(r"^ *ghost use .*$", "", seen, flags=re.M), {**names, **inner[0]}, {**modules, **inner[1]}, {}, f"{crate}::{kind}")
+            seen = re.sub(r"^ *ghost use .*$", "", seen, flags=re.M)
+            self.follow(seen, {**names, **inner[0]}, {**modules, **inner[1]}, {}, f"{crate}::{kind}")
         fields = "\n".join(re.findall(r"^ *pub \w+:.*", body, re.M)) if declared[1] == "struct" else body
         fields = re.sub(r"(ghost|ensures|requires).*", "", fields)
         places = {}
@@ -243,36 +247,41 @@ def files_of(reach):
     return by
 
 
-def table(reach):
-    """The table of crates and files, and what leads to a file where one thing alone does."""
+def shown(names, indent="  "):
+    """An item of a list, in lines of at most 100 letters."""
+    return textwrap.wrap("- " + names, 100, subsequent_indent=indent, break_long_words=False, break_on_hyphens=False)
+
+
+def listing(reach):
+    """The crates with their files, in the order of crates.txt; apart those that one thing alone leads to; and the types of code."""
     order = [line.split(":")[0].split()[0] for line in (TOP / "crates.txt").read_text().split("\n") if line and not line.startswith("#")]
-    crates = {}
     less = {what: set(Reach(without).found) for what, without in ALONE.items()}
+    groups = {}
     for (crate, name), found in files_of(reach).items():
+        whole = len(Reach.files[f"Rattle.{crate}.specs.{name}"].texts)
         parts = {}
         for known in found:
-            only = [what for what, others in less.items() if known not in others]
-            parts.setdefault(only[0] if only else "", set()).add(known)
-        whole = len(Reach.files[f"Rattle.{crate}.specs.{name}"].texts)
-        for only, some in parts.items():
-            # a few definitions of a file that has more are named
-            shown = f"`{name}`"
+            parts.setdefault(next((what for what, others in less.items() if known not in others), ""), set()).add(known)
+        for what, some in parts.items():
+            text = f"`{name}`"
             if len(some) <= 3 and len(some) < whole:
-                shown += " (" + ", ".join(f"`{known.rsplit('.', 1)[1]}`" for known in sorted(some)) + ")"
-            crates.setdefault(crate, {}).setdefault(only, []).append(shown)
-    lines = ["| Crate | Files of `specs`; where three definitions of one or fewer are cited, these | Only for |", "|---|---|---|"]
-    for crate in sorted(crates, key=order.index):
-        for only, names in sorted(crates[crate].items()):
-            lines.append(f"| `{crate}` | {', '.join(sorted(names))} | {only} |")
+                text += " (" + ", ".join(f"`{known.rsplit('.', 1)[1]}`" for known in sorted(some)) + ")"
+            groups.setdefault(what, {}).setdefault(crate, []).append(text)
+    lines = []
+    for what in ["", *ALONE]:
+        lines += ["", f"For {what} alone:" if what else "For all of it:", ""]
+        for crate in sorted(groups.get(what, {}), key=order.index):
+            lines += shown(f"`{crate}`: {', '.join(sorted(groups[what][crate]))}")
     types = {}
     for crate, kind in reach.types:
         types.setdefault(crate, set()).add(kind)
-    lines += ["", "| Crate | Types and traits of its code |", "|---|---|"]
+    lines += ["", "Types and traits of code:", ""]
     for crate in sorted(types, key=order.index):
-        lines.append(f"| `{crate}` | {', '.join(f'`{kind}`' for kind in sorted(types[crate]))} |")
-    count = len(reach.found)
-    lines += ["", f"Together {count:,} definitions in {len(files_of(reach))} files of {len(crates)} crates, and {len(reach.types)} types and traits."]
-    return "\n".join(lines) + "\n"
+        lines += shown(f"`{crate}`: {', '.join(f'`{kind}`' for kind in sorted(types[crate]))}")
+    count, files = len(reach.found), files_of(reach)
+    crates = len({crate for crate, _ in files})
+    lines += ["", f"These are {count:,} definitions in {len(files)} files of {crates} crates, and {len(reach.types)} types and traits."]
+    return "\n".join(lines[1:]) + "\n"
 
 
 def main():
@@ -283,7 +292,7 @@ def main():
         for known, why in sorted(reach.found.items()):
             print(known, "by", why)
         return
-    made = table(reach)
+    made = listing(reach)
     page = PAGE.read_text(encoding="utf-8")
     stands = page.split(BEGIN)[1].split(END)[0] if BEGIN in page else ""
     if sys.argv[1:] == ["--write"]:
