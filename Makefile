@@ -1,21 +1,27 @@
 # make        builds bin/wdyl
 # make demo   builds it, and lists, merges and runs the examples, which are built again where clang and wasm-ld are there
 # make guide  runs the commands of docs/GUIDE.md, and compares what they print with what stands there
-# make install    puts the program and its manual page under PREFIX, which is /usr/local if not given; make uninstall removes them
+# make docs   sees that README.md and docs/ name what there is: links, paths, crates, calls, counts, what one has to believe
+# make install    puts the program, its manual page, and the headers and start files of the examples under PREFIX, which is
+#                 /usr/local if not given; make uninstall removes them
 # make bench  builds it and measures it
 # make speed  measures runs of whole programs beside other engines
 # make codec  measures decoding, encoding and checking beside wabt, and merging beside these
 # make inner  measures the memories and integer operators of a run beside C
 # make compare  runs random modules and random sets by wdyl and by node, and validates changed ones by wdyl and by wabt
-# make test   proves, builds and tests everything
+# make test   makes docs, and proves, builds and tests everything
 
 SOURCES := crates.txt $(shell find crates -name out -prune -o -type f \( -name '*.rt' -o -name '*.antt' \) -print)
 
 PREFIX = /usr/local
 programs = $(DESTDIR)$(PREFIX)/bin
 manuals = $(DESTDIR)$(PREFIX)/share/man/man1
+shared = $(DESTDIR)$(PREFIX)/share/wdyl
 
-.PHONY: all demo guide install uninstall bench speed codec inner compare test clean
+# what programs are compiled with: the entry and its arguments, dlopen and its like, text out and in; and a merged file run by node
+SHARED := start.c dl.h io.h io.c wasi.mjs
+
+.PHONY: all demo guide docs install uninstall bench speed codec inner compare test clean
 
 all: bin/wdyl
 
@@ -33,13 +39,19 @@ demo: bin/wdyl
 guide: bin/wdyl
 	sh examples/guide.sh bin/wdyl
 
+docs:
+	python3 docs/check.py
+	python3 docs/believe.py --check
+
 install: bin/wdyl
-	install -d "$(programs)" "$(manuals)"
+	install -d "$(programs)" "$(manuals)" "$(shared)"
 	install -m 755 bin/wdyl "$(programs)/wdyl"
 	install -m 644 man/wdyl.1 "$(manuals)/wdyl.1"
+	install -m 644 $(SHARED:%=examples/programs/%) "$(shared)"
 
 uninstall:
-	rm -f "$(programs)/wdyl" "$(manuals)/wdyl.1"
+	rm -f "$(programs)/wdyl" "$(manuals)/wdyl.1" $(SHARED:%="$(shared)/%")
+	test ! -d "$(shared)" || rmdir --ignore-fail-on-non-empty "$(shared)"
 
 bench: bin/wdyl
 	python3 bench/merge.py bin/wdyl
@@ -67,7 +79,7 @@ compare: bin/wdyl
 	python3 compare/compare.py bin/wdyl
 	python3 compare/compare_sets.py bin/wdyl
 
-test:
+test: docs
 	rt ci
 
 clean:

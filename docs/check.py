@@ -1,0 +1,290 @@
+#!/usr/bin/env python3
+"""Sees that README.md, the other pages and the manual page name what there is. Ends with status 1 where they don't, and says where.
+
+    python3 docs/check.py
+
+Looked at are links with their headings, paths, names of crates and of what is in them, targets of make, options, statuses, lines, limits
+and counts, lists of crates and of edits, and the length of lines. It needs nothing but Python.
+"""
+import re
+import sys
+from pathlib import Path
+
+TOP = Path(__file__).resolve().parent.parent
+CRATES = TOP / "crates"
+PAGES = [path for path in [TOP / "README.md", TOP / "CONTRIBUTING.md", TOP / "CHANGELOG.md", *sorted((TOP / "docs").glob("*.md")),
+                           TOP / "examples/README.md", TOP / "bench/README.md"] if path.exists()]
+# crates of which pages tell that they were there
+PAST = {"test_commands"}
+FRONTS = ("spec_", "wasm_", "host_", "dyl_", "merge_", "test_", "rows_", "run_")
+faults = []
+
+
+def read(path):
+    return path.read_text(encoding="utf-8")
+
+
+def fault(path, text):
+    faults.append(f"{path.relative_to(TOP)}: {text}")
+
+
+def without_blocks(text):
+    """A page without its blocks of code."""
+    return re.sub(r"^```.*?^```$", "", text, flags=re.M | re.S)
+
+
+def listed_crates():
+    return [line.split(":")[0].split()[0] for line in read(TOP / "crates.txt").split("\n") if line and not line.startswith("#")]
+
+
+def number(n):
+    return f"{n:,}"
+
+
+# ---- links, headings, paths
+
+def anchors(path):
+    """The headings of a page as links name them."""
+    found = set()
+    for heading in re.findall(r"^#+ (.*)$", without_blocks(read(path)), re.M):
+        plain = re.sub(r"[`*]|\]\([^)]*\)|\[", "", heading).strip().lower()
+        found.add(re.sub(r"[^\w\- ]", "", plain).replace(" ", "-"))
+    return found
+
+
+def links(path, text):
+    for target in re.findall(r"\]\(([^)\s]+)\)", text) + re.findall(r"^\[\w+\]: (\S+)$", text, re.M):
+        if re.match(r"[a-z]+:", target):
+            continue
+        file, _, anchor = target.partition("#")
+        to = (path.parent / file).resolve() if file else path
+        if not to.exists():
+            fault(path, f"the link {target} leads nowhere")
+        elif anchor and anchor not in anchors(to):
+            fault(path, f"no heading of {to.name} is named by {target}")
+
+
+def is_there(word):
+    """Whether a path, which may have stars, is one of the repository, or of a crate."""
+    word = word.rstrip("/")
+    for folder in (TOP, CRATES):
+        if "*" in word:
+            if any(folder.glob(word)):
+                return True
+        elif (folder / word).exists():
+            return True
+    # an edit without its folder and ending
+    crate, _, rest = word.partition("/")
+    return (CRATES / crate / "must-fail" / f"{rest}.edit").exists()
+
+
+def paths(path, text, names):
+    for word in re.findall(r"`([^`\n]+)`", text):
+        first = word.split("/")[0]
+        if not re.fullmatch(r"[\w.*/-]+", word) or re.search(r"(^|/)[A-Z]+(\.|/|$)(?!md)", word):
+            continue
+        if "/" in word and (first in names or (TOP / first).is_dir()) and first:
+            if not is_there(word):
+                fault(path, f"there is no {word}")
+        elif re.fullmatch(r"[\w-]+\.(py|sh|mjs|md|rattle)", word):
+            # the guide's own files are written by examples/guide.sh
+            own = re.search(r"^```\w+ " + re.escape(word) + "$", read(TOP / "docs/GUIDE.md"), re.M)
+            if not own and not any("out" not in file.parts for file in TOP.rglob(word)):
+                fault(path, f"no file is named {word}")
+
+
+# ---- names of code
+
+def words_of_code():
+    """All names that stand in the code, and those of each crate."""
+    by = {}
+    for crate in CRATES.iterdir():
+        text = "\n".join(read(file) for file in crate.rglob("*") if file.suffix in (".rt", ".antt", ".edit") and "out" not in file.parts)
+        text += "\n" + "\n".join(read(crate / name) for name in ("stdin", "stdout") if (crate / name).exists())
+        text += " ".join(file.stem for file in crate.rglob("*") if file.is_file())
+        by[crate.name] = set(re.findall(r"[A-Za-z_][\w]*", text))
+    others = set()
+    for pattern in ("Makefile", "examples/**/*.*", "bench/**/*.*", "compare/*.*", "docs/*.py"):
+        for file in TOP.glob(pattern):
+            if file.suffix not in (".wasm", ".so", ".md", ".pyc") and file.is_file():
+                others |= set(re.findall(r"[A-Za-z_]\w*", file.read_text(encoding="utf-8", errors="replace")))
+    return by, others
+
+
+def crate_names(path, text, names, code):
+    """A word like a crate's name is one, or a name of the code."""
+    known = set().union(*code.values())
+    for word in re.findall(r"`([a-z]+_\w+)`", text):
+        if word.startswith(FRONTS) and word not in names and word not in known and word not in PAST:
+            fault(path, f"there is no crate and no call {word}")
+
+
+def calls(path, text, names, code):
+    """Names of code in a section or a row about a crate are names of it, or of another crate."""
+    known = set().union(*code.values(), names)
+    for word in re.findall(r"`((?:[A-Za-z_]\w*::)*[A-Za-z_]\w*)`", text):
+        parts = word.split("::")
+        if len(parts) > 1 and parts[0] in names:
+            missing = [part for part in parts[1:] if part not in code[parts[0]]]
+        else:
+            looks = len(parts) > 1 or "_" in word or re.match(r"[A-Z][a-z]\w*[A-Z]?", word)
+            missing = [part for part in parts if part not in known] if looks else []
+        if missing:
+            fault(path, f"no code has the name {word}")
+
+
+def contracts(path, text, names, code):
+    """The calls at the end of a row of README's table are public functions, types or traits of its crates."""
+    for row in re.findall(r"^\| `\w+`.*$", text, re.M):
+        crates = [name for name in re.findall(r"`(\w+)`", row.split("|")[1])]
+        if not all(name in names for name in crates):
+            if any(name.startswith(FRONTS) for name in crates):
+                fault(path, f"the row of {', '.join(crates)} names no crate")
+            continue
+        found = "\n".join(read(file) for crate in crates for file in (CRATES / crate / "src").rglob("*.rt"))
+        for word in re.findall(r"`([\w:]+)`", row.split(":")[-1] if ":" in row else ""):
+            name = word.split("::")[-1]
+            public = re.search(r"\b(pub (?:const )?(?:unsafe )?(?:fn|struct|enum|trait|type) |^    fn )" + name + r"\b", found, re.M)
+            if not public and name not in names and not any(name in code[crate] for crate in crates):
+                fault(path, f"{', '.join(crates)}: there is no {word}")
+
+
+# ---- lists and counts
+
+def lists(names):
+    readme, house, proved = (TOP / name for name in ("README.md", "docs/ARCHITECTURE.md", "docs/PROVED.md"))
+    folders = {path.name for path in CRATES.iterdir() if (path / "src").is_dir()}
+    for name in folders ^ set(names):
+        fault(TOP / "crates.txt", f"{name} is a line here or a folder of crates/, and not both")
+    code = [name for name in names if not name.startswith(("test_", "rows_"))]
+    rows = [name for row in re.findall(r"^\| (`\w+`(?:, `\w+`)*) \|", read(readme), re.M) for name in re.findall(r"`(\w+)`", row)]
+    items = re.findall(r"^(?:- |\| )`(\w+)`(?::| \|)", read(house).split("<!-- to here -->")[-1], re.M)
+    heads = re.findall(r"^### `(\w+)`|^- (`spec_\w+`(?:, `spec_\w+`)*):", read(proved), re.M)
+    heads = [name for head, group in heads for name in ([head] if head else re.findall(r"`(\w+)`", group))]
+    for path, found, wanted in ((readme, rows, code), (house, items, names), (proved, heads, code)):
+        for name in wanted:
+            if found.count(name) == 0:
+                fault(path, f"{name} has no line of its own")
+        for name in set(found):
+            if name.startswith(FRONTS) and not name.endswith("_") and name not in names:
+                fault(path, f"{name} has a line, and is no crate")
+
+
+def edits():
+    path = TOP / "docs/TESTED.md"
+    text = read(path)
+    there = {f"{file.parent.parent.name}/{file.stem}" for file in CRATES.glob("*/must-fail/*.edit")}
+    named = set()
+    for row in re.findall(r"^\|.*$", text, re.M):
+        crate = None
+        for word in re.findall(r"`([\w/]+)`", row.split("|")[2]) if row.count("|") > 2 else []:
+            crate = word.split("/")[0] if "/" in word else crate
+            if crate and (CRATES / crate / "must-fail").is_dir():
+                named.add(word if "/" in word else f"{crate}/{word}")
+    for name in there - named:
+        fault(path, f"the edit {name} isn't told of")
+    house = read(TOP / "docs/ARCHITECTURE.md")
+    told = re.search(r"so they stand in small crates: ([^.]*)\.", house)
+    if told and set(re.findall(r"`(\w+)`", told[1])) != {name.split("/")[0] for name in there}:
+        fault(TOP / "docs/ARCHITECTURE.md", "the crates with edits are others")
+
+
+def rows():
+    """Each row has its line, and as many are told wrongly on purpose as is said."""
+    words = {"one": 1, "two": 2, "three": 3, "four": 4, "five": 5}
+    told = re.search(r"^(\w+) rows of each text are told wrongly on purpose", read(TOP / "docs/TESTED.md"), re.M)
+    for crate in ("rows_commands", "rows_modules"):
+        shown = read(CRATES / crate / "stdout").strip().split("\n")
+        last = re.fullmatch(r"(\d+) rows, (\d+) (?:of them )?not as told", shown[-1])
+        if not last:
+            fault(CRATES / crate / "stdout", f"the last line counts no rows: {shown[-1]}")
+            continue
+        if told and words.get(told[1].lower()) != int(last[2]):
+            fault(TOP / "docs/TESTED.md", f"{crate} has {last[2]} rows that are told wrongly")
+
+
+def make_targets():
+    makefile = read(TOP / "Makefile")
+    targets = set(re.findall(r"^([a-z]+):", makefile, re.M))
+    for path in PAGES:
+        blocks = "\n".join(re.findall(r"^```.*?^```$", read(path), re.M | re.S))
+        for name in re.findall(r"`make ([a-z]+)", read(path)) + re.findall(r"^(?:\$ )?make ([a-z]+)", blocks, re.M):
+            if name not in targets:
+                fault(path, f"make has no target {name}")
+    told = " ".join(re.findall(r"^#.*", makefile, re.M))
+    for name in re.search(r"^\.PHONY: (.*)$", makefile, re.M)[1].split():
+        if name not in ("all", "clean") and f"make {name}" not in told:
+            fault(TOP / "Makefile", f"nothing is said of make {name}")
+    installed = set(re.search(r"^SHARED := (.*)$", makefile, re.M)[1].split())
+    for path in PAGES:
+        for name in re.findall(r"share/wdyl/(\w+\.\w+)", read(path)):
+            if name not in installed:
+                fault(path, f"make install puts no {name} into share/wdyl")
+
+
+def numbers():
+    """Statuses, options, lines and limits are those of the definitions."""
+    pages = {name: read(TOP / name) for name in ("README.md", "docs/FORMATS.md", "docs/GUIDE.md", "man/wdyl.1")}
+    plain = {name: text.replace("\\-", "-") for name, text in pages.items()}
+    statuses = set(re.findall(r"^(?:status_of|end_status) .*= (\d+)$", read(CRATES / "dyl_front/specs/Status.antt"), re.M))
+    for name in ("README.md", "docs/FORMATS.md", "man/wdyl.1"):
+        for status in statuses:
+            if not re.search(r"(?<!\d)" + status + r"(?!\d)", pages[name]):
+                fault(TOP / name, f"nothing is said of status {status}")
+    for option in re.findall(r'codes "(--[a-z-]+)"', read(CRATES / "dyl_words/specs/Words.antt")) or ["--dl"]:
+        for name in plain:
+            if option not in plain[name]:
+                fault(TOP / name, f"nothing is said of {option}")
+    shown = re.sub(r"\s+", " ", pages["docs/FORMATS.md"])
+    for text in re.findall(r'codes "([^"]+)"', read(CRATES / "dyl_front/specs/Lines.antt")):
+        if text.strip() and text.strip() not in shown:
+            fault(TOP / "docs/FORMATS.md", f"nothing is said of the text: {text.strip()}")
+    limits = {
+        "spec_hosts/specs/Ends.antt": ("most_answers", "most_written"),
+        "spec_execution/specs/Limits.antt": ("most_activations", "most_values"),
+        "spec_linking/specs/Plans.antt": ("most_table",),
+        "spec_linking/specs/Slots.antt": ("table_growth",),
+        "spec_linking/specs/Sets.antt": ("most_bytes", "most_members"),
+        "dyl_commands/specs/OneFile.antt": ("most_run",),
+    }
+    for file, named in limits.items():
+        for name in named:
+            value = re.search(r"^" + name + r" = (\d+)$", read(CRATES / file), re.M)
+            if not value:
+                fault(CRATES / file, f"{name} isn't a number")
+            elif not any(text in pages["docs/FORMATS.md"] for text in (number(int(value[1])), number(int(value[1]) + 1))):
+                fault(TOP / "docs/FORMATS.md", f"nothing is said of {name}, which is {number(int(value[1]))}")
+
+
+def lengths(path, text):
+    for line in without_blocks(text).split("\n"):
+        if len(line) > 100 and not line.startswith(("|", "<!--")):
+            fault(path, f"a line of {len(line)} letters: {line[:40]}..")
+
+
+def main():
+    names = listed_crates()
+    code, others = words_of_code()
+    for path in PAGES:
+        text = read(path)
+        inline = without_blocks(text)
+        links(path, inline)
+        paths(path, inline, names)
+        crate_names(path, inline, names, code)
+        lengths(path, text)
+    known = {**code, "": others}
+    for name in ("README.md", "docs/ARCHITECTURE.md", "docs/PROVED.md", "docs/DECISIONS.md", "docs/TESTED.md", "docs/ROWS.md", "docs/GLOSSARY.md"):
+        if (TOP / name).exists():
+            calls(TOP / name, without_blocks(read(TOP / name)), names, known)
+    contracts(TOP / "README.md", read(TOP / "README.md"), names, code)
+    lists(names)
+    edits()
+    rows()
+    make_targets()
+    numbers()
+    if faults:
+        sys.exit("\n".join(faults))
+    print(f"{len(PAGES)} pages name what there is.")
+
+
+main()
