@@ -53,6 +53,9 @@ def anchors(path):
 
 
 def links(path, text):
+    for label, target in re.findall(r"\[([\w./-]+\.md)\]\(([^)\s#]+)", text):
+        if not target.endswith(label.split("/")[-1]):
+            fault(path, f"the link {label} leads to {target}")
     for target in re.findall(r"\]\(([^)\s]+)\)", text) + re.findall(r"^\[\w+\]: (\S+)$", text, re.M):
         if re.match(r"[a-z]+:", target):
             continue
@@ -231,10 +234,16 @@ def numbers():
         for status in statuses:
             if not re.search(r"(?<!\d)" + status + r"(?!\d)", pages[name]):
                 fault(TOP / name, f"nothing is said of status {status}")
-    for option in re.findall(r'codes "(--[a-z-]+)"', read(CRATES / "dyl_words/specs/Words.antt")) or ["--dl"]:
+    words = read(CRATES / "dyl_words/specs/Words.antt")
+    options = ["--" + word for word in re.findall(r'^option_word \w+ = codes "([a-z-]+)"$', words, re.M)]
+    commands = ["wdyl " + word for word in re.findall(r'^command_word \w+ = codes "([a-z-]+)"$', words, re.M)]
+    if not options or not commands:
+        fault(CRATES / "dyl_words/specs/Words.antt", "no commands or options are found here")
+    for word in options + commands:
         for name in plain:
-            if option not in plain[name]:
-                fault(TOP / name, f"nothing is said of {option}")
+            # the guide is for those who have a compiler, and tells nothing of `gen`
+            if not re.search(re.escape(word) + r"(?![\w-])", plain[name]) and (name, word) != ("docs/GUIDE.md", "wdyl gen"):
+                fault(TOP / name, f"nothing is said of {word}")
     shown = re.sub(r"\s+", " ", pages["docs/FORMATS.md"])
     for text in re.findall(r'codes "([^"]+)"', read(CRATES / "dyl_front/specs/Lines.antt")):
         if text.strip() and text.strip() not in shown:
@@ -252,8 +261,11 @@ def numbers():
             value = re.search(r"^" + name + r" = (\d+)$", read(CRATES / file), re.M)
             if not value:
                 fault(CRATES / file, f"{name} isn't a number")
-            elif not any(text in pages["docs/FORMATS.md"] for text in (number(int(value[1])), number(int(value[1]) + 1))):
-                fault(TOP / "docs/FORMATS.md", f"nothing is said of {name}, which is {number(int(value[1]))}")
+            else:
+                # what is one too deep is told there
+                wanted = number(int(value[1]) + (name == "most_activations"))
+                if not re.search(r"(?<![\d,])" + wanted + r"(?![\d,]\d)", pages["docs/FORMATS.md"]):
+                    fault(TOP / "docs/FORMATS.md", f"nothing is said of {name}, which is {number(int(value[1]))}")
 
 
 def lengths(path, text):
