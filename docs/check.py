@@ -197,13 +197,17 @@ def rows():
     words = {"one": 1, "two": 2, "three": 3, "four": 4, "five": 5}
     told = re.search(r"^(\w+) rows of each text are told wrongly on purpose", read(TOP / "docs/TESTED.md"), re.M)
     for crate in ("rows_commands", "rows_modules"):
-        shown = read(CRATES / crate / "stdout").strip().split("\n")
-        last = re.fullmatch(r"(\d+) rows, (\d+) (?:of them )?not as told", shown[-1])
-        if not last:
-            fault(CRATES / crate / "stdout", f"the last line counts no rows: {shown[-1]}")
-            continue
-        if told and words.get(told[1].lower()) != int(last[2]):
-            fault(TOP / "docs/TESTED.md", f"{crate} has {last[2]} rows that are told wrongly")
+        names = re.findall(r"^ *row ([^:\n]+):", read(CRATES / crate / "stdin"), re.M)
+        *shown, last = read(CRATES / crate / "stdout").strip().split("\n")
+        for name, line in zip(names, shown):
+            if not line.startswith(name + ": "):
+                fault(CRATES / crate / "stdout", f"where the row {name} has its line stands: {line}")
+                break
+        wrong = sum(not line.endswith(": as told") for line in shown)
+        if last != f"{len(names)} rows, {wrong} not as told" or len(names) != len(shown):
+            fault(CRATES / crate / "stdout", f"{len(names)} rows have {len(shown)} lines, and the last line says: {last}")
+        if told and words.get(told[1].lower()) != wrong:
+            fault(TOP / "docs/TESTED.md", f"{crate} has {wrong} rows that are told wrongly")
 
 
 def make_targets():
@@ -285,9 +289,10 @@ def main():
         crate_names(path, inline, names, code)
         lengths(path, text)
     known = {**code, "": others}
-    for name in ("README.md", "docs/ARCHITECTURE.md", "docs/PROVED.md", "docs/DECISIONS.md", "docs/TESTED.md", "docs/ROWS.md", "docs/GLOSSARY.md"):
-        if (TOP / name).exists():
-            calls(TOP / name, without_blocks(read(TOP / name)), names, known)
+    for path in PAGES:
+        # the guide, the formats, the examples and the benches tell of names that aren't of this code
+        if path.parent != TOP / "examples" and path.parent != TOP / "bench" and path.stem not in ("GUIDE", "FORMATS"):
+            calls(path, without_blocks(read(path)), names, known)
     contracts(TOP / "README.md", read(TOP / "README.md"), names, code)
     lists(names)
     edits()
