@@ -33,10 +33,19 @@ HEAD = re.compile(r"^( *)(?:(?:abbrev|unfoldable) (?:pub )?|(?:pub )?record |(?:
 NAME = re.compile(r"[A-Za-z_][\w']*(?:\.[A-Za-z_][\w']*)*")
 
 
+def own(module):
+    """The module in the crate that it is of, where another crate passes it on."""
+    parts = module.split(".")
+    while len(parts) > 3 and parts[2] == "specs" and (CRATES / parts[3]).is_dir():
+        parts[1:4] = [parts[3], "specs"]
+    return ".".join(parts)
+
+
 def read_uses(text):
     """The names that `use` lines bring, and the other names of modules."""
     names, modules = {}, {}
     for module, listed, other in USE.findall(text):
+        module = own(module)
         if other and not listed:
             modules[other] = module
         for item in filter(None, (item.strip() for item in listed.split(","))):
@@ -200,10 +209,10 @@ class Reach:
                     self.todo.append(lambda: self.declare(crate, kind, text, declared))
                 return
         library = (source / "lib.rt").read_text(encoding="utf-8") if (source / "lib.rt").exists() else ""
-        for other, listed, single in re.findall(r"^pub use (\w+)::(?:\{([^}]*)\}|(\w+));", library, re.M):
-            if kind in [item.strip() for item in (listed or single).split(",")] and other != crate and (CRATES / other).exists():
-                self.want_type(other, kind, why)
-                return
+        place = taken_from(library, crate).get(kind, crate)
+        if place != crate:
+            self.want_type(place, kind, why)
+            return
         if why != "field":
             self.lost.add(f"{crate}::{kind}")
 
@@ -221,12 +230,19 @@ class Reach:
             self.follow(seen, {**names, **inner[0]}, {**modules, **inner[1]}, {}, f"{crate}::{kind}")
         fields = "\n".join(re.findall(r"^ *pub \w+:.*", body, re.M)) if declared[1] == "struct" else body
         fields = re.sub(r"(ghost|ensures|requires).*", "", fields)
-        places = {}
-        for other, listed, single in re.findall(r"^(?:pub )?use (\w+)::(?:\{([^}]*)\}|(\w+));", text, re.M):
-            places.update({item.strip(): other for item in (listed or single).split(",")})
+        places = taken_from(text, crate)
         for other in sorted(set(re.findall(r"\b[A-Z]\w+\b", fields)) - {kind}):
-            place = places.get(other, crate)
-            self.want_type(crate if place in ("crate", "super", "self", "std") else place, other, "field")
+            self.want_type(places.get(other, crate), other, "field")
+
+
+def taken_from(text, crate):
+    """The crates of the names that a file of code uses."""
+    places = {}
+    for path, listed, single in re.findall(r"^(?:pub )?use ([\w:]+)::(?:\{([^}]*)\}|(\w+));", text, re.M):
+        crates = [part for part in path.split("::") if (CRATES / part).is_dir()]
+        for item in (listed or single).split(","):
+            places[item.strip()] = crates[-1] if crates else crate
+    return places
 
 
 def braced(text, begin):
