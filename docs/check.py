@@ -15,7 +15,7 @@ CRATES = TOP / "crates"
 PAGES = [path for path in [TOP / "README.md", TOP / "CONTRIBUTING.md", TOP / "CHANGELOG.md", *sorted((TOP / "docs").glob("*.md")),
                            TOP / "examples/README.md", TOP / "bench/README.md"] if path.exists()]
 # crates of which pages tell that they were there
-PAST = {"test_commands"}
+PAST = {"test_commands", "test_hosts"}
 FRONTS = ("spec_", "wasm_", "host_", "dyl_", "merge_", "test_", "rows_", "run_")
 faults = []
 
