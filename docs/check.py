@@ -17,6 +17,7 @@ PAGES = [path for path in [TOP / "README.md", TOP / "CONTRIBUTING.md", TOP / "CH
 # crates of which pages tell that they were there
 PAST = {"test_commands", "test_hosts"}
 FRONTS = ("spec_", "wasm_", "host_", "dyl_", "merge_", "test_", "rows_", "run_")
+COUNTS = {"one": 1, "two": 2, "three": 3, "four": 4, "five": 5, "six": 6}
 faults = []
 
 
@@ -159,6 +160,10 @@ def lists(names):
     folders = {path.name for path in CRATES.iterdir() if (path / "src").is_dir()}
     for name in folders ^ set(names):
         fault(TOP / "crates.txt", f"{name} is a line here or a folder of crates/, and not both")
+    groups = len(re.findall(r"^# ", read(TOP / "crates.txt"), re.M))
+    said = re.search(r"lists the crates in (\w+) groups", read(house))
+    if not said or COUNTS.get(said[1]) != groups:
+        fault(house, f"crates.txt has {groups} groups")
     code = [name for name in names if not name.startswith(("test_", "rows_"))]
     rows = [name for row in re.findall(r"^\| (`\w+`(?:, `\w+`)*) \|", read(readme), re.M) for name in re.findall(r"`(\w+)`", row)]
     items = re.findall(r"^(?:- |\| )`(\w+)`(?::| \|)", read(house).split("<!-- to here -->")[-1], re.M)
@@ -194,7 +199,6 @@ def edits():
 
 def rows():
     """Each row has its line, and as many are told wrongly on purpose as is said."""
-    words = {"one": 1, "two": 2, "three": 3, "four": 4, "five": 5}
     told = re.search(r"^(\w+) rows of each text are told wrongly on purpose", read(TOP / "docs/TESTED.md"), re.M)
     for crate in ("rows_commands", "rows_modules"):
         names = re.findall(r"^ *row ([^:\n]+):", read(CRATES / crate / "stdin"), re.M)
@@ -206,7 +210,7 @@ def rows():
         wrong = sum(not line.endswith(": as told") for line in shown)
         if last != f"{len(names)} rows, {wrong} not as told" or len(names) != len(shown):
             fault(CRATES / crate / "stdout", f"{len(names)} rows have {len(shown)} lines, and the last line says: {last}")
-        if told and words.get(told[1].lower()) != wrong:
+        if told and COUNTS.get(told[1].lower()) != wrong:
             fault(TOP / "docs/TESTED.md", f"{crate} has {wrong} rows that are told wrongly")
 
 
