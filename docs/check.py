@@ -87,7 +87,7 @@ def paths(path, text, names):
         first = word.split("/")[0]
         if not re.fullmatch(r"[\w.*/-]+", word) or re.search(r"(^|/)[A-Z]+(\.|/|$)(?!md)", word):
             continue
-        if "/" in word and (first in names or (TOP / first).is_dir()) and first:
+        if "/" in word and first not in ("", ".", "..") and (first in names or (TOP / first).is_dir()):
             if not is_there(word):
                 fault(path, f"there is no {word}")
         elif re.fullmatch(r"[\w-]+\.(py|sh|mjs|md|rattle)", word):
