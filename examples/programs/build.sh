@@ -15,10 +15,15 @@ work=$(mktemp -d)
 trap 'rm -rf "$work"' EXIT
 cd "$work"
 
-for file in "$source"/*.c; do
+# The last word is the source, those before it are further options.
+compile() {
+    for file in "$@"; do :; done
+    name=${file##*/}
     "${CLANG:-clang}" --target=wasm32-unknown-emscripten -O2 -fPIC -fvisibility=default -ffreestanding -mbulk-memory \
-        -c "$file" -o "$(basename "$file" .c).o"
-done
+        -c "$@" -o "${name%.*}.o"
+}
+for file in "$source"/*.c; do compile "$file"; done
+for file in "$source"/*.cpp; do compile -fno-exceptions -fno-rtti -fno-threadsafe-statics "$file"; done
 
 # The first word is the module, the others are what it is linked of.
 library() {
@@ -29,25 +34,29 @@ library() {
 main() {
     module=$1
     shift
-    "${WASM_LD:-wasm-ld}" --experimental-pic -pie --import-memory start.o "$@" -o "$module"
+    "${WASM_LD:-wasm-ld}" --experimental-pic -pie --import-memory --export-dynamic "$@" -o "$module"
 }
 
 library libio.so io.o
 library libreport.so report.o libio.so
 library libcrc.so crc.o libreport.so
 library libadler.so adler.o libreport.so
-main checksums.wasm checksums.o libcrc.so libadler.so libreport.so libio.so
+main checksums.wasm start.o checksums.o libcrc.so libadler.so libreport.so libio.so
 
 library libcity.so city.o
 library liblines.so lines.o libcity.so
-main timetable.wasm timetable.o liblines.so libio.so
+main timetable.wasm start.o timetable.o liblines.so libio.so
 
 library libletters.so letters.o
 library libupper.so upper.o libletters.so
 library librot13.so rot13.o libletters.so
-main filters.wasm --import-undefined filters.o libio.so
+main filters.wasm --import-undefined start.o filters.o libio.so
 
-main count.wasm count.o libio.so
+main count.wasm start.o count.o libio.so
+
+library libruntime.so --allow-undefined runtime.o heap.o io.o
+library libsquare.so square.o libruntime.so
+main shapes.wasm start_cxx.o shapes.o libsquare.so libruntime.so
 
 chmod a-x ./*.so ./*.wasm
 cp ./*.so ./*.wasm "$to"

@@ -1,7 +1,7 @@
 #!/bin/sh
 # Runs the programs in three ways: as sets; merged, by wdyl; merged, by node, where node is there. Each has to put out what stands in
-# expected/, and to end with the status that is wanted. Where cc is there, it builds the sources for this machine, and what that puts
-# out has to be the same. Where clang and wasm-ld are there, the modules are built again, and these are run in the same ways.
+# expected/, and to end with the status that is wanted. Where cc and c++ are there, they build the sources for this machine, and what
+# that puts out has to be the same. Where clang and wasm-ld are there, the modules are built again, and these are run in the same ways.
 #
 #     sh examples/programs/demo.sh bin/wdyl
 set -eu
@@ -34,7 +34,7 @@ program() {
     shift 4
     echo "== $main${*:+ $*}"
     if [ "$is_native" = yes ]; then
-        same cc env LD_LIBRARY_PATH="$work/native" "$work/native/$main" "$@"
+        same native env LD_LIBRARY_PATH="$work/native" "$work/native/$main" "$@"
     fi
     same run "$wdyl" run $options "$modules/$main.wasm" -- "$@"
     "$wdyl" merge $options "$modules/$main.wasm" "$work/merged.wasm"
@@ -50,6 +50,7 @@ programs() {
     program count 0 count "" -l -w -c
     program count-refused 2 count "" colour
     program filters 0 filters "--dl libupper.so,librot13.so" libupper.so librot13.so libnone.so librot13.so
+    program shapes 0 shapes ""
 }
 
 native() {
@@ -61,11 +62,14 @@ native() {
     for name in upper rot13; do
         cc -O1 -shared -fPIC -o "$work/native/lib$name.so" "$source/$name.c" "$source/letters.c"
     done
+    cc -O1 -fPIC -c "$source/io.c" -o "$work/native/io.o"
+    c++ -O1 -shared -fPIC -o "$work/native/libsquare.so" "$source/square.cpp" "$work/native/io.o"
+    c++ -O1 -o "$work/native/shapes" "$source/shapes.cpp" "$work/native/libsquare.so" "$work/native/io.o"
 }
 
 has_node=no is_native=no
 if has node; then has_node=yes; else echo "the merged programs are run by wdyl alone"; fi
-if has cc; then native; is_native=yes; else echo "the sources aren't built for this machine"; fi
+if has cc c++; then native; is_native=yes; else echo "the sources aren't built for this machine"; fi
 
 echo "-- the modules of the repository"
 modules=$source/modules

@@ -1,0 +1,20 @@
+// The heap of a set: from __heap_base on, and behind __heap_end what memory.grow adds. wdyl defines both names.
+
+#include "heap.h"
+
+extern char __heap_base[], __heap_end[];
+
+void *take(unsigned long size) {
+  static char *next, *end;
+  if (!next) next = __heap_base, end = __heap_end;
+  size = (size + 15) & -16ul;
+  unsigned long left = end - next;
+  if (size > left) {
+    unsigned long pages = (size - left + 65535) / 65536;
+    if (__builtin_wasm_memory_grow(0, pages) == -1ul) return 0;
+    end += pages * 65536;
+  }
+  void *taken = next;
+  next += size;
+  return taken;
+}
