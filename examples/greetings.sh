@@ -3,8 +3,9 @@
 #
 #     sh examples/greetings.sh bin/wdyl
 #
-# The main module needs libenglish.so and libgerman.so, and both need libsay.so. clang makes position-independent code for the
-# target of emscripten alone. wasm-ld makes main modules import their memory and table where it is told to.
+# The main module needs libenglish.so and libgerman.so, and both need libsay.so. The target of emscripten is the one for which each
+# version of clang from 14 on makes position-independent code. wasm-ld makes main modules import their memory and table, and export
+# what is visible, where it is told to.
 set -eu
 
 wdyl=$1
@@ -30,7 +31,7 @@ library() {
 library say
 library english "$work/libsay.so"
 library german "$work/libsay.so"
-wasm-ld --experimental-pic -pie --import-memory --import-table \
+wasm-ld --experimental-pic -pie --import-memory --import-table --export-dynamic \
     "$work/main.o" "$work/libenglish.so" "$work/libgerman.so" "$work/libsay.so" -o "$work/main.wasm"
 
 echo "== greetings, by $(wasm-ld --version)"

@@ -5,8 +5,8 @@
 #
 # A block that begins with ```console has commands, each behind `$ ` (and `> ` where it goes on), with what it prints.
 # The words behind `console` tell what it needs. Where something is missing, this is said, and the block is skipped. With the word
-# `repository` it is run beside a copy of examples/, else in a folder of the guide's own files. A block whose first line names a file,
-# as ```c say.c, is written there.
+# `repository` it is run beside a copy of examples/, else in a folder of its own. A block whose first line names a file, as ```c say.c,
+# is written into both. In all commands $share is examples/programs.
 #
 # CLANG and WASM_LD name other tools than `clang` and `wasm-ld`. WASI_LIBC_SOURCE is a folder with the sources of wasi-libc.
 set -eu
@@ -24,6 +24,7 @@ for name in clang wasm-ld; do
     [ -z "$named" ] || ln -s "$(command -v "$named")" "$work/tools/$name"
 done
 PATH=$work/tools:$PATH
+export share="$work/repository/examples/programs"
 
 # Each block becomes a file of its words, one of its text, and one of the commands that print that text.
 awk -v to="$work/blocks" '
@@ -63,11 +64,17 @@ makes_position_independent() {
         wasm-ld --experimental-pic -shared --unresolved-symbols=import-dynamic "$work/try.o" -o "$work/try.so" 2>/dev/null
 }
 
+# Whether main's own uses of its data go to its own, as an option that came with this shows.
+keeps_data_apart() {
+    ! wasm-ld --unresolved-symbols=import-dynamic 2>&1 | grep -q 'unknown --unresolved-symbols'
+}
+
 # Whether there is what a word tells of. What is missing is named.
 has() {
     missing=$1
     case $1 in
     repository) true ;;
+    data-apart) missing="a wasm-ld that keeps all data of main apart (15 and later)" && keeps_data_apart ;;
     rpath) missing="the option -rpath of wasm-ld" && wasm-ld --help 2>/dev/null | grep -q -e -rpath ;;
     wasi-libc) missing="wasi-libc, with the library and the linker that clang takes with it" && links_for_wasi ;;
     wasi-libc-source) missing="the sources of wasi-libc, in WASI_LIBC_SOURCE" && [ -n "${WASI_LIBC_SOURCE:-}" ] ;;
@@ -82,6 +89,7 @@ for words in "$work"/blocks/*.words; do
     read -r kind needs <"$words"
     if [ "$kind" != console ]; then
         cp "$block.text" "$work/own/$needs"
+        cp "$block.text" "$work/repository/$needs"
         continue
     fi
     folder=own lacks=

@@ -1,4 +1,5 @@
-// The heap of a set: from __heap_base on, and behind __heap_end what memory.grow adds. wdyl defines both names.
+// The heap of a set: from __heap_base on, and behind __heap_end what memory.grow adds.
+// wdyl defines both names.
 
 #include "heap.h"
 

@@ -39,8 +39,5 @@ extern "C" void __cxa_finalize(void *) {
   }
 }
 
-// Objects in functions that are constructed at the first call, where -fno-threadsafe-statics isn't given.
-extern "C" int __cxa_guard_acquire(char *guard) { return !*guard; }
-extern "C" void __cxa_guard_release(char *guard) { *guard = 1; }
-
+// Called where an abstract function has no body.
 extern "C" void __cxa_pure_virtual() { __builtin_trap(); }
