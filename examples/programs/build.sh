@@ -15,15 +15,16 @@ work=$(mktemp -d)
 trap 'rm -rf "$work"' EXIT
 cd "$work"
 
-# The last word is the source, those before it are further options.
+# The first word is the source, the others are further options.
 compile() {
-    for file in "$@"; do :; done
+    file=$1
     name=${file##*/}
+    shift
     "${CLANG:-clang}" --target=wasm32-unknown-emscripten -O2 -fPIC -fvisibility=default -ffreestanding -mbulk-memory \
-        -c "$@" -o "${name%.*}.o"
+        "$@" -c "$file" -o "${name%.*}.o"
 }
 for file in "$source"/*.c; do compile "$file"; done
-for file in "$source"/*.cpp; do compile -fno-exceptions -fno-rtti -fno-threadsafe-statics "$file"; done
+for file in "$source"/*.cpp; do compile "$file" -fno-exceptions -fno-rtti -fno-threadsafe-statics; done
 
 # The first word is the module, the others are what it is linked of.
 library() {
