@@ -19,7 +19,7 @@ manuals = $(DESTDIR)$(PREFIX)/share/man/man1
 shared = $(DESTDIR)$(PREFIX)/share/wdyl
 
 # what programs are compiled with: the entry and its arguments, dlopen and its like, text out and in; and a merged file run by node
-SHARED := start.c dl.h io.h io.c wasi.mjs
+SHARED := start.c dl.h io.h io.c heap.h heap.c start_cxx.cpp runtime.cpp wasi.mjs
 
 .PHONY: all demo guide docs install uninstall bench speed codec inner compare test clean
 

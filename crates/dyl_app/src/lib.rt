@@ -6,7 +6,7 @@ mod service;
 pub use dyl_commands::tell;
 pub use dyl_front::{Order, Outcome, UsageKind, status};
 pub use service::{perform, serve};
-pub use spec_execution::SingleFault;
 pub use spec_hosts::{Ran, RunEnd};
+pub use spec_linking::spec_execution::SingleFault;
 pub use spec_linking::{LinkFault, SetFault};
 pub use spec_merging::MergeFault;

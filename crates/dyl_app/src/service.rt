@@ -2,9 +2,9 @@
 ghost use Rattle.std.specs.Prelude.{◌≡◌, ◌≤◌, ℕ, [], true, false, Ok};
 ghost use Rattle.std.specs.Option.{ForSome};
 ghost use Rattle.std.specs.FinMap.{get};
-ghost use Rattle.dyl_outside.specs.Files.{FilesState};
+ghost use Rattle.spec_hosts.specs.dyl_outside.Files.{FilesState};
 ghost use Rattle.host_calls.specs.Embedders.{names_of, embedder_of};
-ghost use Rattle.dyl_search.specs.Gathers.{options_of};
+ghost use Rattle.dyl_link.specs.dyl_search.Gathers.{options_of};
 ghost use Rattle.dyl_link.specs.Kept as links;
 ghost use Rattle.dyl_front.specs.Orders.{order_of, IsLinkInRange, IsInRange};
 ghost use Rattle.dyl_commands.specs.Due.{DueFor, TellsFor, is_done, Yields, IsComplete};
@@ -19,14 +19,14 @@ use dyl_commands::{exec_file, gen_main, merge_main, plan_main, run_main, tell};
 use dyl_front::{Order, Outcome, WordFault, read_words};
 use dyl_gen::generated_set_links;
 use dyl_link::LinkOptions;
-use dyl_outside::{Ambient, Files, Sink, Source};
-use dyl_search::SetOptions;
-use dyl_section::one_record_answer;
-use host_table::HostTable;
+use dyl_link::dyl_search::SetOptions;
+use dyl_link::dyl_section::one_record_answer;
+use dyl_link::host_table::HostTable;
+use spec_hosts::dyl_outside::{Ambient, Files, Sink, Source};
 use spec_linking::one_gathered;
+use spec_merging::wasm_form::Text;
 use spec_reading::reading_answers;
 use std::alloc::Global;
-use wasm_form::Text;
 
 /// Merges a set, and tells what came of it.
 fn perform_merge<F: Files, E: Sink>(

@@ -4,32 +4,32 @@ use Rattle.std.proofs.lemmas.Bool.Decides.{nat_tests}
 use Rattle.std.specs.Option.{ForSome}
 use Rattle.std.specs.FinMap.{get}
 use Rattle.wasm_form.specs.declared.module.Module.{Module}
-use Rattle.dyl_outside.specs.Files.{FilesState}
-use Rattle.dyl_outside.specs.Faults.{Rose}
-use Rattle.spec_runtime.specs.Names.{HostNames}
-use Rattle.spec_execution.specs.declared.fault.SingleFault.{SingleFault}
-use Rattle.spec_execution.specs.OneModule.{ModuleState, module_opening}
+use Rattle.spec_hosts.specs.dyl_outside.Files.{FilesState}
+use Rattle.spec_hosts.specs.dyl_outside.Faults.{Rose}
+use Rattle.spec_hosts.specs.spec_runtime.Names.{HostNames}
+use Rattle.spec_loading.specs.spec_execution.declared.fault.SingleFault.{SingleFault}
+use Rattle.spec_loading.specs.spec_execution.OneModule.{ModuleState, module_opening}
 use Rattle.spec_hosts.specs.declared.ran.Ran as ran
 use Rattle.spec_hosts.specs.declared.ran.RunEnd.TheVariants as end
-use Rattle.spec_linking.specs.declared.fault.LinkFault.{LinkFault}
-use Rattle.spec_linking.specs.declared.fault.LinkFault.TheVariants.{MemoryLimit}
-use Rattle.spec_linking.specs.declared.fault.SetFault.{SetFault}
-use Rattle.spec_linking.specs.declared.fault.SetFault.TheVariants.{ReadFault}
-use Rattle.spec_linking.specs.Sets.{Files, ClosedSet, SetOptions}
-use Rattle.spec_linking.specs.Gathering.{IsGathered}
-use Rattle.spec_linking.specs.Plans.{LinkOptions, limit}
-use Rattle.spec_linking.specs.Links.{link_fault}
-use Rattle.spec_linking.specs.Laws.{OneAnswer, OneRecord, OneGathered}
+use Rattle.spec_loading.specs.spec_linking.declared.fault.LinkFault.{LinkFault}
+use Rattle.spec_loading.specs.spec_linking.declared.fault.LinkFault.TheVariants.{MemoryLimit}
+use Rattle.spec_loading.specs.spec_linking.declared.fault.SetFault.{SetFault}
+use Rattle.spec_loading.specs.spec_linking.declared.fault.SetFault.TheVariants.{ReadFault}
+use Rattle.spec_loading.specs.spec_linking.Sets.{Files, ClosedSet, SetOptions}
+use Rattle.spec_loading.specs.spec_linking.Gathering.{IsGathered}
+use Rattle.spec_loading.specs.spec_linking.Plans.{LinkOptions, limit}
+use Rattle.spec_loading.specs.spec_linking.Links.{link_fault}
+use Rattle.spec_loading.specs.spec_linking.Laws.{OneAnswer, OneRecord, OneGathered}
 use Rattle.spec_reading.specs.Laws.{ReadingAnswers}
-use Rattle.dyl_section.specs.Laws.{OneRecordAnswer}
+use Rattle.dyl_link.specs.dyl_section.Laws.{OneRecordAnswer}
 use Rattle.dyl_gen.specs.declared.fault.GenFault.{GenFault}
 use Rattle.dyl_gen.specs.declared.fault.GenFault.TheVariants.{Range}
 use Rattle.dyl_gen.specs.Laws.{CanWrite, NeedsThreePages}
 use Rattle.spec_merging.specs.declared.fault.MergeFault.{MergeFault}
 use Rattle.spec_merging.specs.declared.fault.MergeFault.TheVariants as merge
 use Rattle.merge_whole.specs.Merges.{bulk}
-use Rattle.dyl_search.specs.declared.set.SetOptions as search
-use Rattle.dyl_search.specs.Gathers.{options_of}
+use Rattle.dyl_link.specs.dyl_search.declared.set.SetOptions as search
+use Rattle.dyl_link.specs.dyl_search.Gathers.{options_of}
 use Rattle.dyl_link.specs.declared.options.LinkOptions as linking
 use Rattle.dyl_link.specs.Kept as links
 use Rattle.dyl_front.specs.declared.outcome.UsageKind.{UsageKind}

@@ -1,10 +1,10 @@
 -- What comes of a module that was read and is run.
 use Rattle.std.proofs.Common.{◌≡◌, ℕ, List, false, None, Result, Ok, Err, refl, ap, ◌∙◌, subst, inl, inr}
 use Rattle.wasm_form.specs.declared.module.Module.{Module}
-use Rattle.dyl_outside.specs.Files.{FilesState}
-use Rattle.spec_validation.specs.Faults as validation
-use Rattle.spec_execution.specs.declared.fault.SingleFault.{SingleFault}
-use Rattle.spec_execution.specs.declared.fault.SingleFault.TheVariants as single
+use Rattle.spec_hosts.specs.dyl_outside.Files.{FilesState}
+use Rattle.spec_loading.specs.spec_validation.Faults as validation
+use Rattle.spec_loading.specs.spec_execution.declared.fault.SingleFault.{SingleFault}
+use Rattle.spec_loading.specs.spec_execution.declared.fault.SingleFault.TheVariants as single
 use Rattle.spec_hosts.specs.declared.ran.Ran as ran
 use Rattle.spec_hosts.specs.Devices.{Devices}
 use Rattle.spec_hosts.specs.Hosted.{Embedder}
@@ -15,8 +15,8 @@ use Rattle.dyl_front.specs.declared.order.Order.TheVariants as order
 use Rattle.dyl_commands.specs.Due.{is_done}
 use Rattle.dyl_commands.specs.Fetched.{Reads}
 use Rattle.dyl_commands.specs.Runs.{guest_arguments, ExecWorks}
-use Rattle.spec_linking.specs.declared.fault.SetFault.{SetFault}
-use Rattle.spec_linking.specs.declared.fault.SetFault.TheVariants as set
+use Rattle.spec_loading.specs.spec_linking.declared.fault.SetFault.{SetFault}
+use Rattle.spec_loading.specs.spec_linking.declared.fault.SetFault.TheVariants as set
 use Rattle.dyl_commands.specs.Served.{Serves, Executes, set_outcome}
 
 -- what is refused, but for want of memory

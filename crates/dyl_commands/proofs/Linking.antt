@@ -5,28 +5,28 @@ use Rattle.std.proofs.lemmas.Bool.{true≢false, and_from, and_parts}
 use Rattle.std.proofs.lemmas.List.Elements.{All-weaker}
 use Rattle.std.specs.Option.{ForSome}
 use Rattle.std.specs.FinMap.{get}
-use Rattle.dyl_outside.specs.Faults.{Rises}
-use Rattle.dyl_outside.specs.Files.{FilesState}
-use Rattle.spec_binary.specs.declared.fault.DecodeFault.TheVariants as decode
-use Rattle.spec_validation.specs.declared.fault.CheckFault.TheVariants as check
+use Rattle.spec_hosts.specs.dyl_outside.Faults.{Rises}
+use Rattle.spec_hosts.specs.dyl_outside.Files.{FilesState}
+use Rattle.spec_reading.specs.spec_binary.declared.fault.DecodeFault.TheVariants as decode
+use Rattle.spec_loading.specs.spec_validation.declared.fault.CheckFault.TheVariants as check
 use Rattle.wasm_form.specs.declared.types.ValType.{ValType}
 use Rattle.wasm_form.specs.declared.types.ValType.TheVariants.{I32, I64, F32, F64, FuncRef, ExternRef}
 use Rattle.wasm_form.specs.declared.types.FuncType.{FuncType}
-use Rattle.spec_validation.specs.Faults.{is_supported, is_function_supported}
-use Rattle.spec_runtime.specs.Names.{HostNames, is_integer, has_integers}
-use Rattle.spec_linking.specs.declared.fault.RecordFault.TheVariants as records
-use Rattle.spec_linking.specs.declared.fault.SetFault.{SetFault}
-use Rattle.spec_linking.specs.declared.fault.SetFault.TheVariants as set
-use Rattle.spec_linking.specs.declared.fault.LinkFault.{LinkFault}
-use Rattle.spec_linking.specs.declared.fault.LinkFault.TheVariants as link
-use Rattle.spec_linking.specs.Sets.{ClosedSet, SetOptions}
-use Rattle.spec_linking.specs.Gathering.{IsGathered}
-use Rattle.spec_linking.specs.Plans.{LinkOptions, Plan, least_of, maxima, limits_in, memory_limits}
-use Rattle.spec_linking.specs.Slots.{linked_plan}
-use Rattle.spec_linking.specs.LinkedSets.{LinkedSet, hosts_of}
-use Rattle.spec_linking.specs.Links.{link_fault}
-use Rattle.dyl_search.specs.Found.{ReadsOf}
-use Rattle.dyl_search.specs.Gathers.{Stops, IsWhole}
+use Rattle.spec_loading.specs.spec_validation.Faults.{is_supported, is_function_supported}
+use Rattle.spec_hosts.specs.spec_runtime.Names.{HostNames, is_integer, has_integers}
+use Rattle.spec_loading.specs.spec_linking.declared.fault.RecordFault.TheVariants as records
+use Rattle.spec_loading.specs.spec_linking.declared.fault.SetFault.{SetFault}
+use Rattle.spec_loading.specs.spec_linking.declared.fault.SetFault.TheVariants as set
+use Rattle.spec_loading.specs.spec_linking.declared.fault.LinkFault.{LinkFault}
+use Rattle.spec_loading.specs.spec_linking.declared.fault.LinkFault.TheVariants as link
+use Rattle.spec_loading.specs.spec_linking.Sets.{ClosedSet, SetOptions}
+use Rattle.spec_loading.specs.spec_linking.Gathering.{IsGathered}
+use Rattle.spec_loading.specs.spec_linking.Plans.{LinkOptions, Plan, least_of, maxima, limits_in, memory_limits}
+use Rattle.spec_loading.specs.spec_linking.Slots.{linked_plan}
+use Rattle.spec_loading.specs.spec_linking.LinkedSets.{LinkedSet, hosts_of}
+use Rattle.spec_loading.specs.spec_linking.Links.{link_fault}
+use Rattle.dyl_link.specs.dyl_search.Found.{ReadsOf}
+use Rattle.dyl_link.specs.dyl_search.Gathers.{Stops, IsWhole}
 use Rattle.dyl_link.specs.Answers.{IsFirst}
 use Rattle.dyl_link.specs.Kept.{Kept, IsLinked}
 use Rattle.wasm_exec.specs.Executed.{HaveIntegers}

@@ -1,15 +1,15 @@
 -- What comes of listing a set that links.
 use Rattle.std.proofs.Common.{◌≡◌, [], Some, Result, Ok, Err, refl, ◌∙◌, subst, inl, inr}
 use Rattle.std.specs.FinMap.{get}
-use Rattle.dyl_outside.specs.declared.fault.IoFault.{IoFault}
-use Rattle.dyl_outside.specs.declared.fault.IoFault.TheVariants as io
-use Rattle.dyl_outside.specs.FileMap.{FileMap}
-use Rattle.dyl_outside.specs.Files.{FilesState}
-use Rattle.dyl_outside.specs.Sink.{SinkState, Puts}
-use Rattle.spec_runtime.specs.Names.{HostNames}
-use Rattle.spec_linking.specs.LinkedSets.{LinkedSet}
-use Rattle.dyl_search.specs.declared.set.SetOptions.{SetOptions}
-use Rattle.dyl_search.specs.Gathers.{options_of}
+use Rattle.spec_hosts.specs.dyl_outside.declared.fault.IoFault.{IoFault}
+use Rattle.spec_hosts.specs.dyl_outside.declared.fault.IoFault.TheVariants as io
+use Rattle.spec_hosts.specs.dyl_outside.FileMap.{FileMap}
+use Rattle.spec_hosts.specs.dyl_outside.Files.{FilesState}
+use Rattle.spec_hosts.specs.dyl_outside.Sink.{SinkState, Puts}
+use Rattle.spec_hosts.specs.spec_runtime.Names.{HostNames}
+use Rattle.spec_loading.specs.spec_linking.LinkedSets.{LinkedSet}
+use Rattle.dyl_link.specs.dyl_search.declared.set.SetOptions.{SetOptions}
+use Rattle.dyl_link.specs.dyl_search.Gathers.{options_of}
 use Rattle.dyl_link.specs.declared.options.LinkOptions.{LinkOptions}
 use Rattle.dyl_link.specs.Kept as links
 use Rattle.dyl_link.specs.Kept.{Kept}

@@ -2,17 +2,17 @@
 use Rattle.std.proofs.Common.{◌≡◌, ◌≤◌, ◌^◌, ℕ, List, [], Option, Some, None, Ok, refl, sym, ◌∙◌, subst, inl}
 use Rattle.std.specs.Prelude.{IsSomeAnd}
 use Rattle.std.specs.FinMap.{get}
-use Rattle.dyl_outside.specs.FileMap.{FileMap}
-use Rattle.dyl_outside.specs.Faults.{Rises}
-use Rattle.dyl_outside.specs.Files.{FilesState}
-use Rattle.spec_runtime.specs.Names.{HostNames}
-use Rattle.spec_linking.specs.LinkedSets.{LinkedSet}
+use Rattle.spec_hosts.specs.dyl_outside.FileMap.{FileMap}
+use Rattle.spec_hosts.specs.dyl_outside.Faults.{Rises}
+use Rattle.spec_hosts.specs.dyl_outside.Files.{FilesState}
+use Rattle.spec_hosts.specs.spec_runtime.Names.{HostNames}
+use Rattle.spec_loading.specs.spec_linking.LinkedSets.{LinkedSet}
 use Rattle.wasm_encode.specs.SectionSizes.{IsFirstTooLong}
 use Rattle.merge_whole.specs.Merges.{merged_module}
 use Rattle.spec_merging.specs.declared.fault.MergeFault.{MergeFault}
 use Rattle.spec_merging.specs.declared.fault.MergeFault.TheVariants as merge
-use Rattle.dyl_search.specs.declared.set.SetOptions.{SetOptions}
-use Rattle.dyl_search.specs.Gathers.{options_of}
+use Rattle.dyl_link.specs.dyl_search.declared.set.SetOptions.{SetOptions}
+use Rattle.dyl_link.specs.dyl_search.Gathers.{options_of}
 use Rattle.dyl_link.specs.declared.options.LinkOptions.{LinkOptions}
 use Rattle.dyl_link.specs.Kept as links
 use Rattle.dyl_link.specs.Kept.{Kept, IsLinked}

@@ -2,12 +2,12 @@
 use Rattle.std.proofs.Common.{◌≡◌, ◌⊎◌, ℕ, ◌<◌, ◌≤◌, List, length, Option, Some, None, Result, Ok, Err, refl, sym, ap, ◌∙◌, subst, inl, inr, arith}
 use Rattle.std.specs.Prelude.{IsSomeAnd}
 use Rattle.wasm_form.specs.declared.module.Module.{Module}
-use Rattle.spec_binary.specs.declared.fault.DecodeFault.{DecodeFault}
-use Rattle.spec_binary.specs.DecodeAnswers.{DecodeAnswer}
-use Rattle.spec_linking.specs.declared.fault.SetFault.{SetFault}
-use Rattle.spec_linking.specs.declared.fault.SetFault.TheVariants.{Missing, Decode, Check, SetSize}
-use Rattle.spec_linking.specs.Sets.{Files, main_name}
-use Rattle.spec_linking.specs.Laws.{OneAnswer}
+use Rattle.spec_reading.specs.spec_binary.declared.fault.DecodeFault.{DecodeFault}
+use Rattle.spec_reading.specs.spec_binary.DecodeAnswers.{DecodeAnswer}
+use Rattle.spec_loading.specs.spec_linking.declared.fault.SetFault.{SetFault}
+use Rattle.spec_loading.specs.spec_linking.declared.fault.SetFault.TheVariants.{Missing, Decode, Check, SetSize}
+use Rattle.spec_loading.specs.spec_linking.Sets.{Files, main_name}
+use Rattle.spec_loading.specs.spec_linking.Laws.{OneAnswer}
 use Rattle.dyl_commands.specs.OneFile.{most_run, OfModule, OfBytes, OfFile}
 
 module _ (one_answer : OneAnswer) where

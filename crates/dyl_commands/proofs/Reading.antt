@@ -2,17 +2,17 @@
 use Rattle.std.proofs.Common.{◌≡◌, ℕ, ◌≤◌, List, length, false, Some, Result, Ok, Err, IfOk, refl, sym, subst}
 use Rattle.std.specs.Prelude.{IsSomeAnd}
 use Rattle.wasm_form.specs.declared.module.Module.{Module}
-use Rattle.spec_binary.specs.declared.fault.DecodeFault.{DecodeFault}
-use Rattle.spec_binary.specs.declared.fault.DecodeFault.TheVariants as decode
-use Rattle.spec_binary.specs.DecodeAnswers.{DecodeAnswer}
-use Rattle.spec_validation.specs.declared.fault.CheckFault.{CheckFault}
-use Rattle.spec_validation.specs.declared.fault.CheckFault.TheVariants as check
-use Rattle.spec_validation.specs.Faults as validation
-use Rattle.spec_linking.specs.declared.fault.SetFault.{SetFault}
-use Rattle.spec_linking.specs.declared.fault.SetFault.TheVariants.{Missing, ReadFault, Decode, SetSize, Memory}
-use Rattle.spec_linking.specs.Sets.{Files}
+use Rattle.spec_reading.specs.spec_binary.declared.fault.DecodeFault.{DecodeFault}
+use Rattle.spec_reading.specs.spec_binary.declared.fault.DecodeFault.TheVariants as decode
+use Rattle.spec_reading.specs.spec_binary.DecodeAnswers.{DecodeAnswer}
+use Rattle.spec_loading.specs.spec_validation.declared.fault.CheckFault.{CheckFault}
+use Rattle.spec_loading.specs.spec_validation.declared.fault.CheckFault.TheVariants as check
+use Rattle.spec_loading.specs.spec_validation.Faults as validation
+use Rattle.spec_loading.specs.spec_linking.declared.fault.SetFault.{SetFault}
+use Rattle.spec_loading.specs.spec_linking.declared.fault.SetFault.TheVariants.{Missing, ReadFault, Decode, SetSize, Memory}
+use Rattle.spec_loading.specs.spec_linking.Sets.{Files}
 use Rattle.wasm_decode.specs.Decoded.{Decodes}
-use Rattle.wasm_check.specs.Answers.{IsFirst}
+use Rattle.dyl_link.specs.wasm_check.Answers.{IsFirst}
 use Rattle.dyl_commands.specs.OneFile.{most_run, OfModule, OfBytes, TellsFile}
 use Rattle.dyl_commands.specs.Causes.{wants_inside}
 use Rattle.dyl_commands.specs.Fetched.{decode_fault, check_fault, OrMemory, IsOfSome}

@@ -1,17 +1,17 @@
 -- What is served where no set is linked, or no module is read.
 use Rattle.std.proofs.Common.{◌≡◌, ℕ, List, false, Ok, Err, refl, ◌∙◌, inl}
-use Rattle.dyl_outside.specs.Files.{FilesState}
-use Rattle.dyl_outside.specs.FileMap.{FileMap}
-use Rattle.dyl_outside.specs.Sink.{SinkState}
-use Rattle.spec_runtime.specs.Names.{HostNames}
+use Rattle.spec_hosts.specs.dyl_outside.Files.{FilesState}
+use Rattle.spec_hosts.specs.dyl_outside.FileMap.{FileMap}
+use Rattle.spec_hosts.specs.dyl_outside.Sink.{SinkState}
+use Rattle.spec_hosts.specs.spec_runtime.Names.{HostNames}
 use Rattle.spec_hosts.specs.Devices.{Devices}
 use Rattle.spec_hosts.specs.Hosted.{Embedder}
-use Rattle.spec_linking.specs.Sets as sets
-use Rattle.spec_linking.specs.Plans as plans
-use Rattle.spec_linking.specs.declared.fault.SetFault.{SetFault}
-use Rattle.spec_linking.specs.declared.fault.SetFault.TheVariants as set
-use Rattle.dyl_search.specs.declared.set.SetOptions.{SetOptions}
-use Rattle.dyl_search.specs.Gathers.{options_of}
+use Rattle.spec_loading.specs.spec_linking.Sets as sets
+use Rattle.spec_loading.specs.spec_linking.Plans as plans
+use Rattle.spec_loading.specs.spec_linking.declared.fault.SetFault.{SetFault}
+use Rattle.spec_loading.specs.spec_linking.declared.fault.SetFault.TheVariants as set
+use Rattle.dyl_link.specs.dyl_search.declared.set.SetOptions.{SetOptions}
+use Rattle.dyl_link.specs.dyl_search.Gathers.{options_of}
 use Rattle.dyl_link.specs.declared.options.LinkOptions.{LinkOptions}
 use Rattle.dyl_link.specs.Kept as links
 use Rattle.dyl_front.specs.declared.order.Order.TheVariants as order

@@ -1,13 +1,13 @@
 -- What comes of running a set that links.
 use Rattle.std.proofs.Common.{◌≡◌, ℕ, List, false, Some, Ok, refl, ◌∙◌, inl, inr}
 use Rattle.std.specs.FinMap.{get}
-use Rattle.dyl_outside.specs.FileMap.{FileMap}
-use Rattle.dyl_outside.specs.Files.{FilesState}
+use Rattle.spec_hosts.specs.dyl_outside.FileMap.{FileMap}
+use Rattle.spec_hosts.specs.dyl_outside.Files.{FilesState}
 use Rattle.spec_hosts.specs.Devices.{Devices}
 use Rattle.spec_hosts.specs.Hosted.{Embedder}
-use Rattle.spec_linking.specs.LinkedSets.{LinkedSet}
-use Rattle.dyl_search.specs.declared.set.SetOptions.{SetOptions}
-use Rattle.dyl_search.specs.Gathers.{options_of}
+use Rattle.spec_loading.specs.spec_linking.LinkedSets.{LinkedSet}
+use Rattle.dyl_link.specs.dyl_search.declared.set.SetOptions.{SetOptions}
+use Rattle.dyl_link.specs.dyl_search.Gathers.{options_of}
 use Rattle.dyl_link.specs.declared.options.LinkOptions.{LinkOptions}
 use Rattle.dyl_link.specs.Kept as links
 use Rattle.dyl_link.specs.Kept.{Kept}

@@ -1,23 +1,23 @@
 -- What telling of an outcome leaves of what is known of it.
 use Rattle.std.proofs.Common.{◌≡◌, ℕ, List, [], ◌∷◌, Bool, true, false, Option, Some, None, Result, Ok, Err, refl, sym, ap, ◌∙◌, subst, inl, inr}
 use Rattle.std.specs.Prelude.{IsSome}
-use Rattle.dyl_outside.specs.FileMap.{FileMap}
-use Rattle.dyl_outside.specs.Files.{FilesState}
-use Rattle.spec_runtime.specs.Names.{HostNames}
-use Rattle.spec_runtime.specs.Hosts.{HostCall}
-use Rattle.spec_runtime.specs.Memories.{MemoryInstance}
+use Rattle.spec_hosts.specs.dyl_outside.FileMap.{FileMap}
+use Rattle.spec_hosts.specs.dyl_outside.Files.{FilesState}
+use Rattle.spec_hosts.specs.spec_runtime.Names.{HostNames}
+use Rattle.spec_hosts.specs.spec_runtime.Hosts.{HostCall}
+use Rattle.spec_hosts.specs.spec_runtime.Memories.{MemoryInstance}
 use Rattle.spec_hosts.specs.declared.ran.Ran as ran
 use Rattle.spec_hosts.specs.Devices.{Devices}
 use Rattle.spec_hosts.specs.Hosted.{Embedder, OneOf, is_wasi, MayBegin, wants, BreaksOff}
-use Rattle.spec_execution.specs.OneModule.{module_system, module_run}
-use Rattle.spec_runs.specs.Systems.{event, run}
-use Rattle.spec_linking.specs.Sets as sets
-use Rattle.spec_linking.specs.Plans as plans
+use Rattle.spec_loading.specs.spec_execution.OneModule.{module_system, module_run}
+use Rattle.spec_hosts.specs.spec_runs.Systems.{event, run}
+use Rattle.spec_loading.specs.spec_linking.Sets as sets
+use Rattle.spec_loading.specs.spec_linking.Plans as plans
 use Rattle.spec_loading.specs.LoadedSet.{set_system, set_opening}
-use Rattle.dyl_outside.specs.declared.fault.IoFault.TheVariants as io
-use Rattle.dyl_outside.specs.Sink.{SinkState}
-use Rattle.dyl_search.specs.declared.set.SetOptions.{SetOptions}
-use Rattle.dyl_search.specs.Gathers.{options_of}
+use Rattle.spec_hosts.specs.dyl_outside.declared.fault.IoFault.TheVariants as io
+use Rattle.spec_hosts.specs.dyl_outside.Sink.{SinkState}
+use Rattle.dyl_link.specs.dyl_search.declared.set.SetOptions.{SetOptions}
+use Rattle.dyl_link.specs.dyl_search.Gathers.{options_of}
 use Rattle.dyl_link.specs.declared.options.LinkOptions.{LinkOptions}
 use Rattle.dyl_link.specs.Kept as links
 use Rattle.dyl_front.specs.declared.outcome.UsageKind.{UsageKind}

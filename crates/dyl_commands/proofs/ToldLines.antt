@@ -1,9 +1,9 @@
 -- What a put of a line leaves of the errors.
 use Rattle.std.proofs.Common.{◌≡◌, ℕ, List, Some, Result, Ok, Err, refl, sym, subst}
-use Rattle.dyl_outside.specs.declared.fault.IoFault.{IoFault}
-use Rattle.dyl_outside.specs.declared.fault.IoFault.TheVariants as io
-use Rattle.dyl_outside.specs.Faults.{FaultCount}
-use Rattle.dyl_outside.specs.Sink.{SinkState, Puts}
+use Rattle.spec_hosts.specs.dyl_outside.declared.fault.IoFault.{IoFault}
+use Rattle.spec_hosts.specs.dyl_outside.declared.fault.IoFault.TheVariants as io
+use Rattle.spec_hosts.specs.dyl_outside.Faults.{FaultCount}
+use Rattle.spec_hosts.specs.dyl_outside.Sink.{SinkState, Puts}
 use Rattle.spec_hosts.specs.Devices.{PutsLine}
 use Rattle.dyl_front.specs.declared.outcome.Outcome.{Outcome}
 use Rattle.dyl_front.specs.declared.outcome.Outcome.TheVariants.{Memory}

@@ -2,7 +2,7 @@
 use Rattle.std.proofs.Common.{◌≡◌, ℕ, Bool, true, false, cond, List, [], ◌∷◌, refl, ap}
 use Rattle.std.specs.Prelude.{codes}
 use Rattle.std.specs.Str.{bytes_eq}
-use Rattle.spec_runtime.specs.Names.{HostName, HostModule, no_names, host_module, module_match, change_module, with_function, with_names}
+use Rattle.spec_hosts.specs.spec_runtime.Names.{HostName, HostModule, no_names, host_module, module_match, change_module, with_function, with_names}
 use Rattle.spec_hosts.specs.Calls.{wasi_name, with_wasi}
 use Rattle.spec_hosts.specs.Laws.{run_names}
 use Rattle.dyl_gen.specs.Generated.{four_numbers}

@@ -1,21 +1,21 @@
 -- When an answer may come, whatever the files tell.
 use Rattle.std.specs.Prelude.{◌≡◌, ◌⊎◌, List, [], ℕ, Bool, true, false, Result, Ok, Err}
-use Rattle.spec_binary.specs.declared.fault.DecodeFault.TheVariants as decode
-use Rattle.spec_validation.specs.declared.fault.CheckFault.TheVariants as check
-use Rattle.spec_execution.specs.declared.fault.SingleFault.TheVariants as single
-use Rattle.spec_linking.specs.declared.fault.RecordFault.TheVariants as record_fault
-use Rattle.spec_linking.specs.declared.fault.LinkFault.{LinkFault}
-use Rattle.spec_linking.specs.declared.fault.LinkFault.TheVariants as link
-use Rattle.spec_linking.specs.declared.fault.SetFault.{SetFault}
-use Rattle.spec_linking.specs.declared.fault.SetFault.TheVariants as set
-use Rattle.spec_linking.specs.Sets.{main_name}
-use Rattle.spec_runtime.specs.Names.{HostNames}
+use Rattle.spec_reading.specs.spec_binary.declared.fault.DecodeFault.TheVariants as decode
+use Rattle.spec_loading.specs.spec_validation.declared.fault.CheckFault.TheVariants as check
+use Rattle.spec_loading.specs.spec_execution.declared.fault.SingleFault.TheVariants as single
+use Rattle.spec_loading.specs.spec_linking.declared.fault.RecordFault.TheVariants as record_fault
+use Rattle.spec_loading.specs.spec_linking.declared.fault.LinkFault.{LinkFault}
+use Rattle.spec_loading.specs.spec_linking.declared.fault.LinkFault.TheVariants as link
+use Rattle.spec_loading.specs.spec_linking.declared.fault.SetFault.{SetFault}
+use Rattle.spec_loading.specs.spec_linking.declared.fault.SetFault.TheVariants as set
+use Rattle.spec_loading.specs.spec_linking.Sets.{main_name}
+use Rattle.spec_hosts.specs.spec_runtime.Names.{HostNames}
 use Rattle.spec_merging.specs.declared.fault.MergeFault.TheVariants as merge
 use Rattle.spec_hosts.specs.declared.ran.Ran as ran
 use Rattle.dyl_gen.specs.declared.fault.GenFault.{GenFault}
 use Rattle.dyl_gen.specs.declared.fault.GenFault.TheVariants as gen
-use Rattle.dyl_outside.specs.Faults.{Rises}
-use Rattle.dyl_outside.specs.Files.{FilesState}
+use Rattle.spec_hosts.specs.dyl_outside.Faults.{Rises}
+use Rattle.spec_hosts.specs.dyl_outside.Files.{FilesState}
 use Rattle.dyl_front.specs.declared.outcome.UsageKind.{UsageKind}
 use Rattle.dyl_front.specs.declared.outcome.Outcome.{Outcome}
 use Rattle.dyl_front.specs.declared.outcome.Outcome.TheVariants.{Done, Ran, Usage, Set, Link, Merge, Single, Gen, WriteFault, Memory}

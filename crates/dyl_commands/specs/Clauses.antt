@@ -1,14 +1,14 @@
 -- What is said of the devices where a host table answers, in short words.
 use Rattle.std.specs.Prelude.{ℕ, List, Result, Ok}
 use Rattle.wasm_form.specs.declared.module.Module.{Module}
-use Rattle.dyl_outside.specs.Files.{FilesState}
-use Rattle.dyl_outside.specs.Source.{SourceState}
-use Rattle.dyl_outside.specs.Sink.{SinkState}
-use Rattle.dyl_outside.specs.Ambient.{AmbientState}
+use Rattle.spec_hosts.specs.dyl_outside.Files.{FilesState}
+use Rattle.spec_hosts.specs.dyl_outside.Source.{SourceState}
+use Rattle.spec_hosts.specs.dyl_outside.Sink.{SinkState}
+use Rattle.spec_hosts.specs.dyl_outside.Ambient.{AmbientState}
 use Rattle.spec_hosts.specs.Devices.{devices}
-use Rattle.host_table.specs.declared.entry.HostTable.{HostTable}
+use Rattle.dyl_link.specs.host_table.declared.entry.HostTable.{HostTable}
 use Rattle.host_calls.specs.Embedders.{embedder_of}
-use Rattle.dyl_search.specs.declared.set.SetOptions.{SetOptions}
+use Rattle.dyl_link.specs.dyl_search.declared.set.SetOptions.{SetOptions}
 use Rattle.dyl_link.specs.declared.options.LinkOptions.{LinkOptions}
 use Rattle.dyl_link.specs.Kept.{Kept}
 use Rattle.dyl_front.specs.declared.order.Order.{Order}

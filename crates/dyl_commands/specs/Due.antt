@@ -2,19 +2,19 @@
 -- place. Each command has its own rows, and no other outcome is ever due for it.
 use Rattle.std.specs.Prelude.{◌≡◌, ◌≢◌, ◌⊎◌, ◌<◌, ◌≤◌, ◌^◌, List, [], ℕ, Bool, true, false, Result, Ok, Err}
 use Rattle.wasm_form.specs.declared.module.Module.{Module}
-use Rattle.dyl_outside.specs.Faults.{Rose}
-use Rattle.dyl_outside.specs.Files.{FilesState}
-use Rattle.spec_runtime.specs.Names.{HostNames}
-use Rattle.spec_execution.specs.declared.fault.SingleFault.{SingleFault}
-use Rattle.spec_execution.specs.OneModule.{ModuleState, module_opening}
-use Rattle.spec_linking.specs.declared.fault.SetFault.TheVariants.{ReadFault}
-use Rattle.spec_linking.specs.Sets.{Files, SetOptions}
-use Rattle.spec_linking.specs.Gathering as gathering
-use Rattle.spec_linking.specs.Plans.{LinkOptions}
+use Rattle.spec_hosts.specs.dyl_outside.Faults.{Rose}
+use Rattle.spec_hosts.specs.dyl_outside.Files.{FilesState}
+use Rattle.spec_hosts.specs.spec_runtime.Names.{HostNames}
+use Rattle.spec_loading.specs.spec_execution.declared.fault.SingleFault.{SingleFault}
+use Rattle.spec_loading.specs.spec_execution.OneModule.{ModuleState, module_opening}
+use Rattle.spec_loading.specs.spec_linking.declared.fault.SetFault.TheVariants.{ReadFault}
+use Rattle.spec_loading.specs.spec_linking.Sets.{Files, SetOptions}
+use Rattle.spec_loading.specs.spec_linking.Gathering as gathering
+use Rattle.spec_loading.specs.spec_linking.Plans.{LinkOptions}
 use Rattle.spec_merging.specs.declared.fault.MergeFault.{MergeFault}
 use Rattle.spec_merging.specs.declared.fault.MergeFault.TheVariants as merge
 use Rattle.merge_whole.specs.Merges.{bulk}
-use Rattle.dyl_search.specs.Gathers.{options_of}
+use Rattle.dyl_link.specs.dyl_search.Gathers.{options_of}
 use Rattle.dyl_link.specs.Kept as links
 use Rattle.dyl_front.specs.declared.outcome.UsageKind.{UsageKind}
 use Rattle.dyl_front.specs.declared.outcome.Outcome.{Outcome}

@@ -3,14 +3,14 @@ use Rattle.std.specs.Prelude.{◌≡◌, ◌≤◌, ℕ, List, length, false, If
 use Rattle.std.specs.Option.{ForSome}
 use Rattle.std.specs.FinMap.{get}
 use Rattle.wasm_form.specs.declared.module.Module.{Module}
-use Rattle.dyl_outside.specs.Files.{FilesState}
-use Rattle.spec_binary.specs.declared.fault.DecodeFault.{DecodeFault}
-use Rattle.spec_binary.specs.declared.fault.DecodeFault.TheVariants as decode
-use Rattle.spec_validation.specs.declared.fault.CheckFault.{CheckFault}
-use Rattle.spec_validation.specs.declared.fault.CheckFault.TheVariants as check
-use Rattle.spec_linking.specs.declared.fault.SetFault.{SetFault}
-use Rattle.spec_linking.specs.declared.fault.SetFault.TheVariants.{Missing, ReadFault, Decode, Check, Memory}
-use Rattle.spec_linking.specs.Sets.{main_name}
+use Rattle.spec_hosts.specs.dyl_outside.Files.{FilesState}
+use Rattle.spec_reading.specs.spec_binary.declared.fault.DecodeFault.{DecodeFault}
+use Rattle.spec_reading.specs.spec_binary.declared.fault.DecodeFault.TheVariants as decode
+use Rattle.spec_loading.specs.spec_validation.declared.fault.CheckFault.{CheckFault}
+use Rattle.spec_loading.specs.spec_validation.declared.fault.CheckFault.TheVariants as check
+use Rattle.spec_loading.specs.spec_linking.declared.fault.SetFault.{SetFault}
+use Rattle.spec_loading.specs.spec_linking.declared.fault.SetFault.TheVariants.{Missing, ReadFault, Decode, Check, Memory}
+use Rattle.spec_loading.specs.spec_linking.Sets.{main_name}
 use Rattle.dyl_commands.specs.OneFile.{most_run, OfBytes, TellsFile}
 use Rattle.dyl_commands.specs.Causes.{FileCause, wants_inside}
 

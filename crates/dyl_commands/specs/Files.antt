@@ -1,17 +1,17 @@
 -- What an answer leaves of the files.
 use Rattle.std.specs.Prelude.{◌≡◌, ◌⊎◌, ℕ, List, Some, Result, Ok, IsSomeAnd}
 use Rattle.std.specs.FinMap.{get, insert}
-use Rattle.dyl_outside.specs.Faults.{Rose}
-use Rattle.dyl_outside.specs.FileMap.{FileMap, SameBut}
-use Rattle.dyl_outside.specs.Files.{FilesState}
-use Rattle.spec_runtime.specs.Names.{HostNames}
-use Rattle.spec_linking.specs.Sets.{ClosedSet, SetOptions}
-use Rattle.spec_linking.specs.Gathering.{IsGathered}
-use Rattle.spec_linking.specs.Plans.{LinkOptions}
-use Rattle.spec_linking.specs.Links.{Links}
+use Rattle.spec_hosts.specs.dyl_outside.Faults.{Rose}
+use Rattle.spec_hosts.specs.dyl_outside.FileMap.{FileMap, SameBut}
+use Rattle.spec_hosts.specs.dyl_outside.Files.{FilesState}
+use Rattle.spec_hosts.specs.spec_runtime.Names.{HostNames}
+use Rattle.spec_loading.specs.spec_linking.Sets.{ClosedSet, SetOptions}
+use Rattle.spec_loading.specs.spec_linking.Gathering.{IsGathered}
+use Rattle.spec_loading.specs.spec_linking.Plans.{LinkOptions}
+use Rattle.spec_loading.specs.spec_linking.Links.{Links}
 use Rattle.spec_loading.specs.Merged.{Merged}
 use Rattle.merge_whole.specs.Merges.{HasShape}
-use Rattle.dyl_search.specs.Gathers.{options_of}
+use Rattle.dyl_link.specs.dyl_search.Gathers.{options_of}
 use Rattle.dyl_link.specs.Kept as links
 use Rattle.dyl_front.specs.declared.outcome.UsageKind.{UsageKind}
 use Rattle.dyl_front.specs.declared.outcome.Outcome.{Outcome}

@@ -1,11 +1,11 @@
 -- What there is to say of the set of n members that is generated: that it links with so many pages, or that these are too few.
 use Rattle.std.specs.Prelude.{◌≡◌, ◌⊎◌, ◌<◌, ◌≤◌, ℕ, false}
 use Rattle.std.specs.FinMap.{get}
-use Rattle.dyl_outside.specs.FileMap.{FileMap}
-use Rattle.spec_runtime.specs.Names.{HostNames}
-use Rattle.spec_linking.specs.declared.fault.LinkFault.{LinkFault}
-use Rattle.spec_linking.specs.declared.fault.LinkFault.TheVariants.{MemoryLimit}
-use Rattle.spec_linking.specs.Plans.{LinkOptions}
+use Rattle.spec_hosts.specs.dyl_outside.FileMap.{FileMap}
+use Rattle.spec_hosts.specs.spec_runtime.Names.{HostNames}
+use Rattle.spec_loading.specs.spec_linking.declared.fault.LinkFault.{LinkFault}
+use Rattle.spec_loading.specs.spec_linking.declared.fault.LinkFault.TheVariants.{MemoryLimit}
+use Rattle.spec_loading.specs.spec_linking.Plans.{LinkOptions}
 use Rattle.dyl_gen.specs.declared.fault.GenFault.TheVariants.{Range}
 use Rattle.dyl_gen.specs.Files.{AreGenerated}
 use Rattle.dyl_gen.specs.Laws.{set_options}

@@ -1,13 +1,13 @@
 -- What there is to say of a set that is asked for: that it is gathered and links, or why not. It is the same for each command that takes one.
 use Rattle.std.specs.Prelude.{◌≡◌, ◌≤◌, ◌^◌, ℕ, Some, Ok, Err}
-use Rattle.spec_runtime.specs.Names.{HostNames}
-use Rattle.spec_linking.specs.declared.fault.LinkFault.{LinkFault}
-use Rattle.spec_linking.specs.declared.fault.SetFault.TheVariants.{ReadFault}
-use Rattle.spec_linking.specs.Sets.{Files, ClosedSet, SetOptions}
-use Rattle.spec_linking.specs.Gathering.{IsGathered, Tries}
-use Rattle.spec_linking.specs.Plans.{LinkOptions}
-use Rattle.spec_linking.specs.LinkedSets.{LinkedSet}
-use Rattle.spec_linking.specs.Links.{link_fault, Links}
+use Rattle.spec_hosts.specs.spec_runtime.Names.{HostNames}
+use Rattle.spec_loading.specs.spec_linking.declared.fault.LinkFault.{LinkFault}
+use Rattle.spec_loading.specs.spec_linking.declared.fault.SetFault.TheVariants.{ReadFault}
+use Rattle.spec_loading.specs.spec_linking.Sets.{Files, ClosedSet, SetOptions}
+use Rattle.spec_loading.specs.spec_linking.Gathering.{IsGathered, Tries}
+use Rattle.spec_loading.specs.spec_linking.Plans.{LinkOptions}
+use Rattle.spec_loading.specs.spec_linking.LinkedSets.{LinkedSet}
+use Rattle.spec_loading.specs.spec_linking.Links.{link_fault, Links}
 use Rattle.wasm_encode.specs.SectionSizes.{IsFirstTooLong}
 use Rattle.merge_whole.specs.Merges.{merged_module, bulk}
 use Rattle.dyl_front.specs.declared.outcome.Outcome.{Outcome}

@@ -1,11 +1,11 @@
 -- What there is to say of the file at a path that is run: of the file, of its bytes, and of the module that they spell.
 use Rattle.std.specs.Prelude.{◌≡◌, ◌≤◌, ◌<◌, ℕ, List, length, None, Some, IsSomeAnd, Result, Ok, Err}
 use Rattle.wasm_form.specs.declared.module.Module.{Module}
-use Rattle.spec_binary.specs.DecodeAnswers.{DecodeAnswer}
-use Rattle.spec_validation.specs.Faults as validation
-use Rattle.spec_linking.specs.declared.fault.SetFault.{SetFault}
-use Rattle.spec_linking.specs.declared.fault.SetFault.TheVariants.{Missing, ReadFault, Decode, Check, SetSize, Memory}
-use Rattle.spec_linking.specs.Sets.{Files, main_name}
+use Rattle.spec_reading.specs.spec_binary.DecodeAnswers.{DecodeAnswer}
+use Rattle.spec_loading.specs.spec_validation.Faults as validation
+use Rattle.spec_loading.specs.spec_linking.declared.fault.SetFault.{SetFault}
+use Rattle.spec_loading.specs.spec_linking.declared.fault.SetFault.TheVariants.{Missing, ReadFault, Decode, Check, SetSize, Memory}
+use Rattle.spec_loading.specs.spec_linking.Sets.{Files, main_name}
 
 -- the most bytes of a file that is run
 abbrev pub most_run : ℕ

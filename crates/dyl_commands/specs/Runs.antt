@@ -3,28 +3,28 @@ use Rattle.std.specs.Prelude.{◌≡◌, ◌⊎◌, ℕ, List, [], ◌∷◌, tr
 use Rattle.std.specs.Option.{ForSome}
 use Rattle.std.specs.FinMap.{get}
 use Rattle.wasm_form.specs.declared.module.Module.{Module}
-use Rattle.spec_validation.specs.Faults as validation
-use Rattle.spec_runtime.specs.Names.{HostNames}
-use Rattle.spec_execution.specs.OneModule.{ModuleState, module_opening}
-use Rattle.spec_linking.specs.Sets.{ClosedSet, SetOptions}
-use Rattle.spec_linking.specs.Gathering.{IsGathered, IsSet}
-use Rattle.spec_linking.specs.Plans.{LinkOptions}
-use Rattle.spec_linking.specs.LinkedSets.{LinkedSet}
-use Rattle.spec_linking.specs.Links.{Links}
+use Rattle.spec_loading.specs.spec_validation.Faults as validation
+use Rattle.spec_hosts.specs.spec_runtime.Names.{HostNames}
+use Rattle.spec_loading.specs.spec_execution.OneModule.{ModuleState, module_opening}
+use Rattle.spec_loading.specs.spec_linking.Sets.{ClosedSet, SetOptions}
+use Rattle.spec_loading.specs.spec_linking.Gathering.{IsGathered, IsSet}
+use Rattle.spec_loading.specs.spec_linking.Plans.{LinkOptions}
+use Rattle.spec_loading.specs.spec_linking.LinkedSets.{LinkedSet}
+use Rattle.spec_loading.specs.spec_linking.Links.{Links}
 use Rattle.spec_loading.specs.Loading.{loaded_too_deep}
 use Rattle.spec_loading.specs.LoadedSet.{set_loading, set_system, set_opening}
 use Rattle.spec_loading.specs.Merged.{Merged}
-use Rattle.dyl_outside.specs.declared.fault.IoFault.{IoFault}
-use Rattle.dyl_outside.specs.declared.fault.IoFault.TheVariants as io
-use Rattle.dyl_outside.specs.FileMap.{FileMap}
-use Rattle.dyl_outside.specs.Sink.{SinkState, Puts}
+use Rattle.spec_hosts.specs.dyl_outside.declared.fault.IoFault.{IoFault}
+use Rattle.spec_hosts.specs.dyl_outside.declared.fault.IoFault.TheVariants as io
+use Rattle.spec_hosts.specs.dyl_outside.FileMap.{FileMap}
+use Rattle.spec_hosts.specs.dyl_outside.Sink.{SinkState, Puts}
 use Rattle.spec_hosts.specs.declared.ran.Ran as ran
 use Rattle.spec_hosts.specs.Devices.{Devices, devices}
 use Rattle.spec_hosts.specs.Ends.{IsRunOf, IsCutShort}
 use Rattle.spec_hosts.specs.Hosted.{Embedder}
 use Rattle.wasm_exec.specs.Executed.{IsModuleRun, IsModuleCut, IsSetRun}
 use Rattle.dyl_gen.specs.Laws.{set_options}
-use Rattle.dyl_search.specs.Gathers.{options_of}
+use Rattle.dyl_link.specs.dyl_search.Gathers.{options_of}
 use Rattle.dyl_link.specs.Kept as links
 use Rattle.dyl_front.specs.Listing.{listing_of}
 use Rattle.dyl_front.specs.Summary.{summary_of}

@@ -3,26 +3,26 @@ use Rattle.std.specs.Prelude.{◌≡◌, ◌⊎◌, ℕ, List, [], false, Some, 
 use Rattle.std.specs.Option.{ForSome}
 use Rattle.std.specs.FinMap.{get, insert}
 use Rattle.wasm_form.specs.declared.module.Module.{Module}
-use Rattle.dyl_outside.specs.Faults.{Rises}
-use Rattle.dyl_outside.specs.FileMap.{FileMap, SameBut}
-use Rattle.dyl_outside.specs.Files.{FilesState}
-use Rattle.dyl_outside.specs.Sink.{SinkState, Puts}
-use Rattle.dyl_outside.specs.declared.fault.IoFault.{IoFault}
-use Rattle.dyl_outside.specs.declared.fault.IoFault.TheVariants as io
-use Rattle.spec_runtime.specs.Names.{HostNames}
-use Rattle.spec_execution.specs.declared.fault.SingleFault.TheVariants as single
-use Rattle.spec_execution.specs.OneModule.{ModuleState, module_opening}
+use Rattle.spec_hosts.specs.dyl_outside.Faults.{Rises}
+use Rattle.spec_hosts.specs.dyl_outside.FileMap.{FileMap, SameBut}
+use Rattle.spec_hosts.specs.dyl_outside.Files.{FilesState}
+use Rattle.spec_hosts.specs.dyl_outside.Sink.{SinkState, Puts}
+use Rattle.spec_hosts.specs.dyl_outside.declared.fault.IoFault.{IoFault}
+use Rattle.spec_hosts.specs.dyl_outside.declared.fault.IoFault.TheVariants as io
+use Rattle.spec_hosts.specs.spec_runtime.Names.{HostNames}
+use Rattle.spec_loading.specs.spec_execution.declared.fault.SingleFault.TheVariants as single
+use Rattle.spec_loading.specs.spec_execution.OneModule.{ModuleState, module_opening}
 use Rattle.spec_hosts.specs.Devices.{Devices}
 use Rattle.spec_hosts.specs.Hosted.{Embedder}
-use Rattle.spec_linking.specs.declared.fault.SetFault.{SetFault}
-use Rattle.spec_linking.specs.declared.fault.SetFault.TheVariants as set
-use Rattle.spec_linking.specs.declared.fault.LinkFault.{LinkFault}
-use Rattle.spec_linking.specs.declared.fault.LinkFault.TheVariants as link
-use Rattle.spec_linking.specs.Sets.{ClosedSet, SetOptions}
-use Rattle.spec_linking.specs.Gathering.{IsGathered}
-use Rattle.spec_linking.specs.Plans.{LinkOptions}
-use Rattle.spec_linking.specs.LinkedSets.{LinkedSet}
-use Rattle.spec_linking.specs.Links.{link_fault}
+use Rattle.spec_loading.specs.spec_linking.declared.fault.SetFault.{SetFault}
+use Rattle.spec_loading.specs.spec_linking.declared.fault.SetFault.TheVariants as set
+use Rattle.spec_loading.specs.spec_linking.declared.fault.LinkFault.{LinkFault}
+use Rattle.spec_loading.specs.spec_linking.declared.fault.LinkFault.TheVariants as link
+use Rattle.spec_loading.specs.spec_linking.Sets.{ClosedSet, SetOptions}
+use Rattle.spec_loading.specs.spec_linking.Gathering.{IsGathered}
+use Rattle.spec_loading.specs.spec_linking.Plans.{LinkOptions}
+use Rattle.spec_loading.specs.spec_linking.LinkedSets.{LinkedSet}
+use Rattle.spec_loading.specs.spec_linking.Links.{link_fault}
 use Rattle.spec_merging.specs.declared.fault.MergeFault.{MergeFault}
 use Rattle.spec_merging.specs.declared.fault.MergeFault.TheVariants as merge
 use Rattle.wasm_exec.specs.Executed as executed

@@ -1,7 +1,7 @@
 -- What is put to the errors.
 use Rattle.std.specs.Prelude.{◌≡◌, ◌⊎◌, IsSome, Result}
-use Rattle.dyl_outside.specs.declared.fault.IoFault.{IoFault}
-use Rattle.dyl_outside.specs.Sink.{SinkState, Puts}
+use Rattle.spec_hosts.specs.dyl_outside.declared.fault.IoFault.{IoFault}
+use Rattle.spec_hosts.specs.dyl_outside.Sink.{SinkState, Puts}
 use Rattle.spec_hosts.specs.Devices.{PutsLine}
 use Rattle.dyl_front.specs.declared.outcome.Outcome.{Outcome}
 use Rattle.dyl_front.specs.declared.outcome.Outcome.TheVariants.{Memory}

@@ -4,8 +4,8 @@ ghost use Rattle.dyl_front.specs.Lines.{line_of, outcome_text};
 ghost use Rattle.dyl_commands.specs.Told.{IsTold, TellsErrors};
 
 use dyl_front::{Outcome, line};
-use dyl_outside::{IoFault, Sink};
 use spec_hosts::RunEnd;
+use spec_hosts::dyl_outside::{IoFault, Sink};
 use std::alloc::Global;
 use wasm_form::Memory;
 

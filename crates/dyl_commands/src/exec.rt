@@ -9,11 +9,11 @@ ghost use Rattle.dyl_commands.specs.Clauses.{ModuleDoes, ExecWorks};
 use crate::module::read_module;
 use crate::sets::refused;
 use dyl_front::{Order, Outcome, owned};
-use dyl_outside::{Ambient, Files, Sink, Source};
-use host_table::HostTable;
-use spec_execution::SingleFault;
+use dyl_link::host_table::HostTable;
+use dyl_link::wasm_check::Checked;
+use spec_hosts::dyl_outside::{Ambient, Files, Sink, Source};
+use spec_loading::spec_execution::SingleFault;
 use std::alloc::Global;
-use wasm_check::Checked;
 use wasm_exec::execute;
 use wasm_form::{List, Memory, Text};
 

@@ -1,7 +1,7 @@
 // Merging a set.
 ghost use Rattle.std.specs.Prelude.{◌≡◌, ◌≤◌, ℕ, All, Ok};
 ghost use Rattle.host_calls.specs.Embedders.{names_of};
-ghost use Rattle.spec_linking.specs.LinkedSets.{LinkedSet};
+ghost use Rattle.spec_loading.specs.spec_linking.LinkedSets.{LinkedSet};
 ghost use Rattle.dyl_link.specs.Kept.{IsLinked};
 ghost use Rattle.merge_whole.specs.Merges.{IsSupported};
 ghost use Rattle.dyl_front.specs.Orders.{IsLinkInRange};
@@ -9,11 +9,11 @@ ghost use Rattle.dyl_commands.specs.Served.{Serves, StoresOutput, WritesMerged, 
 
 use crate::sets::linked_set;
 use dyl_front::{Order, Outcome};
+use dyl_link::dyl_search::SetOptions;
+use dyl_link::host_table::HostTable;
 use dyl_link::{LinkOptions, Linked};
-use dyl_outside::{Files, IoFault};
-use dyl_search::SetOptions;
-use host_table::HostTable;
 use merge_whole::merge_set;
+use spec_hosts::dyl_outside::{Files, IoFault};
 use spec_merging::MergeFault;
 use std::alloc::Global;
 

@@ -1,18 +1,18 @@
 // The module of a file that is run.
 ghost use Rattle.std.specs.Prelude.{◌≡◌, IfErr, false};
-ghost use Rattle.spec_binary.specs.WellFormed.{IsWellFormed};
-ghost use Rattle.spec_linking.specs.Sets.{main_name};
+ghost use Rattle.spec_reading.specs.spec_binary.WellFormed.{IsWellFormed};
+ghost use Rattle.spec_loading.specs.spec_linking.Sets.{main_name};
 ghost use Rattle.dyl_commands.specs.OneFile.{OfModule, OfBytes};
 ghost use Rattle.dyl_commands.specs.Causes.{wants_inside};
 ghost use Rattle.dyl_commands.specs.Fetched.{decode_fault, check_fault, OrMemory, IsMissing, IsUnread, Reads};
 
 use dyl_front::owned;
-use dyl_outside::{FileFault, Files};
-use spec_binary::DecodeFault;
-use spec_linking::SetFault;
-use spec_validation::CheckFault;
+use dyl_link::wasm_check::{Checked, check};
+use spec_hosts::dyl_outside::{FileFault, Files};
+use spec_loading::spec_linking::SetFault;
+use spec_loading::spec_validation::CheckFault;
+use spec_reading::spec_binary::DecodeFault;
 use std::alloc::Global;
-use wasm_check::{Checked, check};
 use wasm_decode::decode;
 use wasm_form::Module;
 

@@ -1,8 +1,8 @@
 // Listing a set.
 ghost use Rattle.std.specs.Prelude.{Ok};
-ghost use Rattle.spec_linking.specs.LinkedSets.{LinkedSet};
+ghost use Rattle.spec_loading.specs.spec_linking.LinkedSets.{LinkedSet};
 ghost use Rattle.host_calls.specs.Embedders.{names_of};
-ghost use Rattle.dyl_search.specs.Gathers.{options_of};
+ghost use Rattle.dyl_link.specs.dyl_search.Gathers.{options_of};
 ghost use Rattle.dyl_link.specs.Kept as links;
 ghost use Rattle.dyl_link.specs.Kept.{IsLinked};
 ghost use Rattle.dyl_front.specs.Orders.{IsLinkInRange};
@@ -11,10 +11,10 @@ ghost use Rattle.dyl_commands.specs.Served.{Serves, Lists};
 
 use crate::sets::linked_set;
 use dyl_front::{Order, Outcome, listing};
+use dyl_link::dyl_search::SetOptions;
+use dyl_link::host_table::HostTable;
 use dyl_link::{LinkOptions, Linked};
-use dyl_outside::{Files, IoFault, Sink};
-use dyl_search::SetOptions;
-use host_table::HostTable;
+use spec_hosts::dyl_outside::{Files, IoFault, Sink};
 use std::alloc::Global;
 
 /// Puts the listing of a linked set.

@@ -1,19 +1,19 @@
 // A set that is asked for: gathered and linked.
 ghost use Rattle.std.specs.Prelude.{◌≡◌};
-ghost use Rattle.spec_linking.specs.Gathering.{IsSet};
+ghost use Rattle.spec_loading.specs.spec_linking.Gathering.{IsSet};
 ghost use Rattle.host_calls.specs.Embedders.{names_of};
-ghost use Rattle.dyl_search.specs.Gathers.{options_of, set_of};
+ghost use Rattle.dyl_link.specs.dyl_search.Gathers.{options_of, set_of};
 ghost use Rattle.dyl_link.specs.Kept as links;
 ghost use Rattle.dyl_front.specs.Orders.{IsLinkInRange};
 ghost use Rattle.dyl_commands.specs.Linking.{linked};
 ghost use Rattle.dyl_commands.specs.Served.{Gets, LinksTo, set_outcome, link_outcome};
 
 use dyl_front::Outcome;
+use dyl_link::dyl_search::{ClosedSet, SetOptions, gather};
+use dyl_link::host_table::HostTable;
 use dyl_link::{LinkOptions, Linked, link};
-use dyl_outside::Files;
-use dyl_search::{ClosedSet, SetOptions, gather};
-use host_table::HostTable;
-use spec_linking::{LinkFault, SetFault};
+use spec_hosts::dyl_outside::Files;
+use spec_loading::spec_linking::{LinkFault, SetFault};
 use std::alloc::Global;
 use wasm_exec::host_names;
 

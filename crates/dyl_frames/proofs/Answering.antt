@@ -1,15 +1,15 @@
 -- An answer of a host function is taken by the machine as by the run.
 use Rattle.std.proofs.Common.{◌≡◌, ℕ, List, [], ◌∷◌, refl, ap, sym, ◌∙◌, subst, length, map}
 use Rattle.std.specs.Prelude.{reverse}
-use Rattle.wasm_runtime.specs.declared.Answer.{Answer}
-use Rattle.wasm_runtime.specs.declared.Answer.TheVariants.{Reply, Exit}
-use Rattle.wasm_runtime.specs.declared.Value.{Value}
-use Rattle.wasm_runtime.specs.declared.Value.TheVariants.{Num}
-use Rattle.spec_runtime.specs.Memories.{MemoryInstance}
-use Rattle.spec_runtime.specs.Hosts.{all_written}
-use Rattle.spec_execution.specs.Views.{View}
-use Rattle.spec_execution.specs.Runs.{Frame, Active, Marked, State, given, returned, stands, taken}
-use Rattle.spec_runs.specs.Systems.{Exited}
+use Rattle.spec_loading.specs.wasm_form.declared.runtime.Answer.{Answer}
+use Rattle.spec_loading.specs.wasm_form.declared.runtime.Answer.TheVariants.{Reply, Exit}
+use Rattle.spec_loading.specs.wasm_form.declared.runtime.Value.{Value}
+use Rattle.spec_loading.specs.wasm_form.declared.runtime.Value.TheVariants.{Num}
+use Rattle.spec_loading.specs.spec_runtime.Memories.{MemoryInstance}
+use Rattle.spec_loading.specs.spec_runtime.Hosts.{all_written}
+use Rattle.spec_loading.specs.spec_execution.Views.{View}
+use Rattle.spec_loading.specs.spec_execution.Runs.{Frame, Active, Marked, State, given, returned, stands, taken}
+use Rattle.spec_loading.specs.spec_runs.Systems.{Exited}
 use Rattle.wasm_view.specs.Seen.{Seen}
 use Rattle.wasm_step.specs.Moves.{between}
 use Rattle.wasm_machine.specs.Machines.{MachineState, IsOver, StandsAt, FitsAnswer, Received, Answered}

@@ -1,14 +1,14 @@
 -- The steps of the machine are those of the run.
 use Rattle.std.proofs.Common.{◌≡◌, ◌≢◌, inl, inr, ℕ, List, [], ◌∷◌, Option, Some, None, refl, ap, sym, ◌∙◌, subst, true, false}
 use Rattle.std.specs.Prelude.{IfSome, length, Result, Ok, Err, IfOk, OnOk}
-use Rattle.wasm_form.specs.declared.Memory.{Memory}
-use Rattle.wasm_form.specs.declared.runtime.LoaderCall.{LoaderCall}
+use Rattle.spec_loading.specs.wasm_form.declared.Memory.{Memory}
+use Rattle.spec_loading.specs.wasm_form.declared.runtime.LoaderCall.{LoaderCall}
 use Rattle.std.specs.Option.{option_map}
-use Rattle.spec_runs.specs.Systems.{Moving}
-use Rattle.spec_runtime.specs.Memories.{MemoryInstance}
-use Rattle.spec_execution.specs.Activations.{Activation, move}
-use Rattle.spec_execution.specs.Views.{View}
-use Rattle.spec_execution.specs.Runs.{is_running, Frame, Active, Marked, Next, Goes, Asks, Loads, Ends, Traps}
+use Rattle.spec_loading.specs.spec_runs.Systems.{Moving}
+use Rattle.spec_loading.specs.spec_runtime.Memories.{MemoryInstance}
+use Rattle.spec_loading.specs.spec_execution.Activations.{Activation, move}
+use Rattle.spec_loading.specs.spec_execution.Views.{View}
+use Rattle.spec_loading.specs.spec_execution.Runs.{is_running, Frame, Active, Marked, Next, Goes, Asks, Loads, Ends, Traps}
 use Rattle.wasm_step.specs.Moves.{Changes, AreSame, between}
 use Rattle.wasm_step.specs.declared.done.Done.{Done}
 use Rattle.wasm_step.specs.declared.done.Done.TheVariants as done

@@ -2,16 +2,16 @@
 use Rattle.std.proofs.Common.{◌≡◌, ℕ, ◌-◌, List, [], ◌∷◌, Option, Some, None, refl, ap, sym, ◌∙◌, subst, true, false, length, drop, arith}
 use Rattle.std.specs.Prelude.{slice_get, IfSome, reverse}
 use Rattle.std.specs.Option.{option_map}
-use Rattle.wasm_form.specs.declared.runtime.LoaderCall.{LoaderCall}
-use Rattle.wasm_form.specs.declared.runtime.Ref.{Ref}
-use Rattle.wasm_form.specs.declared.runtime.Ref.TheVariants.{Own, Loader, Host, Stub}
-use Rattle.wasm_runtime.specs.declared.Value.{Value}
-use Rattle.spec_binary.specs.Options.{◌>>=◌}
-use Rattle.spec_binary.proofs.Options.{each}
-use Rattle.spec_execution.specs.Values.{take_values}
-use Rattle.spec_runtime.specs.Memories.{MemoryInstance}
-use Rattle.spec_execution.specs.Views.{View}
-use Rattle.spec_execution.specs.Runs.{Frame, Marked, Next, Goes, Asks, Loads, Ends, Traps, call_own, call}
+use Rattle.spec_loading.specs.wasm_form.declared.runtime.LoaderCall.{LoaderCall}
+use Rattle.spec_loading.specs.wasm_form.declared.runtime.Ref.{Ref}
+use Rattle.spec_loading.specs.wasm_form.declared.runtime.Ref.TheVariants.{Own, Loader, Host, Stub}
+use Rattle.spec_loading.specs.wasm_form.declared.runtime.Value.{Value}
+use Rattle.spec_loading.specs.spec_binary.Options.{◌>>=◌}
+use Rattle.spec_loading.proofs.of_spec_binary.Options.{each}
+use Rattle.spec_loading.specs.spec_execution.Values.{take_values}
+use Rattle.spec_loading.specs.spec_runtime.Memories.{MemoryInstance}
+use Rattle.spec_loading.specs.spec_execution.Views.{View}
+use Rattle.spec_loading.specs.spec_execution.Runs.{Frame, Marked, Next, Goes, Asks, Loads, Ends, Traps, call_own, call}
 use Rattle.wasm_view.specs.Seen.{Seen}
 use Rattle.wasm_step.specs.Moves.{between}
 use Rattle.wasm_machine.specs.Stacks.{CallStack}

@@ -1,15 +1,15 @@
 -- What a function of the loader answers: a number, a trap, or a frame over the code that called it. A frame that is done gives its handle.
 use Rattle.std.proofs.Common.{◌≡◌, ◌⊎◌, inl, inr, ℕ, zero, suc, ◌+◌, ◌-◌, ◌<◌, List, [], ◌∷◌, ◌++◌, Option, Some, refl, ap, sym, ◌∙◌, subst, true, false, length, length-append, map, take, drop, arith, All}
 use Rattle.std.specs.Prelude.{slice_get, reverse}
-use Rattle.wasm_form.specs.declared.runtime.Trap.{Trap}
-use Rattle.spec_runs.specs.Systems.{Status, Trapped}
-use Rattle.spec_binary.specs.Options.{◌>>=◌}
-use Rattle.spec_binary.proofs.Lists.{slice_get-append-left, slice_get-append-last}
-use Rattle.spec_runtime.specs.Hosts.{HostCall}
-use Rattle.spec_runtime.specs.Memories.{MemoryInstance}
-use Rattle.spec_execution.specs.Views.{View}
-use Rattle.spec_execution.specs.Limits.{passes_limit}
-use Rattle.spec_execution.specs.Runs.{Frame, Active, Marked, is_running, stands}
+use Rattle.spec_loading.specs.wasm_form.declared.runtime.Trap.{Trap}
+use Rattle.spec_loading.specs.spec_runs.Systems.{Status, Trapped}
+use Rattle.spec_loading.specs.spec_binary.Options.{◌>>=◌}
+use Rattle.spec_loading.proofs.of_spec_binary.Lists.{slice_get-append-left, slice_get-append-last}
+use Rattle.spec_loading.specs.spec_runtime.Hosts.{HostCall}
+use Rattle.spec_loading.specs.spec_runtime.Memories.{MemoryInstance}
+use Rattle.spec_loading.specs.spec_execution.Views.{View}
+use Rattle.spec_loading.specs.spec_execution.Limits.{passes_limit}
+use Rattle.spec_loading.specs.spec_execution.Runs.{Frame, Active, Marked, is_running, stands}
 use Rattle.wasm_view.specs.Seen.{Seen}
 use Rattle.wasm_machine.specs.Stacks.{CallStack}
 use Rattle.wasm_machine.specs.Machines.{MachineState, IsOver, IsMarked, Marks, Unmarks, Received, ended}

@@ -1,26 +1,26 @@
 -- Code that calls a function of the loader waits on top, and what it gives are as many arguments as the function takes.
 use Rattle.std.proofs.Common.{◌≡◌, ℕ, List, [], ◌∷◌, Option, Some, None, Bool, true, false, refl, ap, length}
 use Rattle.std.specs.Prelude.{IfSome, reverse}
-use Rattle.wasm_form.specs.declared.types.FuncType.{FuncType}
-use Rattle.wasm_form.specs.declared.runtime.LoaderCall.{LoaderCall}
-use Rattle.wasm_form.specs.declared.runtime.LoaderCall.TheVariants.{Dlopen, Dlsym, Dlclose, Dlerror}
-use Rattle.wasm_form.specs.declared.runtime.Ref.{Ref}
-use Rattle.wasm_form.specs.declared.runtime.Ref.TheVariants.{Own, Loader, Host, Stub}
-use Rattle.wasm_form.specs.declared.runtime.Trap.TheVariants as trap
-use Rattle.wasm_runtime.specs.declared.Value.{Value}
-use Rattle.wasm_runtime.specs.declared.Value.TheVariants.{Num, Func}
-use Rattle.spec_runs.specs.Systems.{only_if}
-use Rattle.spec_binary.specs.Options.{◌>>=◌}
-use Rattle.spec_binary.specs.Indices.{nullary}
-use Rattle.spec_binary.proofs.Options.{each, either_way}
-use Rattle.spec_binary.specs.SameTypes.{same_function_type}
-use Rattle.spec_runtime.specs.Memories.{MemoryInstance}
-use Rattle.spec_runtime.specs.Tables.{entry_at}
-use Rattle.spec_execution.specs.Values.{take_values}
-use Rattle.spec_execution.specs.Activations.{Activation, Move, On, Calls, CallsEntry, Refers, Does, Leaves, Fails, Stuck, move}
-use Rattle.spec_execution.specs.Views.{View, type_of, loader_type, Effected, performed}
-use Rattle.spec_execution.specs.Views as effects
-use Rattle.spec_execution.specs.Runs.{Frame, Active, Marked, Next, Goes, Asks, Loads, Ends, Traps, Caller, is_running, call_own, call_host, call_loader, call, calling, call_entry, left_with, effected_with, carried_out}
+use Rattle.spec_loading.specs.wasm_form.declared.types.FuncType.{FuncType}
+use Rattle.spec_loading.specs.wasm_form.declared.runtime.LoaderCall.{LoaderCall}
+use Rattle.spec_loading.specs.wasm_form.declared.runtime.LoaderCall.TheVariants.{Dlopen, Dlsym, Dlclose, Dlerror}
+use Rattle.spec_loading.specs.wasm_form.declared.runtime.Ref.{Ref}
+use Rattle.spec_loading.specs.wasm_form.declared.runtime.Ref.TheVariants.{Own, Loader, Host, Stub}
+use Rattle.spec_loading.specs.wasm_form.declared.runtime.Trap.TheVariants as trap
+use Rattle.spec_loading.specs.wasm_form.declared.runtime.Value.{Value}
+use Rattle.spec_loading.specs.wasm_form.declared.runtime.Value.TheVariants.{Num, Func}
+use Rattle.spec_loading.specs.spec_runs.Systems.{only_if}
+use Rattle.spec_loading.specs.spec_binary.Options.{◌>>=◌}
+use Rattle.spec_loading.specs.spec_binary.Indices.{nullary}
+use Rattle.spec_loading.proofs.of_spec_binary.Options.{each, either_way}
+use Rattle.spec_loading.specs.spec_binary.SameTypes.{same_function_type}
+use Rattle.spec_loading.specs.spec_runtime.Memories.{MemoryInstance}
+use Rattle.spec_loading.specs.spec_runtime.Tables.{entry_at}
+use Rattle.spec_loading.specs.spec_execution.Values.{take_values}
+use Rattle.spec_loading.specs.spec_execution.Activations.{Activation, Move, On, Calls, CallsEntry, Refers, Does, Leaves, Fails, Stuck, move}
+use Rattle.spec_loading.specs.spec_execution.Views.{View, type_of, loader_type, Effected, performed}
+use Rattle.spec_loading.specs.spec_execution.Views as effects
+use Rattle.spec_loading.specs.spec_execution.Runs.{Frame, Active, Marked, Next, Goes, Asks, Loads, Ends, Traps, Caller, is_running, call_own, call_host, call_loader, call, calling, call_entry, left_with, effected_with, carried_out}
 use Rattle.wasm_machine.specs.Machines.{next_of, first_of, second_of}
 use Rattle.dyl_frames.specs.Cores.{loader_arguments}
 

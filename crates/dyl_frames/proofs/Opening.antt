@@ -3,10 +3,10 @@ use Rattle.std.proofs.Common.{◌≡◌, ◌<◌, ℕ, zero, suc, List, [], ◌�
 use Rattle.std.specs.Prelude.{slice_get, reverse, replicate}
 use Rattle.std.proofs.lemmas.List.{length-replicate}
 use Rattle.std.proofs.lemmas.List.Elements.{All-nil, All-map}
-use Rattle.spec_execution.specs.Views.{View}
-use Rattle.spec_execution.specs.Ranges.{IsFrameInRange, IsWhole, HoldsAll}
-use Rattle.spec_execution.specs.Runs.{Frame, Marked}
-use Rattle.spec_safety.proofs.StepsInRange.{All-reverse}
+use Rattle.spec_loading.specs.spec_execution.Views.{View}
+use Rattle.spec_loading.specs.spec_execution.Ranges.{IsFrameInRange, IsWhole, HoldsAll}
+use Rattle.spec_loading.specs.spec_execution.Runs.{Frame, Marked}
+use Rattle.spec_loading.proofs.of_spec_safety.StepsInRange.{All-reverse}
 use Rattle.wasm_view.specs.Seen.{Seen}
 use Rattle.wasm_machine.specs.Stacks.{CallStack, empty_stack}
 use Rattle.wasm_machine.specs.Machines.{MachineState, IsOver, Marks}

@@ -4,17 +4,17 @@ use Rattle.std.specs.Prelude.{slice_get, slice_set, nat_lt, nat_eq, if◌then◌
 use Rattle.std.specs.Option.{option_map}
 use Rattle.std.proofs.lemmas.Option.{slice_get-get_or}
 use Rattle.std.proofs.lemmas.List.Elements.{All-head, All-tail, All-nil}
-use Rattle.wasm_form.specs.declared.runtime.Ref.{Ref}
-use Rattle.wasm_form.specs.declared.runtime.Trap.{Trap}
-use Rattle.spec_binary.specs.Options.{◌>>=◌}
-use Rattle.spec_runtime.specs.Memories.{MemoryInstance}
-use Rattle.spec_binary.specs.Indices.{nullary}
-use Rattle.spec_execution.specs.Views.{View, type_of}
-use Rattle.spec_execution.specs.Instances.{host_type}
-use Rattle.spec_execution.specs.Limits.{passes_limit}
-use Rattle.spec_execution.specs.Runs.{Frame, Marked, Next, Loads, call}
-use Rattle.spec_execution.specs.Ranges.{IsFrameInRange}
-use Rattle.spec_execution.specs.Segments.{Performed}
+use Rattle.spec_loading.specs.wasm_form.declared.runtime.Ref.{Ref}
+use Rattle.spec_loading.specs.wasm_form.declared.runtime.Trap.{Trap}
+use Rattle.spec_loading.specs.spec_binary.Options.{◌>>=◌}
+use Rattle.spec_loading.specs.spec_runtime.Memories.{MemoryInstance}
+use Rattle.spec_loading.specs.spec_binary.Indices.{nullary}
+use Rattle.spec_loading.specs.spec_execution.Views.{View, type_of}
+use Rattle.spec_loading.specs.spec_execution.Instances.{host_type}
+use Rattle.spec_loading.specs.spec_execution.Limits.{passes_limit}
+use Rattle.spec_loading.specs.spec_execution.Runs.{Frame, Marked, Next, Loads, call}
+use Rattle.spec_loading.specs.spec_execution.Ranges.{IsFrameInRange}
+use Rattle.spec_loading.specs.spec_execution.Segments.{Performed}
 use Rattle.wasm_view.specs.Seen.{Seen}
 use Rattle.wasm_step.specs.Moves.{Changes}
 use Rattle.wasm_machine.specs.Machines.{MachineState, IsOver, IsMarked, IsAsked, Told, Begins, ended}

@@ -3,18 +3,18 @@ use Rattle.std.proofs.Common.{◌≡◌, ℕ, List, [], Option, Some, None, refl
 use Rattle.std.specs.Prelude.{IfSome}
 use Rattle.std.specs.Option.{option_map}
 use Rattle.std.proofs.lemmas.Option.{same_Some}
-use Rattle.wasm_form.specs.declared.types.FuncType.{FuncType}
-use Rattle.wasm_form.specs.declared.runtime.Trap.{Trap}
-use Rattle.wasm_runtime.specs.declared.Asked.{Asked}
-use Rattle.spec_runs.specs.Systems.{Status, Moving, Waits, Returned, Trapped}
-use Rattle.spec_binary.specs.Options.{◌>>=◌}
-use Rattle.spec_runtime.specs.Names.{HostName}
-use Rattle.spec_runtime.specs.Hosts.{HostCall}
-use Rattle.spec_runtime.specs.Memories.{MemoryInstance}
-use Rattle.spec_execution.specs.Views.{View}
-use Rattle.spec_execution.specs.Instances.{host_type}
-use Rattle.spec_execution.specs.Limits.{is_deep, passes_limit}
-use Rattle.spec_execution.specs.Runs.{Frame, Next, Goes, Asks, Loads, Ends, Traps, stands}
+use Rattle.spec_loading.specs.wasm_form.declared.types.FuncType.{FuncType}
+use Rattle.spec_loading.specs.wasm_form.declared.runtime.Trap.{Trap}
+use Rattle.spec_loading.specs.wasm_form.declared.runtime.Asked.{Asked}
+use Rattle.spec_loading.specs.spec_runs.Systems.{Status, Moving, Waits, Returned, Trapped}
+use Rattle.spec_loading.specs.spec_binary.Options.{◌>>=◌}
+use Rattle.spec_loading.specs.spec_runtime.Names.{HostName}
+use Rattle.spec_loading.specs.spec_runtime.Hosts.{HostCall}
+use Rattle.spec_loading.specs.spec_runtime.Memories.{MemoryInstance}
+use Rattle.spec_loading.specs.spec_execution.Views.{View}
+use Rattle.spec_loading.specs.spec_execution.Instances.{host_type}
+use Rattle.spec_loading.specs.spec_execution.Limits.{is_deep, passes_limit}
+use Rattle.spec_loading.specs.spec_execution.Runs.{Frame, Next, Goes, Asks, Loads, Ends, Traps, stands}
 use Rattle.wasm_step.specs.Moves.{Changes}
 use Rattle.wasm_machine.specs.Machines.{MachineState, IsAsked, LeavesCode, Told, StandsAt}
 use Rattle.wasm_machine.specs.Marks.{marked_stack, marked_next, KeepsOver}
@@ -26,7 +26,7 @@ use Rattle.wasm_machine.proofs.Marked.{marked_deep}
 use Rattle.spec_loading.specs.Phases.{LoaderFrame}
 use Rattle.spec_loading.specs.Loading.{Loading, LoadedState, LoaderAnswer, Comes, comes_to, loaded_next, loaded_step, loaded_too_deep, with_run, went, answered, came_to}
 use Rattle.dyl_frames.specs.declared.frames.Core.{Core}
-use Rattle.wasm_form.specs.declared.runtime.LoaderCall.{LoaderCall}
+use Rattle.spec_loading.specs.wasm_form.declared.runtime.LoaderCall.{LoaderCall}
 use Rattle.dyl_frames.specs.declared.frames.Pending.{Pending}
 use Rattle.dyl_frames.specs.Steps.{answer_of, next_answer}
 use Rattle.dyl_frames.specs.Cores.{frame_at, LiesUnder, loader_arguments, IsLive, IsState, StandsAs, Steps, is_made}

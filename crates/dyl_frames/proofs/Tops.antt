@@ -3,7 +3,7 @@ use Rattle.std.proofs.Common.{◌≡◌, ◌≢◌, ◌⊎◌, inl, inr, ℕ, ze
 use Rattle.std.specs.Prelude.{slice_get, slice_set, reverse}
 use Rattle.std.specs.Vec.{with_item}
 use Rattle.std.proofs.lemmas.Option.{slice_get_read}
-use Rattle.spec_execution.specs.Runs.{Frame, Active, Marked}
+use Rattle.spec_loading.specs.spec_execution.Runs.{Frame, Active, Marked}
 use Rattle.wasm_machine.specs.Machines.{IsMarked}
 use Rattle.wasm_machine.specs.Marks.{marked_stack, AreMarksOver}
 use Rattle.wasm_machine.specs.declared.machine.Standing.{Standing}

@@ -1,10 +1,10 @@
 -- What is told of the steps of a run that a loader opens.
 use Rattle.std.specs.Prelude.{◌≡◌, ℕ, Option, Some, None, true, false}
-use Rattle.spec_runs.specs.Systems.{Status, Moving, Waits, Returned, Exited, Trapped}
-use Rattle.wasm_form.specs.declared.runtime.Trap.{Trap}
-use Rattle.spec_runtime.specs.Hosts.{HostName, HostCall}
-use Rattle.spec_binary.specs.Options.{◌>>=◌}
-use Rattle.spec_execution.specs.Runs.{is_running, Next, Loads}
+use Rattle.spec_loading.specs.spec_runs.Systems.{Status, Moving, Waits, Returned, Exited, Trapped}
+use Rattle.spec_loading.specs.wasm_form.declared.runtime.Trap.{Trap}
+use Rattle.spec_loading.specs.spec_runtime.Hosts.{HostName, HostCall}
+use Rattle.spec_loading.specs.spec_binary.Options.{◌>>=◌}
+use Rattle.spec_loading.specs.spec_execution.Runs.{is_running, Next, Loads}
 use Rattle.spec_loading.specs.Phases.{LoaderFrame}
 use Rattle.spec_loading.specs.Loading.{Loading, LoadedState, LoaderAnswer, loaded_next, loaded_step, loaded_too_deep}
 use Rattle.wasm_machine.specs.declared.event.Event.{Event}

@@ -2,9 +2,9 @@
 ghost use Rattle.std.specs.Prelude.{◌≡◌, ◌≢◌, ◌<◌, ◌≤◌, ◌+◌, [], length, reverse, map, true, false, Some, None, IfOk, OnOk, IfSome, slice_get};
 ghost use Rattle.std.specs.List.{All};
 ghost use Rattle.std.specs.Option.{option_map};
-ghost use Rattle.spec_binary.specs.Indices.{nullary};
-ghost use Rattle.spec_execution.specs.Views.{type_of as type_seen};
-ghost use Rattle.spec_execution.specs.Ranges.{IsWhole, HoldsAll};
+ghost use Rattle.spec_loading.specs.spec_binary.Indices.{nullary};
+ghost use Rattle.spec_loading.specs.spec_execution.Views.{type_of as type_seen};
+ghost use Rattle.spec_loading.specs.spec_execution.Ranges.{IsWhole, HoldsAll};
 ghost use Rattle.wasm_view.specs.Seen.{Seen};
 ghost use Rattle.wasm_machine.specs.Machines.{IsMarked};
 ghost use Rattle.spec_loading.specs.Phases.{stage_of};
@@ -19,8 +19,8 @@ ghost use Rattle.dyl_frames.specs.Cores.{AnsweredFrom, gives_number, opens_membe
 
 use crate::task::{After, Phase, Task};
 use dyl_world::{Errors, Stages};
+use spec_loading::wasm_form::{Memory, Ref, Trap};
 use std::alloc::Global;
-use wasm_form::{Memory, Ref, Trap};
 use wasm_machine::{Answer, Done, Event, Machine, Standing, View};
 
 // A frame of the loader: the tasks that are left, the next one last, and what follows them.

@@ -2,7 +2,7 @@
 use Rattle.std.proofs.Common.{◌≡◌, ℕ, suc, ◌+◌, Bool, true, false, List, [], ◌∷◌, find, Option, Some, None, unwrap_or, slice_get, refl, ap, sym, ◌∙◌, zero-add, arith}
 use Rattle.std.specs.List.{position_from}
 use Rattle.std.specs.Option.{option_map}
-use Rattle.spec_binary.specs.Options.{◌>>=◌}
+use Rattle.spec_hosts.specs.spec_binary.Options.{◌>>=◌}
 use Rattle.spec_linking.specs.Definitions.{or_other}
 use Rattle.spec_linking.specs.Sets.{Member}
 use Rattle.dyl_front.specs.Listing.{is_name_of, function_name}

@@ -2,19 +2,19 @@
 use Rattle.std.proofs.Common.{◌≡◌, ◌≤◌, ◌<◌, ℕ, suc, ◌+◌, ◌*◌, ◌^◌, List, [], ◌∷◌, ◌++◌, length, map, Option, Some, unwrap_or, slice_get, refl, sym, ap, ap₂, ◌∙◌, subst, arith}
 use Rattle.std.specs.Prelude.{codes}
 use Rattle.std.proofs.lemmas.List.{length-map}
-use Rattle.wasm_form.specs.declared.module.Import.{Import}
-use Rattle.wasm_form.specs.declared.runtime.Ref.{Ref}
-use Rattle.wasm_form.specs.declared.runtime.Ref.TheVariants.{Own}
-use Rattle.spec_binary.specs.IndexSpaces.{functions_in, globals_in}
-use Rattle.spec_binary.specs.Options.{◌>>=◌}
-use Rattle.spec_runtime.specs.Memories.{page_size}
-use Rattle.spec_runtime.specs.Names.{HostName}
+use Rattle.spec_merging.specs.wasm_form.declared.module.Import.{Import}
+use Rattle.spec_merging.specs.wasm_form.declared.runtime.Ref.{Ref}
+use Rattle.spec_merging.specs.wasm_form.declared.runtime.Ref.TheVariants.{Own}
+use Rattle.spec_hosts.specs.spec_binary.IndexSpaces.{functions_in, globals_in}
+use Rattle.spec_hosts.specs.spec_binary.Options.{◌>>=◌}
+use Rattle.spec_hosts.specs.spec_runtime.Memories.{page_size}
+use Rattle.spec_hosts.specs.spec_runtime.Names.{HostName}
 use Rattle.spec_linking.specs.Sets.{Member}
 use Rattle.spec_linking.specs.Plans.{Plan, Region, bases, rounded_up, region_of, regions_of}
 use Rattle.spec_linking.specs.Imports.{use_of}
 use Rattle.spec_linking.specs.LinkedSets.{LinkedSet, hosts_of, function_ref}
 use Rattle.spec_linking.specs.Slots.{linked_plan, slot_of, fresh_of, fresh_from, fresh_slots, table_entries, heap_end, imported_number}
-use Rattle.dyl_search.specs.Gathers.{set_of, member_of}
+use Rattle.dyl_link.specs.dyl_search.Gathers.{set_of, member_of}
 use Rattle.dyl_link.specs.Kept.{Kept, KeptMember, IsLinked, slot_in, function_in, cell_in}
 use Rattle.dyl_front.specs.Listing.{Functions, Cells, slot_line, slot_lines, bind_as, import_lines, bind_lines, plan_lines, module_lines, lines_of, listing_of}
 use Rattle.dyl_front.specs.KeptListing.{fresh_of_members, listed_in, HasMembers}

@@ -9,7 +9,7 @@ use Rattle.dyl_words.specs.declared.names.CommandName.{CommandName}
 use Rattle.dyl_words.specs.declared.names.CommandName.TheVariants as command
 use Rattle.dyl_words.proofs.ZeroFree.{asked_free}
 use Rattle.dyl_link.specs.declared.options.LinkOptions.{LinkOptions}
-use Rattle.dyl_search.specs.declared.set.SetOptions.{SetOptions}
+use Rattle.dyl_link.specs.dyl_search.declared.set.SetOptions.{SetOptions}
 use Rattle.dyl_front.specs.declared.outcome.Opt.{Opt}
 use Rattle.dyl_front.specs.declared.outcome.Opt.TheVariants.{Dl, Path, Pages, Stack, Steps, N}
 use Rattle.dyl_front.specs.declared.outcome.UsageKind.{UsageKind}

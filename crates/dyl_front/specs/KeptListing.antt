@@ -2,13 +2,13 @@
 use Rattle.std.specs.Prelude.{◌≡◌, ◌<◌, ◌≤◌, ℕ, ◌+◌, ◌*◌, List, [], ◌∷◌, ◌++◌, length, map, Bool, false, nat_eq, Option, Some, None, unwrap_or, slice_get, slice_index_or}
 use Rattle.std.specs.List.{position_from}
 use Rattle.std.specs.Option.{option_map}
-use Rattle.wasm_form.specs.declared.module.Export.{Export}
-use Rattle.wasm_form.specs.declared.runtime.Ref.{Ref}
-use Rattle.wasm_form.specs.declared.runtime.Ref.TheVariants.{Own}
-use Rattle.spec_binary.specs.Options.{◌>>=◌}
-use Rattle.spec_runtime.specs.Memories.{page_size}
+use Rattle.spec_merging.specs.wasm_form.declared.module.Export.{Export}
+use Rattle.spec_merging.specs.wasm_form.declared.runtime.Ref.{Ref}
+use Rattle.spec_merging.specs.wasm_form.declared.runtime.Ref.TheVariants.{Own}
+use Rattle.spec_hosts.specs.spec_binary.Options.{◌>>=◌}
+use Rattle.spec_hosts.specs.spec_runtime.Memories.{page_size}
 use Rattle.spec_linking.specs.Sets.{Member}
-use Rattle.dyl_search.specs.Gathers.{set_of}
+use Rattle.dyl_link.specs.dyl_search.Gathers.{set_of}
 use Rattle.dyl_link.specs.Kept.{Kept, KeptMember, slot_in, function_in, cell_in}
 use Rattle.dyl_front.specs.Listing.{Listed, is_name_of}
 

@@ -1,24 +1,24 @@
 -- The line that is put to the errors for each outcome.
 use Rattle.std.specs.Option.{option_map}
 use Rattle.std.specs.Prelude.{ℕ, ◌+◌, ◌/◌, ◌%◌, List, [], ◌∷◌, ◌++◌, flat_map, codes, decimal, Bool, ◌&&◌, nat_eq, nat_lt, not, if◌then◌else◌, Option, Some, None}
-use Rattle.spec_binary.specs.declared.fault.DecodeFault.{DecodeFault}
-use Rattle.spec_binary.specs.declared.fault.DecodeFault.TheVariants as decode
+use Rattle.spec_hosts.specs.spec_binary.declared.fault.DecodeFault.{DecodeFault}
+use Rattle.spec_hosts.specs.spec_binary.declared.fault.DecodeFault.TheVariants as decode
 use Rattle.spec_linking.specs.declared.fault.RecordFault.{RecordFault}
 use Rattle.spec_linking.specs.declared.fault.RecordFault.TheVariants as record_faults
 use Rattle.spec_linking.specs.declared.fault.Kind.{Kind}
 use Rattle.spec_linking.specs.declared.fault.Kind.TheVariants as kind
 use Rattle.spec_linking.specs.declared.fault.LinkFault.{LinkFault}
 use Rattle.spec_linking.specs.declared.fault.LinkFault.TheVariants as link
-use Rattle.spec_validation.specs.declared.fault.Place.{Place}
-use Rattle.spec_validation.specs.declared.fault.Place.TheVariants as place
-use Rattle.spec_validation.specs.declared.fault.Field.{Field}
-use Rattle.spec_validation.specs.declared.fault.Field.TheVariants as field
-use Rattle.spec_validation.specs.declared.fault.CheckFault.{CheckFault}
-use Rattle.spec_validation.specs.declared.fault.CheckFault.TheVariants as check
-use Rattle.wasm_form.specs.declared.runtime.Trap.{Trap}
-use Rattle.wasm_form.specs.declared.runtime.Trap.TheVariants as trap
-use Rattle.spec_execution.specs.declared.fault.SingleFault.{SingleFault}
-use Rattle.spec_execution.specs.declared.fault.SingleFault.TheVariants as single
+use Rattle.spec_linking.specs.spec_validation.declared.fault.Place.{Place}
+use Rattle.spec_linking.specs.spec_validation.declared.fault.Place.TheVariants as place
+use Rattle.spec_linking.specs.spec_validation.declared.fault.Field.{Field}
+use Rattle.spec_linking.specs.spec_validation.declared.fault.Field.TheVariants as field
+use Rattle.spec_linking.specs.spec_validation.declared.fault.CheckFault.{CheckFault}
+use Rattle.spec_linking.specs.spec_validation.declared.fault.CheckFault.TheVariants as check
+use Rattle.spec_merging.specs.wasm_form.declared.runtime.Trap.{Trap}
+use Rattle.spec_merging.specs.wasm_form.declared.runtime.Trap.TheVariants as trap
+use Rattle.spec_linking.specs.spec_execution.declared.fault.SingleFault.{SingleFault}
+use Rattle.spec_linking.specs.spec_execution.declared.fault.SingleFault.TheVariants as single
 use Rattle.spec_hosts.specs.declared.ran.RunEnd.{RunEnd}
 use Rattle.spec_hosts.specs.declared.ran.RunEnd.TheVariants as end
 use Rattle.spec_merging.specs.declared.fault.MergeFault.{MergeFault}

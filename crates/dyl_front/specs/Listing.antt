@@ -2,16 +2,16 @@
 use Rattle.std.specs.Prelude.{ℕ, ◌+◌, List, [], ◌∷◌, ◌++◌, length, flat_map, Bool, false, not, ◌&&◌, nat_eq, codes, decimal, Option, Some, None, unwrap_or, slice_get}
 use Rattle.std.specs.List.{find}
 use Rattle.std.specs.Option.{option_map}
-use Rattle.wasm_form.specs.declared.module.Import.{Import}
-use Rattle.wasm_form.specs.declared.module.Export.{Export}
-use Rattle.wasm_form.specs.declared.module.ExportDesc.{ExportDesc}
-use Rattle.wasm_form.specs.declared.module.ExportDesc.TheVariants as desc
-use Rattle.wasm_form.specs.declared.runtime.LoaderCall.{LoaderCall}
-use Rattle.wasm_form.specs.declared.runtime.LoaderCall.TheVariants.{Dlopen, Dlsym, Dlclose, Dlerror}
-use Rattle.wasm_form.specs.declared.runtime.Ref.{Ref}
-use Rattle.wasm_form.specs.declared.runtime.Ref.TheVariants.{Own, Loader, Host, Stub}
-use Rattle.spec_binary.specs.IndexSpaces.{functions_in, globals_in}
-use Rattle.spec_runtime.specs.Names.{HostName}
+use Rattle.spec_merging.specs.wasm_form.declared.module.Import.{Import}
+use Rattle.spec_merging.specs.wasm_form.declared.module.Export.{Export}
+use Rattle.spec_merging.specs.wasm_form.declared.module.ExportDesc.{ExportDesc}
+use Rattle.spec_merging.specs.wasm_form.declared.module.ExportDesc.TheVariants as desc
+use Rattle.spec_merging.specs.wasm_form.declared.runtime.LoaderCall.{LoaderCall}
+use Rattle.spec_merging.specs.wasm_form.declared.runtime.LoaderCall.TheVariants.{Dlopen, Dlsym, Dlclose, Dlerror}
+use Rattle.spec_merging.specs.wasm_form.declared.runtime.Ref.{Ref}
+use Rattle.spec_merging.specs.wasm_form.declared.runtime.Ref.TheVariants.{Own, Loader, Host, Stub}
+use Rattle.spec_hosts.specs.spec_binary.IndexSpaces.{functions_in, globals_in}
+use Rattle.spec_hosts.specs.spec_runtime.Names.{HostName}
 use Rattle.spec_linking.specs.Sets.{Member}
 use Rattle.spec_linking.specs.Plans.{Plan, stack_end, texts_size}
 use Rattle.spec_linking.specs.Definitions.{is_one_of, reserved_names}

@@ -1,18 +1,18 @@
 // The lines of what each import is.
 ghost use Rattle.std.specs.Prelude.{◌≡◌, ◌++◌, ◌<◌, ◌≤◌, ◌^◌, codes, decimal, length, IfOk, OnOk, string_bytes};
-ghost use Rattle.spec_binary.specs.IndexSpaces.{functions_in, globals_in};
+ghost use Rattle.spec_hosts.specs.spec_binary.IndexSpaces.{functions_in, globals_in};
 ghost use Rattle.spec_linking.specs.Imports as imports;
-ghost use Rattle.dyl_search.specs.Gathers.{set_of};
+ghost use Rattle.dyl_link.specs.dyl_search.Gathers.{set_of};
 ghost use Rattle.dyl_link.specs.Kept.{function_in, cell_in};
 ghost use Rattle.dyl_front.specs.Listing.{space, line_end, bind_line, function_bind, cell_bind, bind_as, import_lines, bind_lines};
 ghost use Rattle.dyl_front.specs.KeptListing.{HasMembers};
 
 use crate::lines::put_around;
 use crate::slots::place_text;
-use dyl_imports::{Use, use_of};
 use dyl_link::Linked;
+use dyl_link::dyl_imports::{Use, use_of};
+use spec_merging::wasm_form::{Import, ImportDesc, Memory, Ref};
 use std::alloc::Global;
-use wasm_form::{Import, ImportDesc, Memory, Ref};
 
 /// The line of an import up to its name.
 fn bind_start(alloc: Global, m: u32, kind: &str) -> Result<String, Memory>

@@ -1,14 +1,14 @@
 // What is told of a file that is no member of a set.
 ghost use Rattle.std.specs.Prelude.{◌≡◌, ◌++◌, IfOk, OnOk, string_bytes};
-ghost use Rattle.spec_validation.specs.declared.fault.CheckFault.TheVariants as check;
+ghost use Rattle.spec_linking.specs.spec_validation.declared.fault.CheckFault.TheVariants as check;
 ghost use Rattle.dyl_front.specs.Lines.{decode_text, record_text, opcode_text, place_text, field_text, check_text, set_text};
 
 use crate::put::{put_escaped, put_hex, put_text};
-use spec_binary::DecodeFault;
+use spec_hosts::spec_binary::DecodeFault;
+use spec_linking::spec_validation::{CheckFault, Field, Place};
 use spec_linking::{RecordFault, SetFault};
-use spec_validation::{CheckFault, Field, Place};
+use spec_merging::wasm_form::Memory;
 use std::alloc::Global;
-use wasm_form::Memory;
 
 /// Why a module isn't decoded.
 fn decoding_text(alloc: Global, m: u32, fault: &DecodeFault) -> Result<String, Memory>

@@ -15,7 +15,7 @@ mod slots;
 mod words;
 
 pub use dyl_link::LinkOptions;
-pub use dyl_search::SetOptions;
+pub use dyl_link::dyl_search::SetOptions;
 pub use lines::{line, link_line, set_line, usage_line};
 pub use list::listing;
 pub use order::Order;

@@ -7,12 +7,12 @@ use crate::faults::put_set;
 use crate::outcome::{Opt, Outcome, UsageKind};
 use crate::put::{put_escaped, put_text};
 use dyl_gen::GenFault;
-use spec_execution::SingleFault;
 use spec_hosts::RunEnd;
+use spec_linking::spec_execution::SingleFault;
 use spec_linking::{Kind, LinkFault, SetFault};
 use spec_merging::MergeFault;
+use spec_merging::wasm_form::{Memory, Text, Trap};
 use std::alloc::Global;
-use wasm_form::{Memory, Text, Trap};
 
 /// An option as it is written.
 fn opt_text(of: Opt) -> &'static str

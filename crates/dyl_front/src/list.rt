@@ -1,8 +1,8 @@
 // The listing of a linked set.
 ghost use Rattle.std.specs.Prelude.{◌≡◌, ◌++◌, ◌*◌, codes, decimal, IfOk, OnOk, string_bytes};
-ghost use Rattle.spec_runtime.specs.Memories.{page_size};
+ghost use Rattle.spec_hosts.specs.spec_runtime.Memories.{page_size};
 ghost use Rattle.spec_linking.specs.LinkedSets.{LinkedSet};
-ghost use Rattle.dyl_search.specs.Gathers.{member_of, set_of};
+ghost use Rattle.dyl_link.specs.dyl_search.Gathers.{member_of, set_of};
 ghost use Rattle.dyl_link.specs.Kept.{IsLinked};
 ghost use Rattle.dyl_front.specs.Listing.{space, line_end, range_line, plan_lines, module_line, module_lines, lines_of, listing_of};
 ghost use Rattle.dyl_front.specs.KeptListing.{listed_in, HasMembers};
@@ -12,9 +12,9 @@ use crate::lines::put_around;
 use crate::put::put_text;
 use crate::slots::put_all_slots;
 use dyl_link::Linked;
-use dyl_search::Member;
+use dyl_link::dyl_search::Member;
+use spec_merging::wasm_form::Memory;
 use std::alloc::Global;
-use wasm_form::Memory;
 
 /// A name, and where a range begins and ends.
 fn range_text(alloc: Global, name: &str, lower: u64, upper: u64) -> Result<String, Memory>

@@ -6,8 +6,8 @@ ghost use Rattle.spec_linking.specs.Definitions.{or_other, is_one_of, reserved_n
 ghost use Rattle.dyl_front.specs.Listing.{is_name_of};
 ghost use Rattle.dyl_front.specs.KeptListing.{is_same_number, name_placed, AreFirst};
 
+use spec_merging::wasm_form::{Export, ExportDesc, Memory};
 use std::alloc::Global;
-use wasm_form::{Export, ExportDesc, Memory};
 
 /// Whether a name defines nothing, whatever is exported under it.
 fn is_reserved(name: &str) -> bool

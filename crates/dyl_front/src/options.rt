@@ -10,10 +10,10 @@ use crate::order::{LEAST_PAGES, LEAST_STACK, MOST_PAGES, MOST_STACK, MOST_STEPS}
 use crate::outcome::{Opt, UsageKind};
 use crate::words::{WordFault, owned};
 use dyl_link::LinkOptions;
-use dyl_search::SetOptions;
+use dyl_link::dyl_search::SetOptions;
 use dyl_words::Asked;
+use spec_merging::wasm_form::{List, Memory, Text};
 use std::alloc::{AllocError, Global};
-use wasm_form::{List, Memory, Text};
 
 // The most pages, the bytes of the stack and the most steps where no number is given.
 const DEFAULT_PAGES: u64 = 1_024;

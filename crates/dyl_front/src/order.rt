@@ -5,8 +5,8 @@ ghost use Rattle.dyl_words.specs.Words.{has_zero};
 ghost use Rattle.dyl_front.specs.Orders.{has_no_zero, is_item, IsSetInRange, IsLinkInRange, AreArgumentsInRange, IsInRange};
 
 use dyl_link::LinkOptions;
-use dyl_search::SetOptions;
-use wasm_form::{List, Text};
+use dyl_link::dyl_search::SetOptions;
+use spec_merging::wasm_form::{List, Text};
 
 /// The most steps that an order may allow.
 pub(crate) const MOST_STEPS: u64 = 9_223_372_036_854_775_807;

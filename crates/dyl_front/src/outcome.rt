@@ -3,12 +3,12 @@ ghost use Rattle.std.specs.Prelude.{◌≡◌, []};
 ghost use Rattle.dyl_front.specs.Status.{end_status, status_of};
 
 use dyl_gen::GenFault;
-use spec_execution::SingleFault;
 use spec_hosts::{Ran, RunEnd};
+use spec_linking::spec_execution::SingleFault;
 use spec_linking::{LinkFault, SetFault};
 use spec_merging::MergeFault;
+use spec_merging::wasm_form::List;
 use std::alloc::Global;
-use wasm_form::List;
 
 /// An option that has a value, or the number of a generated set.
 #[derive(Clone, Copy, Debug, PartialEq, Eq)]

@@ -2,7 +2,7 @@
 ghost use Rattle.std.specs.Prelude.{◌≡◌, ◌<◌, ◌++◌, OnOk};
 ghost use Rattle.dyl_front.specs.Lines.{hex_digit, hex_byte, is_printed, escaped_byte, escaped};
 
-use wasm_form::Memory;
+use spec_merging::wasm_form::Memory;
 
 /// The digit of a number below 16.
 fn digit(n: u8) -> u8

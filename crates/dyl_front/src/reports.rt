@@ -11,8 +11,8 @@ use crate::list::put_range;
 use crate::put::{put_hex, put_text};
 use dyl_link::Linked;
 use spec_hosts::{Ran, RunEnd};
+use spec_merging::wasm_form::{List, Memory};
 use std::alloc::Global;
-use wasm_form::{List, Memory};
 
 /// What came of a run: how it ended, and what it put to its output.
 #[derive(Drop)]

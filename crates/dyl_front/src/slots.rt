@@ -1,7 +1,7 @@
 // The lines of fresh slots.
 ghost use Rattle.std.specs.Prelude.{◌≡◌, ◌++◌, [], codes, decimal, length, map, unwrap_or, slice_get, IfOk, OnOk, string_bytes};
-ghost use Rattle.wasm_form.specs.declared.runtime.Ref.TheVariants as refs;
-ghost use Rattle.dyl_search.specs.Gathers.{set_of};
+ghost use Rattle.spec_merging.specs.wasm_form.declared.runtime.Ref.TheVariants as refs;
+ghost use Rattle.dyl_link.specs.dyl_search.Gathers.{set_of};
 ghost use Rattle.dyl_link.specs.Kept.{slot_in};
 ghost use Rattle.dyl_front.specs.Listing.{space, call_name, function_name, host_name, slot_text, slot_line, slot_lines, place_text};
 ghost use Rattle.dyl_front.specs.KeptListing.{fresh_of_members, exports_in, AreFirst, HasMembers};
@@ -9,8 +9,8 @@ ghost use Rattle.dyl_front.specs.KeptListing.{fresh_of_members, exports_in, AreF
 use crate::lines::put_around;
 use crate::names::{first_exports, name_among, name_of};
 use dyl_link::Linked;
+use spec_merging::wasm_form::{Export, LoaderCall, Memory, Ref};
 use std::alloc::Global;
-use wasm_form::{Export, LoaderCall, Memory, Ref};
 
 /// The exports of a member.
 fn exports_of(linked: &Linked, m: u32) -> &[Export]

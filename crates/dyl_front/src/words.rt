@@ -11,10 +11,10 @@ use crate::options::{link_in, members_in, owned_all, pages_in, set_in, steps_in}
 use crate::order::Order;
 use crate::outcome::{Outcome, UsageKind};
 use dyl_words::{AskFault, Asked, CommandName, ask};
+use spec_merging::wasm_form::{Memory, Text};
 use std::alloc::{AllocError, Global};
 use std::env::Args;
 use std::io::{self, ErrorKind};
-use wasm_form::{Memory, Text};
 
 /// Why words are no order.
 #[derive(Clone, Copy, Debug, PartialEq, Eq)]

@@ -7,7 +7,7 @@ use Rattle.std.proofs.lemmas.List.{length-map}
 use Rattle.std.proofs.lemmas.Option.{slice_get-map}
 use Rattle.std.proofs.lemmas.List.Sums.{sum_by-le}
 use Rattle.std.proofs.lemmas.List.Elements.{All-nil, All-cons, All-head, All-tail}
-use Rattle.spec_binary.proofs.Lists.{holds_at}
+use Rattle.spec_reading.proofs.of_spec_binary.Lists.{holds_at}
 use Rattle.spec_linking.specs.Records.{DylinkRecord}
 use Rattle.spec_linking.specs.Sets.{Member, ClosedSet}
 use Rattle.spec_linking.specs.Gathering.{IsNumbered, names_of, number_among}

@@ -5,10 +5,10 @@ use Rattle.std.specs.List.{All}
 use Rattle.std.proofs.lemmas.List.Elements.{All-head}
 use Rattle.std.proofs.lemmas.Slice.Eq.{bytes_eq-Decides}
 use Rattle.wasm_form.specs.declared.module.Module.{Module}
-use Rattle.spec_binary.specs.Options.{◌>>=◌}
-use Rattle.spec_binary.specs.Indices.{function_type}
-use Rattle.spec_binary.proofs.Lists.{holds_at}
-use Rattle.spec_runtime.specs.Names.{HostNames}
+use Rattle.spec_reading.specs.spec_binary.Options.{◌>>=◌}
+use Rattle.spec_reading.specs.spec_binary.Indices.{function_type}
+use Rattle.spec_reading.proofs.of_spec_binary.Lists.{holds_at}
+use Rattle.spec_linking.specs.spec_runtime.Names.{HostNames}
 use Rattle.spec_linking.specs.declared.fault.Kind.{Kind}
 use Rattle.spec_linking.specs.Records.{DylinkRecord}
 use Rattle.spec_linking.specs.Sets.{Member, ClosedSet}

@@ -10,10 +10,10 @@ use Rattle.wasm_form.specs.declared.module.ImportDesc.TheVariants as imported
 use Rattle.wasm_form.specs.declared.module.ExportDesc.TheVariants as exported
 use Rattle.wasm_form.specs.declared.module.Code.{Code}
 use Rattle.wasm_form.specs.declared.module.Module.{Module}
-use Rattle.spec_binary.specs.Operands.{access_operands}
-use Rattle.spec_binary.specs.WellFormed.{has_form, names_no_data, IsFormedType, IsFormedDesc, IsFormedImport, IsFormedTable, IsFormedConstant, IsFormedGlobal, IsFormedExport, IsFormedElem, IsFormedCode, IsFormedData, ArePlaced, none, first, IsWellFormed}
-use Rattle.spec_binary.specs.BodyLimits.{IsWithinLimits}
-use Rattle.spec_binary.specs.Trees.{nesting_all, every_of}
+use Rattle.spec_reading.specs.spec_binary.Operands.{access_operands}
+use Rattle.spec_reading.specs.spec_binary.WellFormed.{has_form, names_no_data, IsFormedType, IsFormedDesc, IsFormedImport, IsFormedTable, IsFormedConstant, IsFormedGlobal, IsFormedExport, IsFormedElem, IsFormedCode, IsFormedData, ArePlaced, none, first, IsWellFormed}
+use Rattle.spec_reading.specs.spec_binary.BodyLimits.{IsWithinLimits}
+use Rattle.spec_reading.specs.spec_binary.Trees.{nesting_all, every_of}
 use Rattle.spec_reading.proofs.Trees.{nesting-Index, nesting-I32Const, every-Index, every-I32Const}
 use Rattle.dyl_gen.specs.Generated as made
 use Rattle.dyl_gen.specs.Generated.{is_main, main_alone, function_name, value_name, base, number, code_of, function_code, relocation_code, constructor_code, start_code}

@@ -1,8 +1,8 @@
 -- The code of the set has the forms of the binary format, and its instructions are few.
 use Rattle.std.proofs.Common.{◌≡◌, ℕ, true}
-use Rattle.spec_binary.specs.Operands.{control_operands, access_operands}
-use Rattle.spec_binary.specs.Trees.{nesting_all, every_of}
-use Rattle.spec_binary.specs.WellFormed.{has_form, names_no_data}
+use Rattle.spec_reading.specs.spec_binary.Operands.{control_operands, access_operands}
+use Rattle.spec_reading.specs.spec_binary.Trees.{nesting_all, every_of}
+use Rattle.spec_reading.specs.spec_binary.WellFormed.{has_form, names_no_data}
 use Rattle.spec_reading.proofs.Trees.{nesting-Plain, nesting-Index, nesting-CallIndirect, nesting-Access, nesting-I32Const, nesting-If-else, every-Plain, every-Index, every-CallIndirect, every-Access, every-I32Const, every-If-else}
 use Rattle.wasm_encode.specs.Weight.{units_of}
 use Rattle.wasm_encode.proofs.Units.{units-Plain, units-Index, units-CallIndirect, units-Access, units-I32Const, units-If-else}

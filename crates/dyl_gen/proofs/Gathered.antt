@@ -8,13 +8,13 @@ use Rattle.std.proofs.lemmas.List.{length-map, map-append}
 use Rattle.std.proofs.lemmas.List.Sums.{fails_before_first}
 use Rattle.std.proofs.lemmas.Slice.Eq.{bytes_eq-Decides}
 use Rattle.wasm_form.specs.declared.module.Module.{Module}
-use Rattle.spec_binary.specs.BodyLimits.{IsWithinLimits}
-use Rattle.spec_binary.specs.DecodeAnswers.{DecodeAnswer, spelled}
-use Rattle.spec_binary.specs.declared.fault.DecodeFault.{DecodeFault}
-use Rattle.spec_binary.specs.Exports.{AllDistinct}
-use Rattle.spec_binary.proofs.Lists.{holds_at, got as at_place}
+use Rattle.spec_reading.specs.spec_binary.BodyLimits.{IsWithinLimits}
+use Rattle.spec_reading.specs.spec_binary.DecodeAnswers.{DecodeAnswer, spelled}
+use Rattle.spec_reading.specs.spec_binary.declared.fault.DecodeFault.{DecodeFault}
+use Rattle.spec_reading.specs.spec_binary.Exports.{AllDistinct}
+use Rattle.spec_reading.proofs.of_spec_binary.Lists.{holds_at, got as at_place}
 use Rattle.spec_reading.proofs.OneAnswer.{answers}
-use Rattle.spec_validation.specs.Faults.{fault}
+use Rattle.spec_linking.specs.spec_validation.Faults.{fault}
 use Rattle.spec_linking.specs.declared.fault.RecordFault.{RecordFault}
 use Rattle.spec_linking.specs.declared.fault.SetFault.{SetFault}
 use Rattle.spec_linking.specs.Records.{DylinkRecord, HasRecord, RecordAnswer, recorded}

@@ -7,7 +7,7 @@ use Rattle.std.specs.FinMap.{get, insert, empty, get-insert, get-empty}
 use Rattle.std.proofs.lemmas.Cmp.{nat_list_cmp_total}
 use Rattle.std.proofs.lemmas.Map.Text.{is_eq-slice_cmp}
 use Rattle.std.proofs.lemmas.Slice.Eq.{bytes_eq-Decides}
-use Rattle.spec_binary.proofs.Lists.{bytes_differ}
+use Rattle.spec_reading.proofs.of_spec_binary.Lists.{bytes_differ}
 use Rattle.dyl_outside.specs.FileMap.{FileMap}
 use Rattle.dyl_outside.specs.MemFiles.{MemFilesState}
 use Rattle.dyl_gen.specs.Generated.{file_name, further_name}

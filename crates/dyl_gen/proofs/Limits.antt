@@ -12,8 +12,8 @@ use Rattle.wasm_form.specs.declared.module.Export.{Export}
 use Rattle.wasm_form.specs.declared.module.Module.{Module}
 use Rattle.wasm_form.specs.declared.runtime.Ref.{Ref}
 use Rattle.wasm_form.specs.declared.runtime.Ref.TheVariants.{Own}
-use Rattle.spec_binary.specs.Options.{◌>>=◌}
-use Rattle.spec_binary.proofs.Lists.{holds_at}
+use Rattle.spec_reading.specs.spec_binary.Options.{◌>>=◌}
+use Rattle.spec_reading.proofs.of_spec_binary.Lists.{holds_at}
 use Rattle.spec_linking.specs.Records.{DylinkRecord}
 use Rattle.spec_linking.specs.Orders.{is_among}
 use Rattle.spec_linking.specs.Sets.{Member}

@@ -5,9 +5,9 @@ use Rattle.std.specs.List.{flat_map, find}
 use Rattle.std.specs.Map.{lookup}
 use Rattle.wasm_form.specs.declared.types.FuncType.{FuncType}
 use Rattle.wasm_form.specs.declared.module.Module.{Module}
-use Rattle.spec_binary.specs.Exports.{relocations_name, constructors_name}
-use Rattle.spec_binary.proofs.Lists.{holds_at}
-use Rattle.spec_runtime.specs.Names.{HostName, HostNames, HostModule, Unknown, Fits, OtherType, host_module, host_typed, declares, module_match, is_rest_type}
+use Rattle.spec_reading.specs.spec_binary.Exports.{relocations_name, constructors_name}
+use Rattle.spec_reading.proofs.of_spec_binary.Lists.{holds_at}
+use Rattle.spec_linking.specs.spec_runtime.Names.{HostName, HostNames, HostModule, Unknown, Fits, OtherType, host_module, host_typed, declares, module_match, is_rest_type}
 use Rattle.spec_linking.specs.declared.fault.Kind.TheVariants as kind
 use Rattle.spec_linking.specs.declared.fault.LinkFault.{LinkFault}
 use Rattle.spec_linking.specs.declared.fault.LinkFault.TheVariants.{MemoryLimit, TableLimit, OwnMemory, IllTyped}

@@ -8,7 +8,7 @@ use Rattle.std.proofs.lemmas.List.Sums.{sum_by-le, passes_at_first}
 use Rattle.std.proofs.lemmas.Option.{slice_get-map, get_or_from_slice_get}
 use Rattle.std.proofs.lemmas.Slice.Eq.{bytes_eq-Decides}
 use Rattle.wasm_form.specs.declared.module.Module.{Module}
-use Rattle.spec_binary.proofs.Lists.{got}
+use Rattle.spec_reading.proofs.of_spec_binary.Lists.{got}
 use Rattle.spec_linking.specs.Records.{DylinkRecord}
 use Rattle.spec_linking.specs.Sets.{Member, ClosedSet}
 use Rattle.spec_linking.specs.Gathering.{IsSet, names_of, number_among, total_size}

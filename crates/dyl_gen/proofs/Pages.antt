@@ -5,12 +5,12 @@ use Rattle.std.proofs.lemmas.Bool.Decides.{nat_tests}
 use Rattle.std.proofs.lemmas.List.Elements.{All-head, All-tail}
 use Rattle.wasm_form.specs.declared.types.Limits.{Limits}
 use Rattle.wasm_form.specs.declared.module.Module.{Module}
-use Rattle.spec_binary.specs.Exports.{AllDistinct}
+use Rattle.spec_reading.specs.spec_binary.Exports.{AllDistinct}
 use Rattle.spec_linking.specs.Records.{DylinkRecord}
 use Rattle.spec_linking.specs.Sets.{Member, ClosedSet}
 use Rattle.spec_linking.specs.Gathering.{names_of}
 use Rattle.spec_linking.specs.declared.fault.LinkFault.TheVariants.{MemoryLimit}
-use Rattle.spec_runtime.specs.Names.{HostNames}
+use Rattle.spec_linking.specs.spec_runtime.Names.{HostNames}
 use Rattle.spec_linking.specs.Links.{link_fault}
 use Rattle.spec_linking.specs.Plans.{Region, LinkOptions, regions_of, end_of, rounded_up, pages_for, greatest, least_of, memory_limits, limits_in, minima, maxima, sizes_of, plan_of, limit}
 use Rattle.dyl_gen.specs.Generated.{file_name, is_main, is_last, next}

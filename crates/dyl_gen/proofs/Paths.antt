@@ -3,7 +3,7 @@ use Rattle.std.proofs.Common.{◌≡◌, ◌≢◌, ℕ, zero, suc, ◌+◌, ◌
 use Rattle.std.specs.Prelude.{Some, slice_get}
 use Rattle.std.specs.List.{All}
 use Rattle.std.proofs.lemmas.List.Elements.{All-head, All-tail}
-use Rattle.spec_binary.specs.Exports.{AllDistinct}
+use Rattle.spec_reading.specs.spec_binary.Exports.{AllDistinct}
 use Rattle.dyl_gen.specs.Generated.{file_name, further_name}
 use Rattle.dyl_gen.specs.Files.{IsPath}
 use Rattle.dyl_gen.proofs.MemberNames.{files_differ, further_differs}

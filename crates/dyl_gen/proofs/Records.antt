@@ -3,10 +3,10 @@ use Rattle.std.proofs.Common.{rules, ◌≡◌, ℕ, ◌+◌, ◌<◌, ◌≤◌
 use Rattle.std.specs.Str.{IsAscii}
 use Rattle.std.proofs.lemmas.Bool.{eqb-false}
 use Rattle.std.proofs.lemmas.Str.{IsUtf8-from_ascii}
-use Rattle.spec_binary.specs.Number.{last}
-use Rattle.spec_binary.specs.Name.{SpellsName, name}
-use Rattle.spec_binary.specs.Sequence.{none, next, SpellsVec, vec}
-use Rattle.spec_binary.proofs.UnsignedSpelling.{some_shortest_unsigned, unsigned_few}
+use Rattle.spec_reading.specs.spec_binary.Number.{last}
+use Rattle.spec_reading.specs.spec_binary.Name.{SpellsName, name}
+use Rattle.spec_reading.specs.spec_binary.Sequence.{none, next, SpellsVec, vec}
+use Rattle.spec_reading.proofs.of_spec_binary.UnsignedSpelling.{some_shortest_unsigned, unsigned_few}
 use Rattle.spec_linking.specs.Records.{SpellsExportNote, SpellsImportNote}
 use Rattle.dyl_section.specs.declared.record.Dylink.{Dylink}
 use Rattle.dyl_section.specs.Written.{IsShortlySpelled, IsWritable, SpellsExportInfo, SpellsImportInfo, IsFramed, SpellsRegions, regions, IsListWord, nothing, list, IsWritten}

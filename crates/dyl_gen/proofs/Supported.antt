@@ -7,8 +7,8 @@ use Rattle.wasm_form.specs.declared.instr.Instr.TheVariants.{rolls-Plain, rolls-
 use Rattle.wasm_form.specs.declared.instr.Expr.{Expr}
 use Rattle.wasm_form.specs.declared.module.Module.{Module}
 use Rattle.wasm_form.proofs.Levels.{with_inside}
-use Rattle.spec_validation.specs.Faults.{unsupported_here, unsupported, unsupported_of}
-use Rattle.spec_validation.proofs.Levels.{unsupported_rolled}
+use Rattle.spec_linking.specs.spec_validation.Faults.{unsupported_here, unsupported, unsupported_of}
+use Rattle.spec_linking.proofs.of_spec_validation.Levels.{unsupported_rolled}
 use Rattle.dyl_gen.specs.Generated.{function_code, relocation_code, constructor_code, start_code}
 
 module _ (m : Module) (b : ℕ) where

@@ -3,8 +3,8 @@ use Rattle.std.proofs.Common.{◌≡◌, ℕ, Bool, true, false, cond, List, Som
 use Rattle.wasm_form.specs.declared.instr.Instr.{out-Instr}
 use denote.Hole.Carrier.{out}
 use Rattle.wasm_form.specs.declared.module.ExportDesc.TheVariants as exported
-use Rattle.spec_binary.specs.Options.{◌>>=◌}
-use Rattle.spec_binary.specs.Indices.{function_type}
+use Rattle.spec_reading.specs.spec_binary.Options.{◌>>=◌}
+use Rattle.spec_reading.specs.spec_binary.Indices.{function_type}
 use Rattle.spec_linking.specs.Definitions.{FunctionSymbol, DataSymbol, data_symbol, desc_symbol, symbol_of}
 use Rattle.dyl_gen.specs.Generated as made
 use Rattle.dyl_gen.specs.Generated.{is_main, next, function_name, value_name, one_number, member}

@@ -1,8 +1,8 @@
 -- The bodies of the set are well typed (WebAssembly Core 2.0, section 3.3).
 use Rattle.std.proofs.Common.{◌≡◌, ℕ, true, false, [], ◌∷◌, Some}
 use Rattle.wasm_form.specs.declared.types.ValType.TheVariants.{I32, FuncRef}
-use Rattle.spec_validation.specs.Context.{Context}
-use Rattle.spec_validation.specs.Typing.{height}
+use Rattle.spec_linking.specs.spec_validation.Context.{Context}
+use Rattle.spec_linking.specs.spec_validation.Typing.{height}
 use Rattle.wasm_typing.proofs.Laws.{after-Plain, after-Index, after-If, after-CallIndirect, after-Access, after-I32Const}
 use Rattle.dyl_gen.specs.Generated.{no_numbers, one_number, four_numbers, number_type, function_code, relocation_code, constructor_code, start_code}
 

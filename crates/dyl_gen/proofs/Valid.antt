@@ -6,7 +6,7 @@ use Rattle.wasm_form.specs.declared.instr.Instr.TheOpen as Open
 use Rattle.wasm_form.specs.declared.instr.Instr.TheVariants.{rolls-Index, rolls-I32Const}
 use Rattle.wasm_form.specs.declared.module.ExportDesc.TheVariants as exported
 use Rattle.wasm_form.specs.declared.module.Module.{Module}
-use Rattle.spec_validation.specs.Faults.{first_in, support_fault, module_fault, body_typed, body_context, fault}
+use Rattle.spec_linking.specs.spec_validation.Faults.{first_in, support_fault, module_fault, body_typed, body_context, fault}
 use Rattle.dyl_gen.specs.Generated as made
 use Rattle.dyl_gen.specs.Generated.{is_main, next, function_name, value_name, base, number, code_of, function_code, relocation_code, constructor_code, start_code, member}
 use Rattle.dyl_gen.proofs.Typed.{HasShared, function_height, relocation_height, constructor_height, start_height}

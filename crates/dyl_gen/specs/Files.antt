@@ -2,8 +2,8 @@
 use Rattle.std.specs.Prelude.{◌≡◌, ◌≢◌, ◌⊎◌, ℕ, ◌<◌, ◌≤◌, List, [], length, None, IsSomeAnd}
 use Rattle.std.specs.FinMap.{get, insert}
 use Rattle.wasm_form.specs.declared.module.Module.{Module}
-use Rattle.spec_binary.specs.Number.{IsShortest}
-use Rattle.spec_binary.specs.Modules.{SpellsModule}
+use Rattle.spec_reading.specs.spec_binary.Number.{IsShortest}
+use Rattle.spec_reading.specs.spec_binary.Modules.{SpellsModule}
 use Rattle.spec_linking.specs.Records.{HasRecord}
 use Rattle.dyl_outside.specs.FileMap.{FileMap}
 use Rattle.dyl_outside.specs.MemFiles.{MemFilesState}

@@ -19,7 +19,7 @@ use Rattle.wasm_form.specs.declared.module.DataMode.TheVariants as data_mode
 use Rattle.wasm_form.specs.declared.module.Data.{Data}
 use Rattle.wasm_form.specs.declared.module.Custom.{Custom}
 use Rattle.wasm_form.specs.declared.module.Module.{Module}
-use Rattle.spec_binary.specs.Sections.{empty_module}
+use Rattle.spec_reading.specs.spec_binary.Sections.{empty_module}
 use Rattle.spec_linking.specs.Records.{dylink_name}
 use Rattle.dyl_section.specs.declared.record.Dylink.{Dylink}
 

@@ -1,7 +1,7 @@
 -- Laws of the generated set: its files are gathered without a fault, there is little of what is gathered, and it links where its pages suffice.
 use Rattle.std.specs.Prelude.{◌≡◌, ℕ, ◌+◌, ◌*◌, ◌^◌, ◌<◌, ◌≤◌, length, sum_by, codes, false, Some, Ok, Err}
 use Rattle.std.specs.FinMap.{get}
-use Rattle.spec_runtime.specs.Names.{HostNames, Fits, host_match}
+use Rattle.spec_linking.specs.spec_runtime.Names.{HostNames, Fits, host_match}
 use Rattle.spec_linking.specs.declared.fault.SetFault.{SetFault}
 use Rattle.spec_linking.specs.declared.fault.LinkFault.{LinkFault}
 use Rattle.spec_linking.specs.declared.fault.LinkFault.TheVariants.{MemoryLimit}

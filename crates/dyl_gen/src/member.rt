@@ -1,8 +1,8 @@
 // The modules of the set, and their bytes.
 ghost use Rattle.std.specs.Prelude.{◌≡◌, ◌<◌, ◌≤◌, IfOk, length};
-ghost use Rattle.spec_binary.specs.Number.{IsShortest};
-ghost use Rattle.spec_binary.specs.Modules.{SpellsModule};
-ghost use Rattle.spec_binary.specs.WellFormed.{IsWellFormed};
+ghost use Rattle.spec_reading.specs.spec_binary.Number.{IsShortest};
+ghost use Rattle.spec_reading.specs.spec_binary.Modules.{SpellsModule};
+ghost use Rattle.spec_reading.specs.spec_binary.WellFormed.{IsWellFormed};
 ghost use Rattle.wasm_encode.specs.Weight.{weight};
 ghost use Rattle.dyl_gen.specs.Generated.{member, further};
 ghost use Rattle.dyl_gen.specs.Files.{IsMemberFile, IsFurtherFile};

@@ -2,13 +2,13 @@
 use Rattle.std.proofs.Common.{◌≡◌, ℕ, Bool, true, false, List, [], ◌∷◌, Option, Some, None, slice_get, refl, codes}
 use Rattle.std.specs.Prelude.{bytes_eq, if◌then◌else◌}
 use Rattle.wasm_form.specs.declared.runtime.LoaderCall.TheVariants.{Dlopen, Dlsym, Dlclose, Dlerror}
-use Rattle.spec_binary.specs.Options.{◌>>=◌}
-use Rattle.spec_runtime.specs.Names.{HostName}
-use Rattle.spec_linking.specs.Sets.{ClosedSet}
-use Rattle.spec_linking.specs.Orders.{scope}
-use Rattle.spec_linking.specs.Definitions as defined
-use Rattle.spec_linking.specs.declared.fault.Kind.{Kind}
-use Rattle.spec_linking.specs.LinkedSets.{LinkedSet, definition, host_defined, is_host_for, weak_for}
+use Rattle.spec_loading.specs.spec_binary.Options.{◌>>=◌}
+use Rattle.spec_loading.specs.spec_runtime.Names.{HostName}
+use Rattle.spec_loading.specs.spec_linking.Sets.{ClosedSet}
+use Rattle.spec_loading.specs.spec_linking.Orders.{scope}
+use Rattle.spec_loading.specs.spec_linking.Definitions as defined
+use Rattle.spec_loading.specs.spec_linking.declared.fault.Kind.{Kind}
+use Rattle.spec_loading.specs.spec_linking.LinkedSets.{LinkedSet, definition, host_defined, is_host_for, weak_for}
 
 module _ (hosts : List HostName) where
   neither : (a b : defined.Definition) → host_defined a hosts ≡ [] → host_defined b hosts ≡ [] → host_defined (defined.or_defined a b) hosts ≡ []

@@ -1,14 +1,14 @@
 -- A name has the loader's definition exactly where the loader gives it.
 use Rattle.std.proofs.Common.{◌≡◌, ℕ, Bool, true, false, ◌&&◌, List, [], ◌∷◌, Option, Some, None, slice_get, refl, ◌∙◌}
 use Rattle.wasm_form.specs.declared.module.Import.{Import}
-use Rattle.spec_binary.specs.Options.{◌>>=◌}
-use Rattle.spec_linking.specs.Sets.{ClosedSet}
-use Rattle.spec_linking.specs.Orders.{scope}
-use Rattle.spec_linking.specs.Definitions as defined
-use Rattle.spec_linking.specs.declared.fault.Kind.{Kind}
-use Rattle.spec_linking.specs.declared.fault.Kind.TheVariants as kind
-use Rattle.spec_linking.specs.Imports as imports
-use Rattle.spec_linking.specs.LinkedSets.{LinkedSet, definition, is_host_for, weak_for}
+use Rattle.spec_loading.specs.spec_binary.Options.{◌>>=◌}
+use Rattle.spec_loading.specs.spec_linking.Sets.{ClosedSet}
+use Rattle.spec_loading.specs.spec_linking.Orders.{scope}
+use Rattle.spec_loading.specs.spec_linking.Definitions as defined
+use Rattle.spec_loading.specs.spec_linking.declared.fault.Kind.{Kind}
+use Rattle.spec_loading.specs.spec_linking.declared.fault.Kind.TheVariants as kind
+use Rattle.spec_loading.specs.spec_linking.Imports as imports
+use Rattle.spec_loading.specs.spec_linking.LinkedSets.{LinkedSet, definition, is_host_for, weak_for}
 use Rattle.spec_loading.specs.Members.{is_loader, loader_as}
 use Rattle.dyl_imports.specs.Uses.{shares_function}
 

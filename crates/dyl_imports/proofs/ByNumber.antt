@@ -12,21 +12,21 @@ use Rattle.wasm_form.specs.declared.module.Import.{Import}
 use Rattle.wasm_form.specs.declared.module.Module.{Module}
 use Rattle.wasm_form.specs.declared.runtime.Ref.{Ref}
 use Rattle.wasm_form.specs.declared.runtime.Ref.TheVariants.{Own, Stub}
-use Rattle.spec_binary.specs.Options.{◌>>=◌}
-use Rattle.spec_binary.specs.IndexSpaces.{functions_in, imports_of, function_space}
-use Rattle.spec_binary.specs.Indices.{function_type}
-use Rattle.spec_binary.proofs.Lists.{got, slice_get-append-left, slice_get-append-right}
-use Rattle.spec_validation.specs.Faults.{fault, is_type}
-use Rattle.spec_validation.proofs.Parts.{parts_fit, function_types}
-use Rattle.spec_linking.specs.Sets.{Member}
-use Rattle.spec_linking.specs.Imports.{importing, use_of}
-use Rattle.spec_linking.specs.LinkedSets.{LinkedSet, imported_ref, ref_with, function_ref}
-use Rattle.spec_binary.specs.Exports.{relocations_name, constructors_name}
-use Rattle.spec_linking.specs.declared.fault.LinkFault.TheVariants.{OwnMemory}
-use Rattle.spec_linking.specs.Links.{◌or_else◌, members_fault, import_fault, first_fault, unless, tls_fault, loader_call_fault, member_fault}
-use Rattle.spec_linking.proofs.Importing.{importing_length}
-use Rattle.spec_linking.proofs.LinkedFacts.{or_none, each_none, member_none}
-use Rattle.spec_linking.proofs.LinkedFunctions.{ref_there}
+use Rattle.spec_loading.specs.spec_binary.Options.{◌>>=◌}
+use Rattle.spec_loading.specs.spec_binary.IndexSpaces.{functions_in, imports_of, function_space}
+use Rattle.spec_loading.specs.spec_binary.Indices.{function_type}
+use Rattle.spec_loading.proofs.of_spec_binary.Lists.{got, slice_get-append-left, slice_get-append-right}
+use Rattle.spec_loading.specs.spec_validation.Faults.{fault, is_type}
+use Rattle.spec_loading.proofs.of_spec_validation.Parts.{parts_fit, function_types}
+use Rattle.spec_loading.specs.spec_linking.Sets.{Member}
+use Rattle.spec_loading.specs.spec_linking.Imports.{importing, use_of}
+use Rattle.spec_loading.specs.spec_linking.LinkedSets.{LinkedSet, imported_ref, ref_with, function_ref}
+use Rattle.spec_loading.specs.spec_binary.Exports.{relocations_name, constructors_name}
+use Rattle.spec_loading.specs.spec_linking.declared.fault.LinkFault.TheVariants.{OwnMemory}
+use Rattle.spec_loading.specs.spec_linking.Links.{◌or_else◌, members_fault, import_fault, first_fault, unless, tls_fault, loader_call_fault, member_fault}
+use Rattle.spec_loading.proofs.of_spec_linking.Importing.{importing_length}
+use Rattle.spec_loading.proofs.of_spec_linking.LinkedFacts.{or_none, each_none, member_none}
+use Rattle.spec_loading.proofs.of_spec_linking.LinkedFunctions.{ref_there}
 use Rattle.dyl_imports.specs.Refs.{imported_refs}
 
 -- ---- imports of functions

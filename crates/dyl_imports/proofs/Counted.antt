@@ -3,10 +3,10 @@ use Rattle.std.proofs.Common.{◌≡◌, ℕ, ◌≤◌, List, length, map, Opti
 use Rattle.std.specs.Option.{option_map}
 use Rattle.std.proofs.lemmas.Option.{slice_get-map, slice_get_past, get_or_from_slice_get}
 use Rattle.wasm_form.specs.declared.module.Module.{Module}
-use Rattle.spec_binary.specs.Options.{◌>>=◌}
-use Rattle.spec_binary.specs.IndexSpaces.{function_space}
-use Rattle.spec_binary.specs.Indices.{function_type}
-use Rattle.spec_linking.specs.Sets as sets
+use Rattle.spec_loading.specs.spec_binary.Options.{◌>>=◌}
+use Rattle.spec_loading.specs.spec_binary.IndexSpaces.{function_space}
+use Rattle.spec_loading.specs.spec_binary.Indices.{function_type}
+use Rattle.spec_loading.specs.spec_linking.Sets as sets
 use Rattle.dyl_search.specs.declared.set.Member.{Member}
 use Rattle.dyl_search.specs.Gathers.{member_of}
 use Rattle.dyl_imports.specs.Weak.{function_counts}

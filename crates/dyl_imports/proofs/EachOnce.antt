@@ -5,8 +5,8 @@ use Rattle.std.specs.Option.{option_map}
 use Rattle.std.proofs.lemmas.Option.{slice_get-map}
 use Rattle.host_table.specs.declared.host.HostName as code
 use Rattle.host_table.specs.Names.{host_name_of}
-use Rattle.spec_runtime.specs.Names.{HostName}
-use Rattle.spec_linking.specs.LinkedSets.{is_same_name, first_names, is_named}
+use Rattle.spec_loading.specs.spec_runtime.Names.{HostName}
+use Rattle.spec_loading.specs.spec_linking.LinkedSets.{is_same_name, first_names, is_named}
 use Rattle.dyl_imports.specs.Hosts.{with_host, with_hosts}
 use Rattle.dyl_imports.proofs.Names.{bytes_eq-sym}
 

@@ -6,3 +6,4 @@ mod EachOnce
 mod Names
 mod Noted
 mod Steps
+pub use Rattle.dyl_scope.proofs as of_dyl_scope

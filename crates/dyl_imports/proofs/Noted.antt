@@ -3,8 +3,8 @@ use Rattle.std.proofs.Common.{◌≡◌, ℕ, zero, suc, Bool, true, false, ◌|
 use Rattle.std.specs.Prelude.{String}
 use Rattle.std.specs.List.{list_any}
 use Rattle.indexmap.specs.IndexSet.{insert_key}
-use Rattle.spec_linking.specs.Sets.{Member}
-use Rattle.spec_linking.specs.Definitions.{is_one_of, is_weak}
+use Rattle.spec_loading.specs.spec_linking.Sets.{Member}
+use Rattle.spec_loading.specs.spec_linking.Definitions.{is_one_of, is_weak}
 use Rattle.dyl_imports.specs.Weak.{AreWeakOf}
 use Rattle.dyl_imports.proofs.Names.{bytes_eq-sym, same_names}
 

@@ -8,14 +8,14 @@ use Rattle.wasm_form.specs.declared.module.Import.{Import}
 use Rattle.wasm_form.specs.declared.module.Module.{Module}
 use Rattle.wasm_form.specs.declared.runtime.Ref.{Ref}
 use Rattle.wasm_form.specs.declared.runtime.Ref.TheVariants.{Own}
-use Rattle.spec_binary.specs.IndexSpaces.{functions_in}
-use Rattle.spec_validation.specs.Faults.{fault}
-use Rattle.spec_runtime.specs.Names.{HostName}
-use Rattle.spec_linking.specs.Sets as sets
-use Rattle.spec_linking.specs.Definitions.{is_one_of, is_weak}
-use Rattle.spec_linking.specs.Imports.{use_of, importing}
-use Rattle.spec_linking.specs.LinkedSets.{LinkedSet, host_of_import, hosts_from, hosts_of, first_names, function_ref, is_weak_in}
-use Rattle.spec_linking.specs.Links.{members_fault}
+use Rattle.spec_loading.specs.spec_binary.IndexSpaces.{functions_in}
+use Rattle.spec_loading.specs.spec_validation.Faults.{fault}
+use Rattle.spec_loading.specs.spec_runtime.Names.{HostName}
+use Rattle.spec_loading.specs.spec_linking.Sets as sets
+use Rattle.spec_loading.specs.spec_linking.Definitions.{is_one_of, is_weak}
+use Rattle.spec_loading.specs.spec_linking.Imports.{use_of, importing}
+use Rattle.spec_loading.specs.spec_linking.LinkedSets.{LinkedSet, host_of_import, hosts_from, hosts_of, first_names, function_ref, is_weak_in}
+use Rattle.spec_loading.specs.spec_linking.Links.{members_fault}
 use Rattle.spec_loading.specs.Members.{loader_as, loader_from, uses_loader}
 use Rattle.dyl_search.specs.declared.set.Member.{Member}
 use Rattle.dyl_search.specs.Gathers.{member_of}

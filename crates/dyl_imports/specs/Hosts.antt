@@ -1,8 +1,8 @@
 -- Host functions, each once.
 use Rattle.std.specs.Prelude.{List, [], ◌∷◌, ◌++◌, if◌then◌else◌}
 use Rattle.std.specs.List.{list_any}
-use Rattle.spec_runtime.specs.Names.{HostName}
-use Rattle.spec_linking.specs.LinkedSets.{is_same_name}
+use Rattle.spec_loading.specs.spec_runtime.Names.{HostName}
+use Rattle.spec_loading.specs.spec_linking.LinkedSets.{is_same_name}
 
 -- one host function more, unless its module and name are there
 abbrev pub with_host : List HostName → HostName → List HostName

@@ -1,7 +1,7 @@
 -- What is kept of a set whose imports are looked at, and when it is what there is of a linked set.
 use Rattle.std.specs.Prelude.{◌≡◌, List, map}
-use Rattle.spec_runtime.specs.Names.{HostNames}
-use Rattle.spec_linking.specs.LinkedSets.{LinkedSet, hosts_of}
+use Rattle.spec_loading.specs.spec_runtime.Names.{HostNames}
+use Rattle.spec_loading.specs.spec_linking.LinkedSets.{LinkedSet, hosts_of}
 use Rattle.dyl_search.specs.declared.set.Member.{Member}
 use Rattle.dyl_search.specs.Gathers.{member_of}
 use Rattle.dyl_scope.specs.Scopes.{Scopes, AreOf}

@@ -1,7 +1,7 @@
 -- What an import stands for.
 use Rattle.std.specs.Prelude.{Bool, true, false, bytes_eq, codes, if◌then◌else◌}
 use Rattle.wasm_form.specs.declared.module.Import.{Import}
-use Rattle.spec_linking.specs.Imports as imports
+use Rattle.spec_loading.specs.spec_linking.Imports as imports
 use Rattle.dyl_imports.specs.declared.uses.Use.{Use}
 use Rattle.dyl_imports.specs.declared.uses.Use.TheVariants as code
 

@@ -1,10 +1,10 @@
 -- What is kept of members: the names that each notes as weak, and how many functions it has.
 use Rattle.std.specs.Prelude.{◌≡◌, ℕ, List, [], ◌∷◌, map, length, slice_get, Bool, false, Option, None, Some, ◌&&◌, ◌%◌, nat_eq}
-use Rattle.spec_binary.specs.IndexSpaces.{function_space}
-use Rattle.spec_linking.specs.Records.{ImportNote}
-use Rattle.spec_linking.specs.Sets.{Member}
-use Rattle.spec_linking.specs.Definitions.{is_one_of, env_name, got_mem_name, got_func_name}
-use Rattle.spec_linking.specs.LinkedSets.{is_weak_in}
+use Rattle.spec_loading.specs.spec_binary.IndexSpaces.{function_space}
+use Rattle.spec_loading.specs.spec_linking.Records.{ImportNote}
+use Rattle.spec_loading.specs.spec_linking.Sets.{Member}
+use Rattle.spec_loading.specs.spec_linking.Definitions.{is_one_of, env_name, got_mem_name, got_func_name}
+use Rattle.spec_loading.specs.spec_linking.LinkedSets.{is_weak_in}
 
 -- a note of one of the three modules says that its field is weak
 abbrev pub is_weak_entry : ImportNote → Bool

@@ -1,9 +1,9 @@
 // The host functions that are declared.
 ghost use Rattle.std.specs.Prelude.{◌≡◌};
-ghost use Rattle.spec_linking.specs.LinkedSets as linked;
+ghost use Rattle.spec_loading.specs.spec_linking.LinkedSets as linked;
 
 use host_table::{HostMatch, HostNames};
-use spec_linking::Kind;
+use spec_loading::spec_linking::Kind;
 use wasm_form::FuncType;
 
 // Whether a host function of this module and name is declared. It is asked for by any type.

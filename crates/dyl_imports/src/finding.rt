@@ -1,10 +1,10 @@
 // The host functions that the imports of a set stand for, in order.
-ghost use Rattle.std.specs.Prelude.{◌≡◌, ◌<◌, ◌≤◌, length, map, slice_get, IfOk, OnOk};
+ghost use Rattle.std.specs.Prelude.{◌≡◌, ◌<◌, ◌≤◌, [], length, map, slice_get, IfOk, OnOk};
 ghost use Rattle.std.specs.List.{flat_map};
 ghost use Rattle.std.specs.Option.{option_copied};
-ghost use Rattle.spec_linking.specs.Definitions.{env_name};
-ghost use Rattle.spec_linking.specs.LinkedSets as linked;
-ghost use Rattle.spec_linking.specs.LinkedSets.{LinkedSet};
+ghost use Rattle.spec_loading.specs.spec_linking.Definitions.{env_name};
+ghost use Rattle.spec_loading.specs.spec_linking.LinkedSets as linked;
+ghost use Rattle.spec_loading.specs.spec_linking.LinkedSets.{LinkedSet};
 ghost use Rattle.dyl_scope.specs.Scopes.{meaning_of};
 ghost use Rattle.dyl_imports.specs.Hosts.{with_hosts};
 ghost use Rattle.dyl_imports.specs.Kept.{IsKnownOf};
@@ -13,7 +13,7 @@ use crate::hosts::Hosts;
 use crate::known::Known;
 use crate::uses::{Use, use_of};
 use dyl_scope::Def;
-use spec_linking::Kind;
+use spec_loading::spec_linking::Kind;
 use std::alloc::Global;
 use wasm_form::{FuncType, Import, Memory, Module};
 
@@ -129,6 +129,20 @@ fn add_imports(
     Ok(())
 }
 
+// The host functions that the imports of a set stand for, where none is named yet.
+fn add_hosts(alloc: Global, hosts: &mut Hosts, known: &Known) -> Result<(), Memory>
+    requires none { hosts.old ≡ [] }
+    requires few { length known.now.members.now ≤ 256 }
+    requires count { length known.now.symbols.now.names ≡ length known.now.members.now }
+    ensures { OnOk result ((L : LinkedSet) → IsKnownOf L known.now → hosts.new ≡ linked.hosts_of L) }
+{
+    for m in 0..known.members.len() {
+        let wasm = known.members[m].checked.module();
+        add_imports(alloc, hosts, known, m as u32, wasm)?;
+    }
+    Ok(())
+}
+
 // The host functions that the imports of a set stand for.
 pub(crate) fn hosts_of(alloc: Global, known: &Known) -> Result<Hosts, Memory>
     requires few { length known.now.members.now ≤ 256 }
@@ -136,9 +150,11 @@ pub(crate) fn hosts_of(alloc: Global, known: &Known) -> Result<Hosts, Memory>
     ensures { IfOk result (λ hosts. (L : LinkedSet) → IsKnownOf L known.now → hosts ≡ linked.hosts_of L) }
 {
     let mut hosts = Hosts::new(alloc);
-    for m in 0..known.members.len() {
-        let wasm = known.members[m].checked.module();
-        add_imports(alloc, &mut hosts, known, m as u32, wasm)?;
+    match add_hosts(alloc, &mut hosts, known) {
+        Ok(()) => Ok(hosts),
+        Err(memory) => {
+            drop(hosts);
+            Err(memory)
+        }
     }
-    Ok(hosts)
 }

@@ -1,6 +1,6 @@
 // The forms that imports must have.
 ghost use Rattle.std.specs.Prelude.{◌≡◌};
-ghost use Rattle.spec_linking.specs.Imports as imports;
+ghost use Rattle.spec_loading.specs.spec_linking.Imports as imports;
 
 use wasm_form::{ImportDesc, ValType};
 

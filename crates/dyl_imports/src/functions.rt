@@ -1,6 +1,6 @@
 // How many functions a member has.
 ghost use Rattle.std.specs.Prelude.{◌≡◌, ◌≤◌, length, map, IfOk};
-ghost use Rattle.spec_binary.specs.IndexSpaces.{function_space, imports_of, functions_in};
+ghost use Rattle.spec_loading.specs.spec_binary.IndexSpaces.{function_space, imports_of, functions_in};
 ghost use Rattle.dyl_search.specs.Gathers.{member_of};
 ghost use Rattle.dyl_imports.specs.Weak.{function_counts};
 

@@ -2,7 +2,7 @@
 ghost use Rattle.std.specs.Prelude.{◌≡◌, ◌<◌, ◌++◌, ◌∷◌, [], ℕ, map, length, find, slice_get, vec_capacity, IfOk, OnOk, OnErr, None};
 ghost use Rattle.std.specs.List.{position_from, list_any};
 ghost use Rattle.std.specs.Option.{option_copied, option_map};
-ghost use Rattle.spec_linking.specs.LinkedSets.{is_named, is_same_name};
+ghost use Rattle.spec_loading.specs.spec_linking.LinkedSets.{is_named, is_same_name};
 ghost use Rattle.host_table.specs.Names.{host_name_of};
 ghost use Rattle.host_table.specs.Numbers.{number_of, with_number};
 ghost use Rattle.dyl_imports.specs.Hosts.{with_host};
@@ -22,7 +22,7 @@ pub struct Hosts {
 
 impl Model for Hosts {
     ghost use Rattle.std.specs.Prelude.{List, map};
-    ghost use Rattle.spec_runtime.specs.Names as names;
+    ghost use Rattle.spec_loading.specs.spec_runtime.Names as names;
     ghost use Rattle.host_table.specs.Names.{host_name_of};
     ghost use Rattle.host_table.specs.Numbered.{AreNumbered};
 

@@ -5,7 +5,7 @@ use crate::known::Known;
 use dyl_scope::{Def, Symbols};
 use dyl_search::Member;
 use host_table::{HostName, HostNames};
-use spec_linking::Kind;
+use spec_loading::spec_linking::Kind;
 use std::alloc::Global;
 use wasm_form::{FuncType, Memory};
 
@@ -19,10 +19,10 @@ pub struct Imports<'a> {
 impl<'a> Imports<'a> {
     ghost use Rattle.std.specs.Prelude.{◌≡◌, ◌<◌, ◌≤◌, ℕ, length, map, find, unwrap_or, IfOk};
     ghost use Rattle.std.specs.Option.{option_copied, option_map};
-    ghost use Rattle.spec_linking.specs.Definitions.{env_name};
-    ghost use Rattle.spec_linking.specs.LinkedSets as linked;
-    ghost use Rattle.spec_linking.specs.LinkedSets.{LinkedSet, is_named, host_entry};
-    ghost use Rattle.spec_linking.specs.Links.{type_in};
+    ghost use Rattle.spec_loading.specs.spec_linking.Definitions.{env_name};
+    ghost use Rattle.spec_loading.specs.spec_linking.LinkedSets as linked;
+    ghost use Rattle.spec_loading.specs.spec_linking.LinkedSets.{LinkedSet, is_named, host_entry};
+    ghost use Rattle.spec_loading.specs.spec_linking.Links.{type_in};
     ghost use Rattle.host_table.specs.Names.{host_name_of};
     ghost use Rattle.dyl_scope.specs.Scopes.{meaning_of};
     ghost use Rattle.dyl_names.specs.declared.def.Def.TheVariants as def;
@@ -42,8 +42,13 @@ impl<'a> Imports<'a> {
         ensures exact { IfOk result (λ i. (L : LinkedSet) → AreOver L members.now symbols.now declared.now → AreImportsOf L i) }
     {
         let known = Known::of(alloc, members, symbols, declared)?;
-        let hosts = hosts_of(alloc, &known)?;
-        Ok(Imports { known, hosts })
+        match hosts_of(alloc, &known) {
+            Ok(hosts) => Ok(Imports { known, hosts }),
+            Err(memory) => {
+                drop(known);
+                Err(memory)
+            }
+        }
     }
 
     /// The definition of a name for an import of member m which is of this kind. A host function has its number among `hosts`, or 0 where it

@@ -9,7 +9,7 @@ use crate::weak::{WeakNames, weak_of};
 use dyl_scope::{Def, Symbols};
 use dyl_search::Member;
 use host_table::HostNames;
-use spec_linking::Kind;
+use spec_loading::spec_linking::Kind;
 use std::alloc::Global;
 use wasm_form::{FuncType, List, Memory};
 
@@ -29,11 +29,11 @@ pub struct Known<'a> {
 impl<'a> Known<'a> {
     ghost use Rattle.std.specs.Prelude.{◌<◌, ℕ, List, length, slice_get, is_some, Some, IfOk};
     ghost use Rattle.std.specs.Option.{option_copied};
-    ghost use Rattle.spec_runtime.specs.Names.{HostName};
-    ghost use Rattle.spec_linking.specs.LinkedSets as linked;
-    ghost use Rattle.spec_linking.specs.LinkedSets.{LinkedSet};
-    ghost use Rattle.spec_linking.specs.Links.{type_in};
-    ghost use Rattle.spec_binary.specs.Indices.{function_type};
+    ghost use Rattle.spec_loading.specs.spec_runtime.Names.{HostName};
+    ghost use Rattle.spec_loading.specs.spec_linking.LinkedSets as linked;
+    ghost use Rattle.spec_loading.specs.spec_linking.LinkedSets.{LinkedSet};
+    ghost use Rattle.spec_loading.specs.spec_linking.Links.{type_in};
+    ghost use Rattle.spec_loading.specs.spec_binary.Indices.{function_type};
     ghost use Rattle.dyl_scope.specs.Scopes.{meaning_of};
     ghost use Rattle.dyl_names.specs.declared.def.Def.TheVariants as def;
     ghost use Rattle.dyl_imports.specs.Weak.{weak_in};
@@ -49,8 +49,8 @@ impl<'a> Known<'a> {
         ensures symbols { IfOk result (λ k. k.symbols.now ≡ symbols.now) }
         ensures exact { IfOk result (λ k. (L : LinkedSet) → AreOver L members.now symbols.now declared.now → IsKnownOf L k) }
     {
-        let weak = weak_of(alloc, members)?;
         let counts = counts_of(alloc, members)?;
+        let weak = weak_of(alloc, members)?;
         Ok(Known {
             members,
             symbols,

@@ -15,6 +15,12 @@ mod refs;
 mod uses;
 mod weak;
 
+pub use dyl_names;
+pub use dyl_scope;
+pub use dyl_search;
+pub use dyl_section;
 pub use forms::{is_function_table, is_i32_global, is_memory};
+pub use host_table;
 pub use imports::Imports;
 pub use uses::{Use, use_of};
+pub use wasm_check;

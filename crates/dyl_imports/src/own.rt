@@ -2,7 +2,7 @@
 ghost use Rattle.std.specs.Prelude.{◌≡◌, ◌++◌, length, map, OnOk};
 ghost use Rattle.std.specs.List.{range_with_len};
 ghost use Rattle.wasm_form.specs.declared.runtime.Ref.TheVariants.{Own};
-ghost use Rattle.spec_linking.specs.Definitions.{named_in, loader_names};
+ghost use Rattle.spec_loading.specs.spec_linking.Definitions.{named_in, loader_names};
 ghost use Rattle.spec_loading.specs.Members as members;
 ghost use Rattle.dyl_imports.specs.Uses.{use_value, shares_function};
 

@@ -4,19 +4,19 @@ use crate::imports::Imports;
 use crate::own::{add_own, is_loader_name, shares_function};
 use crate::uses::{Use, use_of};
 use dyl_scope::Def;
-use spec_linking::Kind;
+use spec_loading::spec_linking::Kind;
 use std::alloc::Global;
 use wasm_form::{Import, ImportDesc, List, Memory, Ref};
 
 impl<'a> Imports<'a> {
     ghost use Rattle.std.specs.Prelude.{◌≡◌, ◌<◌, ◌≤◌, ◌++◌, ◌∷◌, [], ℕ, length, slice_get, None, IfOk, OnOk};
     ghost use Rattle.std.specs.List.{list_any};
-    ghost use Rattle.spec_binary.specs.IndexSpaces.{functions_in};
-    ghost use Rattle.spec_linking.specs.Imports.{importing, use_of};
-    ghost use Rattle.spec_linking.specs.LinkedSets as linked;
-    ghost use Rattle.spec_linking.specs.LinkedSets.{LinkedSet};
-    ghost use Rattle.spec_linking.specs.declared.fault.Kind.TheVariants as kind;
-    ghost use Rattle.spec_linking.specs.Links.{members_fault};
+    ghost use Rattle.spec_loading.specs.spec_binary.IndexSpaces.{functions_in};
+    ghost use Rattle.spec_loading.specs.spec_linking.Imports.{importing, use_of};
+    ghost use Rattle.spec_loading.specs.spec_linking.LinkedSets as linked;
+    ghost use Rattle.spec_loading.specs.spec_linking.LinkedSets.{LinkedSet};
+    ghost use Rattle.spec_loading.specs.spec_linking.declared.fault.Kind.TheVariants as kind;
+    ghost use Rattle.spec_loading.specs.spec_linking.Links.{members_fault};
     ghost use Rattle.spec_loading.specs.Members as members;
     ghost use Rattle.dyl_imports.specs.Refs.{imported_refs};
     ghost use Rattle.dyl_imports.specs.Kept.{AreImportsOf};

@@ -1,6 +1,6 @@
 // What an import stands for.
 ghost use Rattle.std.specs.Prelude.{◌≡◌};
-ghost use Rattle.spec_linking.specs.Imports as imports;
+ghost use Rattle.spec_loading.specs.spec_linking.Imports as imports;
 ghost use Rattle.dyl_imports.specs.Uses.{use_value, env_use};
 
 use wasm_form::{Import, ImportDesc};

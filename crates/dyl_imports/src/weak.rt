@@ -1,8 +1,8 @@
 // The names that a member notes as weak.
 ghost use Rattle.std.specs.Prelude.{◌≡◌, ◌||◌, ℕ, List, map, [], bytes_eq, IfOk, OnOk};
 ghost use Rattle.std.specs.List.{list_any};
-ghost use Rattle.spec_linking.specs.Definitions as defined;
-ghost use Rattle.spec_linking.specs.Definitions.{is_one_of};
+ghost use Rattle.spec_loading.specs.spec_linking.Definitions as defined;
+ghost use Rattle.spec_loading.specs.spec_linking.Definitions.{is_one_of};
 ghost use Rattle.dyl_section.specs.Recorded.{import_note};
 ghost use Rattle.dyl_search.specs.Gathers.{member_of};
 ghost use Rattle.dyl_imports.specs.Weak.{is_weak_entry, AreWeakOf};

@@ -1,12 +1,12 @@
 -- The alignments of members' regions are powers of two below 2^32.
 use Rattle.std.proofs.Common.{◌≡◌, ℕ, ◌≤◌, List, [], ◌∷◌, map, ap, arith, All, lit≤}
 use Rattle.std.proofs.lemmas.List.Elements.{All-cons, All-head, All-tail, All-nil}
-use Rattle.spec_linking.specs.Records.{DylinkRecord, Subsection, memory_information, needed, export_notes, import_notes, runtime_paths, other, Subsections, done, next}
-use Rattle.spec_linking.specs.Sets.{Member}
-use Rattle.spec_linking.specs.Gathering.{IsMember}
-use Rattle.spec_linking.specs.Plans as plans
-use Rattle.dyl_plan.specs.declared.region.Region.{Region}
-use Rattle.dyl_plan.specs.Regions.{region_of, HasAligns}
+use Rattle.spec_loading.specs.spec_linking.Records.{DylinkRecord, Subsection, memory_information, needed, export_notes, import_notes, runtime_paths, other, Subsections, done, next}
+use Rattle.spec_loading.specs.spec_linking.Sets.{Member}
+use Rattle.spec_loading.specs.spec_linking.Gathering.{IsMember}
+use Rattle.spec_loading.specs.spec_linking.Plans as plans
+use Rattle.dyl_slots.specs.dyl_plan.declared.region.Region.{Region}
+use Rattle.dyl_slots.specs.dyl_plan.Regions.{region_of, HasAligns}
 
 abbrev AreSmall : DylinkRecord → Type 0
 AreSmall d = (d.mem_align ≤ 31) × (d.table_align ≤ 31)

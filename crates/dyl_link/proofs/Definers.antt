@@ -6,15 +6,15 @@ use Rattle.std.proofs.lemmas.List.{length-take-le}
 use Rattle.wasm_form.specs.declared.module.Export.{Export}
 use Rattle.wasm_form.specs.declared.module.ExportDesc.{ExportDesc}
 use Rattle.wasm_form.specs.declared.module.Module.{Module}
-use Rattle.spec_binary.specs.Options.{◌>>=◌}
-use Rattle.spec_binary.specs.Exports.{exported_as}
-use Rattle.spec_binary.proofs.Lists.{holds_at}
-use Rattle.spec_validation.specs.Faults.{names_distinct, contains_name}
-use Rattle.spec_validation.proofs.Parts.{parts_fit}
-use Rattle.spec_linking.specs.Sets.{Member, ClosedSet}
-use Rattle.spec_linking.specs.Gathering.{IsSet, IsMember}
-use Rattle.spec_linking.specs.Definitions.{Symbol, FunctionSymbol, DataSymbol, Undefined, reserved_names, is_one_of, desc_symbol, export_symbol, symbol_of, defined_by, or_defined, searched}
-use Rattle.spec_linking.specs.Links.{Finding, ◌or_else◌, first_fault, definer, duplicate_as, duplicate_of}
+use Rattle.spec_loading.specs.spec_binary.Options.{◌>>=◌}
+use Rattle.spec_loading.specs.spec_binary.Exports.{exported_as}
+use Rattle.spec_loading.proofs.of_spec_binary.Lists.{holds_at}
+use Rattle.spec_loading.specs.spec_validation.Faults.{names_distinct, contains_name}
+use Rattle.spec_loading.proofs.of_spec_validation.Parts.{parts_fit}
+use Rattle.spec_loading.specs.spec_linking.Sets.{Member, ClosedSet}
+use Rattle.spec_loading.specs.spec_linking.Gathering.{IsSet, IsMember}
+use Rattle.spec_loading.specs.spec_linking.Definitions.{Symbol, FunctionSymbol, DataSymbol, Undefined, reserved_names, is_one_of, desc_symbol, export_symbol, symbol_of, defined_by, or_defined, searched}
+use Rattle.spec_loading.specs.spec_linking.Links.{Finding, ◌or_else◌, first_fault, definer, duplicate_as, duplicate_of}
 use Rattle.dyl_link.specs.Duplicates.{member_in, where_defined, duplicate_by}
 
 -- ---- the names that a module exports are distinct

@@ -1,16 +1,16 @@
 -- The findings of linking, in order.
 use Rattle.std.proofs.Common.{◌≡◌, ℕ, ◌<◌, ◌≤◌, ◌^◌, Bool, true, false, max, nat_le, length, Some, None, refl, ap, arith, leb-true, if◌then◌else◌}
 use Rattle.std.proofs.lemmas.List.{length-map}
-use Rattle.spec_linking.specs.declared.fault.LinkFault.{LinkFault}
-use Rattle.spec_linking.specs.declared.fault.LinkFault.TheVariants as faults
-use Rattle.spec_linking.specs.Gathering.{IsSet}
-use Rattle.spec_linking.specs.Plans.{Plan, limit, pages_limit, regions_limit, sizes_of}
-use Rattle.spec_linking.specs.LinkedSets.{LinkedSet}
-use Rattle.spec_linking.specs.Slots.{linked_plan, table_entries}
-use Rattle.spec_linking.specs.Links.{Finding, ◌or_else◌, fault_without, set_entry, members_fault, duplicate_fault, limit_fault, link_fault}
-use Rattle.spec_linking.proofs.LinkedFacts.{or_none}
-use Rattle.dyl_search.specs.declared.set.ClosedSet.{ClosedSet}
-use Rattle.dyl_search.specs.Gathers.{member_of, set_of}
+use Rattle.spec_loading.specs.spec_linking.declared.fault.LinkFault.{LinkFault}
+use Rattle.spec_loading.specs.spec_linking.declared.fault.LinkFault.TheVariants as faults
+use Rattle.spec_loading.specs.spec_linking.Gathering.{IsSet}
+use Rattle.spec_loading.specs.spec_linking.Plans.{Plan, limit, pages_limit, regions_limit, sizes_of}
+use Rattle.spec_loading.specs.spec_linking.LinkedSets.{LinkedSet}
+use Rattle.spec_loading.specs.spec_linking.Slots.{linked_plan, table_entries}
+use Rattle.spec_loading.specs.spec_linking.Links.{Finding, ◌or_else◌, fault_without, set_entry, members_fault, duplicate_fault, limit_fault, link_fault}
+use Rattle.spec_loading.proofs.of_spec_linking.LinkedFacts.{or_none}
+use Rattle.dyl_slots.specs.dyl_search.declared.set.ClosedSet.{ClosedSet}
+use Rattle.dyl_slots.specs.dyl_search.Gathers.{member_of, set_of}
 use Rattle.dyl_link.specs.Answers.{IsFirst}
 use Rattle.dyl_link.specs.Limits.{regions_fault}
 

@@ -4,9 +4,9 @@ use Rattle.std.specs.List.{cons_option, flat_map}
 use Rattle.std.proofs.lemmas.List.{drop_more}
 use Rattle.wasm_form.specs.declared.module.Import.{Import}
 use Rattle.wasm_form.specs.declared.types.Limits.{Limits}
-use Rattle.spec_linking.specs.Plans.{greatest, least_of, minima, maxima, limits_in}
-use Rattle.dyl_search.specs.declared.set.Member.{Member}
-use Rattle.dyl_search.specs.Gathers.{member_of}
+use Rattle.spec_loading.specs.spec_linking.Plans.{greatest, least_of, minima, maxima, limits_in}
+use Rattle.dyl_slots.specs.dyl_search.declared.set.Member.{Member}
+use Rattle.dyl_slots.specs.dyl_search.Gathers.{member_of}
 use Rattle.dyl_link.specs.declared.sizes.Shared.{Shared}
 use Rattle.dyl_link.specs.declared.sizes.Bounds.{Bounds}
 use Rattle.dyl_link.specs.Bounds.{limits_as, least, with_limits, all_limits}

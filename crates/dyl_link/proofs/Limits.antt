@@ -1,11 +1,11 @@
 -- Faults of plans as faults of links.
 use Rattle.std.proofs.Common.{◌≡◌, ◌≢◌, ℕ, Bool, true, false, List, Option, Some, None, nat_le, max, refl, ap, ◌∙◌, sym, subst, if◌then◌else◌}
-use Rattle.spec_linking.specs.declared.fault.PlanFault.{PlanFault}
-use Rattle.spec_linking.specs.declared.fault.PlanFault.TheVariants as plan_faults
-use Rattle.spec_linking.specs.declared.fault.LinkFault.TheVariants as faults
-use Rattle.spec_linking.specs.Sets.{ClosedSet}
-use Rattle.spec_linking.specs.Plans.{Region, Sizes, LinkOptions, placed, regions_of, sizes_of, pages_limit, regions_limit, first_limit, plan_fault}
-use Rattle.spec_linking.specs.Links.{Finding, ◌or_else◌}
+use Rattle.spec_loading.specs.spec_linking.declared.fault.PlanFault.{PlanFault}
+use Rattle.spec_loading.specs.spec_linking.declared.fault.PlanFault.TheVariants as plan_faults
+use Rattle.spec_loading.specs.spec_linking.declared.fault.LinkFault.TheVariants as faults
+use Rattle.spec_loading.specs.spec_linking.Sets.{ClosedSet}
+use Rattle.spec_loading.specs.spec_linking.Plans.{Region, Sizes, LinkOptions, placed, regions_of, sizes_of, pages_limit, regions_limit, first_limit, plan_fault}
+use Rattle.spec_loading.specs.spec_linking.Links.{Finding, ◌or_else◌}
 use Rattle.dyl_link.specs.Answers.{IsFirst}
 use Rattle.dyl_link.specs.Limits.{limit_of, regions_fault}
 

@@ -3,11 +3,11 @@ use Rattle.std.proofs.Common.{◌≡◌, ℕ, ◌+◌, ◌<◌, List, ◌∷◌,
 use Rattle.std.specs.Option.{option_map}
 use Rattle.std.proofs.lemmas.List.{drop_more}
 use Rattle.std.proofs.lemmas.Option.{slice_get-map, slice_get_read, get_or_from_slice_get, slice_get_within}
-use Rattle.spec_linking.specs.Sets as sets
-use Rattle.spec_linking.specs.LinkedSets.{LinkedSet}
-use Rattle.spec_linking.specs.Links.{◌or_else◌, first_fault, member_fault, members_fault, duplicate_of, duplicates_from}
-use Rattle.dyl_search.specs.declared.set.Member.{Member}
-use Rattle.dyl_search.specs.Gathers.{member_of}
+use Rattle.spec_loading.specs.spec_linking.Sets as sets
+use Rattle.spec_loading.specs.spec_linking.LinkedSets.{LinkedSet}
+use Rattle.spec_loading.specs.spec_linking.Links.{◌or_else◌, first_fault, member_fault, members_fault, duplicate_of, duplicates_from}
+use Rattle.dyl_slots.specs.dyl_search.declared.set.Member.{Member}
+use Rattle.dyl_slots.specs.dyl_search.Gathers.{member_of}
 
 pub member_here : (all : List sets.Member) (xs : List Member) (m : ℕ) (x : Member) → all ≡ map member_of xs → m < length xs → x ≡ get_or xs m x → slice_get all m ≡ Some (member_of x)
 member_here all xs m x members less at =

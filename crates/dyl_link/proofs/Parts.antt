@@ -7,15 +7,15 @@ use Rattle.wasm_form.specs.declared.runtime.LoaderCall.{LoaderCall}
 use Rattle.wasm_form.specs.declared.runtime.LoaderCall.TheVariants.{Dlopen, Dlsym, Dlclose, Dlerror}
 use Rattle.wasm_form.specs.declared.runtime.Ref.{Ref}
 use Rattle.wasm_form.specs.declared.runtime.Ref.TheVariants.{Own, Loader, Host, Stub}
-use Rattle.spec_binary.specs.Options.{◌>>=◌}
-use Rattle.spec_binary.specs.IndexSpaces.{functions_in}
-use Rattle.spec_binary.specs.Indices.{function_type}
-use Rattle.spec_linking.specs.Imports.{importing}
-use Rattle.spec_linking.specs.Sets.{Member}
-use Rattle.spec_linking.specs.Gathering.{IsSet}
-use Rattle.spec_linking.specs.Links.{Links}
-use Rattle.spec_linking.specs.LinkedSets.{LinkedSet, function_ref, ref_with}
-use Rattle.spec_linking.specs.Slots.{slot_of, fresh_of}
+use Rattle.spec_loading.specs.spec_binary.Options.{◌>>=◌}
+use Rattle.spec_loading.specs.spec_binary.IndexSpaces.{functions_in}
+use Rattle.spec_loading.specs.spec_binary.Indices.{function_type}
+use Rattle.spec_loading.specs.spec_linking.Imports.{importing}
+use Rattle.spec_loading.specs.spec_linking.Sets.{Member}
+use Rattle.spec_loading.specs.spec_linking.Gathering.{IsSet}
+use Rattle.spec_loading.specs.spec_linking.Links.{Links}
+use Rattle.spec_loading.specs.spec_linking.LinkedSets.{LinkedSet, function_ref, ref_with}
+use Rattle.spec_loading.specs.spec_linking.Slots.{slot_of, fresh_of}
 use Rattle.spec_loading.specs.LoadedSet.{first_slot}
 use Rattle.dyl_slots.specs.declared.tables.LoaderSlots as code
 use Rattle.dyl_slots.specs.declared.tables.MemberSlots.{MemberSlots}
@@ -23,9 +23,9 @@ use Rattle.dyl_slots.specs.declared.tables.Tables.{Tables}
 use Rattle.dyl_slots.specs.Found as found
 use Rattle.dyl_slots.specs.Given.{AllAt}
 use Rattle.dyl_slots.specs.Tables.{AreTables}
-use Rattle.dyl_search.specs.declared.set.ClosedSet.{ClosedSet}
-use Rattle.dyl_search.specs.Gathers.{set_of}
-use Rattle.dyl_scope.specs.Scopes.{AreOf}
+use Rattle.dyl_slots.specs.dyl_search.declared.set.ClosedSet.{ClosedSet}
+use Rattle.dyl_slots.specs.dyl_search.Gathers.{set_of}
+use Rattle.dyl_slots.specs.dyl_scope.Scopes.{AreOf}
 use Rattle.dyl_link.specs.declared.linking.Ready.{Ready}
 use Rattle.dyl_link.specs.Kept.{KeptMember, IsLinked, slot_at, slot_in, loader_slot_in}
 use Rattle.dyl_link.specs.Members.{member_value, slots_value}

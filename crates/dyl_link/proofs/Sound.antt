@@ -2,22 +2,22 @@
 use Rattle.std.proofs.Common.{◌≡◌, ℕ, ◌≤◌, List, map, length, Some, None, refl, ap, sym, ◌∙◌, subst}
 use Rattle.std.proofs.lemmas.List.{length-map}
 use Rattle.wasm_form.specs.declared.runtime.Ref.{Ref}
-use Rattle.spec_runtime.specs.Names.{HostNames}
-use Rattle.spec_linking.specs.declared.fault.LinkFault.TheVariants as faults
-use Rattle.spec_linking.specs.Plans as plans
-use Rattle.spec_linking.specs.Gathering.{IsSet}
-use Rattle.spec_linking.specs.LinkedSets.{LinkedSet}
-use Rattle.spec_linking.specs.Slots.{linked_plan, table_entries}
-use Rattle.spec_linking.specs.Links.{◌or_else◌, fault_without, set_entry, members_fault, duplicate_fault, limit_fault, link_fault}
-use Rattle.spec_linking.proofs.LinkedFacts.{or_none}
-use Rattle.dyl_plan.specs.declared.region.Sizes.{Sizes}
-use Rattle.dyl_plan.specs.Regions.{asked}
-use Rattle.dyl_search.specs.declared.set.Member.{Member}
-use Rattle.dyl_search.specs.declared.set.ClosedSet.{ClosedSet}
-use Rattle.dyl_search.specs.Gathers.{member_of, set_of}
-use Rattle.dyl_scope.specs.Scopes.{Scopes, AreOf}
-use Rattle.dyl_imports.specs.declared.imports.Imports.{Imports}
-use Rattle.dyl_imports.specs.Kept.{AreOver, AreImportsOf}
+use Rattle.spec_loading.specs.spec_runtime.Names.{HostNames}
+use Rattle.spec_loading.specs.spec_linking.declared.fault.LinkFault.TheVariants as faults
+use Rattle.spec_loading.specs.spec_linking.Plans as plans
+use Rattle.spec_loading.specs.spec_linking.Gathering.{IsSet}
+use Rattle.spec_loading.specs.spec_linking.LinkedSets.{LinkedSet}
+use Rattle.spec_loading.specs.spec_linking.Slots.{linked_plan, table_entries}
+use Rattle.spec_loading.specs.spec_linking.Links.{◌or_else◌, fault_without, set_entry, members_fault, duplicate_fault, limit_fault, link_fault}
+use Rattle.spec_loading.proofs.of_spec_linking.LinkedFacts.{or_none}
+use Rattle.dyl_slots.specs.dyl_plan.declared.region.Sizes.{Sizes}
+use Rattle.dyl_slots.specs.dyl_plan.Regions.{asked}
+use Rattle.dyl_slots.specs.dyl_search.declared.set.Member.{Member}
+use Rattle.dyl_slots.specs.dyl_search.declared.set.ClosedSet.{ClosedSet}
+use Rattle.dyl_slots.specs.dyl_search.Gathers.{member_of, set_of}
+use Rattle.dyl_slots.specs.dyl_scope.Scopes.{Scopes, AreOf}
+use Rattle.dyl_slots.specs.dyl_imports.declared.imports.Imports.{Imports}
+use Rattle.dyl_slots.specs.dyl_imports.Kept.{AreOver, AreImportsOf}
 use Rattle.dyl_slots.specs.declared.tables.Tables.{Tables}
 use Rattle.dyl_slots.specs.Given.{AllAt}
 use Rattle.dyl_slots.specs.Tables.{IsCounted, AreTables}

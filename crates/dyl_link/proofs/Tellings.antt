@@ -1,7 +1,7 @@
 -- Findings one after the other.
 use Rattle.std.proofs.Common.{refl}
-use Rattle.spec_linking.specs.declared.fault.LinkFault.{LinkFault}
-use Rattle.spec_linking.specs.Links.{Finding, ◌or_else◌}
+use Rattle.spec_loading.specs.spec_linking.declared.fault.LinkFault.{LinkFault}
+use Rattle.spec_loading.specs.spec_linking.Links.{Finding, ◌or_else◌}
 use Rattle.dyl_link.specs.Answers.{IsFirst}
 
 -- what is found first is found before all that comes later

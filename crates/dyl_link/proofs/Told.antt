@@ -1,11 +1,11 @@
 -- What is told of members is what the names of their set are made of.
 use Rattle.std.proofs.Common.{◌≡◌, List, [], ◌∷◌, map, refl, ap, sym, ◌∙◌}
 use Rattle.std.specs.Prelude.{Result, Ok, Err, IfOk}
-use Rattle.spec_linking.specs.Sets as sets
-use Rattle.spec_linking.specs.Gathering.{IsSet}
-use Rattle.dyl_search.specs.declared.set.Member.{Member}
-use Rattle.dyl_search.specs.Gathers.{member_of}
-use Rattle.dyl_scope.specs.Scopes.{Scopes, AreOf, Told, told_of}
+use Rattle.spec_loading.specs.spec_linking.Sets as sets
+use Rattle.spec_loading.specs.spec_linking.Gathering.{IsSet}
+use Rattle.dyl_slots.specs.dyl_search.declared.set.Member.{Member}
+use Rattle.dyl_slots.specs.dyl_search.Gathers.{member_of}
+use Rattle.dyl_slots.specs.dyl_scope.Scopes.{Scopes, AreOf, Told, told_of}
 
 mapped : (xs : List Member) → map (λ m. told_of (member_of m)) xs ≡ map told_of (map member_of xs)
 mapped [] = refl

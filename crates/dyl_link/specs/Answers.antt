@@ -1,2 +1,2 @@
 -- What linking answers, beside the fault that a set has.
-pub use Rattle.dyl_names.specs.Findings.{IsFirst, Tells}
+pub use Rattle.dyl_slots.specs.dyl_names.Findings.{IsFirst, Tells}

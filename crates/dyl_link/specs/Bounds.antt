@@ -2,7 +2,7 @@
 use Rattle.std.specs.Prelude.{ℕ, max, min, List, [], ◌∷◌, Option, None, Some}
 use Rattle.wasm_form.specs.declared.types.Limits.{Limits}
 use Rattle.wasm_form.specs.declared.module.Import.{Import}
-use Rattle.spec_linking.specs.Plans.{memory_limits, table_limits}
+use Rattle.spec_loading.specs.spec_linking.Plans.{memory_limits, table_limits}
 use Rattle.dyl_link.specs.declared.sizes.Bounds.{Bounds}
 use Rattle.dyl_link.specs.declared.sizes.Shared.{Shared}
 use Rattle.dyl_link.specs.declared.sizes.Shared.TheVariants as shared

@@ -1,9 +1,9 @@
 -- Names that are defined twice, by the definitions of names.
 use Rattle.std.specs.Prelude.{ℕ, List, [], ◌∷◌, Option, None, Some}
 use Rattle.wasm_form.specs.declared.module.Export.{Export}
-use Rattle.spec_linking.specs.Sets.{ClosedSet}
-use Rattle.spec_linking.specs.Definitions.{Definition, MemberFunction, MemberData, searched}
-use Rattle.spec_linking.specs.Links.{Finding, second_of}
+use Rattle.spec_loading.specs.spec_linking.Sets.{ClosedSet}
+use Rattle.spec_loading.specs.spec_linking.Definitions.{Definition, MemberFunction, MemberData, searched}
+use Rattle.spec_loading.specs.spec_linking.Links.{Finding, second_of}
 
 -- the member that a definition is of
 abbrev pub member_in : Definition → Option ℕ

@@ -1,9 +1,9 @@
 -- The faults of a member that come before those of its imports.
 use Rattle.std.specs.Prelude.{ℕ, length, nat_eq}
-use Rattle.spec_binary.specs.Exports.{relocations_name, constructors_name}
-use Rattle.spec_linking.specs.declared.fault.LinkFault.TheVariants.{OwnMemory}
-use Rattle.spec_linking.specs.Sets.{Member}
-use Rattle.spec_linking.specs.Links.{Finding, ◌or_else◌, unless, first_fault, tls_fault, loader_call_fault}
+use Rattle.spec_loading.specs.spec_binary.Exports.{relocations_name, constructors_name}
+use Rattle.spec_loading.specs.spec_linking.declared.fault.LinkFault.TheVariants.{OwnMemory}
+use Rattle.spec_loading.specs.spec_linking.Sets.{Member}
+use Rattle.spec_loading.specs.spec_linking.Links.{Finding, ◌or_else◌, unless, first_fault, tls_fault, loader_call_fault}
 
 -- a memory of its own, thread-local exports, and functions that the loader calls
 abbrev pub before_imports : ℕ → Member → Finding

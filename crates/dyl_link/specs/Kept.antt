@@ -4,18 +4,18 @@ use Rattle.wasm_form.specs.declared.runtime.LoaderCall.{LoaderCall}
 use Rattle.wasm_form.specs.declared.runtime.LoaderCall.TheVariants.{Dlopen, Dlsym, Dlclose, Dlerror}
 use Rattle.wasm_form.specs.declared.runtime.Ref.{Ref}
 use Rattle.wasm_form.specs.declared.runtime.Ref.TheVariants.{Own, Loader, Host, Stub}
-use Rattle.spec_binary.specs.Options.{◌>>=◌}
-use Rattle.spec_runtime.specs.Names.{HostName, HostNames}
-use Rattle.spec_linking.specs.Gathering.{IsSet}
-use Rattle.spec_linking.specs.Plans as plans
-use Rattle.spec_linking.specs.LinkedSets.{LinkedSet, hosts_of, function_ref}
-use Rattle.spec_linking.specs.Slots.{linked_plan, fresh_of, outside_slots, slot_of, table_entries, table_most, imported_number}
-use Rattle.spec_linking.specs.Links.{Links, set_entry}
+use Rattle.spec_loading.specs.spec_binary.Options.{◌>>=◌}
+use Rattle.spec_loading.specs.spec_runtime.Names.{HostName, HostNames}
+use Rattle.spec_loading.specs.spec_linking.Gathering.{IsSet}
+use Rattle.spec_loading.specs.spec_linking.Plans as plans
+use Rattle.spec_loading.specs.spec_linking.LinkedSets.{LinkedSet, hosts_of, function_ref}
+use Rattle.spec_loading.specs.spec_linking.Slots.{linked_plan, fresh_of, outside_slots, slot_of, table_entries, table_most, imported_number}
+use Rattle.spec_loading.specs.spec_linking.Links.{Links, set_entry}
 use Rattle.spec_loading.specs.Members.{uses_loader}
 use Rattle.spec_loading.specs.LoadedSet.{first_slot}
-use Rattle.dyl_search.specs.declared.set.ClosedSet as declared
-use Rattle.dyl_search.specs.Gathers.{set_of}
-use Rattle.dyl_scope.specs.Scopes.{Scopes, AreOf}
+use Rattle.dyl_slots.specs.dyl_search.declared.set.ClosedSet as declared
+use Rattle.dyl_slots.specs.dyl_search.Gathers.{set_of}
+use Rattle.dyl_slots.specs.dyl_scope.Scopes.{Scopes, AreOf}
 use Rattle.dyl_link.specs.declared.options.LinkOptions.{LinkOptions}
 
 abbrev pub options_of : LinkOptions → plans.LinkOptions

@@ -1,11 +1,11 @@
 -- What is above the limits, where the regions lie.
-use Rattle.spec_linking.specs.declared.fault.PlanFault.{PlanFault}
-use Rattle.spec_linking.specs.declared.fault.PlanFault.TheVariants as plan_faults
-use Rattle.spec_linking.specs.declared.fault.LinkFault.{LinkFault}
-use Rattle.spec_linking.specs.declared.fault.LinkFault.TheVariants.{MemoryLimit, TableLimit, Memory}
-use Rattle.spec_linking.specs.Sets.{ClosedSet}
-use Rattle.spec_linking.specs.Plans.{LinkOptions, plan_of, sizes_of, pages_limit, regions_limit}
-use Rattle.spec_linking.specs.Links.{Finding, ◌or_else◌}
+use Rattle.spec_loading.specs.spec_linking.declared.fault.PlanFault.{PlanFault}
+use Rattle.spec_loading.specs.spec_linking.declared.fault.PlanFault.TheVariants as plan_faults
+use Rattle.spec_loading.specs.spec_linking.declared.fault.LinkFault.{LinkFault}
+use Rattle.spec_loading.specs.spec_linking.declared.fault.LinkFault.TheVariants.{MemoryLimit, TableLimit, Memory}
+use Rattle.spec_loading.specs.spec_linking.Sets.{ClosedSet}
+use Rattle.spec_loading.specs.spec_linking.Plans.{LinkOptions, plan_of, sizes_of, pages_limit, regions_limit}
+use Rattle.spec_loading.specs.spec_linking.Links.{Finding, ◌or_else◌}
 
 abbrev pub limit_of : PlanFault → LinkFault
 limit_of (plan_faults.MemoryLimit pages most) = MemoryLimit pages most

@@ -1,8 +1,8 @@
 -- What is kept of members, as the meaning sees it.
 use Rattle.std.specs.Prelude.{◌≡◌, map}
 use Rattle.wasm_form.specs.declared.runtime.LoaderCall.TheVariants.{Dlopen, Dlclose, Dlerror}
-use Rattle.spec_execution.specs.Views.{loader_type}
-use Rattle.host_table.specs.Names.{host_name_of}
+use Rattle.spec_loading.specs.spec_execution.Views.{loader_type}
+use Rattle.dyl_slots.specs.host_table.Names.{host_name_of}
 use Rattle.dyl_slots.specs.declared.tables.LoaderSlots as code
 use Rattle.dyl_slots.specs.declared.tables.MemberSlots.{MemberSlots}
 use Rattle.dyl_link.specs.declared.linked.Parts.{Parts}

@@ -1,19 +1,19 @@
 -- What linking finds of a set, step by step.
 use Rattle.std.specs.Prelude.{◌≡◌, ℕ, ◌<◌, ◌≤◌, ◌^◌, List, map, length, slice_get, Some, None}
 use Rattle.wasm_form.specs.declared.runtime.Ref.{Ref}
-use Rattle.spec_linking.specs.Gathering.{IsSet}
-use Rattle.spec_linking.specs.Plans.{Plan, sizes_of}
-use Rattle.spec_linking.specs.LinkedSets.{LinkedSet, hosts_of, function_ref}
-use Rattle.spec_linking.specs.Slots.{linked_plan}
-use Rattle.spec_linking.specs.Links.{set_entry, members_fault}
+use Rattle.spec_loading.specs.spec_linking.Gathering.{IsSet}
+use Rattle.spec_loading.specs.spec_linking.Plans.{Plan, sizes_of}
+use Rattle.spec_loading.specs.spec_linking.LinkedSets.{LinkedSet, hosts_of, function_ref}
+use Rattle.spec_loading.specs.spec_linking.Slots.{linked_plan}
+use Rattle.spec_loading.specs.spec_linking.Links.{set_entry, members_fault}
 use Rattle.spec_loading.specs.Members as loading
-use Rattle.host_table.specs.Names.{host_name_of}
-use Rattle.dyl_search.specs.declared.set.ClosedSet.{ClosedSet}
-use Rattle.dyl_search.specs.Gathers.{set_of}
-use Rattle.dyl_plan.specs.declared.region.Sizes.{Sizes}
-use Rattle.dyl_plan.specs.Regions.{asked}
-use Rattle.dyl_imports.specs.declared.imports.Imports.{Imports}
-use Rattle.dyl_imports.specs.Kept.{AreImportsOf}
+use Rattle.dyl_slots.specs.host_table.Names.{host_name_of}
+use Rattle.dyl_slots.specs.dyl_search.declared.set.ClosedSet.{ClosedSet}
+use Rattle.dyl_slots.specs.dyl_search.Gathers.{set_of}
+use Rattle.dyl_slots.specs.dyl_plan.declared.region.Sizes.{Sizes}
+use Rattle.dyl_slots.specs.dyl_plan.Regions.{asked}
+use Rattle.dyl_slots.specs.dyl_imports.declared.imports.Imports.{Imports}
+use Rattle.dyl_slots.specs.dyl_imports.Kept.{AreImportsOf}
 use Rattle.dyl_slots.specs.declared.tables.Tables.{Tables}
 use Rattle.dyl_slots.specs.Given.{AllAt}
 use Rattle.dyl_slots.specs.Tables.{AreTables}

@@ -1,12 +1,12 @@
 // The faults of cells.
 ghost use Rattle.std.specs.Prelude.{◌≡◌};
-ghost use Rattle.spec_linking.specs.Links as links;
-ghost use Rattle.dyl_scope.specs.Scopes.{meaning_of};
+ghost use Rattle.spec_loading.specs.spec_linking.Links as links;
+ghost use Rattle.dyl_slots.specs.dyl_scope.Scopes.{meaning_of};
 ghost use Rattle.dyl_link.specs.Answers.{Tells};
 
-use dyl_names::{ill_typed, unresolved};
-use dyl_scope::Def;
-use spec_linking::{Kind, LinkFault};
+use dyl_slots::dyl_names::{ill_typed, unresolved};
+use dyl_slots::dyl_scope::Def;
+use spec_loading::spec_linking::{Kind, LinkFault};
 use std::alloc::Global;
 
 // A cell with the address of data.

@@ -1,19 +1,19 @@
 // Names that are defined twice.
 ghost use Rattle.std.specs.Prelude.{◌≡◌, ◌≤◌, ◌++◌, ◌∷◌, [], length, map, OnOk};
-ghost use Rattle.spec_linking.specs.Sets.{ClosedSet};
-ghost use Rattle.spec_linking.specs.Gathering.{IsSet};
-ghost use Rattle.spec_linking.specs.Definitions.{searched};
-ghost use Rattle.spec_linking.specs.Links as links;
-ghost use Rattle.spec_linking.specs.Links.{first_fault};
-ghost use Rattle.dyl_search.specs.Gathers.{member_of};
-ghost use Rattle.dyl_scope.specs.Scopes.{AreOf, meaning_of};
+ghost use Rattle.spec_loading.specs.spec_linking.Sets.{ClosedSet};
+ghost use Rattle.spec_loading.specs.spec_linking.Gathering.{IsSet};
+ghost use Rattle.spec_loading.specs.spec_linking.Definitions.{searched};
+ghost use Rattle.spec_loading.specs.spec_linking.Links as links;
+ghost use Rattle.spec_loading.specs.spec_linking.Links.{first_fault};
+ghost use Rattle.dyl_slots.specs.dyl_search.Gathers.{member_of};
+ghost use Rattle.dyl_slots.specs.dyl_scope.Scopes.{AreOf, meaning_of};
 ghost use Rattle.dyl_link.specs.Answers.{Tells};
 ghost use Rattle.dyl_link.specs.Duplicates.{member_in, duplicate_by};
 
-use dyl_names::named;
-use dyl_scope::{Def, Symbols};
-use dyl_search::Member;
-use spec_linking::LinkFault;
+use dyl_slots::dyl_names::named;
+use dyl_slots::dyl_scope::{Def, Symbols};
+use dyl_slots::dyl_search::Member;
+use spec_loading::spec_linking::LinkFault;
 use std::alloc::Global;
 use wasm_form::{Export, Memory};
 

@@ -1,20 +1,20 @@
 // The faults that come before any placing.
 ghost use Rattle.std.specs.Prelude.{◌≡◌, ◌≤◌, length, map, Some, IfOk};
-ghost use Rattle.spec_linking.specs.Gathering.{IsSet};
-ghost use Rattle.spec_linking.specs.LinkedSets.{LinkedSet};
-ghost use Rattle.spec_linking.specs.Links as links;
-ghost use Rattle.spec_linking.specs.Links.{◌or_else◌};
-ghost use Rattle.dyl_search.specs.Gathers.{member_of};
-ghost use Rattle.dyl_imports.specs.Kept.{AreImportsOf};
+ghost use Rattle.spec_loading.specs.spec_linking.Gathering.{IsSet};
+ghost use Rattle.spec_loading.specs.spec_linking.LinkedSets.{LinkedSet};
+ghost use Rattle.spec_loading.specs.spec_linking.Links as links;
+ghost use Rattle.spec_loading.specs.spec_linking.Links.{◌or_else◌};
+ghost use Rattle.dyl_slots.specs.dyl_search.Gathers.{member_of};
+ghost use Rattle.dyl_slots.specs.dyl_imports.Kept.{AreImportsOf};
 ghost use Rattle.dyl_link.specs.Answers.{Tells};
 
 use crate::duplicates::duplicates;
 use crate::members::members_fault;
 use crate::own::entry_of;
-use dyl_imports::Imports;
-use dyl_scope::Symbols;
-use dyl_search::Member;
-use spec_linking::LinkFault;
+use dyl_slots::dyl_imports::Imports;
+use dyl_slots::dyl_scope::Symbols;
+use dyl_slots::dyl_search::Member;
+use spec_loading::spec_linking::LinkFault;
 use std::alloc::Global;
 
 // The entry of a set.

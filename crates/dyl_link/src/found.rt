@@ -1,10 +1,10 @@
 // What is found of a set that links, beside the names that its members define.
 ghost use Rattle.std.specs.Prelude.{◌≡◌, ◌≤◌, length, Some, IfOk};
-ghost use Rattle.spec_linking.specs.Gathering.{IsSet};
-ghost use Rattle.spec_linking.specs.LinkedSets.{LinkedSet};
-ghost use Rattle.spec_linking.specs.Links as links;
-ghost use Rattle.dyl_search.specs.Gathers.{set_of};
-ghost use Rattle.dyl_scope.specs.Scopes.{AreOf};
+ghost use Rattle.spec_loading.specs.spec_linking.Gathering.{IsSet};
+ghost use Rattle.spec_loading.specs.spec_linking.LinkedSets.{LinkedSet};
+ghost use Rattle.spec_loading.specs.spec_linking.Links as links;
+ghost use Rattle.dyl_slots.specs.dyl_search.Gathers.{set_of};
+ghost use Rattle.dyl_slots.specs.dyl_scope.Scopes.{AreOf};
 ghost use Rattle.dyl_link.specs.Answers.{Tells};
 ghost use Rattle.dyl_link.specs.Kept.{linked_set};
 ghost use Rattle.dyl_link.specs.Steps.{IsOver, IsPlacedOf, IsFoundOf};
@@ -12,11 +12,11 @@ ghost use Rattle.dyl_link.specs.Steps.{IsOver, IsPlacedOf, IsFoundOf};
 use crate::entry::entry_without_fault;
 use crate::options::LinkOptions;
 use crate::placed::{Placed, placed_of};
-use dyl_imports::Imports;
-use dyl_scope::Symbols;
-use dyl_search::ClosedSet;
-use host_table::{HostName, HostNames};
-use spec_linking::LinkFault;
+use dyl_slots::dyl_imports::Imports;
+use dyl_slots::dyl_scope::Symbols;
+use dyl_slots::dyl_search::ClosedSet;
+use dyl_slots::host_table::{HostName, HostNames};
+use spec_loading::spec_linking::LinkFault;
 use std::alloc::Global;
 
 // The entry, where the regions lie, whether a member imports a function of the loader, and the host functions that the members import.

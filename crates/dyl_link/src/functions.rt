@@ -1,21 +1,21 @@
 // The types of imported functions.
 ghost use Rattle.std.specs.Prelude.{◌≡◌};
 ghost use Rattle.std.specs.Option.{option_copied};
-ghost use Rattle.spec_execution.specs.Views.{loader_type};
-ghost use Rattle.spec_binary.specs.SameTypes.{same_function_type};
-ghost use Rattle.spec_linking.specs.LinkedSets.{LinkedSet};
-ghost use Rattle.spec_linking.specs.Definitions.{env_name};
-ghost use Rattle.spec_linking.specs.Links as links;
-ghost use Rattle.dyl_scope.specs.Scopes.{meaning_of};
-ghost use Rattle.host_table.specs.Names.{match_of};
-ghost use Rattle.dyl_imports.specs.Kept.{AreImportsOf};
+ghost use Rattle.spec_loading.specs.spec_execution.Views.{loader_type};
+ghost use Rattle.spec_loading.specs.spec_binary.SameTypes.{same_function_type};
+ghost use Rattle.spec_loading.specs.spec_linking.LinkedSets.{LinkedSet};
+ghost use Rattle.spec_loading.specs.spec_linking.Definitions.{env_name};
+ghost use Rattle.spec_loading.specs.spec_linking.Links as links;
+ghost use Rattle.dyl_slots.specs.dyl_scope.Scopes.{meaning_of};
+ghost use Rattle.dyl_slots.specs.host_table.Names.{match_of};
+ghost use Rattle.dyl_slots.specs.dyl_imports.Kept.{AreImportsOf};
 ghost use Rattle.dyl_link.specs.Answers.{Tells};
 
-use dyl_imports::Imports;
-use dyl_names::{ill_typed, unresolved};
-use dyl_scope::Def;
-use host_table::{HostMatch, HostNames};
-use spec_linking::{Kind, LinkFault};
+use dyl_slots::dyl_imports::Imports;
+use dyl_slots::dyl_names::{ill_typed, unresolved};
+use dyl_slots::dyl_scope::Def;
+use dyl_slots::host_table::{HostMatch, HostNames};
+use spec_loading::spec_linking::{Kind, LinkFault};
 use std::alloc::Global;
 use wasm_form::{FuncType, LoaderCall, ValType};
 

@@ -1,19 +1,19 @@
 // The faults of imports.
 ghost use Rattle.std.specs.Prelude.{◌<◌, true, length};
-ghost use Rattle.spec_linking.specs.LinkedSets.{LinkedSet, definition};
-ghost use Rattle.spec_linking.specs.Links as links;
-ghost use Rattle.spec_linking.specs.Links.{first_fault, ◌or_else◌};
-ghost use Rattle.spec_linking.specs.Imports as forms;
-ghost use Rattle.spec_linking.specs.declared.fault.Kind.TheVariants as kind;
-ghost use Rattle.spec_linking.specs.declared.fault.LinkFault.TheVariants as faults;
-ghost use Rattle.dyl_imports.specs.Kept.{AreImportsOf};
+ghost use Rattle.spec_loading.specs.spec_linking.LinkedSets.{LinkedSet, definition};
+ghost use Rattle.spec_loading.specs.spec_linking.Links as links;
+ghost use Rattle.spec_loading.specs.spec_linking.Links.{first_fault, ◌or_else◌};
+ghost use Rattle.spec_loading.specs.spec_linking.Imports as forms;
+ghost use Rattle.spec_loading.specs.spec_linking.declared.fault.Kind.TheVariants as kind;
+ghost use Rattle.spec_loading.specs.spec_linking.declared.fault.LinkFault.TheVariants as faults;
+ghost use Rattle.dyl_slots.specs.dyl_imports.Kept.{AreImportsOf};
 ghost use Rattle.dyl_link.specs.Answers.{Tells};
 
 use crate::cells::{data_cell, slot_cell};
 use crate::functions::{env_function, host_function};
-use dyl_imports::{Imports, Use, is_function_table, is_i32_global, is_memory, use_of};
-use dyl_names::{ill_typed, unresolved};
-use spec_linking::{Kind, LinkFault};
+use dyl_slots::dyl_imports::{Imports, Use, is_function_table, is_i32_global, is_memory, use_of};
+use dyl_slots::dyl_names::{ill_typed, unresolved};
+use spec_loading::spec_linking::{Kind, LinkFault};
 use std::alloc::Global;
 use wasm_form::{Import, Module};
 

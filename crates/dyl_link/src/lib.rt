@@ -18,7 +18,10 @@ mod placing;
 mod sizes;
 mod symbols;
 
+pub use dyl_slots::{
+    dyl_imports, dyl_plan, dyl_scope, dyl_search, dyl_section, host_table, wasm_check,
+};
 pub use linked::Linked;
 pub use linking::{LinkRefused, link};
 pub use options::LinkOptions;
-pub use spec_linking::{Kind, LinkFault};
+pub use spec_loading::spec_linking::{Kind, LinkFault};

@@ -1,18 +1,18 @@
 // A linked set.
 ghost use Rattle.std.specs.Prelude.{◌≡◌, ◌<◌, ◌∷◌, [], IfOk, length, map, slice_get, is_some, Some, IsTrue};
-ghost use Rattle.spec_execution.specs.Views as views;
-ghost use Rattle.host_table.specs.Names.{host_name_of};
+ghost use Rattle.spec_loading.specs.spec_execution.Views as views;
+ghost use Rattle.dyl_slots.specs.host_table.Names.{host_name_of};
 ghost use Rattle.wasm_form.specs.declared.types.ValType.TheVariants.{I32};
-ghost use Rattle.dyl_search.specs.Gathers.{set_of};
-ghost use Rattle.dyl_scope.specs.Scopes.{list_at, AreOf};
+ghost use Rattle.dyl_slots.specs.dyl_search.Gathers.{set_of};
+ghost use Rattle.dyl_slots.specs.dyl_scope.Scopes.{list_at, AreOf};
 ghost use Rattle.dyl_link.specs.Members.{AreTypes, kept_of};
 ghost use Rattle.dyl_link.specs.Kept.{function_in, slot_at, own_slot_in, loader_slot_in, slot_in, address_in, cell_in, fresh_in, first_slot_in};
 
-use dyl_plan::Plan;
-use dyl_scope::Symbols;
-use dyl_search::ClosedSet;
+use dyl_slots::dyl_plan::Plan;
+use dyl_slots::dyl_scope::Symbols;
+use dyl_slots::dyl_search::ClosedSet;
+use dyl_slots::host_table::HostName;
 use dyl_slots::{LoaderSlots, MemberSlots};
-use host_table::HostName;
 use std::alloc::Global;
 use std::marker::Model;
 use wasm_form::{FuncType, List, LoaderCall, Memory, Ref, ValType};
@@ -96,9 +96,9 @@ impl Model for Linked {
     ghost use Rattle.std.specs.Prelude.{map};
     ghost use Rattle.std.specs.Coded.{codes};
     ghost use Rattle.wasm_form.specs.contracts.module.Module as modules;
-    ghost use Rattle.host_table.specs.Names.{host_name_of};
-    ghost use Rattle.dyl_search.specs.Gathers.{set_of};
-    ghost use Rattle.dyl_scope.specs.Scopes.{AreOf};
+    ghost use Rattle.dyl_slots.specs.host_table.Names.{host_name_of};
+    ghost use Rattle.dyl_slots.specs.dyl_search.Gathers.{set_of};
+    ghost use Rattle.dyl_slots.specs.dyl_scope.Scopes.{AreOf};
     ghost use Rattle.dyl_link.specs.Kept.{Kept};
     ghost use Rattle.dyl_link.specs.Members.{member_value, slots_value, AreTypes};
 

@@ -1,10 +1,10 @@
 // Linking.
 ghost use Rattle.std.specs.Prelude.{◌≡◌, ◌≤◌, length, IfOk, IfErr, None};
-ghost use Rattle.spec_linking.specs.Gathering.{IsSet};
-ghost use Rattle.spec_linking.specs.Links.{link_fault};
-ghost use Rattle.spec_linking.specs.declared.fault.LinkFault.TheVariants as faults;
-ghost use Rattle.dyl_search.specs.Gathers.{set_of};
-ghost use Rattle.dyl_scope.specs.Scopes.{AreOf};
+ghost use Rattle.spec_loading.specs.spec_linking.Gathering.{IsSet};
+ghost use Rattle.spec_loading.specs.spec_linking.Links.{link_fault};
+ghost use Rattle.spec_loading.specs.spec_linking.declared.fault.LinkFault.TheVariants as faults;
+ghost use Rattle.dyl_slots.specs.dyl_search.Gathers.{set_of};
+ghost use Rattle.dyl_slots.specs.dyl_scope.Scopes.{AreOf};
 ghost use Rattle.dyl_link.specs.Answers.{IsFirst, Tells};
 ghost use Rattle.dyl_link.specs.Kept.{linked_set, IsLinked};
 ghost use Rattle.dyl_link.specs.Members.{AreTypes};
@@ -14,10 +14,10 @@ use crate::found::{Found, found_of};
 use crate::linked::{Linked, LoaderTypes, Parts};
 use crate::options::LinkOptions;
 use crate::symbols::symbols_of;
-use dyl_scope::Symbols;
-use dyl_search::ClosedSet;
-use host_table::HostNames;
-use spec_linking::LinkFault;
+use dyl_slots::dyl_scope::Symbols;
+use dyl_slots::dyl_search::ClosedSet;
+use dyl_slots::host_table::HostNames;
+use spec_loading::spec_linking::LinkFault;
 use std::alloc::Global;
 
 /// Why a set doesn't link, and the set.

@@ -1,22 +1,22 @@
 // The faults of members, in order.
 ghost use Rattle.std.specs.Prelude.{◌≡◌, ◌<◌, ◌≤◌, length, map, nat_eq};
-ghost use Rattle.dyl_section.specs.Recorded.{export_note};
-ghost use Rattle.spec_linking.specs.LinkedSets.{LinkedSet};
-ghost use Rattle.spec_linking.specs.Links as links;
-ghost use Rattle.spec_linking.specs.Links.{first_fault};
-ghost use Rattle.spec_linking.specs.declared.fault.LinkFault.TheVariants as faults;
-ghost use Rattle.dyl_search.specs.Gathers.{member_of};
-ghost use Rattle.dyl_imports.specs.Kept.{AreImportsOf};
+ghost use Rattle.dyl_slots.specs.dyl_section.Recorded.{export_note};
+ghost use Rattle.spec_loading.specs.spec_linking.LinkedSets.{LinkedSet};
+ghost use Rattle.spec_loading.specs.spec_linking.Links as links;
+ghost use Rattle.spec_loading.specs.spec_linking.Links.{first_fault};
+ghost use Rattle.spec_loading.specs.spec_linking.declared.fault.LinkFault.TheVariants as faults;
+ghost use Rattle.dyl_slots.specs.dyl_search.Gathers.{member_of};
+ghost use Rattle.dyl_slots.specs.dyl_imports.Kept.{AreImportsOf};
 ghost use Rattle.dyl_link.specs.Answers.{Tells};
 ghost use Rattle.dyl_link.specs.Faults.{before_imports};
 
 use crate::imports::import_faults;
 use crate::own::loader_call;
-use dyl_imports::Imports;
-use dyl_names::named;
-use dyl_search::Member;
-use dyl_section::ExportInfo;
-use spec_linking::LinkFault;
+use dyl_slots::dyl_imports::Imports;
+use dyl_slots::dyl_names::named;
+use dyl_slots::dyl_search::Member;
+use dyl_slots::dyl_section::ExportInfo;
+use spec_loading::spec_linking::LinkFault;
 use std::alloc::Global;
 use wasm_form::Limits;
 

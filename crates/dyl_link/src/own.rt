@@ -1,17 +1,17 @@
 // Functions that a member itself defines, by the names under which it exports them.
 ghost use Rattle.std.specs.Prelude.{◌≡◌, ◌<◌, ◌≤◌, length, IsTrue, IfSome};
 ghost use Rattle.std.specs.Option.{option_copied};
-ghost use Rattle.spec_binary.specs.Exports.{exported_as, own_function};
-ghost use Rattle.spec_binary.specs.Indices.{is_own, is_nullary, function_type, nullary_at};
-ghost use Rattle.spec_binary.specs.IndexSpaces.{function_space, imports_of, functions_in};
-ghost use Rattle.spec_linking.specs.Definitions as defined;
-ghost use Rattle.spec_linking.specs.Links as links;
+ghost use Rattle.spec_loading.specs.spec_binary.Exports.{exported_as, own_function};
+ghost use Rattle.spec_loading.specs.spec_binary.Indices.{is_own, is_nullary, function_type, nullary_at};
+ghost use Rattle.spec_loading.specs.spec_binary.IndexSpaces.{function_space, imports_of, functions_in};
+ghost use Rattle.spec_loading.specs.spec_linking.Definitions as defined;
+ghost use Rattle.spec_loading.specs.spec_linking.Links as links;
 ghost use Rattle.dyl_link.specs.Answers.{Tells};
 
-use dyl_names::ill_typed;
-use spec_linking::{Kind, LinkFault};
+use dyl_slots::dyl_names::ill_typed;
+use dyl_slots::wasm_check::Checked;
+use spec_loading::spec_linking::{Kind, LinkFault};
 use std::alloc::Global;
-use wasm_check::Checked;
 use wasm_form::{Export, ExportDesc, FuncType, Import, ImportDesc, Module};
 
 // How many functions are imported.

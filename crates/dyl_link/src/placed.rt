@@ -1,11 +1,11 @@
 // The functions and the tables of a set, where its regions lie.
 ghost use Rattle.std.specs.Prelude.{◌≡◌, ◌≤◌, length, None, IfOk};
-ghost use Rattle.spec_linking.specs.LinkedSets.{LinkedSet};
-ghost use Rattle.spec_linking.specs.Plans as plans;
-ghost use Rattle.spec_linking.specs.Slots.{table_entries};
-ghost use Rattle.spec_linking.specs.Links as links;
-ghost use Rattle.spec_linking.specs.declared.fault.LinkFault.TheVariants as faults;
-ghost use Rattle.dyl_imports.specs.Kept.{AreImportsOf};
+ghost use Rattle.spec_loading.specs.spec_linking.LinkedSets.{LinkedSet};
+ghost use Rattle.spec_loading.specs.spec_linking.Plans as plans;
+ghost use Rattle.spec_loading.specs.spec_linking.Slots.{table_entries};
+ghost use Rattle.spec_loading.specs.spec_linking.Links as links;
+ghost use Rattle.spec_loading.specs.spec_linking.declared.fault.LinkFault.TheVariants as faults;
+ghost use Rattle.dyl_slots.specs.dyl_imports.Kept.{AreImportsOf};
 ghost use Rattle.dyl_slots.specs.Given.{AllAt};
 ghost use Rattle.dyl_link.specs.Answers.{Tells};
 ghost use Rattle.dyl_link.specs.Steps.{AreNamed, IsSound, IsPlaced, AreAllOf, IsPlacedOf};
@@ -13,11 +13,11 @@ ghost use Rattle.dyl_link.specs.Steps.{AreNamed, IsSound, IsPlaced, AreAllOf, Is
 use crate::options::LinkOptions;
 use crate::placing::plan_of;
 use crate::sizes::sizes_of;
-use dyl_imports::Imports;
-use dyl_plan::{Plan, Sizes};
-use dyl_search::ClosedSet;
+use dyl_slots::dyl_imports::Imports;
+use dyl_slots::dyl_plan::{Plan, Sizes};
+use dyl_slots::dyl_search::ClosedSet;
 use dyl_slots::{Tables, make_tables};
-use spec_linking::LinkFault;
+use spec_loading::spec_linking::LinkFault;
 use std::alloc::Global;
 use wasm_form::{List, Memory, Ref};
 

@@ -1,18 +1,18 @@
 // The plan of a set, and what is above the limits.
 ghost use Rattle.std.specs.Prelude.{◌≡◌, ◌≤◌, IfOk};
-ghost use Rattle.spec_linking.specs.Gathering.{IsSet};
-ghost use Rattle.spec_linking.specs.Plans as plans;
-ghost use Rattle.dyl_search.specs.Gathers.{set_of};
-ghost use Rattle.dyl_plan.specs.Regions.{asked};
+ghost use Rattle.spec_loading.specs.spec_linking.Gathering.{IsSet};
+ghost use Rattle.spec_loading.specs.spec_linking.Plans as plans;
+ghost use Rattle.dyl_slots.specs.dyl_search.Gathers.{set_of};
+ghost use Rattle.dyl_slots.specs.dyl_plan.Regions.{asked};
 ghost use Rattle.dyl_link.specs.Answers.{Tells};
 ghost use Rattle.dyl_link.specs.Limits.{limit_of, regions_fault};
 ghost use Rattle.dyl_link.specs.Kept.{options_of};
 
 use crate::options::LinkOptions;
 use crate::sizes::regions_of;
-use dyl_plan::{Plan, Sizes, place};
-use dyl_search::ClosedSet;
-use spec_linking::{LinkFault, PlanFault};
+use dyl_slots::dyl_plan::{Plan, Sizes, place};
+use dyl_slots::dyl_search::ClosedSet;
+use spec_loading::spec_linking::{LinkFault, PlanFault};
 use std::alloc::Global;
 
 fn limit_of(fault: PlanFault) -> LinkFault

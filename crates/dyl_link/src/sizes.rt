@@ -1,19 +1,19 @@
 // The sizes that a set asks for.
 ghost use Rattle.std.specs.Prelude.{◌≡◌, ◌≤◌, map, IfOk, All};
 ghost use Rattle.std.specs.List.{flat_map};
-ghost use Rattle.spec_linking.specs.Gathering.{IsSet};
-ghost use Rattle.spec_linking.specs.Plans as plans;
-ghost use Rattle.dyl_section.specs.Recorded.{record_of};
-ghost use Rattle.dyl_search.specs.Gathers.{set_of, member_of};
-ghost use Rattle.dyl_plan.specs.Regions.{region_of, asked};
+ghost use Rattle.spec_loading.specs.spec_linking.Gathering.{IsSet};
+ghost use Rattle.spec_loading.specs.spec_linking.Plans as plans;
+ghost use Rattle.dyl_slots.specs.dyl_section.Recorded.{record_of};
+ghost use Rattle.dyl_slots.specs.dyl_search.Gathers.{set_of, member_of};
+ghost use Rattle.dyl_slots.specs.dyl_plan.Regions.{region_of, asked};
 ghost use Rattle.dyl_link.specs.Bounds.{limits_as, listed, with_limits, all_limits};
 ghost use Rattle.dyl_link.specs.Kept.{options_of};
 
 use crate::options::LinkOptions;
-use dyl_imports::{Use, use_of};
-use dyl_plan::{Region, Sizes};
-use dyl_search::{ClosedSet, Member};
-use dyl_section::Dylink;
+use dyl_slots::dyl_imports::{Use, use_of};
+use dyl_slots::dyl_plan::{Region, Sizes};
+use dyl_slots::dyl_search::{ClosedSet, Member};
+use dyl_slots::dyl_section::Dylink;
 use std::alloc::Global;
 use wasm_form::{Import, ImportDesc, Limits, Memory};
 

@@ -1,12 +1,12 @@
 // The names that the members of a set define.
 ghost use Rattle.std.specs.Prelude.{◌≡◌, ◌≤◌, length, map, IfOk};
-ghost use Rattle.spec_linking.specs.Sets.{ClosedSet};
-ghost use Rattle.spec_linking.specs.Gathering.{IsSet};
-ghost use Rattle.dyl_search.specs.Gathers.{member_of};
-ghost use Rattle.dyl_scope.specs.Scopes.{AreOf, told_of};
+ghost use Rattle.spec_loading.specs.spec_linking.Sets.{ClosedSet};
+ghost use Rattle.spec_loading.specs.spec_linking.Gathering.{IsSet};
+ghost use Rattle.dyl_slots.specs.dyl_search.Gathers.{member_of};
+ghost use Rattle.dyl_slots.specs.dyl_scope.Scopes.{AreOf, told_of};
 
-use dyl_scope::{Maker, Symbols};
-use dyl_search::Member;
+use dyl_slots::dyl_scope::{Maker, Symbols};
+use dyl_slots::dyl_search::Member;
 use std::alloc::Global;
 use wasm_form::Memory;
 

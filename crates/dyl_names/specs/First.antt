@@ -2,7 +2,7 @@
 use Rattle.std.specs.Prelude.{◌≡◌, ℕ, List, [], ◌∷◌, false, slice_get, None}
 use Rattle.std.specs.Map.{lookup}
 use Rattle.std.specs.Str.{bytes_eq}
-use Rattle.spec_binary.specs.Options.{◌>>=◌}
+use Rattle.spec_linking.specs.spec_binary.Options.{◌>>=◌}
 use Rattle.spec_linking.specs.Orders.{is_among}
 use Rattle.spec_linking.specs.Definitions as defined
 use Rattle.dyl_names.specs.Names.{Defined}

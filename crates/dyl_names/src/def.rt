@@ -1,5 +1,5 @@
 // The definition of a name.
-use wasm_form::LoaderCall;
+use spec_linking::wasm_form::LoaderCall;
 
 /// What a name is defined as for a member.
 #[derive(Clone, Copy, Debug, PartialEq, Eq)]

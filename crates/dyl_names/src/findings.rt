@@ -4,9 +4,9 @@ ghost use Rattle.spec_linking.specs.Links as links;
 ghost use Rattle.spec_linking.specs.declared.fault.LinkFault.TheVariants as faults;
 ghost use Rattle.dyl_names.specs.Findings.{Tells};
 
+use spec_linking::wasm_form::{Memory, Text};
 use spec_linking::{Kind, LinkFault};
 use std::alloc::Global;
-use wasm_form::{Memory, Text};
 
 /// A text of its own. `Memory` where no memory could be had.
 pub fn named(alloc: Global, name: &str) -> Result<Text, Memory>

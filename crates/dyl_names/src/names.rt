@@ -6,9 +6,9 @@ ghost use Rattle.dyl_names.specs.Names.{symbol_value, maybe_symbol, with_symbol,
 
 use crate::symbol::{Definition, Symbol};
 use indexmap::IndexMap;
+use spec_linking::wasm_form::Memory;
 use std::alloc::Global;
 use std::marker::Model;
-use wasm_form::Memory;
 
 /// The names that a member defines. Of two definitions of a name the first one counts.
 #[derive(Drop)]

@@ -2,9 +2,9 @@
 ghost use Rattle.std.specs.Prelude.{◌≡◌, ℕ, [], false, IfOk, OnOk, length, slice_get, slice_index_or};
 ghost use Rattle.spec_linking.specs.Orders.{is_among, with_number, with_numbers};
 
+use spec_linking::wasm_form::{List, Memory};
 use std::alloc::Global;
 use std::marker::Model;
-use wasm_form::{List, Memory};
 
 /// Numbers, each once, in the order in which they came. Of the small ones it is marked whether they are there, so that these are found fast.
 #[derive(Drop)]

@@ -1,5 +1,5 @@
 // What a member defines a name as.
-use wasm_form::Text;
+use spec_linking::wasm_form::Text;
 
 /// What a name is defined as: a function by its number, or the place of data in the member's memory region.
 #[derive(Clone, Copy)]

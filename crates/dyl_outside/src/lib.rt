@@ -6,8 +6,11 @@
 mod ambient;
 mod calls;
 mod disk_files;
+mod empty_source;
 mod fault;
 mod files;
+mod held_files;
+mod held_sink;
 mod host_ambient;
 mod mem_ambient;
 mod mem_files;
@@ -22,8 +25,11 @@ mod stream_source;
 
 pub use ambient::Ambient;
 pub use disk_files::DiskFiles;
+pub use empty_source::EmptySource;
 pub use fault::{FileFault, IoFault};
 pub use files::Files;
+pub use held_files::HeldFiles;
+pub use held_sink::HeldSink;
 pub use host_ambient::HostAmbient;
 pub use mem_ambient::MemAmbient;
 pub use mem_files::MemFiles;

@@ -4,8 +4,8 @@ ghost use Rattle.spec_linking.specs.Plans.{rounded_up, bases, end_of};
 ghost use Rattle.dyl_plan.specs.Regions.{region_of, size_in, align_in, HasAligns};
 
 use crate::region::{Region, Space};
+use spec_linking::wasm_form::Memory;
 use std::alloc::Global;
-use wasm_form::Memory;
 
 // The least multiple of a power of two that is no less than a number.
 pub(crate) fn aligned(end: u64, align: u32) -> u64

@@ -6,9 +6,9 @@ use Rattle.std.specs.Map.{lookup}
 use Rattle.std.proofs.lemmas.Slice.Eq.{bytes_eq-Decides}
 use Rattle.wasm_form.specs.declared.module.Export.{Export}
 use Rattle.wasm_form.specs.declared.module.Module.{Module}
-use Rattle.spec_binary.specs.Exports.{exported_as}
-use Rattle.spec_binary.specs.Options.{◌>>=◌}
-use Rattle.spec_validation.specs.Faults.{names_distinct, contains_name}
+use Rattle.spec_linking.specs.spec_binary.Exports.{exported_as}
+use Rattle.spec_linking.specs.spec_binary.Options.{◌>>=◌}
+use Rattle.spec_linking.specs.spec_validation.Faults.{names_distinct, contains_name}
 use Rattle.spec_linking.specs.Definitions as defined
 use Rattle.dyl_scope.specs.Names.{Defined, with_symbol, with_all, defined_as, defined_in}
 

@@ -7,7 +7,7 @@ use Rattle.std.specs.String.{string_eq}
 use Rattle.indexmap.specs.IndexMap.{insert_entry}
 use Rattle.std.proofs.lemmas.Slice.Eq.{bytes_eq-Decides}
 use Rattle.std.proofs.lemmas.Bool.Decides.{nat_tests}
-use Rattle.spec_binary.specs.Options.{◌>>=◌}
+use Rattle.spec_linking.specs.spec_binary.Options.{◌>>=◌}
 use Rattle.spec_linking.specs.Orders.{is_among, with_number}
 use Rattle.spec_linking.specs.Definitions as defined
 use Rattle.dyl_scope.specs.declared.maker.Told.{Told}

@@ -8,8 +8,8 @@ use Rattle.std.proofs.lemmas.Option.{unwrap_or-slice_get}
 use Rattle.std.proofs.lemmas.List.{length-map}
 use Rattle.std.proofs.lemmas.List.Elements.{All-head, All-tail}
 use Rattle.std.proofs.lemmas.List.FromFn.{get_or-map-range_with_len}
-use Rattle.spec_binary.specs.Options.{◌>>=◌}
-use Rattle.spec_validation.proofs.Parts.{parts_fit}
+use Rattle.spec_linking.specs.spec_binary.Options.{◌>>=◌}
+use Rattle.spec_linking.proofs.of_spec_validation.Parts.{parts_fit}
 use Rattle.spec_linking.specs.Sets.{Member, ClosedSet}
 use Rattle.spec_linking.specs.Gathering.{IsMember, IsSet}
 use Rattle.spec_linking.specs.Orders.{closure, post_order, needs, with_numbers}

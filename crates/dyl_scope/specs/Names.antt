@@ -6,8 +6,8 @@ use Rattle.wasm_form.specs.declared.instr.Instr.TheOpen as Open
 use Rattle.wasm_form.specs.declared.instr.Expr.{Expr}
 use Rattle.wasm_form.specs.declared.module.Export.{Export}
 use Rattle.wasm_form.specs.declared.module.Module.{Module}
-use Rattle.spec_binary.specs.Options.{◌>>=◌}
-use Rattle.spec_binary.specs.IndexSpaces.{imported_count}
+use Rattle.spec_linking.specs.spec_binary.Options.{◌>>=◌}
+use Rattle.spec_linking.specs.spec_binary.IndexSpaces.{imported_count}
 use Rattle.spec_linking.specs.Definitions as defined
 use Rattle.dyl_scope.specs.declared.exports.Imported.{Imported}
 pub use Rattle.dyl_names.specs.Names.{Defined, symbol_value, maybe_symbol, definition_value, with_symbol, with_all}

@@ -3,7 +3,7 @@ use Rattle.std.specs.Prelude.{◌≡◌, ℕ, ◌<◌, unwrap_or, List, [], ◌�
 use Rattle.std.specs.Map.{lookup}
 use Rattle.std.specs.Str.{bytes_eq}
 use Rattle.wasm_form.specs.declared.module.Module.{Module}
-use Rattle.spec_binary.specs.Options.{◌>>=◌}
+use Rattle.spec_linking.specs.spec_binary.Options.{◌>>=◌}
 use Rattle.spec_linking.specs.Sets.{Member, ClosedSet}
 use Rattle.spec_linking.specs.Orders.{closure, post_order, with_numbers}
 use Rattle.spec_linking.specs.Definitions as defined

@@ -1,8 +1,8 @@
 // The names that the exports of a module define.
 ghost use Rattle.std.specs.Prelude.{◌≡◌, ◌<◌, ◌++◌, map, ◌^◌, length, IsTrue, IfOk, OnOk};
 ghost use Rattle.std.specs.List.{list_all};
-ghost use Rattle.spec_binary.specs.IndexSpaces.{imports_of, imported_count, functions_in, globals_in};
-ghost use Rattle.spec_validation.specs.Faults.{global_fits};
+ghost use Rattle.spec_linking.specs.spec_binary.IndexSpaces.{imports_of, imported_count, functions_in, globals_in};
+ghost use Rattle.spec_linking.specs.spec_validation.Faults.{global_fits};
 ghost use Rattle.spec_linking.specs.Definitions as defined;
 ghost use Rattle.dyl_scope.specs.Names.{maybe_symbol, symbol_value, definition_value, defined_as, defined_in, data_at, own_data, Counts};
 

@@ -1,7 +1,7 @@
 // Globals that are the places of data.
 ghost use Rattle.std.specs.Prelude.{◌≡◌, IsTrue};
 ghost use Rattle.wasm_form.specs.declared.instr.Instr.{out-Instr};
-ghost use Rattle.spec_validation.specs.Faults.{global_fits};
+ghost use Rattle.spec_linking.specs.spec_validation.Faults.{global_fits};
 ghost use Rattle.spec_linking.specs.Definitions as defined;
 ghost use Rattle.dyl_scope.specs.Names.{maybe_symbol, i32_step, i32_constant};
 

@@ -6,8 +6,8 @@ use Rattle.std.proofs.lemmas.List.{length-map, length-append, map-append}
 use Rattle.std.proofs.lemmas.List.Sums.{sum_by-append}
 use Rattle.dyl_outside.specs.FileMap.{FileMap}
 use Rattle.wasm_form.specs.declared.module.Module.{Module}
-use Rattle.spec_binary.specs.DecodeAnswers.{DecodeAnswer}
-use Rattle.spec_validation.specs.Faults as validation
+use Rattle.spec_reading.specs.spec_binary.DecodeAnswers.{DecodeAnswer}
+use Rattle.spec_linking.specs.spec_validation.Faults as validation
 use Rattle.spec_linking.specs.Records.{HasRecord}
 use Rattle.spec_linking.specs.Sets as sets
 use Rattle.spec_linking.specs.Sets.{most_bytes}

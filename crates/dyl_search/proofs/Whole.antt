@@ -1,12 +1,12 @@
 -- Want of memory stands alone, and not inside another fault.
 use Rattle.std.proofs.Common.{◌≡◌, ◌≢◌, ℕ, List, Result, Err, refl}
 use Rattle.wasm_form.specs.declared.module.Module.{Module}
-use Rattle.spec_binary.specs.declared.fault.DecodeFault.{DecodeFault}
-use Rattle.spec_binary.specs.declared.fault.DecodeFault.TheVariants as decode
-use Rattle.spec_binary.specs.DecodeAnswers as answers
-use Rattle.spec_binary.specs.DecodeAnswers.{DecodeAnswer}
-use Rattle.spec_validation.specs.declared.fault.CheckFault.{CheckFault}
-use Rattle.spec_validation.specs.declared.fault.CheckFault.TheVariants as check
+use Rattle.spec_reading.specs.spec_binary.declared.fault.DecodeFault.{DecodeFault}
+use Rattle.spec_reading.specs.spec_binary.declared.fault.DecodeFault.TheVariants as decode
+use Rattle.spec_reading.specs.spec_binary.DecodeAnswers as answers
+use Rattle.spec_reading.specs.spec_binary.DecodeAnswers.{DecodeAnswer}
+use Rattle.spec_linking.specs.spec_validation.declared.fault.CheckFault.{CheckFault}
+use Rattle.spec_linking.specs.spec_validation.declared.fault.CheckFault.TheVariants as check
 use Rattle.spec_linking.specs.declared.fault.RecordFault.{RecordFault}
 use Rattle.spec_linking.specs.declared.fault.RecordFault.TheVariants as record_faults
 use Rattle.spec_linking.specs.declared.fault.SetFault.{SetFault}

@@ -3,8 +3,8 @@ use Rattle.std.specs.Prelude.{◌≡◌, ℕ, ◌+◌, ◌<◌, ◌≤◌, List,
 use Rattle.std.specs.Option.{ForSome}
 use Rattle.std.specs.FinMap.{get}
 use Rattle.dyl_outside.specs.FileMap.{FileMap}
-use Rattle.spec_binary.specs.declared.fault.DecodeFault.TheVariants as decode
-use Rattle.spec_validation.specs.declared.fault.CheckFault.TheVariants as check
+use Rattle.spec_reading.specs.spec_binary.declared.fault.DecodeFault.TheVariants as decode
+use Rattle.spec_linking.specs.spec_validation.declared.fault.CheckFault.TheVariants as check
 use Rattle.spec_linking.specs.declared.fault.RecordFault.TheVariants as record_faults
 use Rattle.spec_linking.specs.declared.fault.SetFault.{SetFault}
 use Rattle.spec_linking.specs.declared.fault.SetFault.TheVariants.{Missing, ReadFault, Decode, Record, Check, Memory}

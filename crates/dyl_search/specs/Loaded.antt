@@ -1,12 +1,12 @@
 -- What the bytes of a member come to.
 use Rattle.std.specs.Prelude.{◌≡◌, ◌≢◌, ℕ, List, Some, None, Result, Ok, Err}
 use Rattle.wasm_form.specs.declared.module.Module.{Module}
-use Rattle.spec_binary.specs.declared.fault.DecodeFault.{DecodeFault}
-use Rattle.spec_binary.specs.declared.fault.DecodeFault.TheVariants as decode
-use Rattle.spec_binary.specs.DecodeAnswers.{DecodeAnswer}
-use Rattle.spec_validation.specs.declared.fault.CheckFault.{CheckFault}
-use Rattle.spec_validation.specs.declared.fault.CheckFault.TheVariants as check
-use Rattle.spec_validation.specs.Faults as validation
+use Rattle.spec_reading.specs.spec_binary.declared.fault.DecodeFault.{DecodeFault}
+use Rattle.spec_reading.specs.spec_binary.declared.fault.DecodeFault.TheVariants as decode
+use Rattle.spec_reading.specs.spec_binary.DecodeAnswers.{DecodeAnswer}
+use Rattle.spec_linking.specs.spec_validation.declared.fault.CheckFault.{CheckFault}
+use Rattle.spec_linking.specs.spec_validation.declared.fault.CheckFault.TheVariants as check
+use Rattle.spec_linking.specs.spec_validation.Faults as validation
 use Rattle.spec_linking.specs.declared.fault.RecordFault.{RecordFault}
 use Rattle.spec_linking.specs.declared.fault.RecordFault.TheVariants as record_faults
 use Rattle.spec_linking.specs.declared.fault.SetFault.{SetFault}

@@ -1,12 +1,12 @@
 // The closed set of a main module.
-ghost use Rattle.std.specs.Prelude.{◌≡◌, ◌≤◌, ◌<◌, ◌+◌, ◌∷◌, [], ℕ, List, map, length, Option, IfOk, IfErr, Ok, Err};
+ghost use Rattle.std.specs.Prelude.{◌≡◌, ◌≤◌, ◌<◌, ◌+◌, ◌∷◌, [], ℕ, List, map, length, Option, IfOk, IfErr, OnOk, Ok, Err};
 ghost use Rattle.std.specs.Option.{ForSome};
 ghost use Rattle.std.specs.FinMap.{get};
 ghost use Rattle.dyl_outside.specs.FileMap.{FileMap};
 ghost use Rattle.dyl_outside.specs.Faults.{Rises};
 ghost use Rattle.spec_linking.specs.Gathering as gathering;
 ghost use Rattle.dyl_search.specs.Found.{Leaves};
-ghost use Rattle.dyl_search.specs.Gathers.{options_of, set_of, member_of, Stands, GathersFrom, OnlyGathers, IsWhole};
+ghost use Rattle.dyl_search.specs.Gathers.{options_of, set_of, member_of, Stands, Stops, GathersFrom, OnlyGathers, IsWhole};
 ghost use Rattle.spec_linking.specs.declared.fault.SetFault.TheVariants as faults;
 
 use crate::names::Names;
@@ -36,11 +36,37 @@ fn begun(alloc: Global, o: &SetOptions) -> Result<Progress, Memory>
 fn closed(alloc: Global, members: Vec<Member>) -> Result<ClosedSet, Memory>
     ensures { IfOk result (λ S. set_of S ≡ gathering.set_of (map member_of members.items)) }
 {
-    let startup = closure_of(alloc, members.as_slice(), 0)?;
-    Ok(ClosedSet {
-        members: Listing::of(members),
-        startup: Listing::of(startup),
-    })
+    match closure_of(alloc, members.as_slice(), 0) {
+        Ok(startup) => Ok(ClosedSet {
+            members: Listing::of(members),
+            startup: Listing::of(startup),
+        }),
+        Err(memory) => {
+            drop(members);
+            Err(memory)
+        }
+    }
+}
+
+// Each name that has a number is found, and with it those that it needs.
+fn gather_members<F: Files>(
+    alloc: Global,
+    files: &mut F,
+    o: &SetOptions,
+    g: &mut Progress,
+) -> Result<(), SetFault>
+    requires { Stands (F.seen files.old).told o.now g.old }
+    ensures stands { OnOk result (Stands (F.seen files.old).told o.now g.new) }
+    ensures all { OnOk result (length g.new.names ≤ length g.new.members.items) }
+    ensures stops { IfErr result (λ e. ForSome (F.seen files.old).told (λ m. Stops (get m) (options_of o.now) e)) }
+    ensures whole { IfErr result IsWhole }
+    ensures outside { Leaves result (F.seen files.old) (F.seen files.new) }
+    ensures absent { (name : List ℕ) → result ≡ Err (faults.Missing name) → Rises (F.seen files.old).absents (F.seen files.new).absents }
+{
+    'members: while g.members.as_slice().len() < g.names.len() {
+        step(alloc, files, o, g)?;
+    }
+    Ok(())
 }
 
 // The closed set of a main module, as one of the answers that there are.
@@ -56,9 +82,14 @@ fn gathered_set<F: Files>(
     ensures absent { (name : List ℕ) → result ≡ Err (faults.Missing name) → Rises (F.seen files.old).absents (F.seen files.new).absents }
 {
     let mut g = begun(alloc, o)?;
-    'members: while g.members.as_slice().len() < g.names.len() {
-        step(alloc, files, o, &mut g)?;
+    match gather_members(alloc, files, o, &mut g) {
+        Ok(()) => {}
+        Err(fault) => {
+            drop(g);
+            return Err(fault);
+        }
     }
+    drop(g.names);
     let set = closed(alloc, g.members)?;
     Ok(set)
 }

@@ -1,6 +1,6 @@
 // The module of a member.
 ghost use Rattle.std.specs.Prelude.{◌≡◌};
-ghost use Rattle.spec_binary.specs.WellFormed.{IsWellFormed};
+ghost use Rattle.spec_reading.specs.spec_binary.WellFormed.{IsWellFormed};
 ghost use Rattle.dyl_search.specs.Loaded.{IsLoaded, IsTested, IsValid, decode_answer, record_answer, check_answer};
 
 use dyl_section::{Dylink, RecordFault, read_dylink};
@@ -60,7 +60,11 @@ fn valid(alloc: Global, number: u32, wasm: Module) -> Result<Checked, SetFault>
 {
     match check(alloc, wasm) {
         Ok(checked) => Ok(checked),
-        Err(refused) => Err(not_valid(number, refused.fault)),
+        Err(refused) => {
+            let fault = refused.fault;
+            drop(refused.module);
+            Err(not_valid(number, fault))
+        }
     }
 }
 
@@ -69,12 +73,19 @@ fn tested(alloc: Global, number: u32, wasm: Module) -> Result<Loaded, SetFault>
     requires { IsWellFormed wasm }
     ensures { IsTested number wasm result }
 {
-    match read_dylink(alloc, &wasm) {
-        Ok(dylink) => {
-            let checked = valid(alloc, number, wasm)?;
-            Ok(Loaded { dylink, checked })
+    let dylink = match read_dylink(alloc, &wasm) {
+        Ok(dylink) => dylink,
+        Err(fault) => {
+            drop(wasm);
+            return Err(not_recorded(number, fault));
         }
-        Err(fault) => Err(not_recorded(number, fault)),
+    };
+    match valid(alloc, number, wasm) {
+        Ok(checked) => Ok(Loaded { dylink, checked }),
+        Err(fault) => {
+            drop(dylink);
+            Err(fault)
+        }
     }
 }
 

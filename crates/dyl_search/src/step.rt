@@ -6,7 +6,7 @@ ghost use Rattle.dyl_outside.specs.Faults.{Rises};
 ghost use Rattle.spec_linking.specs.Wanted.{with_names, with_one_of, with_later, number_of};
 ghost use Rattle.dyl_search.specs.Found.{Leaves};
 ghost use Rattle.dyl_search.specs.Gathers.{options_of, members_of, Stands, IsNextFile, Stops, IsWhole};
-ghost use Rattle.dyl_search.specs.Steps.{IsMade};
+ghost use Rattle.dyl_search.specs.Steps.{AreNamed, IsMade};
 ghost use Rattle.spec_linking.specs.declared.fault.SetFault.TheVariants as faults;
 
 use crate::copies::owned;
@@ -17,6 +17,7 @@ use crate::next::find_next;
 use crate::progress::Progress;
 use crate::set::{Member, SetOptions};
 use dyl_outside::Files;
+use dyl_section::Dylink;
 use spec_linking::SetFault;
 use std::alloc::Global;
 use wasm_form::{List as Listing, Memory, Text};
@@ -39,6 +40,25 @@ fn number_names(
     Ok(numbers)
 }
 
+// The name of the next member, and the numbers of the names that it needs, of which those without a number get the next ones.
+fn next_names(
+    alloc: Global,
+    names: &mut Names,
+    number: u32,
+    dylink: &Dylink,
+) -> Result<(Text, Listing<u32>), Memory>
+    requires { number < length names.old }
+    ensures named { IfOk result (λ p. AreNamed names.old number dylink.now.needed p.0 p.1) }
+    ensures known { OnOk result (names.new ≡ with_names number names.old dylink.now.needed) }
+{
+    let Some((name, _)) = names.get(number as usize) else {
+        unreachable!()
+    };
+    let name = owned(alloc, name)?;
+    let needed = number_names(alloc, names, number, dylink.needed.items())?;
+    Ok((Text::of(name), Listing::of(needed)))
+}
+
 // The member whose file is found next. The names that it needs get numbers.
 fn next_member(
     alloc: Global,
@@ -52,20 +72,21 @@ fn next_member(
     ensures made { IfOk result (IsMade names.old number found loaded) }
     ensures known { OnOk result (names.new ≡ with_names number names.old loaded.dylink.needed) }
 {
-    let Some((name, _)) = names.get(number as usize) else {
-        unreachable!()
-    };
-    let name = owned(alloc, name)?;
-    let size = found.bytes.as_slice().len() as u32;
-    let needed = number_names(alloc, names, number, loaded.dylink.needed.items())?;
-    Ok(Member {
-        name: Text::of(name),
-        path: found.path,
-        size,
-        dylink: loaded.dylink,
-        checked: loaded.checked,
-        needed: Listing::of(needed),
-    })
+    match next_names(alloc, names, number, &loaded.dylink) {
+        Ok((name, needed)) => Ok(Member {
+            name,
+            size: found.bytes.as_slice().len() as u32,
+            path: found.path,
+            dylink: loaded.dylink,
+            checked: loaded.checked,
+            needed,
+        }),
+        Err(memory) => {
+            drop(found);
+            drop(loaded);
+            Err(memory)
+        }
+    }
 }
 
 // A member is added. Where no name is left to be found, one of those to be opened later gets the next number.

@@ -3,8 +3,8 @@ use Rattle.std.proofs.Common.{◌≡◌, ℕ, ◌≤◌, Bool, true, false, eqb,
 use Rattle.std.specs.Prelude.{IsTrue, ◌||◌, ◌⊎◌}
 use Rattle.std.proofs.lemmas.Bool.{ne_eqb, eqb-true, eqb-false, lt-ltb, ltb-true}
 use Rattle.std.proofs.lemmas.List.{map-append}
-use Rattle.spec_binary.specs.Name.{SpellsName}
-use Rattle.spec_binary.specs.Sequence.{SpellsVec}
+use Rattle.spec_reading.specs.spec_binary.Name.{SpellsName}
+use Rattle.spec_reading.specs.spec_binary.Sequence.{SpellsVec}
 use Rattle.spec_linking.specs.Records.{ExportNote, ImportNote, DylinkRecord, SpellsExportNote, SpellsImportNote, is_other_code, Subsection, memory_information, needed, export_notes, import_notes, runtime_paths, other}
 use Rattle.spec_linking.specs.Records as records
 use Rattle.spec_reading.specs.Steps.{Break, Read, whole}

@@ -1,8 +1,8 @@
 -- Notes and memory information are read as they are spelled.
 use Rattle.std.proofs.Common.{◌≡◌, ℕ, ◌≤◌, List, ◌++◌, refl, sym, ap, subst, ◌∙◌, append_assoc, ltb}
 use Rattle.std.proofs.lemmas.Bool.{ltb-false, le-ltb}
-use Rattle.spec_binary.specs.Number.{SpellsUnsigned}
-use Rattle.spec_binary.specs.Name.{SpellsName}
+use Rattle.spec_reading.specs.spec_binary.Number.{SpellsUnsigned}
+use Rattle.spec_reading.specs.spec_binary.Name.{SpellsName}
 use Rattle.spec_linking.specs.Records.{most_align, SpellsExportNote, SpellsImportNote}
 use Rattle.spec_linking.specs.Records as records
 use Rattle.spec_reading.specs.Values.{number_at, name_at}

@@ -1,6 +1,6 @@
 -- Subsections with their sizes are read as they are spelled.
 use Rattle.std.proofs.Common.{◌≡◌, ℕ, ◌≤◌, List, ◌∷◌, ◌++◌, length, Ok, refl, sym, ap, subst, ◌∙◌, arith, length-append}
-use Rattle.spec_binary.specs.Number.{SpellsUnsigned}
+use Rattle.spec_reading.specs.spec_binary.Number.{SpellsUnsigned}
 use Rattle.spec_linking.specs.Records.{DylinkRecord, Subsection}
 use Rattle.spec_reading.specs.Steps.{Break, Read}
 use Rattle.spec_reading.specs.Values.{cut_at}

@@ -1,7 +1,7 @@
 -- Reading subsections finds what there is to say.
 use Rattle.std.proofs.Common.{◌≡◌, ℕ, zero, suc, ◌+◌, ◌≤◌, List, [], ◌∷◌, ◌++◌, length, Result, Ok, Err, refl, sym, ap, subst, ◌∙◌, append_assoc, inl, inr, arith}
 use Rattle.std.specs.Prelude.{◌≢◌}
-use Rattle.spec_binary.specs.Saturated.{saturated}
+use Rattle.spec_reading.specs.spec_binary.Saturated.{saturated}
 use Rattle.spec_linking.specs.Records.{DylinkRecord, Subsection, Subsections, done, next}
 use Rattle.spec_reading.specs.Steps.{Break}
 use Rattle.spec_reading.proofs.Steps.{bind_ok, bind_err}

@@ -2,7 +2,7 @@
 use Rattle.std.proofs.Common.{◌≡◌, ℕ, List, ◌∷◌, Result, Ok, Err, refl, sym, ap, subst, ◌∙◌}
 use Rattle.wasm_form.specs.declared.module.Custom.{Custom}
 use Rattle.wasm_form.specs.declared.module.Module.{Module}
-use Rattle.spec_binary.specs.Saturated.{saturated}
+use Rattle.spec_reading.specs.spec_binary.Saturated.{saturated}
 use Rattle.spec_linking.specs.Records.{DylinkRecord, HasSection, HasRecord, IsBroken, RecordAnswer, recorded, none, broken}
 use Rattle.spec_linking.specs.declared.fault.RecordFault.{RecordFault}
 use Rattle.spec_linking.specs.declared.fault.RecordFault.TheVariants.{BadDylink}

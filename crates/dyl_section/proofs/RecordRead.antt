@@ -1,7 +1,7 @@
 -- What the record's reader answers, from what the loop over its subsections found.
 use Rattle.std.proofs.Common.{◌≡◌, ℕ, ◌+◌, ◌≤◌, List, length, Result, Ok, Err, sym, ap, subst, ◌∙◌, arith}
 use Rattle.wasm_form.specs.declared.module.Module.{Module}
-use Rattle.spec_binary.specs.Saturated.{saturated}
+use Rattle.spec_reading.specs.spec_binary.Saturated.{saturated}
 use Rattle.spec_linking.specs.Records.{DylinkRecord, IsBroken, empty_record, HasSection, RecordAnswer, recorded, broken}
 use Rattle.dyl_section.specs.declared.record.Dylink.{Dylink}
 use Rattle.spec_linking.specs.declared.fault.RecordFault.{RecordFault}

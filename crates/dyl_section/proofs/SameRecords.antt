@@ -1,7 +1,7 @@
 -- A record as the definition has it, and as this crate has it, say the same.
 use Rattle.std.proofs.Common.{◌≡◌, ℕ, suc, List, [], ◌∷◌, map, length, refl, sym, ap, subst, ◌∙◌}
-use Rattle.spec_binary.specs.Number.{SpellsUnsigned}
-use Rattle.spec_binary.specs.Sequence.{SpellsEach, none, next, SpellsVec, vec}
+use Rattle.spec_reading.specs.spec_binary.Number.{SpellsUnsigned}
+use Rattle.spec_reading.specs.spec_binary.Sequence.{SpellsEach, none, next, SpellsVec, vec}
 use Rattle.spec_linking.specs.Records.{ExportNote, ImportNote, DylinkRecord}
 use Rattle.dyl_section.specs.declared.record.ExportInfo.{ExportInfo}
 use Rattle.dyl_section.specs.declared.record.ImportInfo.{ImportInfo}

@@ -1,11 +1,11 @@
 -- The shortest spellings of notes, from those of their parts; and that parts are spelled where the whole is.
 use Rattle.std.proofs.Common.{◌≡◌, ℕ, zero, suc, ◌^◌, ◌<◌, List, ◌++◌, length, get_or, refl, sym, subst, arith}
-use Rattle.spec_binary.specs.Number.{SpellsUnsigned, IsShortest, Appends}
-use Rattle.spec_binary.specs.Name.{SpellsName, name}
-use Rattle.spec_binary.specs.Sequence.{SpellsEach, none, next, SpellsVec, vec}
-use Rattle.spec_binary.specs.Joined.{Joined}
-use Rattle.spec_binary.proofs.Joined.{unjoined, itself, appends_like, appends_joined}
-use Rattle.spec_binary.proofs.UnsignedSpelling.{unsigned_small}
+use Rattle.spec_reading.specs.spec_binary.Number.{SpellsUnsigned, IsShortest, Appends}
+use Rattle.spec_reading.specs.spec_binary.Name.{SpellsName, name}
+use Rattle.spec_reading.specs.spec_binary.Sequence.{SpellsEach, none, next, SpellsVec, vec}
+use Rattle.spec_reading.specs.spec_binary.Joined.{Joined}
+use Rattle.spec_reading.proofs.of_spec_binary.Joined.{unjoined, itself, appends_like, appends_joined}
+use Rattle.spec_reading.proofs.of_spec_binary.UnsignedSpelling.{unsigned_small}
 use Rattle.spec_linking.specs.Records.{SpellsExportNote, SpellsImportNote}
 use Rattle.spec_linking.specs.Records as records
 use Rattle.dyl_section.specs.declared.record.ExportInfo.{ExportInfo}

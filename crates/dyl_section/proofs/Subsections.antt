@@ -1,11 +1,11 @@
 -- What the writers of subsections do, and the whole that they write.
 use Rattle.std.proofs.Common.{◌≡◌, ℕ, suc, ◌^◌, ◌<◌, ◌≤◌, List, [], ◌∷◌, ◌++◌, length, length-append, map, refl, sym, ap, ◌∙◌, subst, append_assoc, append-nil, arith}
 use Rattle.std.specs.Prelude.{◌≢◌}
-use Rattle.spec_binary.specs.Number.{SpellsUnsigned, IsShortest, Appends}
-use Rattle.spec_binary.specs.Name.{SpellsName}
-use Rattle.spec_binary.specs.Sequence.{SpellsVec}
-use Rattle.spec_binary.proofs.UnsignedSpelling.{unsigned_few}
-use Rattle.spec_binary.proofs.Lists.{empty_list}
+use Rattle.spec_reading.specs.spec_binary.Number.{SpellsUnsigned, IsShortest, Appends}
+use Rattle.spec_reading.specs.spec_binary.Name.{SpellsName}
+use Rattle.spec_reading.specs.spec_binary.Sequence.{SpellsVec}
+use Rattle.spec_reading.proofs.of_spec_binary.UnsignedSpelling.{unsigned_few}
+use Rattle.spec_reading.proofs.of_spec_binary.Lists.{empty_list}
 use Rattle.spec_linking.specs.Records.{most_align, DylinkRecord, empty_record, SpellsExportNote, SpellsImportNote, Subsection, memory_information, needed, export_notes, import_notes, runtime_paths, Subsections, done, next}
 use Rattle.spec_linking.specs.Records as records
 use Rattle.dyl_section.specs.declared.record.ExportInfo.{ExportInfo}

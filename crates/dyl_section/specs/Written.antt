@@ -1,8 +1,8 @@
 -- Which records are written, and what writing them does.
 use Rattle.std.specs.Prelude.{◌≡◌, ◌≢◌, ℕ, ◌^◌, ◌<◌, ◌≤◌, List, [], ◌∷◌, ◌++◌, length, map}
-use Rattle.spec_binary.specs.Number.{SpellsUnsigned, IsShortest}
-use Rattle.spec_binary.specs.Name.{SpellsName}
-use Rattle.spec_binary.specs.Sequence.{SpellsVec}
+use Rattle.spec_reading.specs.spec_binary.Number.{SpellsUnsigned, IsShortest}
+use Rattle.spec_reading.specs.spec_binary.Name.{SpellsName}
+use Rattle.spec_reading.specs.spec_binary.Sequence.{SpellsVec}
 use Rattle.spec_linking.specs.Records.{most_align, SpellsExportNote, SpellsImportNote}
 use Rattle.dyl_section.specs.declared.record.ExportInfo.{ExportInfo}
 use Rattle.dyl_section.specs.declared.record.ImportInfo.{ImportInfo}

@@ -1,8 +1,8 @@
 // Writing a record.
 ghost use Rattle.std.specs.Prelude.{◌≡◌, ℕ, ◌^◌, ◌<◌, ◌≤◌, List as Listing, length, OnOk, IfOk};
-ghost use Rattle.spec_binary.specs.Number.{IsShortest, Appends};
-ghost use Rattle.spec_binary.specs.Name.{SpellsName};
-ghost use Rattle.spec_binary.specs.Sequence.{SpellsEach, SpellsVec};
+ghost use Rattle.spec_reading.specs.spec_binary.Number.{IsShortest, Appends};
+ghost use Rattle.spec_reading.specs.spec_binary.Name.{SpellsName};
+ghost use Rattle.spec_reading.specs.spec_binary.Sequence.{SpellsEach, SpellsVec};
 ghost use Rattle.spec_linking.specs.Records.{most_align, empty_record, Subsections};
 ghost use Rattle.dyl_section.specs.Recorded.{record_of};
 ghost use Rattle.dyl_section.specs.Written.{

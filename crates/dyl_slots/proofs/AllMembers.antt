@@ -5,22 +5,22 @@ use Rattle.std.specs.Option.{option_map}
 use Rattle.std.proofs.lemmas.Option.{slice_get-map, slice_get_within}
 use Rattle.wasm_form.specs.declared.runtime.Ref.{Ref}
 use Rattle.wasm_form.specs.declared.runtime.Ref.TheVariants.{Own}
-use Rattle.spec_binary.specs.Options.{◌>>=◌}
-use Rattle.spec_binary.specs.Exports.{relocations_name, constructors_name}
-use Rattle.spec_linking.specs.declared.fault.LinkFault.TheVariants.{OwnMemory}
-use Rattle.spec_linking.specs.Plans.{Region, Plan, region_of, rounded_up, bases, end_of, regions_of}
-use Rattle.spec_linking.specs.Sets.{Member}
-use Rattle.spec_linking.specs.Orders.{is_among}
-use Rattle.spec_linking.specs.Definitions.{or_other}
-use Rattle.spec_linking.specs.LinkedSets.{LinkedSet}
-use Rattle.spec_linking.specs.Slots.{linked_plan, segment_slot, fresh_of, fresh_slot, own_slot, slot_of}
-use Rattle.spec_linking.specs.Links.{◌or_else◌, unless, first_fault, import_fault, tls_fault, loader_call_fault, member_fault}
-use Rattle.spec_linking.proofs.LinkedFacts.{or_none, member_none}
-use Rattle.spec_linking.proofs.Placing.{end_above, bases_length}
+use Rattle.spec_loading.specs.spec_binary.Options.{◌>>=◌}
+use Rattle.spec_loading.specs.spec_binary.Exports.{relocations_name, constructors_name}
+use Rattle.spec_loading.specs.spec_linking.declared.fault.LinkFault.TheVariants.{OwnMemory}
+use Rattle.spec_loading.specs.spec_linking.Plans.{Region, Plan, region_of, rounded_up, bases, end_of, regions_of}
+use Rattle.spec_loading.specs.spec_linking.Sets.{Member}
+use Rattle.spec_loading.specs.spec_linking.Orders.{is_among}
+use Rattle.spec_loading.specs.spec_linking.Definitions.{or_other}
+use Rattle.spec_loading.specs.spec_linking.LinkedSets.{LinkedSet}
+use Rattle.spec_loading.specs.spec_linking.Slots.{linked_plan, segment_slot, fresh_of, fresh_slot, own_slot, slot_of}
+use Rattle.spec_loading.specs.spec_linking.Links.{◌or_else◌, unless, first_fault, import_fault, tls_fault, loader_call_fault, member_fault}
+use Rattle.spec_loading.proofs.of_spec_linking.LinkedFacts.{or_none, member_none}
+use Rattle.spec_loading.proofs.of_spec_linking.Placing.{end_above, bases_length}
 use Rattle.std.proofs.lemmas.List.{length-map}
 use Rattle.spec_loading.specs.LoadedSet.{slots_before, first_slot}
-use Rattle.dyl_search.specs.declared.set.Member as code
-use Rattle.dyl_search.specs.Gathers.{member_of}
+use Rattle.dyl_imports.specs.dyl_search.declared.set.Member as code
+use Rattle.dyl_imports.specs.dyl_search.Gathers.{member_of}
 use Rattle.dyl_slots.specs.declared.placings.Bases.{Bases}
 use Rattle.dyl_slots.specs.declared.segmented.Segmented.{Segmented}
 use Rattle.dyl_slots.specs.Fresh.{slot_at, slot_by}

@@ -11,13 +11,13 @@ use Rattle.wasm_form.specs.declared.module.Module.{Module}
 use Rattle.wasm_form.specs.declared.runtime.LoaderCall.{LoaderCall}
 use Rattle.wasm_form.specs.declared.runtime.Ref.{Ref}
 use Rattle.wasm_form.specs.declared.runtime.Ref.TheVariants.{Own, Loader, Host, Stub}
-use Rattle.spec_binary.specs.Options.{◌>>=◌}
-use Rattle.spec_binary.specs.IndexSpaces.{globals_in}
-use Rattle.spec_linking.specs.Sets.{Member}
-use Rattle.spec_linking.specs.Plans.{sizes_of}
-use Rattle.spec_linking.specs.Imports.{importing}
-use Rattle.spec_linking.specs.LinkedSets.{LinkedSet}
-use Rattle.spec_linking.specs.Slots.{linked_plan, same_call, slot_of, fresh_functions, outside_slots, outside_refs, table_entries, initial_number, imported_number}
+use Rattle.spec_loading.specs.spec_binary.Options.{◌>>=◌}
+use Rattle.spec_loading.specs.spec_binary.IndexSpaces.{globals_in}
+use Rattle.spec_loading.specs.spec_linking.Sets.{Member}
+use Rattle.spec_loading.specs.spec_linking.Plans.{sizes_of}
+use Rattle.spec_loading.specs.spec_linking.Imports.{importing}
+use Rattle.spec_loading.specs.spec_linking.LinkedSets.{LinkedSet}
+use Rattle.spec_loading.specs.spec_linking.Slots.{linked_plan, same_call, slot_of, fresh_functions, outside_slots, outside_refs, table_entries, initial_number, imported_number}
 use Rattle.spec_loading.specs.LoadedSet.{slots_before, first_slot}
 use Rattle.dyl_slots.specs.declared.wanted.Wanted.{Wanted}
 use Rattle.dyl_slots.specs.declared.tables.LoaderSlots.{LoaderSlots}

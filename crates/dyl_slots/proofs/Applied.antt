@@ -8,8 +8,8 @@ use Rattle.std.proofs.Math.Seq.{take-suc}
 use Rattle.std.proofs.lemmas.List.{map-append, take_all, drop_all, append-nil}
 use Rattle.dyl_slots.specs.declared.regions.Placing.{Placing}
 use Rattle.wasm_form.specs.declared.runtime.Ref.{Ref}
-use Rattle.spec_linking.specs.Slots as slots
-use Rattle.spec_linking.specs.Slots.{applied, all_applied, is_ref, index_of}
+use Rattle.spec_loading.specs.spec_linking.Slots as slots
+use Rattle.spec_loading.specs.spec_linking.Slots.{applied, all_applied, is_ref, index_of}
 use Rattle.dyl_slots.specs.Regions.{IsRegion, applied_first, written, placing_value}
 
 same_read : (xs : List (Option Ref)) (k : ℕ) → get_or xs k None ≡ unwrap_or (slice_get xs k) None

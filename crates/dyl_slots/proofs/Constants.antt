@@ -15,17 +15,17 @@ use Rattle.wasm_form.specs.declared.module.ElemItems.TheVariants as elem_items
 use Rattle.wasm_form.specs.declared.module.Elem.{Elem}
 use Rattle.wasm_form.specs.declared.module.Module.{Module}
 use Rattle.wasm_form.specs.declared.runtime.Ref.{Ref}
-use Rattle.wasm_opcode.specs.declared.index.IndexForm.{IndexForm}
-use Rattle.wasm_opcode.specs.declared.index.IndexForm.TheVariants.{RefFunc, GlobalGet}
-use Rattle.wasm_opcode.specs.Index.{index_form}
-use Rattle.wasm_runtime.specs.declared.Value.{Value}
-use Rattle.wasm_runtime.specs.declared.Value.TheVariants.{Func}
-use Rattle.spec_binary.specs.Options.{◌>>=◌}
-use Rattle.spec_binary.specs.SameTypes.{same_type}
-use Rattle.spec_binary.specs.IndexSpaces.{imports_of, globals_in, table_space}
-use Rattle.spec_validation.specs.Faults.{has_functions, immutable, constant_index, constant_step, constant_type, is_of_type, is_constant, elem_mode_fits, items_fit, elem_fits}
-use Rattle.spec_runtime.specs.Constants.{index_constant, instruction_constant, constant_in, number_in, reference_in, constant_number, constant_entry, constant_entries}
-use Rattle.spec_linking.specs.Slots.{Placing}
+use Rattle.wasm_form.specs.declared.index.IndexForm.{IndexForm}
+use Rattle.wasm_form.specs.declared.index.IndexForm.TheVariants.{RefFunc, GlobalGet}
+use Rattle.wasm_form.specs.Index.{index_form}
+use Rattle.wasm_form.specs.declared.runtime.Value.{Value}
+use Rattle.wasm_form.specs.declared.runtime.Value.TheVariants.{Func}
+use Rattle.spec_loading.specs.spec_binary.Options.{◌>>=◌}
+use Rattle.spec_loading.specs.spec_binary.SameTypes.{same_type}
+use Rattle.spec_loading.specs.spec_binary.IndexSpaces.{imports_of, globals_in, table_space}
+use Rattle.spec_loading.specs.spec_validation.Faults.{has_functions, immutable, constant_index, constant_step, constant_type, is_of_type, is_constant, elem_mode_fits, items_fit, elem_fits}
+use Rattle.spec_loading.specs.spec_runtime.Constants.{index_constant, instruction_constant, constant_in, number_in, reference_in, constant_number, constant_entry, constant_entries}
+use Rattle.spec_loading.specs.spec_linking.Slots.{Placing}
 use Rattle.dyl_slots.specs.Placings.{placed_at, placed_as, placed_all}
 
 pub map_same : {A B : Type 0} (f g : A → B) → ((x : A) → f x ≡ g x) → (xs : List A) → map f xs ≡ map g xs

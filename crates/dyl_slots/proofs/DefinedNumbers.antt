@@ -7,13 +7,13 @@ use Rattle.wasm_form.specs.declared.module.ExportDesc.TheVariants as desc
 use Rattle.wasm_form.specs.declared.module.Export.{Export}
 use Rattle.wasm_form.specs.declared.module.GlobalDef.{GlobalDef}
 use Rattle.wasm_form.specs.declared.module.Module.{Module}
-use Rattle.spec_binary.specs.Options.{◌>>=◌}
-use Rattle.spec_binary.specs.IndexSpaces.{imported_count, function_space}
-use Rattle.spec_binary.specs.Indices.{is_own}
-use Rattle.spec_linking.specs.Orders.{is_among}
-use Rattle.spec_linking.specs.Definitions.{plain_number, is_one_of, reserved_names, own_only, own_global, FunctionSymbol, DataSymbol, data_symbol, desc_symbol, function_in, defined_function}
-use Rattle.spec_linking.specs.Slots.{with_function, functions_with, defined_functions}
-use Rattle.dyl_scope.proofs.Distinct.{among_append, same_number}
+use Rattle.spec_loading.specs.spec_binary.Options.{◌>>=◌}
+use Rattle.spec_loading.specs.spec_binary.IndexSpaces.{imported_count, function_space}
+use Rattle.spec_loading.specs.spec_binary.Indices.{is_own}
+use Rattle.spec_loading.specs.spec_linking.Orders.{is_among}
+use Rattle.spec_loading.specs.spec_linking.Definitions.{plain_number, is_one_of, reserved_names, own_only, own_global, FunctionSymbol, DataSymbol, data_symbol, desc_symbol, function_in, defined_function}
+use Rattle.spec_loading.specs.spec_linking.Slots.{with_function, functions_with, defined_functions}
+use Rattle.dyl_imports.proofs.of_dyl_scope.Distinct.{among_append, same_number}
 
 module _ (m : Module) where
   abbrev AreBelow : List ℕ → Type 0

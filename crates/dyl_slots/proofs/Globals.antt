@@ -1,7 +1,7 @@
 -- The imported globals of a member whose imports have no fault: all are i32s, and those that can't be set are its bases.
 use Rattle.std.proofs.Common.{◌≡◌, ℕ, zero, suc, Bool, true, false, List, [], ◌∷◌, ◌++◌, map, Option, Some, None, refl, sym, ap, ◌∙◌, ◌⊎◌, inl, inr, slice_get, bytes_eq, if◌then◌else◌}
 use Rattle.std.specs.Prelude.{codes}
-use Rattle.spec_linking.specs.Definitions.{env_name, got_mem_name, got_func_name}
+use Rattle.spec_loading.specs.spec_linking.Definitions.{env_name, got_mem_name, got_func_name}
 use Rattle.std.proofs.lemmas.Bool.{and_parts}
 use Rattle.std.proofs.lemmas.List.{map-append}
 use Rattle.std.proofs.lemmas.Simd.{map-map}
@@ -14,19 +14,19 @@ use Rattle.wasm_form.specs.declared.module.ImportDesc.{ImportDesc}
 use Rattle.wasm_form.specs.declared.module.ImportDesc.TheVariants as imported
 use Rattle.wasm_form.specs.declared.module.Import.{Import}
 use Rattle.wasm_form.specs.declared.module.Module.{Module}
-use Rattle.wasm_runtime.specs.declared.Value.TheVariants.{Num}
-use Rattle.spec_binary.specs.Options.{◌>>=◌}
-use Rattle.spec_binary.specs.SameTypes.{same_type}
-use Rattle.spec_binary.specs.IndexSpaces.{imports_of, globals_in}
-use Rattle.spec_runtime.specs.Constants.{numbered_globals}
-use Rattle.spec_linking.specs.declared.fault.Kind.TheVariants as kind
-use Rattle.spec_linking.specs.declared.fault.LinkFault.{LinkFault}
-use Rattle.spec_linking.specs.declared.fault.LinkFault.TheVariants.{IllTyped}
-use Rattle.spec_linking.specs.Imports.{ImportUse, SharedMemory, SharedTable, StackPointer, MemoryBase, TableBase, DataCell, SlotCell, EnvFunction, ModuleFunction, OtherUse, is_import, function_use, use_of, is_memory, is_function_table, is_i32_global, importing}
-use Rattle.spec_linking.specs.LinkedSets.{LinkedSet, wasm_of, definition}
-use Rattle.spec_linking.specs.Slots.{memory_base, table_base, as_number, base_as, base_value, imported_base}
-use Rattle.spec_linking.specs.Links.{Finding, unless, first_fault, fault_as, import_fault, data_cell_fault, slot_cell_fault}
-use Rattle.spec_linking.proofs.LinkedFacts.{or_none, holds_so}
+use Rattle.wasm_form.specs.declared.runtime.Value.TheVariants.{Num}
+use Rattle.spec_loading.specs.spec_binary.Options.{◌>>=◌}
+use Rattle.spec_loading.specs.spec_binary.SameTypes.{same_type}
+use Rattle.spec_loading.specs.spec_binary.IndexSpaces.{imports_of, globals_in}
+use Rattle.spec_loading.specs.spec_runtime.Constants.{numbered_globals}
+use Rattle.spec_loading.specs.spec_linking.declared.fault.Kind.TheVariants as kind
+use Rattle.spec_loading.specs.spec_linking.declared.fault.LinkFault.{LinkFault}
+use Rattle.spec_loading.specs.spec_linking.declared.fault.LinkFault.TheVariants.{IllTyped}
+use Rattle.spec_loading.specs.spec_linking.Imports.{ImportUse, SharedMemory, SharedTable, StackPointer, MemoryBase, TableBase, DataCell, SlotCell, EnvFunction, ModuleFunction, OtherUse, is_import, function_use, use_of, is_memory, is_function_table, is_i32_global, importing}
+use Rattle.spec_loading.specs.spec_linking.LinkedSets.{LinkedSet, wasm_of, definition}
+use Rattle.spec_loading.specs.spec_linking.Slots.{memory_base, table_base, as_number, base_as, base_value, imported_base}
+use Rattle.spec_loading.specs.spec_linking.Links.{Finding, unless, first_fault, fault_as, import_fault, data_cell_fault, slot_cell_fault}
+use Rattle.spec_loading.proofs.of_spec_linking.LinkedFacts.{or_none, holds_so}
 use Rattle.dyl_slots.specs.declared.placings.Bases.{Bases}
 use Rattle.dyl_slots.specs.Placings.{base_number, number_as, base_numbers}
 

@@ -3,9 +3,9 @@ use Rattle.std.proofs.Common.{◌≡◌, ℕ, List, [], ◌∷◌, ◌++◌, Opt
 use Rattle.std.specs.List.{cons_option, flat_map}
 use Rattle.wasm_form.specs.declared.types.Limits.{Limits}
 use Rattle.wasm_form.specs.declared.module.Import.{Import}
-use Rattle.spec_linking.specs.Plans.{least_of, maxima, table_limits, limits_in}
-use Rattle.dyl_search.specs.declared.set.Member as code
-use Rattle.dyl_search.specs.Gathers.{member_of}
+use Rattle.spec_loading.specs.spec_linking.Plans.{least_of, maxima, table_limits, limits_in}
+use Rattle.dyl_imports.specs.dyl_search.declared.set.Member as code
+use Rattle.dyl_imports.specs.dyl_search.Gathers.{member_of}
 
 least_more : (bound n : ℕ) (ns : List ℕ) → least_of (min n bound) ns ≡ min n (least_of bound ns)
 least_more bound n [] = refl

@@ -7,9 +7,9 @@ use Rattle.std.proofs.lemmas.List.{map-append, length-map}
 use Rattle.wasm_form.specs.declared.runtime.LoaderCall.{LoaderCall}
 use Rattle.wasm_form.specs.declared.runtime.Ref.{Ref}
 use Rattle.wasm_form.specs.declared.runtime.Ref.TheVariants.{Own, Loader, Host, Stub}
-use Rattle.spec_linking.specs.Orders.{is_among, with_numbers}
-use Rattle.spec_linking.specs.Definitions.{or_other}
-use Rattle.spec_linking.specs.Slots.{same_call, same_ref, all_loaders, is_host_ref, first_refs}
+use Rattle.spec_loading.specs.spec_linking.Orders.{is_among, with_numbers}
+use Rattle.spec_loading.specs.spec_linking.Definitions.{or_other}
+use Rattle.spec_loading.specs.spec_linking.Slots.{same_call, same_ref, all_loaders, is_host_ref, first_refs}
 use Rattle.dyl_slots.specs.Outside.{all_calls, calls_in, host_numbers, hosts_in, outside_in}
 use Rattle.dyl_slots.proofs.Positions.{or_none, position_append, position_map, position_nowhere}
 

@@ -6,10 +6,10 @@ use Rattle.std.proofs.lemmas.List.{length-map}
 use Rattle.wasm_form.specs.declared.runtime.LoaderCall.{LoaderCall}
 use Rattle.wasm_form.specs.declared.runtime.Ref.{Ref}
 use Rattle.wasm_form.specs.declared.runtime.Ref.TheVariants.{Own, Loader, Host}
-use Rattle.spec_linking.specs.Sets.{Member}
-use Rattle.spec_linking.specs.Definitions.{or_other}
-use Rattle.spec_linking.specs.LinkedSets.{LinkedSet}
-use Rattle.spec_linking.specs.Slots.{same_call, same_ref, linked_plan, fresh_of, fresh_from, fresh_functions, outside_refs, outside_slots, fresh_slot, slot_of}
+use Rattle.spec_loading.specs.spec_linking.Sets.{Member}
+use Rattle.spec_loading.specs.spec_linking.Definitions.{or_other}
+use Rattle.spec_loading.specs.spec_linking.LinkedSets.{LinkedSet}
+use Rattle.spec_loading.specs.spec_linking.Slots.{same_call, same_ref, linked_plan, fresh_of, fresh_from, fresh_functions, outside_refs, outside_slots, fresh_slot, slot_of}
 use Rattle.spec_loading.specs.LoadedSet.{slots_before, first_slot}
 use Rattle.dyl_slots.specs.Outside.{calls_in, hosts_in, outside_in}
 use Rattle.dyl_slots.proofs.Positions.{or_none, position_append, position_map, position_nowhere}

@@ -1,7 +1,7 @@
 -- Where elements stand in lists that are put together.
 use Rattle.std.proofs.Common.{◌≡◌, ℕ, ◌+◌, Bool, true, false, List, [], ◌∷◌, ◌++◌, length, map, refl, ap, ◌∙◌, cond, Some, None, Option, arith}
 use Rattle.std.specs.List.{position_from}
-use Rattle.spec_linking.specs.Definitions.{or_other}
+use Rattle.spec_loading.specs.spec_linking.Definitions.{or_other}
 
 pub or_none : (a : Option ℕ) → or_other a None ≡ a
 or_none None = refl

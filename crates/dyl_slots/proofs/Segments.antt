@@ -12,21 +12,21 @@ use Rattle.wasm_form.specs.declared.module.ElemItems.{ElemItems}
 use Rattle.wasm_form.specs.declared.module.Module.{Module}
 use Rattle.wasm_form.specs.declared.runtime.Ref.{Ref}
 use Rattle.wasm_form.specs.declared.runtime.Ref.TheVariants.{Own}
-use Rattle.spec_binary.specs.Options.{◌>>=◌}
-use Rattle.spec_binary.specs.IndexSpaces.{imports_of, globals_in, tables_in, function_space}
-use Rattle.spec_validation.specs.Faults.{fault}
-use Rattle.spec_validation.proofs.Parts.{parts_fit}
-use Rattle.spec_runtime.specs.Constants.{numbered_globals}
-use Rattle.spec_linking.specs.Sets.{Member}
-use Rattle.spec_linking.specs.Orders.{is_among}
-use Rattle.spec_linking.specs.Imports.{ImportUse, MemoryBase, TableBase, use_of, importing}
-use Rattle.spec_linking.specs.LinkedSets.{LinkedSet, wasm_of, function_ref}
-use Rattle.spec_linking.specs.Slots.{table_base, imported_base, placing_as, shared_placing, shared_placings, all_applied, nowhere, index_of, segment_slot, defined_functions, fresh_in, fresh_of}
-use Rattle.spec_linking.specs.Links.{Finding, first_fault}
-use Rattle.spec_linking.proofs.Importing.{importing_length}
-use Rattle.wasm_check.specs.declared.value.Constant.TheVariants.{Num}
-use Rattle.wasm_check.specs.Constants.{IsOfType, AreOfTypes}
-use Rattle.dyl_search.specs.declared.set.Member as code
+use Rattle.spec_loading.specs.spec_binary.Options.{◌>>=◌}
+use Rattle.spec_loading.specs.spec_binary.IndexSpaces.{imports_of, globals_in, tables_in, function_space}
+use Rattle.spec_loading.specs.spec_validation.Faults.{fault}
+use Rattle.spec_loading.proofs.of_spec_validation.Parts.{parts_fit}
+use Rattle.spec_loading.specs.spec_runtime.Constants.{numbered_globals}
+use Rattle.spec_loading.specs.spec_linking.Sets.{Member}
+use Rattle.spec_loading.specs.spec_linking.Orders.{is_among}
+use Rattle.spec_loading.specs.spec_linking.Imports.{ImportUse, MemoryBase, TableBase, use_of, importing}
+use Rattle.spec_loading.specs.spec_linking.LinkedSets.{LinkedSet, wasm_of, function_ref}
+use Rattle.spec_loading.specs.spec_linking.Slots.{table_base, imported_base, placing_as, shared_placing, shared_placings, all_applied, nowhere, index_of, segment_slot, defined_functions, fresh_in, fresh_of}
+use Rattle.spec_loading.specs.spec_linking.Links.{Finding, first_fault}
+use Rattle.spec_loading.proofs.of_spec_linking.Importing.{importing_length}
+use Rattle.dyl_imports.specs.wasm_check.declared.value.Constant.TheVariants.{Num}
+use Rattle.dyl_imports.specs.wasm_check.Constants.{IsOfType, AreOfTypes}
+use Rattle.dyl_imports.specs.dyl_search.declared.set.Member as code
 use Rattle.dyl_slots.specs.declared.placings.Bases.{Bases}
 use Rattle.dyl_slots.specs.declared.segmented.Segmented.{Segmented}
 use Rattle.dyl_slots.specs.Fresh.{slot_at}

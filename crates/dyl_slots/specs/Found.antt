@@ -7,11 +7,11 @@ use Rattle.wasm_form.specs.declared.runtime.LoaderCall.{LoaderCall}
 use Rattle.wasm_form.specs.declared.runtime.LoaderCall.TheVariants.{Dlopen, Dlsym, Dlclose, Dlerror}
 use Rattle.wasm_form.specs.declared.runtime.Ref.{Ref}
 use Rattle.wasm_form.specs.declared.runtime.Ref.TheVariants.{Own, Loader, Host, Stub}
-use Rattle.spec_binary.specs.Options.{◌>>=◌}
-use Rattle.spec_binary.specs.IndexSpaces.{globals_in}
-use Rattle.spec_linking.specs.Plans.{Plan}
-use Rattle.spec_linking.specs.LinkedSets.{LinkedSet, wasm_of}
-use Rattle.spec_linking.specs.Slots.{linked_plan, slot_of, initial_number}
+use Rattle.spec_loading.specs.spec_binary.Options.{◌>>=◌}
+use Rattle.spec_loading.specs.spec_binary.IndexSpaces.{globals_in}
+use Rattle.spec_loading.specs.spec_linking.Plans.{Plan}
+use Rattle.spec_loading.specs.spec_linking.LinkedSets.{LinkedSet, wasm_of}
+use Rattle.spec_loading.specs.spec_linking.Slots.{linked_plan, slot_of, initial_number}
 use Rattle.dyl_imports.specs.Kept.{AreImportsOf}
 use Rattle.dyl_slots.specs.declared.cells.Known.{Known}
 use Rattle.dyl_slots.specs.declared.tables.LoaderSlots.{LoaderSlots}

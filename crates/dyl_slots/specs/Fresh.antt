@@ -1,8 +1,8 @@
 -- Slots of functions by their numbers.
 use Rattle.std.specs.Prelude.{ℕ, List, Option, Some, None, nat_eq, slice_get, if◌then◌else◌}
-use Rattle.spec_binary.specs.Options.{◌>>=◌}
-use Rattle.spec_linking.specs.Definitions.{or_other}
-use Rattle.spec_linking.specs.Orders.{is_among}
+use Rattle.spec_loading.specs.spec_binary.Options.{◌>>=◌}
+use Rattle.spec_loading.specs.spec_linking.Definitions.{or_other}
+use Rattle.spec_loading.specs.spec_linking.Orders.{is_among}
 
 -- the slot at a place, if there is one
 abbrev pub slot_at : List (Option ℕ) → ℕ → Option ℕ

@@ -3,14 +3,14 @@ use Rattle.std.specs.Prelude.{◌≡◌, ℕ, ◌+◌, ◌<◌, ◌≤◌, ◌^�
 use Rattle.wasm_form.specs.declared.module.Module.{Module}
 use Rattle.wasm_form.specs.declared.runtime.Ref.{Ref}
 use Rattle.wasm_form.specs.declared.runtime.Ref.TheVariants.{Own}
-use Rattle.spec_linking.specs.Plans.{Plan}
+use Rattle.spec_loading.specs.spec_linking.Plans.{Plan}
 use Rattle.spec_loading.specs.LoadedSet.{first_slot}
-use Rattle.spec_linking.specs.Orders.{is_among}
-use Rattle.spec_linking.specs.LinkedSets.{LinkedSet, wasm_of, function_ref}
-use Rattle.spec_linking.specs.Slots.{linked_plan, memory_base, table_base, segment_slot, defined_functions, fresh_of, slot_of}
-use Rattle.spec_linking.specs.Links.{first_fault, import_fault, members_fault}
-use Rattle.dyl_search.specs.declared.set.Member as code
-use Rattle.dyl_search.specs.Gathers.{member_of}
+use Rattle.spec_loading.specs.spec_linking.Orders.{is_among}
+use Rattle.spec_loading.specs.spec_linking.LinkedSets.{LinkedSet, wasm_of, function_ref}
+use Rattle.spec_loading.specs.spec_linking.Slots.{linked_plan, memory_base, table_base, segment_slot, defined_functions, fresh_of, slot_of}
+use Rattle.spec_loading.specs.spec_linking.Links.{first_fault, import_fault, members_fault}
+use Rattle.dyl_imports.specs.dyl_search.declared.set.Member as code
+use Rattle.dyl_imports.specs.dyl_search.Gathers.{member_of}
 use Rattle.dyl_slots.specs.declared.placings.Bases.{Bases}
 use Rattle.dyl_slots.specs.declared.segmented.Segmented.{Segmented}
 use Rattle.dyl_slots.specs.declared.tables.MemberSlots.{MemberSlots}

@@ -5,8 +5,8 @@ use Rattle.wasm_form.specs.declared.runtime.LoaderCall.{LoaderCall}
 use Rattle.wasm_form.specs.declared.runtime.LoaderCall.TheVariants.{Dlopen, Dlsym, Dlclose, Dlerror}
 use Rattle.wasm_form.specs.declared.runtime.Ref.{Ref}
 use Rattle.wasm_form.specs.declared.runtime.Ref.TheVariants.{Loader, Host}
-use Rattle.spec_linking.specs.Orders.{with_number, with_numbers}
-use Rattle.spec_linking.specs.Slots.{same_ref}
+use Rattle.spec_loading.specs.spec_linking.Orders.{with_number, with_numbers}
+use Rattle.spec_loading.specs.spec_linking.Slots.{same_ref}
 
 abbrev pub all_calls : List LoaderCall
 all_calls = Dlopen ∷ Dlsym ∷ Dlclose ∷ Dlerror ∷ []

@@ -10,12 +10,12 @@ use Rattle.wasm_form.specs.declared.module.ElemItems.{ElemItems}
 use Rattle.wasm_form.specs.declared.module.Elem.{Elem}
 use Rattle.wasm_form.specs.declared.module.Module.{Module}
 use Rattle.wasm_form.specs.declared.runtime.Ref.{Ref}
-use Rattle.wasm_runtime.specs.declared.Value.{Value}
-use Rattle.spec_binary.specs.Options.{◌>>=◌}
-use Rattle.spec_binary.specs.IndexSpaces.{imports_of, globals_in, tables_in}
-use Rattle.spec_runtime.specs.Constants.{constant_entries, constant_number}
-use Rattle.spec_linking.specs.Imports.{ImportUse, MemoryBase, TableBase, use_of}
-use Rattle.spec_linking.specs.Slots.{Placing}
+use Rattle.wasm_form.specs.declared.runtime.Value.{Value}
+use Rattle.spec_loading.specs.spec_binary.Options.{◌>>=◌}
+use Rattle.spec_loading.specs.spec_binary.IndexSpaces.{imports_of, globals_in, tables_in}
+use Rattle.spec_loading.specs.spec_runtime.Constants.{constant_entries, constant_number}
+use Rattle.spec_loading.specs.spec_linking.Imports.{ImportUse, MemoryBase, TableBase, use_of}
+use Rattle.spec_loading.specs.spec_linking.Slots.{Placing}
 use Rattle.dyl_slots.specs.declared.placings.Bases.{Bases}
 
 -- the number of an imported global that stands for this

@@ -3,9 +3,9 @@ use Rattle.std.specs.Prelude.{◌≡◌, ℕ, ◌+◌, ◌-◌, ◌<◌, length,
 use Rattle.std.specs.List.{position_from}
 use Rattle.wasm_form.specs.declared.runtime.Ref.{Ref}
 use Rattle.wasm_form.specs.declared.runtime.Ref.TheVariants.{Own}
-use Rattle.spec_linking.specs.Slots as slots
-use Rattle.spec_linking.specs.Definitions.{or_other}
-use Rattle.spec_linking.specs.Slots.{is_ref}
+use Rattle.spec_loading.specs.spec_linking.Slots as slots
+use Rattle.spec_loading.specs.spec_linking.Definitions.{or_other}
+use Rattle.spec_loading.specs.spec_linking.Slots.{is_ref}
 use Rattle.dyl_slots.specs.declared.regions.Placing.{Placing}
 
 abbrev pub placing_value : Placing → slots.Placing

@@ -1,9 +1,9 @@
 -- The tables of a linked set, and what making them answers.
 use Rattle.std.specs.Prelude.{◌≡◌, ℕ, List, length}
 use Rattle.wasm_form.specs.declared.runtime.Ref.{Ref}
-use Rattle.spec_linking.specs.Plans.{Plan, sizes_of}
-use Rattle.spec_linking.specs.LinkedSets.{LinkedSet}
-use Rattle.spec_linking.specs.Slots.{outside_slots, slot_of, table_entries, table_most, imported_number}
+use Rattle.spec_loading.specs.spec_linking.Plans.{Plan, sizes_of}
+use Rattle.spec_loading.specs.spec_linking.LinkedSets.{LinkedSet}
+use Rattle.spec_loading.specs.spec_linking.Slots.{outside_slots, slot_of, table_entries, table_most, imported_number}
 use Rattle.dyl_plan.specs.declared.region.Sizes.{Sizes}
 use Rattle.dyl_imports.specs.declared.imports.Imports.{Imports}
 use Rattle.dyl_imports.specs.Kept.{AreImportsOf}

@@ -1,10 +1,10 @@
 -- The functions of a linked set that want slots, and the slots of all functions.
 use Rattle.std.specs.Prelude.{◌≡◌, ℕ, ◌+◌, ◌≤◌, List, length, slice_get, Option}
 use Rattle.wasm_form.specs.declared.runtime.Ref.{Ref}
-use Rattle.spec_binary.specs.Options.{◌>>=◌}
-use Rattle.spec_linking.specs.Plans.{Plan}
-use Rattle.spec_linking.specs.LinkedSets.{LinkedSet}
-use Rattle.spec_linking.specs.Slots.{outside_refs, slot_of}
+use Rattle.spec_loading.specs.spec_binary.Options.{◌>>=◌}
+use Rattle.spec_loading.specs.spec_linking.Plans.{Plan}
+use Rattle.spec_loading.specs.spec_linking.LinkedSets.{LinkedSet}
+use Rattle.spec_loading.specs.spec_linking.Slots.{outside_refs, slot_of}
 use Rattle.dyl_imports.specs.declared.imports.Imports.{Imports}
 use Rattle.dyl_slots.specs.declared.wanted.Wanted.{Wanted}
 use Rattle.dyl_slots.specs.declared.given.AllSlots.{AllSlots}

@@ -1,20 +1,20 @@
 // The initial values of imported globals.
 ghost use Rattle.std.specs.Prelude.{◌≡◌, ℕ, ◌+◌, ◌*◌, ◌++◌, ◌<◌, ◌≤◌, ◌^◌, ◌%◌, length, map, slice_get, Some, None, IfOk, OnOk};
-ghost use Rattle.spec_linking.specs.Definitions as definitions;
-ghost use Rattle.spec_linking.specs.LinkedSets.{LinkedSet, definition};
-ghost use Rattle.spec_linking.specs.Slots as slots;
-ghost use Rattle.dyl_scope.specs.Scopes.{meaning_of};
-ghost use Rattle.dyl_search.specs.Gathers.{member_of};
+ghost use Rattle.spec_loading.specs.spec_linking.Definitions as definitions;
+ghost use Rattle.spec_loading.specs.spec_linking.LinkedSets.{LinkedSet, definition};
+ghost use Rattle.spec_loading.specs.spec_linking.Slots as slots;
+ghost use Rattle.dyl_imports.specs.dyl_scope.Scopes.{meaning_of};
+ghost use Rattle.dyl_imports.specs.dyl_search.Gathers.{member_of};
 ghost use Rattle.dyl_slots.specs.Fresh.{slot_at};
 ghost use Rattle.dyl_slots.specs.Found.{own_slot_in, loader_slot_in, address_in, IsKnownOf, FitsKnown, initial_in, initial_values, IsCellsOf};
 ghost use Rattle.dyl_slots.specs.Given.{AllAt};
 
 use crate::fresh::slot_at;
 use crate::tables::{LoaderSlots, MemberSlots};
+use dyl_imports::dyl_scope::Def;
 use dyl_imports::{Imports, Use, use_of};
 use dyl_plan::Plan;
-use dyl_scope::Def;
-use spec_linking::Kind;
+use spec_loading::spec_linking::Kind;
 use std::alloc::Global;
 use wasm_form::{Import, ImportDesc, List, LoaderCall, Memory};
 

@@ -1,10 +1,10 @@
 // The functions that a member defines under names.
 ghost use Rattle.std.specs.Prelude.{◌≡◌, ◌+◌, ◌<◌, ◌^◌, [], length, None, Some, IfOk, OnOk};
-ghost use Rattle.spec_binary.specs.IndexSpaces.{imports_of, imported_count, functions_in, function_space};
-ghost use Rattle.spec_linking.specs.Definitions as defined;
-ghost use Rattle.spec_linking.specs.Slots.{with_function, defined_functions};
+ghost use Rattle.spec_loading.specs.spec_binary.IndexSpaces.{imports_of, imported_count, functions_in, function_space};
+ghost use Rattle.spec_loading.specs.spec_linking.Definitions as defined;
+ghost use Rattle.spec_loading.specs.spec_linking.Slots.{with_function, defined_functions};
 
-use dyl_scope::{DistinctNumbers, imported_functions, is_reserved, own_function};
+use dyl_imports::dyl_scope::{DistinctNumbers, imported_functions, is_reserved, own_function};
 use std::alloc::Global;
 use wasm_form::{Export, ExportDesc, Memory, Module};
 

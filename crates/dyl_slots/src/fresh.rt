@@ -1,8 +1,8 @@
 // Slots of functions by their numbers.
 ghost use Rattle.std.specs.Prelude.{◌≡◌, ℕ, ◌+◌, ◌<◌, ◌^◌, length, nat_eq, is_none, IfOk, Some, None, slice_index_or, if◌then◌else◌};
 ghost use Rattle.std.specs.List.{filter, position_from};
-ghost use Rattle.spec_linking.specs.Definitions.{or_other};
-ghost use Rattle.spec_linking.specs.Orders.{is_among};
+ghost use Rattle.spec_loading.specs.spec_linking.Definitions.{or_other};
+ghost use Rattle.spec_loading.specs.spec_linking.Orders.{is_among};
 ghost use Rattle.dyl_slots.specs.Fresh.{slot_at, numbered, either_slot, slot_by};
 
 use crate::regions::no_slots;

@@ -2,8 +2,8 @@
 ghost use Rattle.std.specs.Prelude.{◌≡◌, ℕ, ◌+◌, ◌<◌, ◌≤◌, ◌^◌, nat_eq, length, IfOk};
 ghost use Rattle.std.specs.List.{All, position_from};
 ghost use Rattle.wasm_form.specs.declared.runtime.LoaderCall.{LoaderCall};
-ghost use Rattle.spec_linking.specs.LinkedSets.{LinkedSet};
-ghost use Rattle.spec_linking.specs.Slots.{linked_plan, imported_number, same_call};
+ghost use Rattle.spec_loading.specs.spec_linking.LinkedSets.{LinkedSet};
+ghost use Rattle.spec_loading.specs.spec_linking.Slots.{linked_plan, imported_number, same_call};
 ghost use Rattle.dyl_imports.specs.Kept.{AreImportsOf};
 ghost use Rattle.dyl_slots.specs.Fresh.{slot_at};
 ghost use Rattle.dyl_slots.specs.Found.{loader_slot_in};

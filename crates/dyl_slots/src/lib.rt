@@ -16,4 +16,7 @@ mod segmented;
 mod tables;
 mod wanted;
 
+pub use dyl_imports;
+pub use dyl_imports::{dyl_names, dyl_scope, dyl_search, dyl_section, host_table, wasm_check};
+pub use dyl_plan;
 pub use tables::{LoaderSlots, MemberSlots, Tables, make_tables};

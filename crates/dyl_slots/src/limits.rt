@@ -1,11 +1,11 @@
 // The entries of the table.
 ghost use Rattle.std.specs.Prelude.{◌≡◌, ◌+◌, ◌≤◌, ◌<◌, ◌^◌, map, length, min};
 ghost use Rattle.std.specs.List.{flat_map};
-ghost use Rattle.spec_linking.specs.Plans.{least_of, maxima, table_limits, limits_in};
-ghost use Rattle.dyl_search.specs.Gathers.{member_of};
+ghost use Rattle.spec_loading.specs.spec_linking.Plans.{least_of, maxima, table_limits, limits_in};
+ghost use Rattle.dyl_imports.specs.dyl_search.Gathers.{member_of};
 
+use dyl_imports::dyl_search::Member;
 use dyl_imports::{Use, use_of};
-use dyl_search::Member;
 use wasm_form::{Import, ImportDesc};
 
 // The most entries that an import of the shared table allows, or else the bound.

@@ -1,8 +1,8 @@
 // The slots of all members' functions.
 ghost use Rattle.std.specs.Prelude.{◌≡◌, ℕ, ◌+◌, ◌<◌, ◌≤◌, ◌^◌, length, slice_get, IfOk, Some};
 ghost use Rattle.std.specs.List.{All};
-ghost use Rattle.spec_linking.specs.LinkedSets.{LinkedSet};
-ghost use Rattle.spec_linking.specs.Slots.{linked_plan};
+ghost use Rattle.spec_loading.specs.spec_linking.LinkedSets.{LinkedSet};
+ghost use Rattle.spec_loading.specs.spec_linking.Slots.{linked_plan};
 ghost use Rattle.spec_loading.specs.LoadedSet.{first_slot};
 ghost use Rattle.dyl_slots.specs.Given.{IsGiven, IsSegmentedOf, IsSlotsOf, AllAt, HasFew, fresh_sum};
 
@@ -10,8 +10,8 @@ use crate::fresh::{slots_from, slots_of};
 use crate::placings::Bases;
 use crate::segmented::{Segmented, member_segments};
 use crate::tables::MemberSlots;
+use dyl_imports::dyl_search::Member;
 use dyl_plan::Plan;
-use dyl_search::Member;
 use std::alloc::Global;
 use wasm_form::{List, Memory, Ref};
 

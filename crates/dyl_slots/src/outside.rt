@@ -2,10 +2,10 @@
 ghost use Rattle.std.specs.Prelude.{◌≡◌, ◌+◌, ◌++◌, ◌<◌, ◌^◌, map, length, IfOk, OnOk};
 ghost use Rattle.std.specs.List.{list_any, position_from};
 ghost use Rattle.wasm_form.specs.declared.runtime.Ref.TheVariants as refs;
-ghost use Rattle.spec_linking.specs.Slots.{same_call, same_ref};
+ghost use Rattle.spec_loading.specs.spec_linking.Slots.{same_call, same_ref};
 ghost use Rattle.dyl_slots.specs.Outside.{calls_in, call_in, hosts_in, with_host_in, outside_in};
 
-use dyl_scope::DistinctNumbers;
+use dyl_imports::dyl_scope::DistinctNumbers;
 use std::alloc::Global;
 use wasm_form::{LoaderCall, Memory, Ref};
 

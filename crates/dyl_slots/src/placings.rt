@@ -2,18 +2,18 @@
 ghost use Rattle.std.specs.Prelude.{◌≡◌, ◌<◌, ◌^◌, ◌++◌, ◌∷◌, [], ℕ, map, length, slice_get, is_some, IsTrue, IfOk, OnOk, Some, None};
 ghost use Rattle.std.specs.List.{list_all};
 ghost use Rattle.wasm_form.specs.declared.types.ValType.TheVariants.{I32, FuncRef};
-ghost use Rattle.spec_binary.specs.IndexSpaces.{imports_of, globals_in, tables_in};
-ghost use Rattle.spec_validation.specs.Faults.{is_constant, is_function, items_fit, elem_fits};
-ghost use Rattle.spec_runtime.specs.Constants.{constant_of, constant_entry, constant_entries, constant_number, numbered_globals};
+ghost use Rattle.spec_loading.specs.spec_binary.IndexSpaces.{imports_of, globals_in, tables_in};
+ghost use Rattle.spec_loading.specs.spec_validation.Faults.{is_constant, is_function, items_fit, elem_fits};
+ghost use Rattle.spec_loading.specs.spec_runtime.Constants.{constant_of, constant_entry, constant_entries, constant_number, numbered_globals};
 ghost use Rattle.dyl_imports.specs.Uses.{use_value};
-ghost use Rattle.wasm_check.specs.Constants.{AreOfTypes};
+ghost use Rattle.dyl_imports.specs.wasm_check.Constants.{AreOfTypes};
 ghost use Rattle.dyl_slots.specs.Placings.{base_number, number_as, base_numbers, placed_at, placed_by, placings_by};
 ghost use Rattle.dyl_slots.specs.Regions.{placing_value};
 
 use crate::regions::Placing;
+use dyl_imports::wasm_check::{Constant, constant};
 use dyl_imports::{Use, use_of};
 use std::alloc::Global;
-use wasm_check::{Constant, constant};
 use wasm_form::{Elem, ElemItems, ElemMode, Expr, Import, ImportDesc, List, Memory, Module, Ref};
 
 // The bases of a member's regions, in memory and in the table.

@@ -1,17 +1,17 @@
 // The functions outside the members that cells hold slots of.
 ghost use Rattle.std.specs.Prelude.{◌≡◌, ◌++◌, ◌<◌, ◌≤◌, length, map, IfOk, OnOk};
 ghost use Rattle.std.specs.List.{filter_map};
-ghost use Rattle.spec_linking.specs.declared.fault.Kind.TheVariants as kinds;
-ghost use Rattle.spec_linking.specs.Definitions.{env_name};
-ghost use Rattle.spec_linking.specs.LinkedSets.{LinkedSet, definition};
-ghost use Rattle.spec_linking.specs.LinkedSets as linked;
-ghost use Rattle.spec_linking.specs.Slots as slots;
-ghost use Rattle.dyl_search.specs.Gathers.{member_of};
+ghost use Rattle.spec_loading.specs.spec_linking.declared.fault.Kind.TheVariants as kinds;
+ghost use Rattle.spec_loading.specs.spec_linking.Definitions.{env_name};
+ghost use Rattle.spec_loading.specs.spec_linking.LinkedSets.{LinkedSet, definition};
+ghost use Rattle.spec_loading.specs.spec_linking.LinkedSets as linked;
+ghost use Rattle.spec_loading.specs.spec_linking.Slots as slots;
+ghost use Rattle.dyl_imports.specs.dyl_search.Gathers.{member_of};
 ghost use Rattle.dyl_imports.specs.Kept.{AreImportsOf};
 
+use dyl_imports::dyl_scope::Def;
 use dyl_imports::{Imports, Use, use_of};
-use dyl_scope::Def;
-use spec_linking::Kind;
+use spec_loading::spec_linking::Kind;
 use std::alloc::Global;
 use wasm_form::{Import, Memory, Ref};
 

@@ -1,7 +1,7 @@
 // The slots that a member's element segments give its functions.
 ghost use Rattle.std.specs.Prelude.{◌≡◌, ℕ, ◌+◌, ◌<◌, ◌^◌, length, map, IfOk, Option, None, slice_index_or};
-ghost use Rattle.spec_linking.specs.Slots.{applied, all_applied, nowhere, index_of};
-ghost use Rattle.spec_linking.specs.Definitions.{or_other};
+ghost use Rattle.spec_loading.specs.spec_linking.Slots.{applied, all_applied, nowhere, index_of};
+ghost use Rattle.spec_loading.specs.spec_linking.Definitions.{or_other};
 ghost use Rattle.wasm_form.specs.declared.runtime.Ref.TheVariants.{Own};
 ghost use Rattle.dyl_slots.specs.Regions.{IsRegion, placing_value, written, noted, first_left};
 

@@ -1,9 +1,9 @@
 // The slots that members' regions give their functions, and the functions that have none there.
 ghost use Rattle.std.specs.Prelude.{◌≡◌, ℕ, ◌+◌, ◌<◌, ◌≤◌, ◌^◌, length, is_none, IfOk, Some, None, slice_index_or};
 ghost use Rattle.std.specs.List.{filter};
-ghost use Rattle.spec_binary.specs.IndexSpaces.{function_space};
-ghost use Rattle.spec_linking.specs.LinkedSets.{LinkedSet};
-ghost use Rattle.spec_linking.specs.Slots.{segment_slot, defined_functions};
+ghost use Rattle.spec_loading.specs.spec_binary.IndexSpaces.{function_space};
+ghost use Rattle.spec_loading.specs.spec_linking.LinkedSets.{LinkedSet};
+ghost use Rattle.spec_loading.specs.spec_linking.Slots.{segment_slot, defined_functions};
 ghost use Rattle.dyl_slots.specs.Fresh.{slot_at};
 ghost use Rattle.dyl_slots.specs.Given.{IsAt, IsSegmentedOf};
 
@@ -11,8 +11,8 @@ use crate::defined::{defined_functions, functions_count};
 use crate::fresh::without_slot;
 use crate::placings::{Bases, Names, base_numbers, placings_of};
 use crate::regions::segment_slots;
-use dyl_scope::DistinctNumbers;
-use dyl_search::Member;
+use dyl_imports::dyl_scope::DistinctNumbers;
+use dyl_imports::dyl_search::Member;
 use std::alloc::Global;
 use wasm_form::{List, Memory, Ref};
 

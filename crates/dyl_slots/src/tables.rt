@@ -1,10 +1,10 @@
 // The tables of a linked set.
 ghost use Rattle.std.specs.Prelude.{◌≡◌, ◌≤◌, ◌<◌, ◌^◌, length, IfOk};
 ghost use Rattle.std.specs.List.{All};
-ghost use Rattle.spec_linking.specs.declared.fault.LinkFault.TheVariants as faults;
-ghost use Rattle.spec_linking.specs.Plans.{limit};
-ghost use Rattle.spec_linking.specs.LinkedSets.{LinkedSet};
-ghost use Rattle.spec_linking.specs.Slots as slots;
+ghost use Rattle.spec_loading.specs.spec_linking.declared.fault.LinkFault.TheVariants as faults;
+ghost use Rattle.spec_loading.specs.spec_linking.Plans.{limit};
+ghost use Rattle.spec_loading.specs.spec_linking.LinkedSets.{LinkedSet};
+ghost use Rattle.spec_loading.specs.spec_linking.Slots as slots;
 ghost use Rattle.dyl_imports.specs.Kept.{AreImportsOf};
 ghost use Rattle.dyl_slots.specs.Given.{IsGiven, HasFew};
 ghost use Rattle.dyl_slots.specs.Limits.{TellsLimit};
@@ -17,7 +17,7 @@ use crate::outside::outside_list;
 use crate::wanted::{Wanted, entries_of, wanted_of};
 use dyl_imports::Imports;
 use dyl_plan::{Plan, Sizes};
-use spec_linking::LinkFault;
+use spec_loading::spec_linking::LinkFault;
 use std::alloc::Global;
 use wasm_form::{List, Memory, Ref};
 

@@ -5,19 +5,19 @@ use Rattle.std.specs.Option.{option_map}
 use Rattle.std.proofs.lemmas.Bool.{cases_lt, lt-ltb}
 use Rattle.std.proofs.lemmas.List.FromFn.{length-map-range_with_len, get_or-map-range_with_len}
 use Rattle.std.proofs.lemmas.Option.{slice_get-get_or, slice_get_within, slice_get-map, same_Some}
-use Rattle.spec_binary.proofs.Lists.{slice_get-append-left, slice_get-append-last}
+use Rattle.spec_loading.proofs.of_spec_binary.Lists.{slice_get-append-left, slice_get-append-last}
 use Rattle.wasm_form.specs.declared.module.Module.{Module}
-use Rattle.spec_binary.specs.IndexSpaces.{imported_count, global_space, table_space}
-use Rattle.spec_binary.specs.Options.{◌>>=◌}
+use Rattle.spec_loading.specs.spec_binary.IndexSpaces.{imported_count, global_space, table_space}
+use Rattle.spec_loading.specs.spec_binary.Options.{◌>>=◌}
 use Rattle.wasm_instance.specs.Rooms.{HaveRooms}
-use Rattle.spec_linking.specs.Sets.{ClosedSet}
-use Rattle.spec_linking.specs.Sets as sets
-use Rattle.spec_linking.specs.LinkedSets.{wasm_of}
+use Rattle.spec_loading.specs.spec_linking.Sets.{ClosedSet}
+use Rattle.spec_loading.specs.spec_linking.Sets as sets
+use Rattle.spec_loading.specs.spec_linking.LinkedSets.{wasm_of}
 use Rattle.spec_loading.specs.Addresses.{sum_before, item_address, global_address, table_address, elem_address, data_address}
 use Rattle.merge_match.specs.Parts.{number_of}
 use Rattle.merge_match.specs.Renumbering.{Numbers}
-use Rattle.dyl_search.specs.declared.set.Member.{Member}
-use Rattle.dyl_search.specs.Gathers.{member_of}
+use Rattle.dyl_link.specs.dyl_search.declared.set.Member.{Member}
+use Rattle.dyl_link.specs.dyl_search.Gathers.{member_of}
 use Rattle.dyl_link.specs.Kept.{Kept}
 use Rattle.dyl_store.specs.declared.unit.Unit.{Unit}
 use Rattle.dyl_store.specs.Worlds.{set_in}

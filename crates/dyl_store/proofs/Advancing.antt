@@ -1,10 +1,10 @@
 -- What further steps of code make of the run of a set.
 use Rattle.std.proofs.Common.{◌≡◌, ◌⊎◌, ℕ, suc, ◌<◌, ◌≤◌, Bool, true, false, sym, ap, ◌∙◌, subst, inl, inr, ⊎_elim, refl, arith}
 use Rattle.std.proofs.lemmas.Bool.{false≢true, cases_lt}
-use Rattle.spec_runs.specs.Systems.{Moving, Ran}
-use Rattle.spec_runtime.specs.Hosts.{hosts}
-use Rattle.spec_runtime.proofs.Recorded.{stands_after, stands_moved}
-use Rattle.spec_linking.specs.LinkedSets.{LinkedSet}
+use Rattle.spec_loading.specs.spec_runs.Systems.{Moving, Ran}
+use Rattle.spec_loading.specs.spec_runtime.Hosts.{hosts}
+use Rattle.spec_loading.proofs.of_spec_runtime.Recorded.{stands_after, stands_moved}
+use Rattle.spec_loading.specs.spec_linking.LinkedSets.{LinkedSet}
 use Rattle.spec_loading.specs.LoadedSet.{SetState, set_opening, set_system}
 use Rattle.wasm_machine.specs.declared.machine.Standing.TheVariants as standing
 use Rattle.dyl_link.specs.Kept.{IsLinked}

@@ -7,19 +7,19 @@ use Rattle.std.proofs.lemmas.Option.{same_Some}
 use Rattle.wasm_form.specs.declared.types.FuncType.{FuncType}
 use Rattle.wasm_form.specs.declared.runtime.Ref.{Ref}
 use Rattle.wasm_form.specs.declared.runtime.Trap.{Trap}
-use Rattle.wasm_runtime.specs.declared.Asked.{Asked}
-use Rattle.wasm_runtime.specs.declared.Value.{Value}
-use Rattle.wasm_runtime.specs.declared.Value.TheVariants.{Num}
-use Rattle.spec_runs.specs.Systems.{Status, Moving, Waits, Returned, Exited, Trapped}
-use Rattle.spec_binary.specs.Options.{◌>>=◌}
-use Rattle.spec_binary.proofs.Options.{each, either_way, went_on}
-use Rattle.spec_runtime.specs.Names.{HostName, is_integer, has_integers}
-use Rattle.spec_runtime.specs.Hosts.{HostCall, numbers_fit}
-use Rattle.spec_execution.specs.Activations.{move}
-use Rattle.spec_execution.specs.Segments.{Performed}
-use Rattle.spec_execution.specs.Instances.{ModuleParts, host_type}
-use Rattle.spec_execution.specs.Runs.{Frame, Active, Marked, Next, Goes, Asks, Loads, Ends, Traps, State, call, returned, stands}
-use Rattle.spec_linking.specs.LinkedSets.{LinkedSet, set_hosts}
+use Rattle.wasm_form.specs.declared.runtime.Asked.{Asked}
+use Rattle.wasm_form.specs.declared.runtime.Value.{Value}
+use Rattle.wasm_form.specs.declared.runtime.Value.TheVariants.{Num}
+use Rattle.spec_loading.specs.spec_runs.Systems.{Status, Moving, Waits, Returned, Exited, Trapped}
+use Rattle.spec_loading.specs.spec_binary.Options.{◌>>=◌}
+use Rattle.spec_loading.proofs.of_spec_binary.Options.{each, either_way, went_on}
+use Rattle.spec_loading.specs.spec_runtime.Names.{HostName, is_integer, has_integers}
+use Rattle.spec_loading.specs.spec_runtime.Hosts.{HostCall, numbers_fit}
+use Rattle.spec_loading.specs.spec_execution.Activations.{move}
+use Rattle.spec_loading.specs.spec_execution.Segments.{Performed}
+use Rattle.spec_loading.specs.spec_execution.Instances.{ModuleParts, host_type}
+use Rattle.spec_loading.specs.spec_execution.Runs.{Frame, Active, Marked, Next, Goes, Asks, Loads, Ends, Traps, State, call, returned, stands}
+use Rattle.spec_loading.specs.spec_linking.LinkedSets.{LinkedSet, set_hosts}
 use Rattle.spec_loading.specs.declared.task.Phase.{Phase}
 use Rattle.spec_loading.specs.declared.task.Phase.TheVariants.{Place, Start, Relocate, Construct}
 use Rattle.spec_loading.specs.declared.task.Task.{Task}

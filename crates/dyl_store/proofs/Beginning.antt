@@ -8,20 +8,20 @@ use Rattle.wasm_form.specs.declared.module.Elem.{Elem}
 use Rattle.wasm_form.specs.declared.module.GlobalDef.{GlobalDef}
 use Rattle.wasm_form.specs.declared.module.Module.{Module}
 use Rattle.wasm_form.specs.declared.runtime.Ref.{Ref}
-use Rattle.wasm_runtime.specs.declared.Value.{Value}
-use Rattle.wasm_runtime.specs.declared.Value.TheVariants.{Num}
-use Rattle.spec_binary.specs.Options.{◌>>=◌}
-use Rattle.spec_binary.proofs.Lists.{got}
-use Rattle.spec_runtime.specs.Constants.{constant_of, constant_entries}
-use Rattle.spec_execution.specs.Segments.{opened_items}
-use Rattle.spec_execution.specs.Values.{zero_of}
-use Rattle.spec_linking.specs.Plans.{Plan}
-use Rattle.spec_linking.specs.Sets.{Member}
-use Rattle.spec_linking.specs.LinkedSets.{LinkedSet, wasm_of}
-use Rattle.spec_linking.specs.Slots.{member_items, cells_of, cell_value}
+use Rattle.wasm_form.specs.declared.runtime.Value.{Value}
+use Rattle.wasm_form.specs.declared.runtime.Value.TheVariants.{Num}
+use Rattle.spec_loading.specs.spec_binary.Options.{◌>>=◌}
+use Rattle.spec_loading.proofs.of_spec_binary.Lists.{got}
+use Rattle.spec_loading.specs.spec_runtime.Constants.{constant_of, constant_entries}
+use Rattle.spec_loading.specs.spec_execution.Segments.{opened_items}
+use Rattle.spec_loading.specs.spec_execution.Values.{zero_of}
+use Rattle.spec_loading.specs.spec_linking.Plans.{Plan}
+use Rattle.spec_loading.specs.spec_linking.Sets.{Member}
+use Rattle.spec_loading.specs.spec_linking.LinkedSets.{LinkedSet, wasm_of}
+use Rattle.spec_loading.specs.spec_linking.Slots.{member_items, cells_of, cell_value}
 use Rattle.spec_loading.specs.Addresses.{sum_before, globals_size}
 use Rattle.spec_loading.specs.Members.{from_members, opened_global, opened_globals}
-use Rattle.dyl_search.specs.declared.set.Member as declared
+use Rattle.dyl_link.specs.dyl_search.declared.set.Member as declared
 use Rattle.merge_start.specs.Listed.{AreBases}
 use Rattle.merge_start.proofs.Linked.{wasm_at, one_module, members_count}
 use Rattle.dyl_link.specs.Kept.{Kept, IsLinked, function_in}

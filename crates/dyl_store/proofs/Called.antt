@@ -6,20 +6,20 @@ use Rattle.std.proofs.lemmas.Option.{slice_get-map, slice_get_read, same_Some}
 use Rattle.std.specs.Option.{option_map}
 use Rattle.wasm_form.specs.declared.module.Module.{Module}
 use Rattle.wasm_form.specs.declared.runtime.Ref.{Ref}
-use Rattle.spec_binary.specs.Options.{◌>>=◌}
-use Rattle.spec_binary.proofs.Options.{went_on}
-use Rattle.spec_binary.specs.Indices.{nullary}
-use Rattle.spec_execution.specs.Views.{View, type_of}
-use Rattle.spec_execution.specs.Instances.{ModuleParts}
-use Rattle.spec_linking.specs.Sets.{ClosedSet}
-use Rattle.spec_linking.specs.LinkedSets.{LinkedSet, wasm_of, function_ref}
+use Rattle.spec_loading.specs.spec_binary.Options.{◌>>=◌}
+use Rattle.spec_loading.proofs.of_spec_binary.Options.{went_on}
+use Rattle.spec_loading.specs.spec_binary.Indices.{nullary}
+use Rattle.spec_loading.specs.spec_execution.Views.{View, type_of}
+use Rattle.spec_loading.specs.spec_execution.Instances.{ModuleParts}
+use Rattle.spec_loading.specs.spec_linking.Sets.{ClosedSet}
+use Rattle.spec_loading.specs.spec_linking.LinkedSets.{LinkedSet, wasm_of, function_ref}
 use Rattle.spec_loading.specs.declared.task.Phase.{Phase}
 use Rattle.spec_loading.specs.Phases.{phase_function}
 use Rattle.spec_loading.specs.Members.{set_view}
 use Rattle.spec_loading.specs.LoadedSet.{set_loading, callee_of}
 use Rattle.spec_loading.specs.Laws.{CalleesAreThere, IsCallable}
-use Rattle.dyl_search.specs.declared.set.Member as declared
-use Rattle.dyl_search.specs.Gathers.{set_of, member_of}
+use Rattle.dyl_link.specs.dyl_search.declared.set.Member as declared
+use Rattle.dyl_link.specs.dyl_search.Gathers.{set_of, member_of}
 use Rattle.dyl_link.specs.Kept.{Kept, IsLinked, function_in}
 use Rattle.dyl_store.specs.Worlds.{kept_view}
 use Rattle.dyl_store.proofs.Views.{kept_view_is}

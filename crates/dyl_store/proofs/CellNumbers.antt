@@ -11,24 +11,24 @@ use Rattle.wasm_form.specs.declared.module.ImportDesc.{ImportDesc}
 use Rattle.wasm_form.specs.declared.module.ImportDesc.TheVariants as imported
 use Rattle.wasm_form.specs.declared.module.Import.{Import}
 use Rattle.wasm_form.specs.declared.module.Module.{Module}
-use Rattle.wasm_runtime.specs.declared.Value.{Value}
-use Rattle.wasm_runtime.specs.declared.Value.TheVariants.{Num}
-use Rattle.spec_binary.specs.Options.{◌>>=◌}
-use Rattle.spec_binary.specs.IndexSpaces.{globals_in}
-use Rattle.spec_binary.proofs.Lists.{got, slice_get-append-right}
-use Rattle.spec_linking.specs.declared.fault.Kind.TheVariants as kind
-use Rattle.spec_linking.specs.declared.fault.LinkFault.TheVariants.{IllTyped}
-use Rattle.spec_linking.specs.Sets.{Member}
-use Rattle.spec_linking.specs.Imports.{ImportUse, SharedMemory, SharedTable, StackPointer, MemoryBase, TableBase, DataCell, SlotCell, EnvFunction, ModuleFunction, OtherUse, use_of, is_i32_global, importing}
-use Rattle.spec_linking.specs.LinkedSets.{LinkedSet, wasm_of, definition}
-use Rattle.spec_linking.specs.Slots.{CellName, same_cell, cell_as, cell_of_import, first_cells, cells_of, cell_value, initial_as, initial_number, imported_number}
-use Rattle.spec_linking.specs.Links.{unless, fault_as, import_fault, data_cell_fault, slot_cell_fault}
-use Rattle.spec_linking.proofs.LinkedFacts.{or_none, holds_so, linked_member}
+use Rattle.wasm_form.specs.declared.runtime.Value.{Value}
+use Rattle.wasm_form.specs.declared.runtime.Value.TheVariants.{Num}
+use Rattle.spec_loading.specs.spec_binary.Options.{◌>>=◌}
+use Rattle.spec_loading.specs.spec_binary.IndexSpaces.{globals_in}
+use Rattle.spec_loading.proofs.of_spec_binary.Lists.{got, slice_get-append-right}
+use Rattle.spec_loading.specs.spec_linking.declared.fault.Kind.TheVariants as kind
+use Rattle.spec_loading.specs.spec_linking.declared.fault.LinkFault.TheVariants.{IllTyped}
+use Rattle.spec_loading.specs.spec_linking.Sets.{Member}
+use Rattle.spec_loading.specs.spec_linking.Imports.{ImportUse, SharedMemory, SharedTable, StackPointer, MemoryBase, TableBase, DataCell, SlotCell, EnvFunction, ModuleFunction, OtherUse, use_of, is_i32_global, importing}
+use Rattle.spec_loading.specs.spec_linking.LinkedSets.{LinkedSet, wasm_of, definition}
+use Rattle.spec_loading.specs.spec_linking.Slots.{CellName, same_cell, cell_as, cell_of_import, first_cells, cells_of, cell_value, initial_as, initial_number, imported_number}
+use Rattle.spec_loading.specs.spec_linking.Links.{unless, fault_as, import_fault, data_cell_fault, slot_cell_fault}
+use Rattle.spec_loading.proofs.of_spec_linking.LinkedFacts.{or_none, holds_so, linked_member}
 use Rattle.spec_loading.specs.Addresses.{memory_base_address, import_address, address_with, global_address}
 use Rattle.merge_match.specs.Renumbering.{Numbers}
 use Rattle.merge_match.specs.Parts.{number_of}
 use Rattle.merge_start.proofs.Linked.{wasm_at, one_module}
-use Rattle.dyl_search.specs.declared.set.Member as declared
+use Rattle.dyl_link.specs.dyl_search.declared.set.Member as declared
 use Rattle.dyl_link.specs.Kept.{Kept, cell_in}
 use Rattle.dyl_store.specs.Opening.{AreNumbers, Adds, cell_globals, IsAtCells, with_cell, with_cells, with_imports}
 

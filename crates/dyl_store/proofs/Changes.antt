@@ -7,9 +7,9 @@ use Rattle.wasm_form.specs.declared.Memory.{Memory}
 use Rattle.wasm_form.specs.declared.runtime.Ref.{Ref}
 use Rattle.wasm_form.specs.declared.runtime.Trap.{Trap}
 use Rattle.wasm_form.specs.declared.runtime.Trap.TheVariants.{TableBounds}
-use Rattle.spec_binary.specs.Options.{◌>>=◌}
-use Rattle.spec_runtime.specs.Tables.{TableInstance}
-use Rattle.spec_execution.specs.Instances.{ModuleParts, Instances, set_at, store_view}
+use Rattle.spec_loading.specs.spec_binary.Options.{◌>>=◌}
+use Rattle.spec_loading.specs.spec_runtime.Tables.{TableInstance}
+use Rattle.spec_loading.specs.spec_execution.Instances.{ModuleParts, Instances, set_at, store_view}
 use Rattle.wasm_space.specs.Access.{ChangesOrTraps, GrowsOrStays}
 use Rattle.wasm_view.specs.Tables.{ChangesTable, GrowsTable}
 

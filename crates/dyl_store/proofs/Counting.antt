@@ -1,9 +1,9 @@
 -- What a step of code that is told in few bytes makes of the count of steps.
 use Rattle.std.proofs.Common.{◌≡◌, ◌≢◌, ◌⊎◌, Some, None, refl, sym, ◌∙◌, inl, inr, subst, false}
 use Rattle.wasm_form.specs.declared.runtime.Trap.{Trap}
-use Rattle.spec_runs.specs.Systems.{Status, Moving, Waits, Returned, Exited, Trapped}
-use Rattle.spec_runtime.specs.Hosts.{HostCall}
-use Rattle.spec_linking.specs.LinkedSets.{LinkedSet, set_hosts}
+use Rattle.spec_loading.specs.spec_runs.Systems.{Status, Moving, Waits, Returned, Exited, Trapped}
+use Rattle.spec_loading.specs.spec_runtime.Hosts.{HostCall}
+use Rattle.spec_loading.specs.spec_linking.LinkedSets.{LinkedSet, set_hosts}
 use Rattle.spec_loading.specs.LoadedSet.{SetState, set_loading}
 use Rattle.wasm_step.specs.declared.done.Done.{Done}
 use Rattle.wasm_step.specs.declared.done.Done.TheVariants as done

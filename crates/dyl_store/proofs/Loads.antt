@@ -9,12 +9,12 @@ use Rattle.std.specs.Borrow.{Bor}
 use Rattle.std.proofs.lemmas.Option.{same_Some}
 use Rattle.wasm_form.specs.declared.runtime.Ref.TheVariants.{Own}
 use Rattle.wasm_form.specs.declared.runtime.Trap.{Trap}
-use Rattle.spec_binary.specs.Options.{◌>>=◌}
-use Rattle.spec_binary.specs.Indices.{nullary}
-use Rattle.spec_execution.specs.Views.{View, type_of}
-use Rattle.spec_execution.specs.Instances.{ModuleParts}
-use Rattle.spec_execution.specs.Ranges.{HoldsAll}
-use Rattle.spec_linking.specs.LinkedSets.{LinkedSet}
+use Rattle.spec_loading.specs.spec_binary.Options.{◌>>=◌}
+use Rattle.spec_loading.specs.spec_binary.Indices.{nullary}
+use Rattle.spec_loading.specs.spec_execution.Views.{View, type_of}
+use Rattle.spec_loading.specs.spec_execution.Instances.{ModuleParts}
+use Rattle.spec_loading.specs.spec_execution.Ranges.{HoldsAll}
+use Rattle.spec_loading.specs.spec_linking.LinkedSets.{LinkedSet}
 use Rattle.spec_loading.specs.Members.{set_view}
 use Rattle.spec_loading.specs.LoadedSet.{set_loading}
 use Rattle.spec_loading.specs.Laws.{EntryIsThere, PlacedHolds}

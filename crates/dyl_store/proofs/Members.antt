@@ -9,22 +9,22 @@ use Rattle.wasm_form.specs.declared.module.Module.{Module}
 use Rattle.wasm_form.specs.declared.runtime.LoaderCall.{LoaderCall}
 use Rattle.wasm_form.specs.declared.runtime.Ref.{Ref}
 use Rattle.wasm_form.specs.declared.runtime.Ref.TheVariants.{Own, Loader, Host, Stub}
-use Rattle.spec_runs.specs.Systems.{only_if}
-use Rattle.spec_binary.specs.Options.{◌>>=◌}
-use Rattle.spec_binary.specs.IndexSpaces.{function_space, imported_count}
-use Rattle.spec_binary.specs.Indices.{Function, function_with, function_type, function_at}
-use Rattle.spec_runtime.specs.Names.{HostName}
-use Rattle.spec_execution.specs.Views.{type_of, loader_type}
-use Rattle.spec_execution.specs.Limits.{room_with, room_of}
-use Rattle.spec_execution.specs.Instances.{module_view, module_height, host_type}
-use Rattle.spec_safety.specs.Laws.{AreThere}
-use Rattle.spec_linking.specs.Sets.{Member}
-use Rattle.spec_linking.specs.LinkedSets.{wasm_of}
+use Rattle.spec_loading.specs.spec_runs.Systems.{only_if}
+use Rattle.spec_loading.specs.spec_binary.Options.{◌>>=◌}
+use Rattle.spec_loading.specs.spec_binary.IndexSpaces.{function_space, imported_count}
+use Rattle.spec_loading.specs.spec_binary.Indices.{Function, function_with, function_type, function_at}
+use Rattle.spec_loading.specs.spec_runtime.Names.{HostName}
+use Rattle.spec_loading.specs.spec_execution.Views.{type_of, loader_type}
+use Rattle.spec_loading.specs.spec_execution.Limits.{room_with, room_of}
+use Rattle.spec_loading.specs.spec_execution.Instances.{module_view, module_height, host_type}
+use Rattle.spec_loading.specs.spec_safety.Laws.{AreThere}
+use Rattle.spec_loading.specs.spec_linking.Sets.{Member}
+use Rattle.spec_loading.specs.spec_linking.LinkedSets.{wasm_of}
 use Rattle.spec_loading.specs.Addresses.{item_address, sum_before}
 use Rattle.merge_match.specs.Parts.{number_of}
 use Rattle.spec_loading.specs.Members.{counts_of, where_stub}
-use Rattle.host_table.specs.declared.host.HostName as declared
-use Rattle.host_table.specs.Names.{host_name_of}
+use Rattle.dyl_link.specs.host_table.declared.host.HostName as declared
+use Rattle.dyl_link.specs.host_table.Names.{host_name_of}
 use Rattle.dyl_link.specs.Kept.{Kept, function_in}
 use Rattle.dyl_store.specs.declared.unit.Unit.{Unit}
 use Rattle.dyl_store.specs.Worlds.{set_in, kept_instances, kept_view}

@@ -3,16 +3,16 @@ use Rattle.std.proofs.Common.{◌≡◌, ℕ, ◌<◌, List, [], ◌∷◌, ◌+
 use Rattle.std.specs.Prelude.{slice_get}
 use Rattle.std.proofs.lemmas.Bool.{cases_lt}
 use Rattle.std.proofs.lemmas.Option.{slice_get_within, same_Some}
-use Rattle.spec_binary.proofs.Lists.{slice_get-append-left, slice_get-append-last}
+use Rattle.spec_loading.proofs.of_spec_binary.Lists.{slice_get-append-left, slice_get-append-last}
 use Rattle.wasm_form.specs.declared.instr.Expr.{Expr}
 use Rattle.wasm_form.specs.declared.module.Module.{Module}
 use Rattle.wasm_form.specs.declared.runtime.Ref.TheVariants.{Own}
-use Rattle.spec_linking.specs.LinkedSets.{LinkedSet}
-use Rattle.spec_linking.specs.Slots.{member_number, fresh_of}
+use Rattle.spec_loading.specs.spec_linking.LinkedSets.{LinkedSet}
+use Rattle.spec_loading.specs.spec_linking.Slots.{member_number, fresh_of}
 use Rattle.merge_start.specs.Listed.{AreBases, number_with}
 use Rattle.merge_start.proofs.Linked.{wasm_at, one_module, members_count}
 use Rattle.merge_start.proofs.Offsets.{with_bases}
-use Rattle.dyl_search.specs.declared.set.Member.{Member}
+use Rattle.dyl_link.specs.dyl_search.declared.set.Member.{Member}
 use Rattle.dyl_link.specs.Kept.{Kept, IsLinked, fresh_in}
 use Rattle.dyl_store.specs.declared.placing.Placement.{Placement}
 use Rattle.dyl_store.specs.Placements.{IsPlacement, elem_offset, data_offset, own_entry}

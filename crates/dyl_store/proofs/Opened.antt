@@ -8,23 +8,23 @@ use Rattle.std.proofs.lemmas.List.{length-map, length-take, length-replicate, re
 use Rattle.std.proofs.lemmas.List.Elements.{All-nil, All-cons}
 use Rattle.wasm_form.specs.declared.runtime.Ref.{Ref}
 use Rattle.wasm_form.specs.declared.runtime.Trap.{Trap}
-use Rattle.wasm_runtime.specs.declared.Value.{Value}
-use Rattle.wasm_runtime.specs.declared.Answer.{Answer}
+use Rattle.wasm_form.specs.declared.runtime.Value.{Value}
+use Rattle.wasm_form.specs.declared.runtime.Answer.{Answer}
 use Rattle.wasm_space.specs.Access.{ChangesOrTraps}
-use Rattle.spec_binary.specs.Indices.{Function}
-use Rattle.spec_runtime.specs.Memories.{MemoryInstance, page_size, zeros, new_memory, overwritten, written}
-use Rattle.spec_runtime.specs.Tables.{TableInstance}
-use Rattle.spec_execution.specs.Views.{View}
-use Rattle.spec_execution.specs.Instances.{ModuleParts}
-use Rattle.spec_execution.specs.Ranges.{AreInRange, Exists, IsWhole, HoldsAll}
-use Rattle.spec_linking.specs.Sets.{Member}
-use Rattle.spec_linking.specs.Plans.{Plan}
-use Rattle.spec_linking.specs.LinkedSets.{LinkedSet}
-use Rattle.spec_linking.specs.Orders.{closure, post_order}
-use Rattle.spec_linking.specs.Slots.{linked_plan}
-use Rattle.spec_linking.proofs.LinkedFacts.{linked_limits}
-use Rattle.spec_safety.specs.Laws.{AreThere, StoreIsWhole}
-use Rattle.spec_safety.proofs.StepsInRange.{All-reverse}
+use Rattle.spec_loading.specs.spec_binary.Indices.{Function}
+use Rattle.spec_loading.specs.spec_runtime.Memories.{MemoryInstance, page_size, zeros, new_memory, overwritten, written}
+use Rattle.spec_loading.specs.spec_runtime.Tables.{TableInstance}
+use Rattle.spec_loading.specs.spec_execution.Views.{View}
+use Rattle.spec_loading.specs.spec_execution.Instances.{ModuleParts}
+use Rattle.spec_loading.specs.spec_execution.Ranges.{AreInRange, Exists, IsWhole, HoldsAll}
+use Rattle.spec_loading.specs.spec_linking.Sets.{Member}
+use Rattle.spec_loading.specs.spec_linking.Plans.{Plan}
+use Rattle.spec_loading.specs.spec_linking.LinkedSets.{LinkedSet}
+use Rattle.spec_loading.specs.spec_linking.Orders.{closure, post_order}
+use Rattle.spec_loading.specs.spec_linking.Slots.{linked_plan}
+use Rattle.spec_loading.proofs.of_spec_linking.LinkedFacts.{linked_limits}
+use Rattle.spec_loading.specs.spec_safety.Laws.{AreThere, StoreIsWhole}
+use Rattle.spec_loading.proofs.of_spec_safety.StepsInRange.{All-reverse}
 use Rattle.spec_loading.specs.declared.task.Task as loader
 use Rattle.spec_loading.specs.Texts.{error_texts}
 use Rattle.spec_loading.proofs.Rows.{texts_length}
@@ -35,7 +35,7 @@ use Rattle.spec_loading.specs.Laws.{LinkedIsThere, OpeningHolds, SizesArePlanned
 use Rattle.merge_start.specs.Points.{AreOf}
 use Rattle.merge_start.proofs.Linked.{members_count}
 use Rattle.merge_start.proofs.Ranges.{of_open}
-use Rattle.dyl_scope.specs.Scopes.{list_at}
+use Rattle.dyl_link.specs.dyl_scope.Scopes.{list_at}
 use Rattle.dyl_frames.specs.declared.task.Task.{Task}
 use Rattle.dyl_frames.specs.Tasks.{task_value}
 use Rattle.dyl_frames.specs.declared.frames.Core.{Core}

@@ -8,13 +8,13 @@ use Rattle.std.proofs.lemmas.Option.{slice_get-get_or, slice_get-map, same_Some}
 use Rattle.wasm_form.specs.declared.runtime.Ref.{Ref}
 use Rattle.wasm_form.specs.declared.runtime.Trap.{Trap}
 use Rattle.wasm_form.specs.declared.runtime.Trap.TheVariants as trap
-use Rattle.spec_runtime.specs.Memories.{MemoryInstance, initialized}
-use Rattle.spec_runtime.specs.Tables.{TableInstance, entries_initialized}
-use Rattle.spec_execution.specs.Instances.{ModuleParts, Instances, set_at, store_view}
-use Rattle.spec_execution.specs.Activations.{Effect}
-use Rattle.spec_execution.specs.Views.{View}
-use Rattle.spec_execution.specs.Segments.{all_performed, elem_applied, data_applied, all_effects}
-use Rattle.spec_execution.proofs.Segments.{performed_rest, performed_trapped}
+use Rattle.spec_loading.specs.spec_runtime.Memories.{MemoryInstance, initialized}
+use Rattle.spec_loading.specs.spec_runtime.Tables.{TableInstance, entries_initialized}
+use Rattle.spec_loading.specs.spec_execution.Instances.{ModuleParts, Instances, set_at, store_view}
+use Rattle.spec_loading.specs.spec_execution.Activations.{Effect}
+use Rattle.spec_loading.specs.spec_execution.Views.{View}
+use Rattle.spec_loading.specs.spec_execution.Segments.{all_performed, elem_applied, data_applied, all_effects}
+use Rattle.spec_loading.proofs.of_spec_execution.Segments.{performed_rest, performed_trapped}
 use Rattle.dyl_frames.specs.Cores.{Places}
 use Rattle.dyl_store.specs.Placements.{Moves}
 

@@ -1,10 +1,10 @@
 -- What one answer more makes of the run.
 use Rattle.std.proofs.Common.{◌≡◌, List, [], ◌∷◌, ◌++◌, Vec, true, sym, subst}
 use Rattle.std.specs.declared.alloc.Global.{Global}
-use Rattle.wasm_runtime.specs.declared.Answer.{Answer}
-use Rattle.spec_runs.specs.Systems.{Ran}
-use Rattle.spec_runtime.specs.Hosts.{hosts}
-use Rattle.spec_runtime.proofs.Recorded.{stands_same, stands_recorded}
+use Rattle.wasm_form.specs.declared.runtime.Answer.{Answer}
+use Rattle.spec_loading.specs.spec_runs.Systems.{Ran}
+use Rattle.spec_loading.specs.spec_runtime.Hosts.{hosts}
+use Rattle.spec_loading.proofs.of_spec_runtime.Recorded.{stands_same, stands_recorded}
 use Rattle.spec_loading.specs.LoadedSet.{SetState, set_system, set_opening}
 use Rattle.dyl_store.specs.declared.store.Store.TheInside.{Inside}
 use Rattle.dyl_store.specs.Stores.{StoreRun, Stands, recorded_of, FitsWait, Awaits}

@@ -9,14 +9,14 @@ use Rattle.wasm_form.specs.declared.runtime.Ref.{Ref}
 use Rattle.wasm_form.specs.declared.runtime.Ref.TheVariants.{Own}
 use Rattle.wasm_form.specs.declared.runtime.Trap.{Trap}
 use Rattle.wasm_form.specs.declared.runtime.Trap.TheVariants.{TableBounds}
-use Rattle.spec_binary.specs.Options.{◌>>=◌}
-use Rattle.spec_runtime.specs.Tables.{TableInstance, nulls, new_table, entries_initialized, entries_written, entries_overwritten}
-use Rattle.spec_linking.specs.Sets.{Member}
-use Rattle.spec_linking.specs.Plans.{least_of, most_table, maxima, limits_in, table_limits}
-use Rattle.spec_linking.specs.LinkedSets.{LinkedSet}
-use Rattle.spec_linking.specs.Slots.{fresh_of, fresh_from, fresh_functions, outside_slots, fresh_slots, table_entries, table_most, table_growth}
-use Rattle.spec_linking.specs.Links.{Links}
-use Rattle.spec_linking.proofs.LinkedFacts.{linked_limits}
+use Rattle.spec_loading.specs.spec_binary.Options.{◌>>=◌}
+use Rattle.spec_loading.specs.spec_runtime.Tables.{TableInstance, nulls, new_table, entries_initialized, entries_written, entries_overwritten}
+use Rattle.spec_loading.specs.spec_linking.Sets.{Member}
+use Rattle.spec_loading.specs.spec_linking.Plans.{least_of, most_table, maxima, limits_in, table_limits}
+use Rattle.spec_loading.specs.spec_linking.LinkedSets.{LinkedSet}
+use Rattle.spec_loading.specs.spec_linking.Slots.{fresh_of, fresh_from, fresh_functions, outside_slots, fresh_slots, table_entries, table_most, table_growth}
+use Rattle.spec_loading.specs.spec_linking.Links.{Links}
+use Rattle.spec_loading.proofs.of_spec_linking.LinkedFacts.{linked_limits}
 use Rattle.spec_loading.specs.LoadedSet.{slots_before, first_slot}
 use Rattle.spec_loading.specs.Members.{opening_table}
 use Rattle.wasm_space.specs.Access.{ChangesOrTraps}

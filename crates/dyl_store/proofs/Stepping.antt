@@ -3,16 +3,16 @@ use Rattle.std.proofs.Common.{◌≡◌, ℕ, suc, ◌+◌, ◌-◌, List, [], �
 use Rattle.std.specs.Borrow.{Bor}
 use Rattle.std.proofs.lemmas.Option.{same_Some}
 use Rattle.wasm_form.specs.declared.runtime.Trap.{Trap}
-use Rattle.wasm_runtime.specs.declared.Value.{Value}
-use Rattle.wasm_runtime.specs.declared.Value.TheVariants.{Num}
-use Rattle.wasm_runtime.specs.declared.Answer.{Answer}
-use Rattle.wasm_runtime.specs.declared.Answer.TheVariants as answer
-use Rattle.spec_runs.specs.Systems.{Status, Moving, Waits, Returned, Exited, Trapped, Ran}
-use Rattle.spec_runtime.specs.Hosts.{HostCall, hosts, all_written, answer_fits}
-use Rattle.spec_runtime.proofs.Recorded.{TakesLast, stands_moved, stands_taken}
-use Rattle.spec_execution.specs.Runs.{Frame, State, returned, taken}
-use Rattle.spec_execution.specs.Instances.{ModuleParts}
-use Rattle.spec_linking.specs.LinkedSets.{LinkedSet, set_hosts}
+use Rattle.wasm_form.specs.declared.runtime.Value.{Value}
+use Rattle.wasm_form.specs.declared.runtime.Value.TheVariants.{Num}
+use Rattle.wasm_form.specs.declared.runtime.Answer.{Answer}
+use Rattle.wasm_form.specs.declared.runtime.Answer.TheVariants as answer
+use Rattle.spec_loading.specs.spec_runs.Systems.{Status, Moving, Waits, Returned, Exited, Trapped, Ran}
+use Rattle.spec_loading.specs.spec_runtime.Hosts.{HostCall, hosts, all_written, answer_fits}
+use Rattle.spec_loading.proofs.of_spec_runtime.Recorded.{TakesLast, stands_moved, stands_taken}
+use Rattle.spec_loading.specs.spec_execution.Runs.{Frame, State, returned, taken}
+use Rattle.spec_loading.specs.spec_execution.Instances.{ModuleParts}
+use Rattle.spec_loading.specs.spec_linking.LinkedSets.{LinkedSet, set_hosts}
 use Rattle.spec_loading.specs.Phases.{LoaderFrame}
 use Rattle.spec_loading.specs.Loading.{loaded_step, loaded_too_deep, with_run}
 use Rattle.spec_loading.specs.LoadedSet.{SetState, set_loading, set_opening, set_system}

@@ -1,10 +1,10 @@
 -- Where no step of code is next.
 use Rattle.std.proofs.Common.{◌≡◌, ◌<◌, ℕ, Some, None, Ok, Err, Result, refl, sym, ◌∙◌, subst}
 use Rattle.std.specs.Result.{OnOk}
-use Rattle.spec_runs.specs.Systems.{Moving, Waits, Returned, Exited, Trapped, Ran}
-use Rattle.spec_runtime.specs.Hosts.{hosts}
-use Rattle.spec_runtime.proofs.Recorded.{stands_same}
-use Rattle.spec_linking.specs.LinkedSets.{LinkedSet}
+use Rattle.spec_loading.specs.spec_runs.Systems.{Moving, Waits, Returned, Exited, Trapped, Ran}
+use Rattle.spec_loading.specs.spec_runtime.Hosts.{hosts}
+use Rattle.spec_loading.proofs.of_spec_runtime.Recorded.{stands_same}
+use Rattle.spec_loading.specs.spec_linking.LinkedSets.{LinkedSet}
 use Rattle.spec_loading.specs.LoadedSet.{SetState, set_loading, set_opening, set_system}
 use Rattle.wasm_machine.specs.declared.machine.Standing.{Standing}
 use Rattle.wasm_machine.specs.declared.machine.Standing.TheVariants as standing

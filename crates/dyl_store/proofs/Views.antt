@@ -7,21 +7,21 @@ use Rattle.std.proofs.lemmas.Option.{slice_get_within}
 use Rattle.wasm_form.specs.declared.module.Import.{Import}
 use Rattle.wasm_form.specs.declared.module.Module.{Module}
 use Rattle.wasm_form.specs.declared.runtime.Ref.{Ref}
-use Rattle.spec_binary.specs.Options.{◌>>=◌}
-use Rattle.spec_binary.proofs.Options.{went_on}
-use Rattle.spec_execution.specs.Segments.{opened_items}
-use Rattle.spec_execution.specs.OneModule.{opened_table}
-use Rattle.spec_linking.specs.Slots.{member_items}
-use Rattle.spec_runtime.specs.Names.{HostName}
-use Rattle.spec_execution.specs.Views.{View}
-use Rattle.spec_execution.specs.Instances.{ModuleParts, store_view}
-use Rattle.spec_execution.specs.Ranges.{HoldsAll}
-use Rattle.spec_linking.specs.Sets.{Member, ClosedSet}
-use Rattle.spec_linking.specs.Imports.{ImportUse, SharedMemory, SharedTable, StackPointer, MemoryBase, TableBase, DataCell, SlotCell, EnvFunction, ModuleFunction, OtherUse, use_of, importing}
-use Rattle.spec_linking.specs.declared.fault.Kind.TheVariants as kind
-use Rattle.spec_linking.specs.Definitions.{imported_globals}
-use Rattle.spec_linking.specs.LinkedSets.{LinkedSet, wasm_of, function_ref}
-use Rattle.spec_binary.specs.IndexSpaces.{globals_in}
+use Rattle.spec_loading.specs.spec_binary.Options.{◌>>=◌}
+use Rattle.spec_loading.proofs.of_spec_binary.Options.{went_on}
+use Rattle.spec_loading.specs.spec_execution.Segments.{opened_items}
+use Rattle.spec_loading.specs.spec_execution.OneModule.{opened_table}
+use Rattle.spec_loading.specs.spec_linking.Slots.{member_items}
+use Rattle.spec_loading.specs.spec_runtime.Names.{HostName}
+use Rattle.spec_loading.specs.spec_execution.Views.{View}
+use Rattle.spec_loading.specs.spec_execution.Instances.{ModuleParts, store_view}
+use Rattle.spec_loading.specs.spec_execution.Ranges.{HoldsAll}
+use Rattle.spec_loading.specs.spec_linking.Sets.{Member, ClosedSet}
+use Rattle.spec_loading.specs.spec_linking.Imports.{ImportUse, SharedMemory, SharedTable, StackPointer, MemoryBase, TableBase, DataCell, SlotCell, EnvFunction, ModuleFunction, OtherUse, use_of, importing}
+use Rattle.spec_loading.specs.spec_linking.declared.fault.Kind.TheVariants as kind
+use Rattle.spec_loading.specs.spec_linking.Definitions.{imported_globals}
+use Rattle.spec_loading.specs.spec_linking.LinkedSets.{LinkedSet, wasm_of, function_ref}
+use Rattle.spec_loading.specs.spec_binary.IndexSpaces.{globals_in}
 use Rattle.spec_loading.specs.Addresses.{import_address, address_with, own_global_address, memory_base_address, table_base_address, cell_address, global_address}
 use Rattle.spec_loading.specs.Members.{uses_loader, set_view, from_members, opened_globals, opening_store}
 use Rattle.dyl_link.specs.Kept.{Kept, IsLinked, function_in}

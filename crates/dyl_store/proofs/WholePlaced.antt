@@ -12,25 +12,25 @@ use Rattle.wasm_form.specs.declared.types.TableType.{TableType}
 use Rattle.wasm_form.specs.declared.module.ElemMode.{ElemMode}
 use Rattle.wasm_form.specs.declared.module.ElemMode.TheVariants as elem_mode
 use Rattle.wasm_form.specs.declared.module.Elem.{Elem}
-use Rattle.spec_binary.specs.Options.{◌>>=◌}
-use Rattle.spec_binary.specs.IndexSpaces.{table_space}
-use Rattle.spec_binary.specs.WellFormed.{IsWellFormed, IsFormedElem}
-use Rattle.spec_validation.specs.Faults.{is_constant, has_functions, elem_mode_fits, items_fit, elem_fits, fault}
-use Rattle.spec_validation.proofs.Parts.{parts_fit}
-use Rattle.spec_execution.specs.Views.{View}
+use Rattle.spec_loading.specs.spec_binary.Options.{◌>>=◌}
+use Rattle.spec_loading.specs.spec_binary.IndexSpaces.{table_space}
+use Rattle.spec_loading.specs.spec_binary.WellFormed.{IsWellFormed, IsFormedElem}
+use Rattle.spec_loading.specs.spec_validation.Faults.{is_constant, has_functions, elem_mode_fits, items_fit, elem_fits, fault}
+use Rattle.spec_loading.proofs.of_spec_validation.Parts.{parts_fit}
+use Rattle.spec_loading.specs.spec_execution.Views.{View}
 use Rattle.dyl_store.specs.Placements.{IsTableBelow, IsPlaceable}
-use Rattle.spec_runtime.specs.Memories.{MemoryInstance}
-use Rattle.spec_execution.specs.Activations.{Effect}
-use Rattle.spec_execution.specs.Instances.{ModuleParts}
-use Rattle.spec_execution.specs.Segments.{Performed, all_performed, elem_effects, data_effects, all_effects}
-use Rattle.spec_execution.proofs.Segments.{performed_rest, performed_trapped}
-use Rattle.spec_linking.specs.LinkedSets.{LinkedSet, wasm_of}
-use Rattle.spec_linking.specs.Slots.{member_number}
+use Rattle.spec_loading.specs.spec_runtime.Memories.{MemoryInstance}
+use Rattle.spec_loading.specs.spec_execution.Activations.{Effect}
+use Rattle.spec_loading.specs.spec_execution.Instances.{ModuleParts}
+use Rattle.spec_loading.specs.spec_execution.Segments.{Performed, all_performed, elem_effects, data_effects, all_effects}
+use Rattle.spec_loading.proofs.of_spec_execution.Segments.{performed_rest, performed_trapped}
+use Rattle.spec_loading.specs.spec_linking.LinkedSets.{LinkedSet, wasm_of}
+use Rattle.spec_loading.specs.spec_linking.Slots.{member_number}
 use Rattle.spec_loading.specs.Members.{set_view}
 use Rattle.spec_loading.specs.LoadedSet.{slots_written, slots_after, member_placed}
-use Rattle.spec_linking.specs.Sets.{ClosedSet}
+use Rattle.spec_loading.specs.spec_linking.Sets.{ClosedSet}
 use Rattle.spec_loading.specs.Members.{counts_of}
-use Rattle.dyl_search.specs.declared.set.Member as declared
+use Rattle.dyl_link.specs.dyl_search.declared.set.Member as declared
 use Rattle.dyl_link.specs.Kept.{Kept, IsLinked}
 use Rattle.dyl_frames.specs.Cores.{Places}
 use Rattle.dyl_store.specs.Worlds.{set_in, kept_view}

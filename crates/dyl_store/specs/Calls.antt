@@ -1,7 +1,7 @@
 -- Calls of the functions of the loader, and how they are answered.
 use Rattle.std.specs.Prelude.{◌≡◌, ℕ, List, Some, Bool, true, false}
 use Rattle.wasm_form.specs.declared.runtime.LoaderCall.{LoaderCall}
-use Rattle.spec_linking.specs.LinkedSets.{LinkedSet}
+use Rattle.spec_loading.specs.spec_linking.LinkedSets.{LinkedSet}
 use Rattle.spec_loading.specs.Loading.{LoaderState, LoaderAnswer}
 use Rattle.spec_loading.specs.LoaderAnswers.{loader_answer}
 use Rattle.spec_loading.specs.LoadedSet.{SetState, set_loading}

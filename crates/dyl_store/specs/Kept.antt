@@ -1,8 +1,8 @@
 -- What is kept of a run.
 use Rattle.std.specs.Prelude.{◌≡◌, false}
-use Rattle.spec_runs.specs.Systems.{Ran}
-use Rattle.spec_runtime.specs.Hosts.{hosts}
-use Rattle.spec_linking.specs.LinkedSets.{LinkedSet}
+use Rattle.spec_loading.specs.spec_runs.Systems.{Ran}
+use Rattle.spec_loading.specs.spec_runtime.Hosts.{hosts}
+use Rattle.spec_loading.specs.spec_linking.LinkedSets.{LinkedSet}
 use Rattle.spec_loading.specs.LoadedSet.{SetState}
 use Rattle.dyl_link.specs.Kept.{IsLinked}
 use Rattle.dyl_store.specs.declared.store.Store.TheInside.{Inside}

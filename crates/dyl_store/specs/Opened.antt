@@ -1,6 +1,6 @@
 -- How the members of a linked set begin.
 use Rattle.std.specs.Prelude.{◌≡◌}
-use Rattle.spec_linking.specs.LinkedSets.{LinkedSet}
+use Rattle.spec_loading.specs.spec_linking.LinkedSets.{LinkedSet}
 use Rattle.spec_loading.specs.Members.{opening_store}
 use Rattle.spec_loading.specs.LoadedSet.{opening_memory}
 use Rattle.dyl_link.specs.Kept.{Kept, IsLinked}

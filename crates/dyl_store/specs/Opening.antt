@@ -8,17 +8,17 @@ use Rattle.wasm_form.specs.declared.module.Elem.{Elem}
 use Rattle.wasm_form.specs.declared.module.Import.{Import}
 use Rattle.wasm_form.specs.declared.module.Module.{Module}
 use Rattle.wasm_form.specs.declared.runtime.Ref.{Ref}
-use Rattle.wasm_runtime.specs.declared.Value.{Value}
-use Rattle.wasm_runtime.specs.declared.Value.TheVariants.{Num, Func}
-use Rattle.spec_binary.specs.Options.{◌>>=◌}
-use Rattle.spec_binary.specs.IndexSpaces.{globals_in}
-use Rattle.spec_runtime.specs.Constants.{constant_of, constant_entry, constant_entries, constant_number}
-use Rattle.spec_runtime.specs.Tables.{TableInstance}
-use Rattle.spec_execution.specs.OneModule.{opened_table}
-use Rattle.spec_execution.specs.Segments.{opened_items}
-use Rattle.spec_execution.specs.Values.{zero_of}
-use Rattle.spec_linking.specs.LinkedSets.{LinkedSet, wasm_of, function_ref}
-use Rattle.spec_linking.specs.Slots.{linked_plan, memory_base, table_base, as_number, member_items, fresh_functions, CellName, cell_of_import, cells_of, cell_value}
+use Rattle.wasm_form.specs.declared.runtime.Value.{Value}
+use Rattle.wasm_form.specs.declared.runtime.Value.TheVariants.{Num, Func}
+use Rattle.spec_loading.specs.spec_binary.Options.{◌>>=◌}
+use Rattle.spec_loading.specs.spec_binary.IndexSpaces.{globals_in}
+use Rattle.spec_loading.specs.spec_runtime.Constants.{constant_of, constant_entry, constant_entries, constant_number}
+use Rattle.spec_loading.specs.spec_runtime.Tables.{TableInstance}
+use Rattle.spec_loading.specs.spec_execution.OneModule.{opened_table}
+use Rattle.spec_loading.specs.spec_execution.Segments.{opened_items}
+use Rattle.spec_loading.specs.spec_execution.Values.{zero_of}
+use Rattle.spec_loading.specs.spec_linking.LinkedSets.{LinkedSet, wasm_of, function_ref}
+use Rattle.spec_loading.specs.spec_linking.Slots.{linked_plan, memory_base, table_base, as_number, member_items, fresh_functions, CellName, cell_of_import, cells_of, cell_value}
 use Rattle.spec_loading.specs.Addresses.{memory_base_address}
 use Rattle.spec_loading.specs.Members.{from_members, opened_global, opened_globals, opening_table}
 use Rattle.merge_start.specs.Listed.{AreBases}

@@ -11,16 +11,16 @@ use Rattle.wasm_form.specs.declared.module.Module.{Module}
 use Rattle.wasm_form.specs.declared.runtime.Ref.{Ref}
 use Rattle.wasm_form.specs.declared.runtime.Ref.TheVariants.{Own}
 use Rattle.wasm_form.specs.declared.runtime.Trap.{Trap}
-use Rattle.spec_binary.specs.Options.{◌>>=◌}
-use Rattle.spec_runtime.specs.Tables.{entries_written}
-use Rattle.spec_execution.specs.Instances.{ModuleParts}
-use Rattle.spec_linking.specs.LinkedSets.{LinkedSet, wasm_of}
-use Rattle.spec_linking.specs.Slots.{member_number}
+use Rattle.spec_loading.specs.spec_binary.Options.{◌>>=◌}
+use Rattle.spec_loading.specs.spec_runtime.Tables.{entries_written}
+use Rattle.spec_loading.specs.spec_execution.Instances.{ModuleParts}
+use Rattle.spec_loading.specs.spec_linking.LinkedSets.{LinkedSet, wasm_of}
+use Rattle.spec_loading.specs.spec_linking.Slots.{member_number}
 use Rattle.spec_loading.specs.Members.{shared_table}
 use Rattle.spec_loading.specs.LoadedSet.{own_functions, with_slots, member_placed}
-use Rattle.spec_binary.specs.WellFormed.{IsFormedItems}
-use Rattle.spec_execution.specs.Activations.{Effect}
-use Rattle.spec_execution.specs.Segments.{Performed, all_performed, elem_effects, data_effects, all_effects}
+use Rattle.spec_loading.specs.spec_binary.WellFormed.{IsFormedItems}
+use Rattle.spec_loading.specs.spec_execution.Activations.{Effect}
+use Rattle.spec_loading.specs.spec_execution.Segments.{Performed, all_performed, elem_effects, data_effects, all_effects}
 use Rattle.dyl_link.specs.Kept.{Kept, IsLinked}
 use Rattle.dyl_frames.specs.Cores.{Places}
 use Rattle.dyl_store.specs.declared.placing.Placement.{Placement}

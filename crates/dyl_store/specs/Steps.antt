@@ -1,8 +1,8 @@
 -- What a step changes of a run.
 use Rattle.std.specs.Prelude.{◌≡◌, ◌≢◌, ◌⊎◌, ℕ, suc, ◌^◌, ◌<◌, Some, Bool, true, false}
 use Rattle.std.specs.List.{All}
-use Rattle.spec_runtime.specs.Recorded.{waits}
-use Rattle.spec_linking.specs.LinkedSets.{LinkedSet}
+use Rattle.spec_loading.specs.spec_runtime.Recorded.{waits}
+use Rattle.spec_loading.specs.spec_linking.LinkedSets.{LinkedSet}
 use Rattle.spec_loading.specs.Loading.{loaded_step, loaded_too_deep}
 use Rattle.spec_loading.specs.LoadedSet.{SetState, set_loading}
 use Rattle.wasm_machine.specs.declared.machine.Standing.{Standing}

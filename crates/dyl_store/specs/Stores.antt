@@ -1,13 +1,13 @@
 -- The run of a linked set, as contracts see it.
 use Rattle.std.specs.Prelude.{◌≡◌, ◌≤◌, ◌<◌, ◌⊎◌, ℕ, suc, List, [], None, Bool, true, false, IsTrue, IfSome}
-use Rattle.spec_runs.specs.Systems.{Moving, Ran}
-use Rattle.wasm_runtime.specs.declared.Answer.{Answer}
-use Rattle.spec_runtime.specs.Names.{has_integers}
-use Rattle.spec_runtime.specs.Hosts.{hosts, numbers_fit}
-pub use Rattle.spec_runtime.specs.Recorded.{AreLeft, has_ended, waits, FitsWait}
-use Rattle.spec_runtime.specs.Recorded.{Recorded, waits_unanswered}
-use Rattle.spec_runtime.specs.Recorded as recorded
-use Rattle.spec_linking.specs.LinkedSets.{LinkedSet, set_hosts}
+use Rattle.spec_loading.specs.spec_runs.Systems.{Moving, Ran}
+use Rattle.wasm_form.specs.declared.runtime.Answer.{Answer}
+use Rattle.spec_loading.specs.spec_runtime.Names.{has_integers}
+use Rattle.spec_loading.specs.spec_runtime.Hosts.{hosts, numbers_fit}
+pub use Rattle.spec_loading.specs.spec_runtime.Recorded.{AreLeft, has_ended, waits, FitsWait}
+use Rattle.spec_loading.specs.spec_runtime.Recorded.{Recorded, waits_unanswered}
+use Rattle.spec_loading.specs.spec_runtime.Recorded as recorded
+use Rattle.spec_loading.specs.spec_linking.LinkedSets.{LinkedSet, set_hosts}
 use Rattle.spec_loading.specs.Loading.{loaded_step, loaded_too_deep}
 use Rattle.spec_loading.specs.LoadedSet.{SetState, set_loading, set_opening, set_run, set_system}
 use Rattle.wasm_machine.specs.declared.event.Event.{Event}

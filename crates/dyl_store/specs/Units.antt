@@ -1,9 +1,9 @@
 -- What is kept of a member.
 use Rattle.std.specs.Prelude.{◌≡◌, ◌<◌, ℕ, List, length, map, slice_get, Some, is_some, IsTrue}
-use Rattle.spec_binary.specs.IndexSpaces.{imported_count, global_space, table_space}
-use Rattle.spec_execution.specs.Instances.{ModuleParts}
-use Rattle.spec_linking.specs.LinkedSets.{wasm_of}
-use Rattle.spec_safety.specs.Laws.{AreThere}
+use Rattle.spec_loading.specs.spec_binary.IndexSpaces.{imported_count, global_space, table_space}
+use Rattle.spec_loading.specs.spec_execution.Instances.{ModuleParts}
+use Rattle.spec_loading.specs.spec_linking.LinkedSets.{wasm_of}
+use Rattle.spec_loading.specs.spec_safety.Laws.{AreThere}
 use Rattle.spec_loading.specs.Addresses.{sum_before, global_address, table_address}
 use Rattle.merge_match.specs.Parts.{number_of}
 use Rattle.wasm_instance.specs.Rooms.{HaveRooms}

@@ -1,16 +1,16 @@
 -- The members of a linked set over one store, by what is kept of the set.
 use Rattle.std.specs.Prelude.{◌≡◌, ◌<◌, ℕ, List, length, slice_get, Option, Some, Bool, false}
 use Rattle.wasm_form.specs.declared.runtime.Ref.{Ref}
-use Rattle.spec_binary.specs.Options.{◌>>=◌}
-use Rattle.spec_binary.specs.Indices.{function_type}
-use Rattle.spec_runtime.specs.Names.{HostName, no_names}
-use Rattle.spec_runtime.specs.Memories.{MemoryInstance}
-use Rattle.spec_execution.specs.Views.{View}
-use Rattle.spec_execution.specs.Instances.{ModuleParts, Instances, store_view, host_type}
-use Rattle.spec_linking.specs.LinkedSets.{LinkedSet, wasm_of}
+use Rattle.spec_loading.specs.spec_binary.Options.{◌>>=◌}
+use Rattle.spec_loading.specs.spec_binary.Indices.{function_type}
+use Rattle.spec_loading.specs.spec_runtime.Names.{HostName, no_names}
+use Rattle.spec_loading.specs.spec_runtime.Memories.{MemoryInstance}
+use Rattle.spec_loading.specs.spec_execution.Views.{View}
+use Rattle.spec_loading.specs.spec_execution.Instances.{ModuleParts, Instances, store_view, host_type}
+use Rattle.spec_loading.specs.spec_linking.LinkedSets.{LinkedSet, wasm_of}
 use Rattle.spec_loading.specs.Members.{set_instances, where_stub, opening_store}
 use Rattle.wasm_view.specs.Seen.{Seen}
-use Rattle.dyl_search.specs.Gathers.{set_of}
+use Rattle.dyl_link.specs.dyl_search.Gathers.{set_of}
 use Rattle.dyl_link.specs.Kept.{Kept, function_in}
 
 -- the linked set, what its members have but for the memory, and the memory

@@ -1,8 +1,8 @@
 // The functions that phases call.
 ghost use Rattle.std.specs.Prelude.{◌≡◌, ◌≢◌, ◌<◌, length, Some, IfSome};
-ghost use Rattle.spec_binary.specs.Indices.{nullary};
-ghost use Rattle.spec_execution.specs.Views.{type_of as type_seen};
-ghost use Rattle.spec_linking.specs.LinkedSets.{LinkedSet};
+ghost use Rattle.spec_loading.specs.spec_binary.Indices.{nullary};
+ghost use Rattle.spec_loading.specs.spec_execution.Views.{type_of as type_seen};
+ghost use Rattle.spec_loading.specs.spec_linking.LinkedSets.{LinkedSet};
 ghost use Rattle.spec_loading.specs.Phases as loader;
 ghost use Rattle.spec_loading.specs.declared.task.Phase.TheVariants as phases;
 ghost use Rattle.spec_loading.specs.LoadedSet.{set_loading};

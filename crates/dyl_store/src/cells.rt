@@ -1,17 +1,16 @@
 // The cells of a member, one for each kind and name, in the order of imports.
 ghost use Rattle.std.specs.Prelude.{◌≡◌, ◌<◌, length, OnOk};
-ghost use Rattle.spec_linking.specs.Slots.{cell_of_import};
+ghost use Rattle.spec_loading.specs.spec_linking.Slots.{cell_of_import};
 ghost use Rattle.merge_index.specs.Kept.{numbers_in};
 ghost use Rattle.dyl_link.specs.Kept.{cell_in};
 ghost use Rattle.merge_start.specs.Listed.{IsOfSet};
 ghost use Rattle.dyl_store.specs.Opening.{AreNumbers, Adds, cell_globals, IsAtCells, with_cell, with_cells, with_imports};
 
 use crate::units::{end_of, is_global};
-use dyl_imports::{Use, use_of};
 use dyl_link::Linked;
+use dyl_link::dyl_imports::{Use, use_of};
 use merge_index::Numbers;
-use wasm_form::{Import, Memory};
-use wasm_runtime::Value;
+use wasm_form::{Import, Memory, Value};
 
 // Adds a cell, unless it is there already: it has the number of what comes next.
 fn put_cell(to: &mut Vec<Value>, number: u32, value: Option<u32>) -> Result<(), Memory>

@@ -1,6 +1,6 @@
 // What the members of a linked set begin with.
 ghost use Rattle.std.specs.Prelude.{◌≡◌, ◌<◌, ◌++◌, ℕ, length, map, slice_get, IfOk, OnOk};
-ghost use Rattle.spec_linking.specs.LinkedSets.{LinkedSet};
+ghost use Rattle.spec_loading.specs.spec_linking.LinkedSets.{LinkedSet};
 ghost use Rattle.spec_loading.specs.Members.{opening_store};
 ghost use Rattle.merge_index.specs.Kept.{numbers_in};
 ghost use Rattle.dyl_link.specs.Kept.{IsLinked, function_in};
@@ -16,9 +16,8 @@ use dyl_link::Linked;
 use merge_index::Numbers;
 use merge_start::bases_of;
 use std::alloc::Global;
-use wasm_form::{Data, Memory, Ref};
+use wasm_form::{Data, Memory, Ref, Value};
 use wasm_instance::tables_of as own_tables;
-use wasm_runtime::Value;
 use wasm_space::Slots;
 
 // The functions that the numbers of member m name.

@@ -1,7 +1,7 @@
 // The functions of the loader, which code of a loaded set calls.
 ghost use Rattle.std.specs.Prelude.{◌≡◌, ◌<◌, ◌≤◌, [], ◌∷◌, length, false, IfOk, OnOk};
 ghost use Rattle.wasm_form.specs.declared.runtime.LoaderCall.TheVariants as calls;
-ghost use Rattle.spec_linking.specs.LinkedSets.{LinkedSet};
+ghost use Rattle.spec_loading.specs.spec_linking.LinkedSets.{LinkedSet};
 ghost use Rattle.spec_loading.specs.Phases.{open_frame};
 ghost use Rattle.spec_loading.specs.Loading.{Opens, Traps};
 ghost use Rattle.dyl_link.specs.Kept.{IsLinked};

@@ -1,14 +1,15 @@
 // The values of constant expressions of a member (WebAssembly Core 2.0, section 3.3.10).
 ghost use Rattle.std.specs.Prelude.{◌≡◌, ◌++◌, map, IfOk, OnOk};
 ghost use Rattle.wasm_form.specs.declared.instr.Instr.{out-Instr};
-ghost use Rattle.spec_runtime.specs.Constants as constants;
-ghost use Rattle.spec_execution.specs.Values.{zero_of};
+ghost use Rattle.spec_loading.specs.spec_runtime.Constants as constants;
+ghost use Rattle.spec_loading.specs.spec_execution.Values.{zero_of};
 ghost use Rattle.dyl_store.specs.Opening.{functions_of, bases_of, function_value, value_with, entry_with, items_with, global_with, elem_with};
 
 use std::alloc::Global;
-use wasm_form::{Elem, ElemItems, ElemMode, Expr, GlobalDef, Instr, Memory, Ref, ValType};
-use wasm_opcode::{IndexForm, index_form};
-use wasm_runtime::Value;
+use wasm_form::{
+    Elem, ElemItems, ElemMode, Expr, GlobalDef, IndexForm, Instr, Memory, Ref, ValType, Value,
+    index_form,
+};
 
 // What the numbers of a member name: its functions, and the bases that its imported globals are.
 #[derive(Clone, Copy)]

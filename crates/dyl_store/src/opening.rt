@@ -1,12 +1,14 @@
 // A linked set in its opening state.
 ghost use Rattle.std.specs.Prelude.{◌≡◌, ◌≤◌, ◌+◌, length, IfOk};
-ghost use Rattle.spec_runtime.specs.Memories.{new_memory, overwritten};
-ghost use Rattle.spec_linking.specs.LinkedSets.{LinkedSet};
+ghost use Rattle.spec_loading.specs.spec_runtime.Memories.{new_memory, overwritten};
+ghost use Rattle.spec_loading.specs.spec_linking.LinkedSets.{LinkedSet};
 ghost use Rattle.spec_loading.specs.LoadedSet.{set_loading, set_opening, opening_memory};
 ghost use Rattle.dyl_link.specs.Kept.{IsLinked};
 ghost use Rattle.dyl_frames.specs.Cores.{IsCore, IsState};
 ghost use Rattle.merge_start.specs.Listed.{IsOfSet};
+ghost use Rattle.merge_index.specs.Kept.{numbers_in};
 ghost use Rattle.dyl_store.specs.Worlds.{kept_view};
+ghost use Rattle.dyl_store.specs.Opening.{AreNumbers};
 ghost use Rattle.dyl_store.specs.Opened.{IsOpened};
 ghost use Rattle.dyl_store.specs.Runs.{IsRunning, IsAt};
 
@@ -19,8 +21,8 @@ use crate::world::World;
 use dyl_frames::Core;
 use dyl_link::Linked;
 use merge_index::Numbers;
+use spec_loading::spec_safety::store_is_in_range;
 use spec_loading::{error_texts, linked_code_is_there, slots_fit};
-use spec_safety::store_is_in_range;
 use std::alloc::Global;
 use wasm_form::Memory;
 use wasm_space::Space;
@@ -77,15 +79,15 @@ fn core_of<'m>(alloc: Global, linked: &Linked, world: &World<'m>) -> Result<Core
 }
 
 impl<'m> World<'m> {
-    // The members of a linked set as they begin.
-    pub fn open(alloc: Global, linked: &'m Linked) -> Result<World<'m>, Memory>
-        requires { IsOfSet linked.now }
+    // The members of a linked set as they begin, by their numbers.
+    fn opened(alloc: Global, linked: &'m Linked, numbers: &Numbers) -> Result<World<'m>, Memory>
+        requires set { IsOfSet linked.now }
+        requires numbers { AreNumbers linked.now (numbers_in numbers.now) }
         ensures { IfOk result (λ w. IsOpened linked.now w) }
     {
         linked_code_is_there();
-        let numbers = Numbers::of(alloc, linked)?;
-        let units = units_of(alloc, linked, &numbers)?;
-        let globals = globals_of(alloc, linked, &numbers)?;
+        let units = units_of(alloc, linked, numbers)?;
+        let globals = globals_of(alloc, linked, numbers)?;
         let tables = tables_of(alloc, linked)?;
         let elems = elems_of(alloc, linked)?;
         let datas = datas_of(alloc, linked)?;
@@ -100,6 +102,17 @@ impl<'m> World<'m> {
             memory,
         })
     }
+
+    // The members of a linked set as they begin.
+    pub fn open(alloc: Global, linked: &'m Linked) -> Result<World<'m>, Memory>
+        requires { IsOfSet linked.now }
+        ensures { IfOk result (λ w. IsOpened linked.now w) }
+    {
+        let numbers = Numbers::of(alloc, linked)?;
+        let opened = World::opened(alloc, linked, &numbers);
+        drop(numbers);
+        opened
+    }
 }
 
 impl<'m> Running<'m> {
@@ -110,14 +123,26 @@ impl<'m> Running<'m> {
         ensures opened { IfOk result (λ x. (L : LinkedSet) → IsLinked L linked.now → IsAt L x (set_opening L)) }
         ensures linked { IfOk result (λ x. x.linked.now ≡ linked.now) }
     {
-        let world = World::open(alloc, linked)?;
-        let core = core_of(alloc, linked, &world)?;
         let placements = placements_of(alloc, linked)?;
-        Ok(Running {
-            linked,
-            world,
-            core,
-            placements,
-        })
+        let world = match World::open(alloc, linked) {
+            Ok(world) => world,
+            Err(memory) => {
+                drop(placements);
+                return Err(memory);
+            }
+        };
+        match core_of(alloc, linked, &world) {
+            Ok(core) => Ok(Running {
+                linked,
+                world,
+                core,
+                placements,
+            }),
+            Err(memory) => {
+                drop(world);
+                drop(placements);
+                Err(memory)
+            }
+        }
     }
 }

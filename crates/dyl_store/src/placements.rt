@@ -6,9 +6,9 @@ ghost use Rattle.dyl_store.specs.Runs.{ArePlacements};
 
 use crate::placing::Placement;
 use dyl_link::Linked;
+use dyl_link::wasm_check::Checked;
 use merge_start::{bases_of, offset};
 use std::alloc::Global;
-use wasm_check::Checked;
 use wasm_form::{Data, DataMode, Elem, ElemMode, Memory, Ref};
 
 // Where an element segment goes, if it is active.

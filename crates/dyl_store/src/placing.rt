@@ -1,7 +1,7 @@
 // A member is placed: its active element segments, its active data segments, and its fresh slots.
 ghost use Rattle.std.specs.Prelude.{◌≡◌, ◌<◌, ◌≤◌, length, slice_get, Some, All};
-ghost use Rattle.spec_binary.specs.WellFormed.{IsFormedItems, IsShort};
-ghost use Rattle.spec_execution.specs.Segments.{items_count, elem_effects, data_effects};
+ghost use Rattle.spec_loading.specs.spec_binary.WellFormed.{IsFormedItems, IsShort};
+ghost use Rattle.spec_loading.specs.spec_execution.Segments.{items_count, elem_effects, data_effects};
 ghost use Rattle.wasm_form.specs.declared.instr.Expr.{Expr};
 ghost use Rattle.std.specs.Prelude.{ℕ, Option};
 ghost use Rattle.dyl_frames.specs.Cores.{Places};

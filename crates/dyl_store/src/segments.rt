@@ -1,8 +1,8 @@
 // The segments of a member that is placed.
 ghost use Rattle.std.specs.Prelude.{◌≡◌, ◌<◌};
-ghost use Rattle.spec_runtime.specs.Memories.{initialized};
-ghost use Rattle.spec_runtime.specs.Tables.{entries_initialized};
-ghost use Rattle.spec_execution.specs.Segments.{elem_applied, data_applied};
+ghost use Rattle.spec_loading.specs.spec_runtime.Memories.{initialized};
+ghost use Rattle.spec_loading.specs.spec_runtime.Tables.{entries_initialized};
+ghost use Rattle.spec_loading.specs.spec_execution.Segments.{elem_applied, data_applied};
 ghost use Rattle.dyl_store.specs.Placements.{Moves, Performs};
 ghost use Rattle.dyl_store.specs.Worlds.{kept_instances};
 

@@ -1,7 +1,7 @@
 // The table that all members share.
 ghost use Rattle.std.specs.Prelude.{◌≡◌, ◌≤◌, ◌<◌, ◌+◌, Some, map, length, IfOk};
-ghost use Rattle.spec_runtime.specs.Tables.{new_table, entries_overwritten};
-ghost use Rattle.spec_linking.specs.LinkedSets.{LinkedSet};
+ghost use Rattle.spec_loading.specs.spec_runtime.Tables.{new_table, entries_overwritten};
+ghost use Rattle.spec_loading.specs.spec_linking.LinkedSets.{LinkedSet};
 ghost use Rattle.spec_loading.specs.Members.{opening_table};
 ghost use Rattle.dyl_link.specs.Kept.{IsLinked};
 ghost use Rattle.merge_start.specs.Listed.{IsOfSet};

@@ -1,10 +1,10 @@
 // The run of a linked set.
 ghost use Rattle.std.specs.Prelude.{◌≡◌, ◌<◌, ◌^◌, ◌++◌, [], ◌∷◌, map, All, true, false, IfOk, OnOk, OnErr, Err};
-ghost use Rattle.spec_runs.specs.Systems.{Ran};
-ghost use Rattle.spec_runtime.specs.Hosts.{hosts};
-ghost use Rattle.spec_linking.specs.LinkedSets.{LinkedSet};
+ghost use Rattle.spec_loading.specs.spec_runs.Systems.{Ran};
+ghost use Rattle.spec_loading.specs.spec_runtime.Hosts.{hosts};
+ghost use Rattle.spec_loading.specs.spec_linking.LinkedSets.{LinkedSet};
 ghost use Rattle.spec_loading.specs.LoadedSet.{SetState};
-ghost use Rattle.host_table.specs.Names.{host_name_of};
+ghost use Rattle.dyl_link.specs.host_table.Names.{host_name_of};
 ghost use Rattle.dyl_link.specs.Kept.{IsLinked};
 ghost use Rattle.merge_start.specs.Listed.{IsOfSet};
 ghost use Rattle.dyl_store.specs.Stores.{Stands, new_run, has_ended, is_waiting, IsAnswered, IsCodeNext, RunStepped, ArgumentsFit, Advances, Awaits};
@@ -13,7 +13,7 @@ ghost use Rattle.dyl_store.specs.Steps.{event_of, steps_told, AreNumbers, Counte
 
 use crate::running::Running;
 use dyl_link::Linked;
-use host_table::HostName;
+use dyl_link::host_table::HostName;
 use std::alloc::Global;
 use std::marker::Model;
 use wasm_form::{List, Memory};
@@ -238,6 +238,7 @@ impl<'m> Store<'m> {
     pub fn into_answers(self) -> List<Answer>
         ensures { result ≡ self.entry.answers }
     {
+        drop(self.running);
         List::of(self.answers)
     }
 

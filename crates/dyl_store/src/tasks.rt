@@ -1,7 +1,7 @@
 // The tasks of opening a member.
 ghost use Rattle.std.specs.Prelude.{◌≡◌, ◌<◌, ◌++◌, length, map, reverse, IfOk, OnOk};
 ghost use Rattle.std.specs.List.{All};
-ghost use Rattle.spec_linking.specs.LinkedSets.{LinkedSet};
+ghost use Rattle.spec_loading.specs.spec_linking.LinkedSets.{LinkedSet};
 ghost use Rattle.spec_loading.specs.Phases.{tasks_of, opening_tasks, open_frame};
 ghost use Rattle.dyl_link.specs.Kept.{IsLinked};
 ghost use Rattle.dyl_frames.specs.Tasks.{phase_value, task_value};

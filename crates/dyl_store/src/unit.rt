@@ -1,9 +1,9 @@
 // A member of a set in its run.
 ghost use Rattle.std.specs.Prelude.{◌≡◌, ◌<◌, length, Some, IsSome, IfSome};
-ghost use Rattle.spec_binary.specs.IndexSpaces.{imported_count};
-ghost use Rattle.spec_binary.specs.Indices.{declared_locals, function_at};
+ghost use Rattle.spec_loading.specs.spec_binary.IndexSpaces.{imported_count};
+ghost use Rattle.spec_loading.specs.spec_binary.Indices.{declared_locals, function_at};
 
-use wasm_check::Checked;
+use dyl_link::wasm_check::Checked;
 use wasm_form::Code;
 
 // A member: how many functions it imports, the rooms of those that it defines, the addresses of its globals and tables by their numbers,

@@ -1,6 +1,6 @@
 // The members of a linked set, as they are kept in its run.
 ghost use Rattle.std.specs.Prelude.{◌≡◌, ◌<◌, ◌≤◌, ◌+◌, length, IfOk};
-ghost use Rattle.spec_binary.specs.IndexSpaces.{imports_of, functions_in, globals_in, tables_in, global_space, table_space, imported_count};
+ghost use Rattle.spec_loading.specs.spec_binary.IndexSpaces.{imports_of, functions_in, globals_in, tables_in, global_space, table_space, imported_count};
 ghost use Rattle.merge_index.specs.Kept.{numbers_in};
 ghost use Rattle.merge_start.specs.Listed.{IsOfSet};
 ghost use Rattle.dyl_store.specs.Units.{IsUnit, AreUnits};

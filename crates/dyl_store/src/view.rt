@@ -2,14 +2,13 @@
 use crate::unit::code_of;
 use crate::world::World;
 use std::alloc::Global;
-use wasm_form::{Code, FuncType, Memory, Ref, Trap};
+use wasm_form::{Code, FuncType, Memory, Ref, Trap, Value};
 use wasm_instance::copy_between;
-use wasm_runtime::Value;
 use wasm_space::{Slots, Space};
 use wasm_view::View;
 
 impl<'m> View<'m> for World<'m> {
-    ghost use Rattle.spec_execution.specs.Instances.{ModuleParts};
+    ghost use Rattle.spec_loading.specs.spec_execution.Instances.{ModuleParts};
     ghost use Rattle.dyl_store.specs.Worlds.{seen_of};
 
     ghost Units = { ModuleParts };

@@ -6,8 +6,7 @@ ghost use Rattle.dyl_store.specs.Worlds.{kept_instances, HasPlaces};
 use crate::unit::Unit;
 use dyl_link::Linked;
 use std::marker::Model;
-use wasm_form::Ref;
-use wasm_runtime::Value;
+use wasm_form::{Ref, Value};
 use wasm_space::{Slots, Space};
 
 // The members of a linked set, what changes of them in a run by its addresses, and the memory. Contracts see it as a `WorldState`.

@@ -1,8 +1,8 @@
 -- What is found in members is a member's function or data, or nothing.
 use Rattle.std.proofs.Common.{ℕ, List, [], ◌∷◌, Option, Some, None, slice_get}
-use Rattle.spec_binary.specs.Options.{◌>>=◌}
-use Rattle.spec_linking.specs.Sets.{ClosedSet}
-use Rattle.spec_linking.specs.Definitions.{Symbol, FunctionSymbol, DataSymbol, or_defined, defined_by, symbol_of, searched}
+use Rattle.spec_loading.specs.spec_binary.Options.{◌>>=◌}
+use Rattle.spec_loading.specs.spec_linking.Sets.{ClosedSet}
+use Rattle.spec_loading.specs.spec_linking.Definitions.{Symbol, FunctionSymbol, DataSymbol, or_defined, defined_by, symbol_of, searched}
 use Rattle.dyl_world.specs.Found.{IsFound}
 
 found_or : (m : ℕ) (o : Option Symbol) (S : ClosedSet) (ms name : List ℕ) → IsFound (searched S ms name) → IsFound (or_defined (defined_by m o) (searched S ms name))

@@ -5,15 +5,15 @@ use Rattle.std.specs.List.{position_from}
 use Rattle.std.proofs.lemmas.Bool.Decides.{nat_tests}
 use Rattle.std.proofs.lemmas.List.{length-map}
 use Rattle.std.proofs.lemmas.Option.{slice_get_within}
-use Rattle.spec_linking.specs.Sets as sets
-use Rattle.spec_linking.specs.Plans.{Plan, stack_end, texts_size, sizes_of, region_of, regions_of, end_of}
-use Rattle.spec_linking.specs.LinkedSets.{LinkedSet}
-use Rattle.spec_linking.specs.Slots.{linked_plan}
-use Rattle.spec_linking.proofs.Placing.{above, end_above, bases_length}
+use Rattle.spec_loading.specs.spec_linking.Sets as sets
+use Rattle.spec_loading.specs.spec_linking.Plans.{Plan, stack_end, texts_size, sizes_of, region_of, regions_of, end_of}
+use Rattle.spec_loading.specs.spec_linking.LinkedSets.{LinkedSet}
+use Rattle.spec_loading.specs.spec_linking.Slots.{linked_plan}
+use Rattle.spec_loading.proofs.of_spec_linking.Placing.{above, end_above, bases_length}
 use Rattle.spec_loading.specs.LoaderAnswers.{is_handle, member_named, error_answer, error_offsets}
-use Rattle.dyl_search.specs.declared.set.Member.{Member}
-use Rattle.dyl_search.specs.declared.set.ClosedSet.{ClosedSet}
-use Rattle.dyl_search.specs.Gathers.{member_of, set_of}
+use Rattle.dyl_link.specs.dyl_search.declared.set.Member.{Member}
+use Rattle.dyl_link.specs.dyl_search.declared.set.ClosedSet.{ClosedSet}
+use Rattle.dyl_link.specs.dyl_search.Gathers.{member_of, set_of}
 use Rattle.dyl_link.specs.Kept.{Kept, IsLinked}
 use Rattle.dyl_world.specs.Found.{is_named}
 

@@ -3,23 +3,23 @@ use Rattle.std.proofs.Common.{◌≡◌, ℕ, Bool, true, false, List, [], ◌�
 use Rattle.std.specs.Prelude.{All, Result, Ok}
 use Rattle.std.proofs.lemmas.List.Elements.{All-nil, All-head, All-tail}
 use Rattle.std.proofs.lemmas.Slice.Eq.{bytes_eq-Decides}
-use Rattle.wasm_form.specs.declared.module.Export.{Export}
-use Rattle.wasm_form.specs.declared.module.ExportDesc.{ExportDesc}
-use Rattle.wasm_form.specs.declared.module.Module.{Module}
-use Rattle.spec_binary.specs.Sequence.{SpellsVec, vec}
-use Rattle.spec_binary.proofs.Joined.{each_all}
-use Rattle.spec_binary.proofs.NameSpelling.{name_utf8}
-use Rattle.spec_binary.specs.declared.fault.DecodeFault.{DecodeFault}
-use Rattle.spec_binary.specs.Options.{◌>>=◌}
-use Rattle.spec_binary.specs.Parts.{SpellsExport, export}
-use Rattle.spec_binary.specs.Sections.{Progress, Contents, custom, types, imports, funcs, tables, memories, globals, exports, start, elems, data_count, codes, datas, Chain, done, next}
-use Rattle.spec_binary.specs.Modules.{SpellsModule}
-use Rattle.spec_binary.specs.DecodeAnswers.{DecodeAnswer, spelled}
-use Rattle.spec_binary.specs.Exports.{exported_as}
-use Rattle.spec_binary.proofs.Lists.{holds_at}
-use Rattle.spec_linking.specs.Sets.{Member, ClosedSet}
-use Rattle.spec_linking.specs.Gathering.{IsMember, IsSet}
-use Rattle.spec_linking.specs.Definitions.{Undefined, or_defined, is_one_of, reserved_names, desc_symbol, symbol_of, defined_by, member_definition, searched}
+use Rattle.spec_loading.specs.wasm_form.declared.module.Export.{Export}
+use Rattle.spec_loading.specs.wasm_form.declared.module.ExportDesc.{ExportDesc}
+use Rattle.spec_loading.specs.wasm_form.declared.module.Module.{Module}
+use Rattle.spec_loading.specs.spec_binary.Sequence.{SpellsVec, vec}
+use Rattle.spec_loading.proofs.of_spec_binary.Joined.{each_all}
+use Rattle.spec_loading.proofs.of_spec_binary.NameSpelling.{name_utf8}
+use Rattle.spec_loading.specs.spec_binary.declared.fault.DecodeFault.{DecodeFault}
+use Rattle.spec_loading.specs.spec_binary.Options.{◌>>=◌}
+use Rattle.spec_loading.specs.spec_binary.Parts.{SpellsExport, export}
+use Rattle.spec_loading.specs.spec_binary.Sections.{Progress, Contents, custom, types, imports, funcs, tables, memories, globals, exports, start, elems, data_count, codes, datas, Chain, done, next}
+use Rattle.spec_loading.specs.spec_binary.Modules.{SpellsModule}
+use Rattle.spec_loading.specs.spec_binary.DecodeAnswers.{DecodeAnswer, spelled}
+use Rattle.spec_loading.specs.spec_binary.Exports.{exported_as}
+use Rattle.spec_loading.proofs.of_spec_binary.Lists.{holds_at}
+use Rattle.spec_loading.specs.spec_linking.Sets.{Member, ClosedSet}
+use Rattle.spec_loading.specs.spec_linking.Gathering.{IsMember, IsSet}
+use Rattle.spec_loading.specs.spec_linking.Definitions.{Undefined, or_defined, is_one_of, reserved_names, desc_symbol, symbol_of, defined_by, member_definition, searched}
 
 abbrev HasText : Export → Type 0
 HasText e = IsUtf8 e.name

@@ -4,8 +4,8 @@ use Rattle.std.specs.List.{All}
 use Rattle.std.proofs.lemmas.List.Elements.{All-head, All-tail}
 use Rattle.std.proofs.Math.Nat.{mod-eq_of_lt}
 use Rattle.std.proofs.lemmas.Bool.Decides.{nat_tests}
-use Rattle.spec_runtime.specs.Numerics.{W32}
-use Rattle.spec_execution.specs.Values.{low}
+use Rattle.spec_loading.specs.spec_runtime.Numerics.{W32}
+use Rattle.spec_loading.specs.spec_execution.Values.{low}
 use Rattle.spec_loading.specs.LoaderAnswers.{before_zero}
 
 -- the bytes before a zero byte, before which there is none

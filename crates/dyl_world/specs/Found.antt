@@ -1,7 +1,7 @@
 -- How members and names are found.
 use Rattle.std.specs.Prelude.{ℕ, List, Bool, bytes_eq}
-use Rattle.spec_linking.specs.Definitions.{Definition, LoaderFunction, HeapBase, HeapEnd, MemberFunction, MemberData, HostFunction, WeakSymbol, Undefined}
-use Rattle.dyl_search.specs.declared.set.Member.{Member}
+use Rattle.spec_loading.specs.spec_linking.Definitions.{Definition, LoaderFunction, HeapBase, HeapEnd, MemberFunction, MemberData, HostFunction, WeakSymbol, Undefined}
+use Rattle.dyl_link.specs.dyl_search.declared.set.Member.{Member}
 
 abbrev pub is_named : List ℕ → Member → Bool
 is_named name m = bytes_eq name m.name

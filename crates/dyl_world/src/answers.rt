@@ -1,8 +1,8 @@
 // What the functions of the loader answer.
 ghost use Rattle.std.specs.Prelude.{◌≡◌, ◌≤◌, ◌+◌, ◌-◌, Some, length, unwrap_or, slice_get};
-ghost use Rattle.spec_linking.specs.LinkedSets.{LinkedSet};
+ghost use Rattle.spec_loading.specs.spec_linking.LinkedSets.{LinkedSet};
 ghost use Rattle.spec_loading.specs.LoaderAnswers as loader;
-ghost use Rattle.dyl_search.specs.Gathers.{set_of};
+ghost use Rattle.dyl_link.specs.dyl_search.Gathers.{set_of};
 ghost use Rattle.dyl_link.specs.Kept.{IsLinked};
 
 use crate::errors::Errors;
@@ -10,8 +10,8 @@ use crate::searching::{handle_list, member_named, search};
 use crate::stages::Stages;
 use crate::strings::string_at;
 use dyl_link::Linked;
-use dyl_plan::Plan;
-use dyl_search::ClosedSet;
+use dyl_link::dyl_plan::Plan;
+use dyl_link::dyl_search::ClosedSet;
 use spec_loading::{Finding, Opening};
 use wasm_space::Space;
 

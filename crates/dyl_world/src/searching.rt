@@ -1,19 +1,19 @@
 // How members and names are found.
 ghost use Rattle.std.specs.Prelude.{◌≡◌, ◌<◌, ◌≤◌, ◌+◌, ℕ, List, Some, length};
 ghost use Rattle.std.specs.List.{position_from};
-ghost use Rattle.spec_linking.specs.Definitions.{searched};
-ghost use Rattle.spec_linking.specs.LinkedSets.{LinkedSet};
-ghost use Rattle.spec_linking.specs.Slots as slots;
+ghost use Rattle.spec_loading.specs.spec_linking.Definitions.{searched};
+ghost use Rattle.spec_loading.specs.spec_linking.LinkedSets.{LinkedSet};
+ghost use Rattle.spec_loading.specs.spec_linking.Slots as slots;
 ghost use Rattle.spec_loading.specs.LoaderAnswers as loader;
-ghost use Rattle.dyl_search.specs.Gathers.{set_of};
-ghost use Rattle.dyl_scope.specs.Scopes.{meaning_of};
+ghost use Rattle.dyl_link.specs.dyl_search.Gathers.{set_of};
+ghost use Rattle.dyl_link.specs.dyl_scope.Scopes.{meaning_of};
 ghost use Rattle.dyl_link.specs.Kept.{IsLinked, address_in};
 ghost use Rattle.dyl_world.specs.Found.{IsFound, is_named};
 
 use dyl_link::Linked;
-use dyl_scope::Def;
-use dyl_search::{ClosedSet, Member};
-use wasm_form::Ref;
+use dyl_link::dyl_scope::Def;
+use dyl_link::dyl_search::{ClosedSet, Member};
+use spec_loading::wasm_form::Ref;
 
 fn first_named(members: &[Member], name: &[u8]) -> Option<u32>
     requires { length members.now ≤ 256 }

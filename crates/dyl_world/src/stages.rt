@@ -2,9 +2,9 @@
 ghost use Rattle.std.specs.Prelude.{◌≡◌, ◌<◌, ◌≤◌, length, replicate, slice_get, slice_set, Some, IfOk, IfSome};
 ghost use Rattle.spec_loading.specs.LoaderAnswers.{is_placed};
 
+use spec_loading::wasm_form::Memory;
 use std::alloc::Global;
 use std::marker::Model;
-use wasm_form::Memory;
 
 /// The stage of each member of a set, by its number: 0 before it is placed, and then the number of the last phase that it has come
 /// through, from 1 for placed to 4 for constructed. Contracts see it as the list of the stages.

@@ -1,7 +1,7 @@
 // Strings in memory.
 ghost use Rattle.std.specs.Prelude.{◌≡◌, ◌≤◌, map, Some, None, MatchOption};
-ghost use Rattle.spec_runtime.specs.Numerics.{W32};
-ghost use Rattle.spec_execution.specs.Values.{low};
+ghost use Rattle.spec_loading.specs.spec_runtime.Numerics.{W32};
+ghost use Rattle.spec_loading.specs.spec_execution.Values.{low};
 ghost use Rattle.spec_loading.specs.LoaderAnswers.{before_zero, string_at};
 
 use wasm_space::Space;

@@ -1,10 +1,10 @@
 -- The answer of a reply that fits the type and the memory fits them too.
 use Rattle.std.proofs.Common.{◌≡◌, ℕ, zero, suc, ◌+◌, ◌/◌, true, List, [], ◌∷◌, length, Option, Some, None, IsSomeAnd, IfSome, IsTrue, refl, ap, subst, leb, le-leb}
 use Rattle.std.proofs.lemmas.Bool.{and_from}
-use Rattle.wasm_form.specs.declared.types.ValType.{ValType}
-use Rattle.wasm_form.specs.declared.types.FuncType.{FuncType}
-use Rattle.spec_runtime.specs.Memories.{MemoryInstance, little}
-use Rattle.spec_runtime.specs.Hosts.{number_fits, numbers_fit, writes_fit, fits_results}
+use Rattle.spec_hosts.specs.wasm_form.declared.types.ValType.{ValType}
+use Rattle.spec_hosts.specs.wasm_form.declared.types.FuncType.{FuncType}
+use Rattle.spec_hosts.specs.spec_runtime.Memories.{MemoryInstance, little}
+use Rattle.spec_hosts.specs.spec_runtime.Hosts.{number_fits, numbers_fit, writes_fit, fits_results}
 use Rattle.host_table.specs.declared.host.Put.{Put}
 use Rattle.host_table.specs.declared.host.Reply.{Reply}
 use Rattle.host_table.specs.Answers.{result_fits, PutFits, ReplyFits}

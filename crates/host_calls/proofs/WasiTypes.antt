@@ -2,12 +2,12 @@
 use Rattle.std.proofs.Common.{◌≡◌, ℕ, true, false, List, Option, Some, None, Result, Ok, Err, IfOk, IsTrue, refl, sym, subst}
 use Rattle.std.specs.Str.{bytes_eq}
 use Rattle.std.proofs.lemmas.Slice.Eq.{bytes_eq-Decides}
-use Rattle.wasm_form.specs.declared.memory.Memory.{Memory}
-use Rattle.wasm_form.specs.declared.types.FuncType.{FuncType}
-use Rattle.wasm_runtime.specs.declared.Answer.{Answer}
-use Rattle.spec_runtime.specs.Names.{HostName, Fits, host_match}
-use Rattle.spec_runtime.specs.Memories.{MemoryInstance}
-use Rattle.spec_runtime.specs.Hosts.{HostCall, numbers_fit, fits_results}
+use Rattle.spec_hosts.specs.wasm_form.declared.memory.Memory.{Memory}
+use Rattle.spec_hosts.specs.wasm_form.declared.types.FuncType.{FuncType}
+use Rattle.spec_hosts.specs.wasm_form.declared.runtime.Answer.{Answer}
+use Rattle.spec_hosts.specs.spec_runtime.Names.{HostName, Fits, host_match}
+use Rattle.spec_hosts.specs.spec_runtime.Memories.{MemoryInstance}
+use Rattle.spec_hosts.specs.spec_runtime.Hosts.{HostCall, numbers_fit, fits_results}
 use Rattle.spec_hosts.specs.Calls.{WasiCall, wasi_name, call_named, wanted_where}
 use Rattle.spec_hosts.specs.Devices.{Devices}
 use Rattle.spec_hosts.specs.Hosted.{Embedder, IsAnswered, MayBegin, ComesTo, OneOf, is_wasi, wants, CallComesTo}

@@ -1,7 +1,7 @@
 -- What answers the host functions that a module imports, as the code keeps it.
 use Rattle.std.specs.Prelude.{◌≡◌, ℕ, List, Some, IsSomeAnd, slice_get, true, false, bytes_eq}
 use Rattle.std.specs.Option.{option_map}
-use Rattle.spec_runtime.specs.Names.{HostName}
+use Rattle.spec_hosts.specs.spec_runtime.Names.{HostName}
 use Rattle.spec_hosts.specs.Calls.{wasi_name, call_named}
 use Rattle.host_table.specs.declared.entry.HostTable.{HostTable}
 use Rattle.host_table.specs.Table.{entry_number}

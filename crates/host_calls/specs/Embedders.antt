@@ -1,11 +1,11 @@
 -- What answers the host calls of a run: WASI, and then a host table.
 use Rattle.std.specs.Prelude.{ℕ, List, Result}
-use Rattle.wasm_form.specs.declared.memory.Memory.{Memory}
-use Rattle.wasm_runtime.specs.declared.Answer.{Answer}
-use Rattle.wasm_runtime.specs.declared.Asked.{Asked}
-use Rattle.spec_runtime.specs.Memories.{MemoryInstance}
-use Rattle.spec_runtime.specs.Names.{HostNames}
-use Rattle.spec_runtime.specs.Hosts.{HostCall}
+use Rattle.spec_hosts.specs.wasm_form.declared.memory.Memory.{Memory}
+use Rattle.spec_hosts.specs.wasm_form.declared.runtime.Answer.{Answer}
+use Rattle.spec_hosts.specs.wasm_form.declared.runtime.Asked.{Asked}
+use Rattle.spec_hosts.specs.spec_runtime.Memories.{MemoryInstance}
+use Rattle.spec_hosts.specs.spec_runtime.Names.{HostNames}
+use Rattle.spec_hosts.specs.spec_runtime.Hosts.{HostCall}
 use Rattle.spec_hosts.specs.Devices.{Devices}
 use Rattle.spec_hosts.specs.Hosted.{Embedder, CallComesTo}
 use Rattle.spec_hosts.specs.Laws.{run_names}

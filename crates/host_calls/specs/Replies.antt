@@ -3,13 +3,13 @@ use Rattle.std.specs.Prelude.{◌≡◌, ℕ, List, [], ◌∷◌, length, slice
 use Rattle.std.specs.Borrow.{Bor}
 use Rattle.std.specs.declared.dyn_box.DynBox.{DynBox}
 use Rattle.std.specs.declared.alloc.Global.{Global}
-use Rattle.wasm_form.specs.declared.types.ValType.{ValType}
-use Rattle.wasm_form.specs.declared.types.FuncType.{FuncType}
-use Rattle.wasm_runtime.specs.declared.Write.{Write}
-use Rattle.wasm_runtime.specs.declared.Answer.{Answer}
-use Rattle.wasm_runtime.specs.declared.Answer.TheVariants as answers
-use Rattle.spec_runtime.specs.Memories.{MemoryInstance, little}
-use Rattle.spec_runtime.specs.Hosts.{HostCall}
+use Rattle.spec_hosts.specs.wasm_form.declared.types.ValType.{ValType}
+use Rattle.spec_hosts.specs.wasm_form.declared.types.FuncType.{FuncType}
+use Rattle.spec_hosts.specs.wasm_form.declared.runtime.Write.{Write}
+use Rattle.spec_hosts.specs.wasm_form.declared.runtime.Answer.{Answer}
+use Rattle.spec_hosts.specs.wasm_form.declared.runtime.Answer.TheVariants as answers
+use Rattle.spec_hosts.specs.spec_runtime.Memories.{MemoryInstance, little}
+use Rattle.spec_hosts.specs.spec_runtime.Hosts.{HostCall}
 use Rattle.host_table.specs.declared.host.Put.{Put}
 use Rattle.host_table.specs.declared.host.Reply.{Reply}
 use Rattle.host_table.specs.declared.entry.HostTable.{HostTable}

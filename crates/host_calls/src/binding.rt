@@ -5,8 +5,8 @@ ghost use Rattle.host_calls.specs.Bindings.{IsBinding, AreBindings};
 
 use host_table::{HostName, HostTable};
 use host_wasi::{Call, call_named};
+use spec_hosts::wasm_form::Memory;
 use std::alloc::Global;
-use wasm_form::Memory;
 
 /// What answers a host function: WASI, by the call that has its name, if one has; or an entry of a table, if there is one.
 #[derive(Clone, Copy, Debug, PartialEq, Eq)]

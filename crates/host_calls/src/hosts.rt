@@ -1,7 +1,7 @@
 // The host functions of a run.
 ghost use Rattle.std.specs.Prelude.{◌≡◌, map, IfOk, IsTrue};
-ghost use Rattle.spec_runtime.specs.Names.{host_match, Fits};
-ghost use Rattle.spec_runtime.specs.Hosts.{numbers_fit, answer_fits};
+ghost use Rattle.spec_hosts.specs.spec_runtime.Names.{host_match, Fits};
+ghost use Rattle.spec_hosts.specs.spec_runtime.Hosts.{numbers_fit, answer_fits};
 ghost use Rattle.spec_hosts.specs.Devices.{devices};
 ghost use Rattle.host_table.specs.Names.{host_name_of};
 ghost use Rattle.host_calls.specs.Embedders.{names_of, embedder, call_of, Asks};
@@ -9,13 +9,12 @@ ghost use Rattle.host_calls.specs.Bindings.{IsBinding, AreBindings, IsBound};
 
 use crate::binding::{Binding, bindings_of};
 use crate::table::ask_table;
-use dyl_outside::{Ambient, Sink, Source};
 use host_table::{HostName, HostTable};
 use host_wasi::Wasi;
+use spec_hosts::dyl_outside::{Ambient, Sink, Source};
+use spec_hosts::wasm_form::{Answer, Asked, Memory};
 use spec_hosts::{names_have_their_types, wasi_answers_fit};
 use std::alloc::Global;
-use wasm_form::Memory;
-use wasm_runtime::{Answer, Asked};
 use wasm_space::Space;
 
 /// The host functions of a run: WASI for a program, a host table, and what answers each function that a module imports, found once.

@@ -1,7 +1,7 @@
 // A call of a function of the table.
 ghost use Rattle.std.specs.Prelude.{◌≡◌, false, Some, bytes_eq, IfOk, IsTrue};
-ghost use Rattle.spec_runtime.specs.Names.{host_match, Fits};
-ghost use Rattle.spec_runtime.specs.Hosts.{numbers_fit, answer_fits};
+ghost use Rattle.spec_hosts.specs.spec_runtime.Names.{host_match, Fits};
+ghost use Rattle.spec_hosts.specs.spec_runtime.Hosts.{numbers_fit, answer_fits};
 ghost use Rattle.spec_hosts.specs.Calls.{wasi_name};
 ghost use Rattle.host_table.specs.Table.{entry_number};
 ghost use Rattle.host_calls.specs.Replies.{answer_of, HasType};
@@ -10,9 +10,8 @@ ghost use Rattle.host_calls.specs.Embedders.{names_of, answers_of, call_of};
 use host_table::{HostName, HostTable, Reply};
 use host_wasi::little_bytes;
 use spec_hosts::names_have_their_types;
+use spec_hosts::wasm_form::{Answer, Asked, FuncType, List, Memory, Write};
 use std::alloc::Global;
-use wasm_form::{FuncType, List, Memory};
-use wasm_runtime::{Answer, Asked, Write};
 use wasm_space::Space;
 
 /// The answer of a reply of a function of this type.

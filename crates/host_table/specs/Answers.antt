@@ -1,8 +1,8 @@
 -- What a host function must do for each call that its type allows.
 use Rattle.std.specs.Prelude.{◌≡◌, ◌<◌, ◌≤◌, ◌+◌, ℕ, List, [], ◌∷◌, Option, Some, Bool, false, IsTrue, nat_eq}
 use Rattle.std.specs.Borrow.{Bor}
-use Rattle.wasm_form.specs.declared.types.ValType.{ValType}
-use Rattle.wasm_form.specs.declared.types.FuncType.{FuncType}
+use Rattle.spec_runtime.specs.wasm_form.declared.types.ValType.{ValType}
+use Rattle.spec_runtime.specs.wasm_form.declared.types.FuncType.{FuncType}
 use Rattle.spec_runtime.specs.Hosts.{number_fits, numbers_fit}
 use Rattle.host_table.specs.declared.host.Put.{Put}
 use Rattle.host_table.specs.declared.host.Reply.{Reply}

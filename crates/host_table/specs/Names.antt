@@ -2,7 +2,7 @@
 use Rattle.std.specs.Prelude.{ℕ, List, map, String, string_bytes, Bool, IsTrue, ◌&&◌, if◌then◌else◌}
 use Rattle.std.specs.List.{All}
 use Rattle.std.specs.Str.{bytes_eq}
-use Rattle.wasm_form.specs.declared.types.FuncType.{FuncType}
+use Rattle.spec_runtime.specs.wasm_form.declared.types.FuncType.{FuncType}
 use Rattle.spec_runtime.specs.Names as names
 use Rattle.host_table.specs.declared.host.HostName.{HostName}
 use Rattle.host_table.specs.declared.module.HostMatch.{HostMatch}

@@ -1,8 +1,8 @@
 // Copies of texts and types.
 ghost use Rattle.std.specs.Prelude.{◌≡◌, IfOk, string_bytes};
 
+use spec_runtime::wasm_form::{FuncType, List, Memory};
 use std::alloc::Global;
-use wasm_form::{FuncType, List, Memory};
 
 // A text of its own.
 pub fn owned(alloc: Global, text: &str) -> Result<String, Memory>

@@ -8,8 +8,8 @@ ghost use Rattle.host_table.specs.Numbered.{AreNumbered};
 
 use crate::copies::copied_type;
 use crate::{Callback, HostName, HostNames, HostNumbers, Reply};
+use spec_runtime::wasm_form::Memory;
 use std::alloc::Global;
-use wasm_form::Memory;
 
 // A host function of integers alone with its callback, whose answers fit.
 #[derive(Drop)]

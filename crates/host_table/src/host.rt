@@ -3,8 +3,8 @@ ghost use Rattle.std.specs.Prelude.{◌≡◌, IfOk};
 ghost use Rattle.host_table.specs.Names.{host_name_of};
 
 use crate::copies::{copied_type, owned};
+use spec_runtime::wasm_form::{FuncType, Memory, Text};
 use std::alloc::Global;
-use wasm_form::{FuncType, Memory, Text};
 
 /// Bytes that a host function writes into memory: the `len` low bytes of a number, the lowest first, from an address
 /// on.

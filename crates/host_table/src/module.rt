@@ -9,9 +9,9 @@ ghost use Rattle.host_table.specs.Names.{match_of, fits_where};
 use crate::copies::owned;
 use crate::types::{is_rest_type, is_same_type};
 use indexmap::IndexMap;
+use spec_runtime::wasm_form::{FuncType, Memory};
 use std::alloc::Global;
 use std::marker::Model;
-use wasm_form::{FuncType, Memory};
 
 /// Whether a name is undeclared, or the declaration of it that counts covers a type, or doesn't.
 #[derive(Clone, Copy, Debug, PartialEq, Eq)]

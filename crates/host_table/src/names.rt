@@ -9,9 +9,9 @@ ghost use Rattle.host_table.specs.Names.{match_of};
 use crate::copies::owned;
 use crate::module::{HostMatch, ModuleNames};
 use indexmap::IndexMap;
+use spec_runtime::wasm_form::{FuncType, Memory};
 use std::alloc::Global;
 use std::marker::Model;
-use wasm_form::{FuncType, Memory};
 
 /// The host functions that are declared, by their modules and names. Of two declarations that cover a name the first
 /// one counts.

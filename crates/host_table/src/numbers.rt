@@ -6,9 +6,9 @@ ghost use Rattle.host_table.specs.Numbers.{number_of, with_number};
 
 use crate::copies::owned;
 use indexmap::IndexMap;
+use spec_runtime::wasm_form::Memory;
 use std::alloc::Global;
 use std::marker::Model;
-use wasm_form::Memory;
 
 // The names of one module with their numbers.
 #[derive(Drop)]

@@ -10,8 +10,8 @@ ghost use Rattle.host_table.specs.Table.{is_same_name, functions_of, entry_count
 use crate::copies::owned;
 use crate::entry::{AddFault, AddRefused, Entry, HostTable};
 use crate::{Callback, HostName, HostNames, HostNumbers, Reply};
+use spec_runtime::wasm_form::{FuncType, Memory, Text};
 use std::alloc::Global;
-use wasm_form::{FuncType, Memory, Text};
 
 impl HostTable {
     /// A table without entries.

@@ -1,10 +1,10 @@
 // Tests of function types.
 ghost use Rattle.std.specs.Prelude.{◌≡◌};
 ghost use Rattle.std.specs.List.{list_all};
-ghost use Rattle.spec_binary.specs.SameTypes.{same_function_type};
+ghost use Rattle.spec_runtime.specs.spec_binary.SameTypes.{same_function_type};
 ghost use Rattle.spec_runtime.specs.Names as names;
 
-use wasm_form::{FuncType, ValType};
+use spec_runtime::wasm_form::{FuncType, ValType};
 
 // Whether two types are one.
 pub fn is_same_type(one: &FuncType, other: &FuncType) -> bool

@@ -2,8 +2,8 @@
 use Rattle.std.proofs.Common.{arith, ◌≡◌, ℕ, zero, suc, ◌<◌, List, [], ◌∷◌, sym, subst, Bool, true, false, Result}
 use Rattle.std.specs.Prelude.{IfOk, if◌then◌else◌, not, ◌||◌, take, nat_eq}
 use Rattle.std.proofs.lemmas.Result.{IfOk-weaker}
-use Rattle.wasm_form.specs.declared.Memory.{Memory}
-use Rattle.spec_runtime.specs.Memories.{MemoryInstance}
+use Rattle.spec_hosts.specs.wasm_form.declared.Memory.{Memory}
+use Rattle.spec_hosts.specs.spec_runtime.Memories.{MemoryInstance}
 use Rattle.spec_hosts.specs.Calls as calls
 use Rattle.host_wasi.specs.Wants.{wanted_by, Asks}
 use Rattle.host_wasi.specs.declared.want.Want.{Want}

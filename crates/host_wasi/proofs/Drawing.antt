@@ -1,9 +1,9 @@
 -- Words that are drawn one after the other.
 use Rattle.std.proofs.Common.{◌≡◌, ℕ, suc, ◌+◌, ◌-◌, ◌<◌, List, [], ◌∷◌, ◌++◌, Result, Ok, Err, inr, subst, refl, arith}
-use Rattle.dyl_outside.specs.declared.fault.IoFault.{IoFault}
-use Rattle.dyl_outside.specs.declared.fault.IoFault.TheVariants.{Failed, Memory}
-use Rattle.dyl_outside.specs.Ambient.{AmbientState, GivesWord}
-use Rattle.wasm_runtime.specs.declared.Answer.{Answer}
+use Rattle.spec_hosts.specs.dyl_outside.declared.fault.IoFault.{IoFault}
+use Rattle.spec_hosts.specs.dyl_outside.declared.fault.IoFault.TheVariants.{Failed, Memory}
+use Rattle.spec_hosts.specs.dyl_outside.Ambient.{AmbientState, GivesWord}
+use Rattle.spec_hosts.specs.wasm_form.declared.runtime.Answer.{Answer}
 use Rattle.spec_hosts.specs.Calls.{refused, io}
 use Rattle.spec_hosts.specs.Hosted.{Draws, DrawsSome}
 use Rattle.spec_hosts.proofs.Begun.{none_drawn}

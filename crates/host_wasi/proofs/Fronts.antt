@@ -3,7 +3,7 @@ use Rattle.std.proofs.Common.{arith, ◌≡◌, ℕ, zero, suc, ◌+◌, ◌-◌
 use Rattle.std.proofs.lemmas.List.{append-nil, length-take, map_more}
 use Rattle.std.proofs.lemmas.List.Concat.{flat_map-append}
 use Rattle.std.proofs.Math.Seq.{take-append-add}
-use Rattle.spec_runtime.specs.Memories.{MemoryInstance}
+use Rattle.spec_hosts.specs.spec_runtime.Memories.{MemoryInstance}
 use Rattle.spec_hosts.specs.Calls.{most_bytes, joined}
 use Rattle.host_wasi.specs.Wants.{pairs}
 use Rattle.host_wasi.specs.Buffers.{bytes_of}

@@ -3,8 +3,8 @@ use Rattle.std.proofs.Common.{◌≡◌, ℕ, ◌+◌, ◌<◌, ◌≤◌, List,
 use Rattle.std.proofs.Math.Seq.{drop-cons}
 use Rattle.std.proofs.Math.ListN.{drop_of_length-le}
 use Rattle.std.specs.Str.{bytes_eq}
-use Rattle.wasm_form.specs.declared.types.FuncType.{FuncType}
-use Rattle.spec_runtime.specs.Names.{HostNames, with_name, with_names}
+use Rattle.spec_hosts.specs.wasm_form.declared.types.FuncType.{FuncType}
+use Rattle.spec_hosts.specs.spec_runtime.Names.{HostNames, with_name, with_names}
 use Rattle.spec_hosts.specs.Calls.{wasi_name, name_of, type_of_call, first_named, host_name_of}
 use Rattle.host_wasi.specs.Wants.{meant}
 use Rattle.host_wasi.specs.declared.calls.Call.{Call}

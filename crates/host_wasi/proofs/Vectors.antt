@@ -2,7 +2,7 @@
 use Rattle.std.proofs.Common.{arith, ◌≡◌, ℕ, zero, suc, ◌+◌, ◌-◌, ◌*◌, ◌≤◌, ◌<◌, List, [], ◌∷◌, ◌++◌, length, get_or, refl, sym, ap, ◌∙◌, true}
 use Rattle.std.proofs.lemmas.List.{append_assoc, length-map, map_push}
 use Rattle.std.proofs.lemmas.Bool.{leb-true, and_parts}
-use Rattle.spec_runtime.specs.Memories.{MemoryInstance}
+use Rattle.spec_hosts.specs.spec_runtime.Memories.{MemoryInstance}
 use Rattle.spec_hosts.specs.Calls.{number_at, vectors_at, is_in, are_in}
 use Rattle.host_wasi.specs.Wants.{pairs}
 use Rattle.host_wasi.specs.declared.want.Buffer.{Buffer}

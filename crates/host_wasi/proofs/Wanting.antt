@@ -1,7 +1,7 @@
 -- What came of what is wanted.
 use Rattle.std.proofs.Common.{Result, Ok, Err, IfOk, OnErr}
-use Rattle.wasm_form.specs.declared.memory.Memory.{Memory}
-use Rattle.wasm_runtime.specs.declared.Answer.{Answer}
+use Rattle.spec_hosts.specs.wasm_form.declared.memory.Memory.{Memory}
+use Rattle.spec_hosts.specs.wasm_form.declared.runtime.Answer.{Answer}
 use Rattle.spec_hosts.specs.Devices.{Devices}
 use Rattle.spec_hosts.specs.Calls.{Wanted}
 use Rattle.spec_hosts.specs.Hosted.{IsAnswered, MayBegin, ComesTo}

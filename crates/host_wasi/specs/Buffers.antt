@@ -1,6 +1,6 @@
 -- The buffers of a call.
 use Rattle.std.specs.Prelude.{◌≡◌, ℕ, ◌+◌, ◌*◌, ◌≤◌, List, take, drop, length, IsTrue}
-use Rattle.spec_runtime.specs.Memories.{MemoryInstance}
+use Rattle.spec_hosts.specs.spec_runtime.Memories.{MemoryInstance}
 use Rattle.spec_hosts.specs.Calls as calls
 use Rattle.host_wasi.specs.declared.want.Buffer.{Buffer}
 

@@ -2,14 +2,14 @@
 use Rattle.std.specs.Prelude.{ℕ, List, [], Option, Result, Ok, Err, IfOk, Vec}
 use Rattle.std.specs.Option.{option_map}
 use Rattle.std.specs.declared.alloc.Global.{Global}
-use Rattle.dyl_outside.specs.declared.fault.IoFault.{IoFault}
-use Rattle.dyl_outside.specs.declared.fault.IoFault.TheVariants.{Failed, Memory}
-use Rattle.dyl_outside.specs.Source.{SourceState, Takes}
-use Rattle.dyl_outside.specs.Sink.{SinkState, Puts}
-use Rattle.dyl_outside.specs.Ambient.{AmbientState, GivesTime}
-use Rattle.wasm_form.specs.declared.memory.Memory as wanting
-use Rattle.wasm_runtime.specs.declared.Answer.{Answer}
-use Rattle.spec_runtime.specs.Memories.{MemoryInstance}
+use Rattle.spec_hosts.specs.dyl_outside.declared.fault.IoFault.{IoFault}
+use Rattle.spec_hosts.specs.dyl_outside.declared.fault.IoFault.TheVariants.{Failed, Memory}
+use Rattle.spec_hosts.specs.dyl_outside.Source.{SourceState, Takes}
+use Rattle.spec_hosts.specs.dyl_outside.Sink.{SinkState, Puts}
+use Rattle.spec_hosts.specs.dyl_outside.Ambient.{AmbientState, GivesTime}
+use Rattle.spec_hosts.specs.wasm_form.declared.memory.Memory as wanting
+use Rattle.spec_hosts.specs.wasm_form.declared.runtime.Answer.{Answer}
+use Rattle.spec_hosts.specs.spec_runtime.Memories.{MemoryInstance}
 use Rattle.spec_hosts.specs.Devices.{Devices}
 use Rattle.spec_hosts.specs.Calls as calls
 use Rattle.spec_hosts.specs.Hosted.{AfterUse, Draws, ComesTo}

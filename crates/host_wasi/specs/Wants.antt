@@ -1,7 +1,7 @@
 -- What a call wants, as the code keeps it.
 use Rattle.std.specs.Prelude.{ℕ, ◌+◌, ◌/◌, ◌<◌, List, ◌++◌, length, map, take, Option, IfSome, IsTrue}
-use Rattle.spec_runtime.specs.Memories.{little}
-use Rattle.spec_runtime.specs.Hosts.{numbers_fit}
+use Rattle.spec_hosts.specs.spec_runtime.Memories.{little}
+use Rattle.spec_hosts.specs.spec_runtime.Hosts.{numbers_fit}
 use Rattle.spec_hosts.specs.Calls as calls
 use Rattle.host_wasi.specs.declared.calls.Call.{Call}
 use Rattle.host_wasi.specs.declared.calls.Call.TheVariants as call

@@ -6,9 +6,8 @@ ghost use Rattle.host_wasi.specs.Wants.{wanted_by};
 use crate::access::is_in;
 use crate::replies::{add_bytes, add_word};
 use crate::want::{FAULT, Want, refuse, succeed};
+use spec_hosts::wasm_form::{Memory, Text, Write};
 use std::alloc::Global;
-use wasm_form::{Memory, Text};
-use wasm_runtime::Write;
 use wasm_space::Space;
 
 /// What args_sizes_get wants: the number of texts and their size are written.

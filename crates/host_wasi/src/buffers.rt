@@ -7,8 +7,8 @@ ghost use Rattle.host_wasi.specs.Buffers.{AreFit, IsRefused, bytes_of};
 use crate::access::{byte_at, is_in, number_at};
 use crate::replies::add_word;
 use crate::want::{BADF, Buffer, FAULT, INVAL, Want, refuse, succeed};
+use spec_hosts::wasm_form::{List, Memory};
 use std::alloc::Global;
-use wasm_form::{List, Memory};
 use wasm_space::Space;
 
 /// The most vectors that one call may name.

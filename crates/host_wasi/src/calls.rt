@@ -4,8 +4,8 @@ ghost use Rattle.std.specs.Option.{option_map};
 ghost use Rattle.spec_hosts.specs.Calls as calls;
 ghost use Rattle.host_wasi.specs.Wants.{meant};
 
+use spec_hosts::wasm_form::{FuncType, List, Memory, ValType};
 use std::alloc::Global;
-use wasm_form::{FuncType, List, Memory, ValType};
 
 /// A call of WASI preview 1.
 #[derive(Clone, Copy, Debug, PartialEq, Eq)]

@@ -6,8 +6,8 @@ ghost use Rattle.host_wasi.specs.Wants.{wanted_by};
 use crate::access::is_in;
 use crate::replies::add_bytes;
 use crate::want::{BADF, FAULT, SPIPE, Want, refuse, succeed};
+use spec_hosts::wasm_form::Memory;
 use std::alloc::Global;
-use wasm_form::Memory;
 use wasm_space::Space;
 
 /// How many descriptors are open: the standard input, output and errors.

@@ -1,6 +1,6 @@
 // One use of a device.
 ghost use Rattle.std.specs.Prelude.{◌<◌, ◌+◌, ◌/◌, ◌++◌, [], length, take, IfOk, OnErr};
-ghost use Rattle.spec_runtime.specs.Memories.{little};
+ghost use Rattle.spec_hosts.specs.spec_runtime.Memories.{little};
 ghost use Rattle.spec_hosts.specs.Calls as calls;
 ghost use Rattle.spec_hosts.specs.Devices.{devices};
 ghost use Rattle.spec_hosts.specs.Hosted.{IsAnswered, MayBegin, Draws, DrawsSome};
@@ -9,10 +9,9 @@ ghost use Rattle.host_wasi.specs.Uses.{PutAnswered, TakeAnswered, TimeAnswered, 
 
 use crate::replies::{counted, one_number, random, refused, taken};
 use crate::want::{Buffer, Want};
-use dyl_outside::{Ambient, IoFault, Sink, Source};
+use spec_hosts::dyl_outside::{Ambient, IoFault, Sink, Source};
+use spec_hosts::wasm_form::{Answer, Memory};
 use std::alloc::Global;
-use wasm_form::Memory;
-use wasm_runtime::Answer;
 
 /// The errno of a device that failed.
 const IO: u64 = 29;

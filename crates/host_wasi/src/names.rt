@@ -4,8 +4,8 @@ ghost use Rattle.spec_hosts.specs.Calls.{with_wasi};
 
 use crate::calls::CALLS;
 use host_table::HostNames;
+use spec_hosts::wasm_form::Memory;
 use std::alloc::Global;
-use wasm_form::Memory;
 
 /// The module of the calls.
 const MODULE: &str = "wasi_snapshot_preview1";

@@ -1,13 +1,12 @@
 // Answers, and what they write.
 ghost use Rattle.std.specs.Prelude.{◌≡◌, ◌++◌, length, take, IfOk, OnOk};
-ghost use Rattle.spec_runtime.specs.Memories.{little};
+ghost use Rattle.spec_hosts.specs.spec_runtime.Memories.{little};
 ghost use Rattle.spec_hosts.specs.Calls as calls;
 ghost use Rattle.host_wasi.specs.Wants.{pairs};
 
 use crate::want::Buffer;
+use spec_hosts::wasm_form::{Answer, List, Memory, Write};
 use std::alloc::Global;
-use wasm_form::{List, Memory};
-use wasm_runtime::{Answer, Write};
 
 /// The answer of an errno other than 0, which writes nothing.
 pub(crate) fn refused(alloc: Global, errno: u64) -> Result<Answer, Memory>

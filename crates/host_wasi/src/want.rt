@@ -1,8 +1,8 @@
 // What a call wants of the devices, with what the memory holds before it.
 ghost use Rattle.std.specs.Prelude.{◌≡◌, ℕ, List, ◌∷◌, [], IfOk, IsTrue};
 ghost use Rattle.std.specs.Option.{option_map};
-ghost use Rattle.spec_runtime.specs.Hosts.{numbers_fit};
-ghost use Rattle.spec_runtime.specs.Memories.{MemoryInstance};
+ghost use Rattle.spec_hosts.specs.spec_runtime.Hosts.{numbers_fit};
+ghost use Rattle.spec_hosts.specs.spec_runtime.Memories.{MemoryInstance};
 ghost use Rattle.spec_hosts.specs.Calls as calls;
 ghost use Rattle.host_wasi.specs.Wants.{wanted_by, meant, FitWhere, Asks};
 
@@ -12,9 +12,8 @@ use crate::buffers::{MOST_BYTES, fd_read, fd_write};
 use crate::calls::Call;
 use crate::descriptors::{fd_close, fd_fdstat_get, fd_seek};
 use crate::replies::{refused, success};
+use spec_hosts::wasm_form::{Answer, List, Memory, Text, Write};
 use std::alloc::Global;
-use wasm_form::{List, Memory, Text};
-use wasm_runtime::{Answer, Write};
 use wasm_space::Space;
 
 /// The errno of a descriptor that can't be used so.

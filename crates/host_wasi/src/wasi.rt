@@ -10,11 +10,10 @@ ghost use Rattle.host_wasi.specs.Wants.{ArgumentsFit, FitWhere, meant};
 use crate::calls::{Call, call_named};
 use crate::fulfil::fulfil;
 use crate::want::want_of;
-use dyl_outside::{Ambient, Sink, Source};
+use spec_hosts::dyl_outside::{Ambient, Sink, Source};
+use spec_hosts::wasm_form::{Answer, Asked, List, Memory, Text};
 use std::alloc::Global;
 use std::marker::Model;
-use wasm_form::{List, Memory, Text};
-use wasm_runtime::{Answer, Asked};
 use wasm_space::Space;
 
 /// The calls of WASI preview 1 for one program. Contracts see it as the texts of the program's arguments.

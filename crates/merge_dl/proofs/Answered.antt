@@ -9,25 +9,25 @@ use Rattle.wasm_form.specs.declared.runtime.LoaderCall.TheVariants.{Dlopen, Dlsy
 use Rattle.wasm_form.specs.declared.runtime.Ref.TheVariants.{Own, Loader}
 use Rattle.wasm_form.specs.declared.runtime.Trap.{Trap}
 use Rattle.wasm_form.specs.declared.runtime.Trap.TheVariants.{MemoryBounds}
-use Rattle.wasm_runtime.specs.declared.Value.{Value}
-use Rattle.wasm_runtime.specs.declared.Value.TheVariants.{Num, Func}
-use Rattle.spec_runs.specs.Systems.{only_if, Moving}
-use Rattle.spec_binary.specs.Options.{◌>>=◌}
-use Rattle.spec_binary.specs.Indices.{function_with}
-use Rattle.spec_runtime.specs.Numerics.{W32}
-use Rattle.spec_runtime.specs.Memories.{MemoryInstance}
-use Rattle.spec_execution.specs.Values.{low, take_values}
-use Rattle.spec_execution.specs.Activations.{Activation, with_values}
-use Rattle.spec_execution.specs.Views.{loader_type}
-use Rattle.spec_execution.specs.Runs.{Frame, Next, Goes, Loads, call, calling, call_own, call_loader, arguments, entered, became}
-use Rattle.spec_execution.specs.Runs as frames
-use Rattle.spec_execution.specs.Instances.{module_hosts, module_view}
-use Rattle.spec_execution.specs.OneModule.{Starting, ModuleState, module_step}
-use Rattle.spec_linking.specs.Gathering.{IsSet}
-use Rattle.spec_linking.specs.Definitions.{searched}
-use Rattle.spec_linking.specs.Slots.{cell_number}
-use Rattle.spec_linking.specs.Links.{Links}
-use Rattle.spec_linking.specs.LinkedSets.{LinkedSet}
+use Rattle.wasm_form.specs.declared.runtime.Value.{Value}
+use Rattle.wasm_form.specs.declared.runtime.Value.TheVariants.{Num, Func}
+use Rattle.spec_loading.specs.spec_runs.Systems.{only_if, Moving}
+use Rattle.spec_loading.specs.spec_binary.Options.{◌>>=◌}
+use Rattle.spec_loading.specs.spec_binary.Indices.{function_with}
+use Rattle.spec_loading.specs.spec_runtime.Numerics.{W32}
+use Rattle.spec_loading.specs.spec_runtime.Memories.{MemoryInstance}
+use Rattle.spec_loading.specs.spec_execution.Values.{low, take_values}
+use Rattle.spec_loading.specs.spec_execution.Activations.{Activation, with_values}
+use Rattle.spec_loading.specs.spec_execution.Views.{loader_type}
+use Rattle.spec_loading.specs.spec_execution.Runs.{Frame, Next, Goes, Loads, call, calling, call_own, call_loader, arguments, entered, became}
+use Rattle.spec_loading.specs.spec_execution.Runs as frames
+use Rattle.spec_loading.specs.spec_execution.Instances.{module_hosts, module_view}
+use Rattle.spec_loading.specs.spec_execution.OneModule.{Starting, ModuleState, module_step}
+use Rattle.spec_loading.specs.spec_linking.Gathering.{IsSet}
+use Rattle.spec_loading.specs.spec_linking.Definitions.{searched}
+use Rattle.spec_loading.specs.spec_linking.Slots.{cell_number}
+use Rattle.spec_loading.specs.spec_linking.Links.{Links}
+use Rattle.spec_loading.specs.spec_linking.LinkedSets.{LinkedSet}
 use Rattle.spec_loading.specs.declared.answers.Opening.{Opening}
 use Rattle.spec_loading.specs.declared.answers.Opening.TheVariants as opening
 use Rattle.spec_loading.specs.declared.answers.Finding.{Finding}

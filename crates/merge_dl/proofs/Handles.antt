@@ -8,20 +8,20 @@ use Rattle.std.proofs.lemmas.Option.{slice_get_past}
 use Rattle.wasm_form.specs.declared.instr.Instr.{Instr, Plain, Index}
 use Rattle.wasm_form.specs.declared.module.Module.{Module}
 use Rattle.wasm_form.specs.declared.runtime.Trap.TheVariants.{MemoryBounds}
-use Rattle.wasm_runtime.specs.declared.Value.{Value}
-use Rattle.wasm_runtime.specs.declared.Value.TheVariants.{Num}
-use Rattle.spec_runtime.specs.Numerics.{W32}
-use Rattle.spec_execution.specs.Values.{low}
-use Rattle.spec_execution.specs.Activations.{one_if}
-use Rattle.spec_linking.specs.Sets.{Member}
-use Rattle.spec_linking.specs.Orders.{closure}
-use Rattle.spec_linking.specs.Gathering.{IsSet}
-use Rattle.spec_linking.specs.LinkedSets.{LinkedSet}
-use Rattle.spec_linking.specs.Links.{Links}
+use Rattle.wasm_form.specs.declared.runtime.Value.{Value}
+use Rattle.wasm_form.specs.declared.runtime.Value.TheVariants.{Num}
+use Rattle.spec_loading.specs.spec_runtime.Numerics.{W32}
+use Rattle.spec_loading.specs.spec_execution.Values.{low}
+use Rattle.spec_loading.specs.spec_execution.Activations.{one_if}
+use Rattle.spec_loading.specs.spec_linking.Sets.{Member}
+use Rattle.spec_loading.specs.spec_linking.Orders.{closure}
+use Rattle.spec_loading.specs.spec_linking.Gathering.{IsSet}
+use Rattle.spec_loading.specs.spec_linking.LinkedSets.{LinkedSet}
+use Rattle.spec_loading.specs.spec_linking.Links.{Links}
 use Rattle.spec_loading.specs.declared.answers.Finding.{Finding}
 use Rattle.spec_loading.specs.declared.answers.Finding.TheVariants as finding
 use Rattle.spec_loading.specs.LoaderAnswers.{bad_handle_error, is_placed, find_named, symbol_answer, string_at}
-use Rattle.spec_safety.proofs.Lookups.{got}
+use Rattle.spec_loading.proofs.of_spec_safety.Lookups.{got}
 use Rattle.merge_start.specs.Words.{Starts, number}
 use Rattle.merge_start.specs.Running.{Changing}
 use Rattle.merge_start.proofs.Reaching.{does_number, does_global, does_less}

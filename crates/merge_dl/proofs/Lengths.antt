@@ -10,14 +10,14 @@ use Rattle.wasm_form.specs.declared.instr.Instr.{Instr, Plain, Index, Loop, Acce
 use Rattle.wasm_form.specs.declared.instr.Instr.TheVariants.{outs-Loop}
 use Rattle.wasm_form.specs.declared.module.Module.{Module}
 use Rattle.wasm_form.specs.declared.runtime.Trap.TheVariants.{MemoryBounds}
-use Rattle.wasm_runtime.specs.declared.Value.{Value}
-use Rattle.wasm_runtime.specs.declared.Value.TheVariants.{Num}
-use Rattle.spec_binary.specs.Options.{◌>>=◌}
-use Rattle.spec_runtime.specs.Numerics.{W32, iadd, isub}
-use Rattle.spec_execution.specs.Values.{low}
-use Rattle.spec_execution.specs.Activations.{Activation}
-use Rattle.spec_execution.specs.Runs.{Frame}
-use Rattle.spec_execution.specs.OneModule.{Starting}
+use Rattle.wasm_form.specs.declared.runtime.Value.{Value}
+use Rattle.wasm_form.specs.declared.runtime.Value.TheVariants.{Num}
+use Rattle.spec_loading.specs.spec_binary.Options.{◌>>=◌}
+use Rattle.spec_loading.specs.spec_runtime.Numerics.{W32, iadd, isub}
+use Rattle.spec_loading.specs.spec_execution.Values.{low}
+use Rattle.spec_loading.specs.spec_execution.Activations.{Activation}
+use Rattle.spec_loading.specs.spec_execution.Runs.{Frame}
+use Rattle.spec_loading.specs.spec_execution.OneModule.{Starting}
 use Rattle.spec_loading.specs.LoaderAnswers.{before_zero, string_at}
 use Rattle.merge_match.specs.Bounded.{IsBounded}
 use Rattle.merge_match.proofs.Bounded.{bounded_ends}

@@ -10,14 +10,14 @@ use Rattle.wasm_form.specs.declared.module.Group.{Group}
 use Rattle.wasm_form.specs.declared.module.Export.{Export}
 use Rattle.wasm_form.specs.declared.module.Module.{Module}
 use Rattle.wasm_form.specs.declared.runtime.LoaderCall.TheVariants.{Dlopen, Dlsym, Dlclose, Dlerror}
-use Rattle.spec_linking.specs.Sets.{Member}
-use Rattle.spec_linking.specs.Definitions.{Definition, MemberFunction, MemberData, LoaderFunction, HeapBase, HeapEnd, HostFunction, WeakSymbol, Undefined, or_defined}
-use Rattle.spec_linking.specs.Orders.{closure}
-use Rattle.spec_linking.specs.LinkedSets.{LinkedSet}
+use Rattle.spec_loading.specs.spec_linking.Sets.{Member}
+use Rattle.spec_loading.specs.spec_linking.Definitions.{Definition, MemberFunction, MemberData, LoaderFunction, HeapBase, HeapEnd, HostFunction, WeakSymbol, Undefined, or_defined}
+use Rattle.spec_loading.specs.spec_linking.Orders.{closure}
+use Rattle.spec_loading.specs.spec_linking.LinkedSets.{LinkedSet}
 use Rattle.spec_loading.specs.LoaderAnswers.{no_module_error, bad_handle_error, bad_close_error, not_closed}
 use Rattle.spec_loading.specs.Members.{from_members}
-use Rattle.dyl_search.specs.declared.set.Member as declared
-use Rattle.dyl_search.specs.Gathers.{member_of}
+use Rattle.dyl_link.specs.dyl_search.declared.set.Member as declared
+use Rattle.dyl_link.specs.dyl_search.Gathers.{member_of}
 use Rattle.merge_match.specs.Parts.{number_of}
 use Rattle.merge_start.specs.Words.{Starts}
 use Rattle.merge_start.specs.declared.part.Part.{Part}

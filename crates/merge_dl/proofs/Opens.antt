@@ -7,13 +7,13 @@ use Rattle.std.proofs.lemmas.Bool.Decides.{nat_tests}
 use Rattle.wasm_form.specs.declared.instr.Instr.{Instr, Plain, Index}
 use Rattle.wasm_form.specs.declared.module.Module.{Module}
 use Rattle.wasm_form.specs.declared.runtime.Trap.TheVariants.{MemoryBounds}
-use Rattle.wasm_runtime.specs.declared.Value.{Value}
-use Rattle.wasm_runtime.specs.declared.Value.TheVariants.{Num}
-use Rattle.spec_runtime.specs.Numerics.{W32}
-use Rattle.spec_execution.specs.Values.{low}
-use Rattle.spec_execution.specs.Activations.{one_if}
-use Rattle.spec_linking.specs.Sets.{Member}
-use Rattle.spec_linking.specs.LinkedSets.{LinkedSet}
+use Rattle.wasm_form.specs.declared.runtime.Value.{Value}
+use Rattle.wasm_form.specs.declared.runtime.Value.TheVariants.{Num}
+use Rattle.spec_loading.specs.spec_runtime.Numerics.{W32}
+use Rattle.spec_loading.specs.spec_execution.Values.{low}
+use Rattle.spec_loading.specs.spec_execution.Activations.{one_if}
+use Rattle.spec_loading.specs.spec_linking.Sets.{Member}
+use Rattle.spec_loading.specs.spec_linking.LinkedSets.{LinkedSet}
 use Rattle.spec_loading.specs.declared.answers.Opening.{Opening}
 use Rattle.spec_loading.specs.declared.answers.Opening.TheVariants as opening
 use Rattle.spec_loading.specs.LoaderAnswers.{bad_flags_error, no_module_error, other_flags, begin_or, member_named, open_named, open_answer, string_at}

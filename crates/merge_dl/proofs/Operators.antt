@@ -8,12 +8,12 @@ use Rattle.std.proofs.lemmas.Bool.Decides.{nat_tests}
 use Rattle.wasm_form.specs.declared.instr.Instr.{Plain, Access, out-Instr}
 use Rattle.wasm_form.specs.declared.module.Module.{Module}
 use Rattle.wasm_form.specs.declared.runtime.Trap.TheVariants.{MemoryBounds}
-use Rattle.wasm_runtime.specs.declared.Value.{Value}
-use Rattle.wasm_runtime.specs.declared.Value.TheVariants.{Num}
-use Rattle.spec_runtime.specs.Memories.{little_value, bytes_at}
-use Rattle.spec_runtime.specs.Numerics.{W32, W64, iadd, isub}
-use Rattle.spec_execution.specs.Values.{low}
-use Rattle.spec_execution.specs.Activations.{one_if}
+use Rattle.wasm_form.specs.declared.runtime.Value.{Value}
+use Rattle.wasm_form.specs.declared.runtime.Value.TheVariants.{Num}
+use Rattle.spec_loading.specs.spec_runtime.Memories.{little_value, bytes_at}
+use Rattle.spec_loading.specs.spec_runtime.Numerics.{W32, W64, iadd, isub}
+use Rattle.spec_loading.specs.spec_execution.Values.{low}
+use Rattle.spec_loading.specs.spec_execution.Activations.{one_if}
 use Rattle.merge_start.specs.Running.{Changing, Does}
 use Rattle.merge_start.proofs.Reaching.{one_step}
 use Rattle.merge_dl.specs.Words.{wide}

@@ -9,15 +9,15 @@ use Rattle.wasm_form.specs.declared.instr.Instr.{Instr, Plain, Index, Block, out
 use Rattle.wasm_form.specs.declared.instr.Instr.TheVariants.{outs-If, outs-Block}
 use Rattle.wasm_form.specs.declared.module.Module.{Module}
 use Rattle.wasm_form.specs.declared.runtime.Trap.{Trap}
-use Rattle.wasm_runtime.specs.declared.Value.{Value}
-use Rattle.wasm_runtime.specs.declared.Value.TheVariants.{Num}
-use Rattle.spec_runs.specs.Systems.{Moving}
-use Rattle.spec_runtime.specs.Numerics.{W32}
-use Rattle.spec_execution.specs.Values.{low}
-use Rattle.spec_execution.specs.Activations.{Level, Activation, with_values}
-use Rattle.spec_execution.specs.Runs.{Frame}
-use Rattle.spec_execution.specs.Runs as frames
-use Rattle.spec_execution.specs.OneModule.{Starting, ModuleState}
+use Rattle.wasm_form.specs.declared.runtime.Value.{Value}
+use Rattle.wasm_form.specs.declared.runtime.Value.TheVariants.{Num}
+use Rattle.spec_loading.specs.spec_runs.Systems.{Moving}
+use Rattle.spec_loading.specs.spec_runtime.Numerics.{W32}
+use Rattle.spec_loading.specs.spec_execution.Values.{low}
+use Rattle.spec_loading.specs.spec_execution.Activations.{Level, Activation, with_values}
+use Rattle.spec_loading.specs.spec_execution.Runs.{Frame}
+use Rattle.spec_loading.specs.spec_execution.Runs as frames
+use Rattle.spec_loading.specs.spec_execution.OneModule.{Starting, ModuleState}
 use Rattle.merge_start.specs.Words.{Starts}
 use Rattle.merge_start.specs.Running.{Changing, Around, at, trapped_at, Reaches, Does}
 use Rattle.merge_start.specs.Points.{HandsOn}

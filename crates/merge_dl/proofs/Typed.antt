@@ -10,16 +10,16 @@ use Rattle.wasm_form.specs.declared.instr.BlockType.TheVariants.{Empty}
 use Rattle.wasm_form.specs.declared.instr.Instr.{Instr, Plain, Index, Block, Loop, Access}
 use Rattle.wasm_form.specs.declared.runtime.LoaderCall.{LoaderCall}
 use Rattle.wasm_form.specs.declared.runtime.LoaderCall.TheVariants.{Dlopen, Dlsym, Dlclose, Dlerror}
-use Rattle.spec_binary.specs.Options.{◌>>=◌}
-use Rattle.spec_validation.specs.Stacks.{Stack, unreachable, ends_with}
-use Rattle.spec_validation.specs.Context.{Context, Labels}
-use Rattle.spec_validation.specs.Typing.{Reach, after, afters, height}
+use Rattle.spec_loading.specs.spec_binary.Options.{◌>>=◌}
+use Rattle.spec_loading.specs.spec_validation.Stacks.{Stack, unreachable, ends_with}
+use Rattle.spec_loading.specs.spec_validation.Context.{Context, Labels}
+use Rattle.spec_loading.specs.spec_validation.Typing.{Reach, after, afters, height}
 use Rattle.wasm_typing.proofs.Laws.{after-Plain, after-Index, after-Block, after-Loop, after-If, after-Access, after-I64Const}
-use Rattle.spec_execution.specs.Views.{loader_type}
-use Rattle.spec_linking.specs.Sets.{Member}
-use Rattle.spec_linking.specs.Orders.{closure}
-use Rattle.spec_linking.specs.Gathering.{IsSet}
-use Rattle.spec_linking.specs.LinkedSets.{LinkedSet}
+use Rattle.spec_loading.specs.spec_execution.Views.{loader_type}
+use Rattle.spec_loading.specs.spec_linking.Sets.{Member}
+use Rattle.spec_loading.specs.spec_linking.Orders.{closure}
+use Rattle.spec_loading.specs.spec_linking.Gathering.{IsSet}
+use Rattle.spec_loading.specs.spec_linking.LinkedSets.{LinkedSet}
 use Rattle.spec_loading.specs.LoaderAnswers.{bad_flags_error, no_module_error, bad_handle_error, no_symbol_error, bad_close_error, other_flags, not_closed}
 use Rattle.merge_start.specs.Words.{Starts}
 use Rattle.merge_start.proofs.Ranges.{closure_inside}

@@ -6,8 +6,8 @@ use Rattle.wasm_form.specs.declared.instr.Instr.{Instr, Plain, Index, Access}
 use Rattle.wasm_form.specs.declared.types.FuncType.{FuncType}
 use Rattle.wasm_form.specs.declared.runtime.LoaderCall.{LoaderCall}
 use Rattle.wasm_form.specs.declared.runtime.LoaderCall.TheVariants.{Dlopen, Dlsym, Dlclose, Dlerror}
-use Rattle.spec_execution.specs.Views.{loader_type}
-use Rattle.spec_linking.specs.LinkedSets.{LinkedSet}
+use Rattle.spec_loading.specs.spec_execution.Views.{loader_type}
+use Rattle.spec_loading.specs.spec_linking.LinkedSets.{LinkedSet}
 use Rattle.spec_loading.specs.LoaderAnswers.{bad_flags_error, other_flags}
 use Rattle.merge_match.specs.Parts.{nowhere, number_of}
 use Rattle.merge_start.specs.Words.{Starts, number}

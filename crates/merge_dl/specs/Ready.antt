@@ -5,12 +5,12 @@ use Rattle.wasm_form.specs.declared.module.Code.{Code}
 use Rattle.wasm_form.specs.declared.module.Module.{Module}
 use Rattle.wasm_form.specs.declared.runtime.LoaderCall.{LoaderCall}
 use Rattle.wasm_form.specs.declared.runtime.Ref.TheVariants.{Own, Loader}
-use Rattle.spec_binary.specs.Indices.{function_with, function_at}
-use Rattle.spec_execution.specs.Instances.{module_target}
-use Rattle.spec_execution.specs.Views.{loader_type}
-use Rattle.spec_linking.specs.Plans.{texts_size}
-use Rattle.spec_linking.specs.LinkedSets.{LinkedSet, wasm_of}
-use Rattle.spec_linking.specs.Slots.{linked_plan}
+use Rattle.spec_loading.specs.spec_binary.Indices.{function_with, function_at}
+use Rattle.spec_loading.specs.spec_execution.Instances.{module_target}
+use Rattle.spec_loading.specs.spec_execution.Views.{loader_type}
+use Rattle.spec_loading.specs.spec_linking.Plans.{texts_size}
+use Rattle.spec_loading.specs.spec_linking.LinkedSets.{LinkedSet, wasm_of}
+use Rattle.spec_loading.specs.spec_linking.Slots.{linked_plan}
 use Rattle.merge_match.specs.Renumbering.{Numbers}
 use Rattle.merge_start.specs.Words.{Starts}
 use Rattle.merge_start.specs.Started.{OpenReady}

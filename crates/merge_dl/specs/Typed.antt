@@ -6,12 +6,12 @@ use Rattle.wasm_form.specs.declared.types.FuncType.{FuncType}
 use Rattle.wasm_form.specs.declared.module.Code.{Code}
 use Rattle.wasm_form.specs.declared.module.Module.{Module}
 use Rattle.wasm_form.specs.declared.runtime.LoaderCall.{LoaderCall}
-use Rattle.spec_binary.specs.Indices.{declared_locals}
-use Rattle.spec_validation.specs.Context.{Context}
-use Rattle.spec_validation.specs.Typing.{height}
-use Rattle.spec_execution.specs.Views.{loader_type}
-use Rattle.spec_linking.specs.Gathering.{IsSet}
-use Rattle.spec_linking.specs.LinkedSets.{LinkedSet}
+use Rattle.spec_loading.specs.spec_binary.Indices.{declared_locals}
+use Rattle.spec_loading.specs.spec_validation.Context.{Context}
+use Rattle.spec_loading.specs.spec_validation.Typing.{height}
+use Rattle.spec_loading.specs.spec_execution.Views.{loader_type}
+use Rattle.spec_loading.specs.spec_linking.Gathering.{IsSet}
+use Rattle.spec_loading.specs.spec_linking.LinkedSets.{LinkedSet}
 use Rattle.merge_start.specs.Words.{Starts}
 use Rattle.merge_dl.specs.Words.{Finders, handle_type, unary_type, search_type, length_body, find_body, call_body}
 

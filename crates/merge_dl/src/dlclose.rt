@@ -1,8 +1,8 @@
 // `dlclose`.
 ghost use Rattle.std.specs.Prelude.{◌≡◌, ◌++◌, drop, map, IfOk, OnOk};
 ghost use Rattle.wasm_form.specs.declared.runtime.LoaderCall.TheVariants.{Dlclose};
-ghost use Rattle.spec_linking.specs.LinkedSets.{LinkedSet};
-ghost use Rattle.dyl_search.specs.Gathers.{member_of};
+ghost use Rattle.spec_loading.specs.spec_linking.LinkedSets.{LinkedSet};
+ghost use Rattle.dyl_link.specs.dyl_search.Gathers.{member_of};
 ghost use Rattle.dyl_link.specs.Kept.{IsLinked};
 ghost use Rattle.merge_start.specs.Words.{Starts};
 ghost use Rattle.merge_dl.specs.Words.{Finders, close_code, closes_code, close_call_code};
@@ -12,7 +12,7 @@ use crate::numbers::{DlNumbers, as_number, sum};
 use crate::parts::{part, unary_type};
 use crate::words::{fault, give, when, where_first};
 use dyl_link::Linked;
-use dyl_search::Member;
+use dyl_link::dyl_search::Member;
 use merge_start::Part;
 use std::alloc::Global;
 use wasm_form::{Instr, Memory};

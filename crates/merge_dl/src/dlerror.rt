@@ -1,7 +1,7 @@
 // `dlerror`.
 ghost use Rattle.std.specs.Prelude.{◌≡◌, ◌++◌, IfOk, OnOk};
 ghost use Rattle.wasm_form.specs.declared.runtime.LoaderCall.TheVariants.{Dlerror};
-ghost use Rattle.spec_linking.specs.LinkedSets.{LinkedSet};
+ghost use Rattle.spec_loading.specs.spec_linking.LinkedSets.{LinkedSet};
 ghost use Rattle.dyl_link.specs.Kept.{IsLinked};
 ghost use Rattle.merge_start.specs.Words.{Starts};
 ghost use Rattle.merge_dl.specs.Words.{Finders, error_call_code};

@@ -1,6 +1,6 @@
 // The functions of the loader.
 ghost use Rattle.std.specs.Prelude.{◌≡◌, IfOk};
-ghost use Rattle.spec_linking.specs.LinkedSets.{LinkedSet};
+ghost use Rattle.spec_loading.specs.spec_linking.LinkedSets.{LinkedSet};
 ghost use Rattle.dyl_link.specs.Kept.{IsLinked};
 ghost use Rattle.merge_start.specs.Words.{Starts};
 ghost use Rattle.merge_start.specs.Listed.{IsOfSet};

@@ -4,7 +4,7 @@ use Rattle.std.specs.Prelude.{bytes_eq, Result, Ok, Err, IfOk, OnOk}
 use Rattle.std.proofs.Math.Bool.{beq}
 use Rattle.std.specs.List.{list_any, position_from, position_or_len, prefix_len}
 use Rattle.indexmap.specs.IndexSet.{insert_key}
-use Rattle.spec_linking.specs.Slots.{same_cell}
+use Rattle.spec_loading.specs.spec_linking.Slots.{same_cell}
 use Rattle.merge_match.specs.Parts.{number_of}
 use Rattle.merge_index.specs.Globals.{CellKey, cell_named, cell_of_key, cells_in, with_cells, cell_number}
 use Rattle.merge_index.proofs.Cells.{same_itself}

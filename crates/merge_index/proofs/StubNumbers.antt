@@ -4,12 +4,12 @@ use Rattle.std.specs.List.{filter, range_with_len}
 use Rattle.std.proofs.lemmas.Bool.Decides.{nat_tests}
 use Rattle.std.proofs.lemmas.Option.{slice_get_within}
 use Rattle.wasm_form.specs.declared.runtime.Ref.TheVariants.{Own}
-use Rattle.spec_binary.specs.Options.{◌>>=◌}
-use Rattle.spec_binary.specs.Indices.{function_type}
-use Rattle.spec_binary.specs.IndexSpaces.{functions_in, imported_count}
-use Rattle.spec_linking.specs.Imports.{importing}
-use Rattle.spec_linking.specs.Sets.{Member}
-use Rattle.spec_linking.specs.LinkedSets.{LinkedSet, wasm_of, ref_with, function_ref}
+use Rattle.spec_loading.specs.spec_binary.Options.{◌>>=◌}
+use Rattle.spec_loading.specs.spec_binary.Indices.{function_type}
+use Rattle.spec_loading.specs.spec_binary.IndexSpaces.{functions_in, imported_count}
+use Rattle.spec_loading.specs.spec_linking.Imports.{importing}
+use Rattle.spec_loading.specs.spec_linking.Sets.{Member}
+use Rattle.spec_loading.specs.spec_linking.LinkedSets.{LinkedSet, wasm_of, ref_with, function_ref}
 use Rattle.spec_loading.specs.Members.{from_members}
 use Rattle.merge_index.specs.Numbering.{first_stub, first_phase, is_stub, stubs_below, stubs_of, stubs_before, stub_address}
 use Rattle.merge_index.proofs.Refs.{own_is_no_stub}

@@ -5,10 +5,10 @@ use Rattle.std.proofs.lemmas.Bool.Decides.{nat_tests}
 use Rattle.std.proofs.lemmas.List.{length-map}
 use Rattle.wasm_form.specs.declared.types.TableType.{TableType}
 use Rattle.wasm_form.specs.declared.module.Module.{Module}
-use Rattle.spec_binary.specs.Options.{◌>>=◌}
-use Rattle.spec_binary.specs.IndexSpaces.{imports_of, tables_in}
-use Rattle.spec_binary.proofs.Lists.{slice_get-append-left, slice_get-append-right}
-use Rattle.spec_linking.specs.Sets.{Member}
+use Rattle.spec_loading.specs.spec_binary.Options.{◌>>=◌}
+use Rattle.spec_loading.specs.spec_binary.IndexSpaces.{imports_of, tables_in}
+use Rattle.spec_loading.proofs.of_spec_binary.Lists.{slice_get-append-left, slice_get-append-right}
+use Rattle.spec_loading.specs.spec_linking.Sets.{Member}
 use Rattle.spec_loading.specs.Addresses.{sum_before, item_address, shared_table_address}
 use Rattle.merge_match.specs.Parts.{number_of}
 use Rattle.merge_index.specs.Kept.{number_at}

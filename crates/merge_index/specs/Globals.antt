@@ -4,10 +4,10 @@ use Rattle.std.specs.Borrow.{Bor}
 use Rattle.std.specs.List.{position_from, range_with_len}
 use Rattle.wasm_form.specs.declared.module.Import.{Import}
 use Rattle.wasm_form.specs.declared.module.Module.{Module}
-use Rattle.spec_binary.specs.IndexSpaces.{globals_in}
-use Rattle.spec_linking.specs.declared.fault.Kind.TheVariants as kind
-use Rattle.spec_linking.specs.Imports.{ImportUse, StackPointer, MemoryBase, TableBase, DataCell, SlotCell, use_of}
-use Rattle.spec_linking.specs.Slots.{CellName, same_cell, cell_of_import, first_cells}
+use Rattle.spec_loading.specs.spec_binary.IndexSpaces.{globals_in}
+use Rattle.spec_loading.specs.spec_linking.declared.fault.Kind.TheVariants as kind
+use Rattle.spec_loading.specs.spec_linking.Imports.{ImportUse, StackPointer, MemoryBase, TableBase, DataCell, SlotCell, use_of}
+use Rattle.spec_loading.specs.spec_linking.Slots.{CellName, same_cell, cell_of_import, first_cells}
 use Rattle.merge_match.specs.Parts.{nowhere, number_of}
 
 -- a cell by whether it is of a slot, and its name

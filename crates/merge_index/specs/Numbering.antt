@@ -8,8 +8,8 @@ use Rattle.wasm_form.specs.declared.runtime.LoaderCall.{LoaderCall}
 use Rattle.wasm_form.specs.declared.runtime.LoaderCall.TheVariants.{Dlopen, Dlsym, Dlclose, Dlerror}
 use Rattle.wasm_form.specs.declared.runtime.Ref.{Ref}
 use Rattle.wasm_form.specs.declared.runtime.Ref.TheVariants.{Own, Loader, Host, Stub}
-use Rattle.spec_binary.specs.IndexSpaces.{imported_count}
-use Rattle.spec_linking.specs.LinkedSets.{LinkedSet, hosts_of, function_ref}
+use Rattle.spec_loading.specs.spec_binary.IndexSpaces.{imported_count}
+use Rattle.spec_loading.specs.spec_linking.LinkedSets.{LinkedSet, hosts_of, function_ref}
 use Rattle.spec_loading.specs.declared.task.Phase.{Phase}
 use Rattle.spec_loading.specs.Phases.{stage_of}
 use Rattle.spec_loading.specs.Addresses.{sum_before, globals_size, global_address, table_address, elem_address, data_address}

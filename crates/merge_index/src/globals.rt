@@ -1,15 +1,15 @@
 // The numbers of globals.
 ghost use Rattle.std.specs.Prelude.{◌≡◌, ◌+◌, ◌++◌, ◌∷◌, [], length, map, IfOk, OnOk};
-ghost use Rattle.spec_binary.specs.IndexSpaces.{globals_in};
-ghost use Rattle.spec_linking.specs.Imports as imports;
-ghost use Rattle.spec_linking.specs.Slots.{cell_of_import};
+ghost use Rattle.spec_loading.specs.spec_binary.IndexSpaces.{globals_in};
+ghost use Rattle.spec_loading.specs.spec_linking.Imports as imports;
+ghost use Rattle.spec_loading.specs.spec_linking.Slots.{cell_of_import};
 ghost use Rattle.merge_index.specs.Lists.{module_of};
 ghost use Rattle.merge_index.specs.Globals.{cell_named, cells_in, with_cells, cell_number, global_as, globals_from, cells_from, global_list, globals_end, global_lists};
 
 use crate::lists::{end_of, put_range};
 use crate::numbers::NOWHERE;
-use dyl_imports::{Use, use_of};
-use dyl_search::Member;
+use dyl_link::dyl_imports::{Use, use_of};
+use dyl_link::dyl_search::Member;
 use indexmap::IndexSet;
 use std::alloc::Global;
 use wasm_form::{Import, ImportDesc, List, Memory, Module};

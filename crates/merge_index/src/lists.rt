@@ -1,10 +1,10 @@
 // Lists of numbers, member by member.
 ghost use Rattle.std.specs.Prelude.{◌≡◌, ◌≤◌, ◌+◌, ◌-◌, ◌++◌, map, length, IfOk, OnOk};
 ghost use Rattle.std.specs.List.{range_with_len};
-ghost use Rattle.spec_binary.specs.IndexSpaces.{imports_of, tables_in, functions_in, imported_count};
+ghost use Rattle.spec_loading.specs.spec_binary.IndexSpaces.{imports_of, tables_in, functions_in, imported_count};
 ghost use Rattle.merge_index.specs.Lists.{size_in, numbered, total, table_lists, shared_tables, module_of};
 
-use dyl_search::Member;
+use dyl_link::dyl_search::Member;
 use std::alloc::Global;
 use wasm_form::{Import, ImportDesc, List, Memory, Module};
 

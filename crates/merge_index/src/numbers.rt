@@ -1,6 +1,6 @@
 // Numbers of a linked set.
 ghost use Rattle.std.specs.Prelude.{◌≡◌, length, slice_get, IfOk};
-ghost use Rattle.spec_linking.specs.LinkedSets.{LinkedSet};
+ghost use Rattle.spec_loading.specs.spec_linking.LinkedSets.{LinkedSet};
 ghost use Rattle.dyl_link.specs.Kept.{IsLinked};
 ghost use Rattle.merge_index.specs.Numbering.{first_phase, loader_numbers, numbers_of};
 ghost use Rattle.merge_index.specs.Lists.{loader_where, kept_of};

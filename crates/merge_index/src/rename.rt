@@ -8,8 +8,9 @@ ghost use Rattle.merge_index.specs.Lists.{code_in};
 use crate::numbers::Numbers;
 use dyl_link::Linked;
 use std::alloc::Global;
-use wasm_form::{BlockType, Code, Expr, Instr, List, Memory};
-use wasm_opcode::{IndexForm, SecondForm, index_form, second_form};
+use wasm_form::{
+    BlockType, Code, Expr, IndexForm, Instr, List, Memory, SecondForm, index_form, second_form,
+};
 
 // The index of an instruction with one index.
 fn index(n: &Numbers, m: u32, form: Option<IndexForm>, k: u32) -> u32

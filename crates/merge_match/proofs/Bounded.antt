@@ -2,30 +2,30 @@
 use Rattle.std.proofs.Common.{◌≡◌, ℕ, ◌+◌, ◌*◌, ◌<◌, ◌≤◌, ◌^◌, List, [], ◌∷◌, ◌++◌, length, take, drop, replicate, reverse, nat_le, nat_lt, map, Option, Some, None, IfSome, Bool, true, false, if◌then◌else◌, refl, ◌∙◌, arith, IsTrue}
 use Rattle.std.proofs.lemmas.Bool.{and_parts, leb-true}
 use Rattle.std.proofs.lemmas.List.{length-append, length-replicate, length-take, length-drop}
-use Rattle.wasm_form.specs.declared.types.FuncType.{FuncType}
-use Rattle.wasm_form.specs.declared.runtime.Ref.{Ref}
-use Rattle.wasm_form.specs.declared.runtime.Ref.TheVariants.{Own, Loader, Host, Stub}
-use Rattle.wasm_form.specs.declared.runtime.Trap.{Trap}
-use Rattle.wasm_form.specs.declared.runtime.Trap.TheVariants as trap
-use Rattle.wasm_form.specs.declared.module.Module.{Module}
-use Rattle.wasm_runtime.specs.declared.Value.{Value}
-use Rattle.wasm_runtime.specs.declared.Write.{Write}
-use Rattle.spec_runs.specs.Systems.{only_if, Waits}
-use Rattle.spec_binary.specs.Options.{◌>>=◌}
-use Rattle.spec_binary.specs.SameTypes.{same_function_type}
-use Rattle.spec_runtime.specs.Memories.{MemoryInstance, page_size, zeros, overwritten, written, bytes_at, initialized, pages, grown}
-use Rattle.spec_runtime.specs.Tables.{TableInstance, entry_at, entries_written}
-use Rattle.spec_runtime.specs.Names.{HostName}
-use Rattle.spec_runtime.specs.Hosts.{numbers_fit, writes_fit, all_written}
-use Rattle.spec_execution.specs.Values.{take_values}
-use Rattle.spec_execution.specs.Activations.{Activation, Effect, GlobalGet, GlobalSet, TableGet, TableSet, TableSize, TableGrow, TableFill, TableCopy, TableInit, ElemDrop, Load, Store, MemorySize, MemoryGrow, MemoryCopy, MemoryFill, MemoryInit, DataDrop, Move, On, Calls, CallsEntry, Refers, Does, Leaves, Fails, Stuck, move}
-use Rattle.spec_execution.specs.Views.{View, type_of, Effected, performed, value_done, memory_done, memory_grown, table_done, table_grown}
-use Rattle.spec_execution.specs.Views as effects
-use Rattle.spec_execution.specs.Segments.{Performed, followed_by, all_performed, segment_effects}
-use Rattle.spec_execution.specs.Runs.{Frame, Caller, Next, Goes, Asks, Loads, Ends, Traps, call, calling, call_entry, left_with, effected_with, carried_out, stands, became}
-use Rattle.spec_execution.specs.Runs as frames
-use Rattle.spec_linking.specs.LinkedSets.{LinkedSet, wasm_of}
-use Rattle.spec_linking.specs.Slots.{member_number}
+use Rattle.spec_loading.specs.wasm_form.declared.types.FuncType.{FuncType}
+use Rattle.spec_loading.specs.wasm_form.declared.runtime.Ref.{Ref}
+use Rattle.spec_loading.specs.wasm_form.declared.runtime.Ref.TheVariants.{Own, Loader, Host, Stub}
+use Rattle.spec_loading.specs.wasm_form.declared.runtime.Trap.{Trap}
+use Rattle.spec_loading.specs.wasm_form.declared.runtime.Trap.TheVariants as trap
+use Rattle.spec_loading.specs.wasm_form.declared.module.Module.{Module}
+use Rattle.spec_loading.specs.wasm_form.declared.runtime.Value.{Value}
+use Rattle.spec_loading.specs.wasm_form.declared.runtime.Write.{Write}
+use Rattle.spec_loading.specs.spec_runs.Systems.{only_if, Waits}
+use Rattle.spec_loading.specs.spec_binary.Options.{◌>>=◌}
+use Rattle.spec_loading.specs.spec_binary.SameTypes.{same_function_type}
+use Rattle.spec_loading.specs.spec_runtime.Memories.{MemoryInstance, page_size, zeros, overwritten, written, bytes_at, initialized, pages, grown}
+use Rattle.spec_loading.specs.spec_runtime.Tables.{TableInstance, entry_at, entries_written}
+use Rattle.spec_loading.specs.spec_runtime.Names.{HostName}
+use Rattle.spec_loading.specs.spec_runtime.Hosts.{numbers_fit, writes_fit, all_written}
+use Rattle.spec_loading.specs.spec_execution.Values.{take_values}
+use Rattle.spec_loading.specs.spec_execution.Activations.{Activation, Effect, GlobalGet, GlobalSet, TableGet, TableSet, TableSize, TableGrow, TableFill, TableCopy, TableInit, ElemDrop, Load, Store, MemorySize, MemoryGrow, MemoryCopy, MemoryFill, MemoryInit, DataDrop, Move, On, Calls, CallsEntry, Refers, Does, Leaves, Fails, Stuck, move}
+use Rattle.spec_loading.specs.spec_execution.Views.{View, type_of, Effected, performed, value_done, memory_done, memory_grown, table_done, table_grown}
+use Rattle.spec_loading.specs.spec_execution.Views as effects
+use Rattle.spec_loading.specs.spec_execution.Segments.{Performed, followed_by, all_performed, segment_effects}
+use Rattle.spec_loading.specs.spec_execution.Runs.{Frame, Caller, Next, Goes, Asks, Loads, Ends, Traps, call, calling, call_entry, left_with, effected_with, carried_out, stands, became}
+use Rattle.spec_loading.specs.spec_execution.Runs as frames
+use Rattle.spec_loading.specs.spec_linking.LinkedSets.{LinkedSet, wasm_of}
+use Rattle.spec_loading.specs.spec_linking.Slots.{member_number}
 use Rattle.spec_loading.specs.declared.task.Phase.{Phase}
 use Rattle.spec_loading.specs.declared.task.Phase.TheVariants.{Place, Start, Relocate, Construct}
 use Rattle.spec_loading.specs.declared.task.Task.{Task}

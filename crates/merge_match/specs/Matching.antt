@@ -1,22 +1,22 @@
 -- When a state of a loaded run and one of a run over one unit match, under a renumbering.
 use Rattle.std.specs.Prelude.{◌≡◌, ℕ, List, [], ◌∷◌, Option, Some, None, length, IsTrue}
-use Rattle.wasm_form.specs.declared.runtime.LoaderCall.{LoaderCall}
-use Rattle.wasm_form.specs.declared.runtime.Ref.TheVariants.{Loader}
-use Rattle.wasm_form.specs.declared.runtime.Trap.{Trap}
-use Rattle.wasm_runtime.specs.declared.Value.{Value}
-use Rattle.wasm_runtime.specs.declared.Answer.{Answer}
-use Rattle.wasm_runtime.specs.declared.Answer.TheVariants.{Reply}
-use Rattle.wasm_runtime.specs.declared.Write.{Write}
-use Rattle.spec_runs.specs.Systems.{Status, Moving, Waits, Returned, Exited, Trapped, System}
-use Rattle.spec_runs.specs.Agreement.{Silent}
-use Rattle.spec_binary.specs.Options.{◌>>=◌}
-use Rattle.spec_runtime.specs.Memories.{MemoryInstance}
-use Rattle.spec_runtime.specs.Names.{HostName}
-use Rattle.spec_runtime.specs.Hosts.{HostCall, answer_fits, all_written, hosts}
-use Rattle.spec_execution.specs.Activations.{Activation, move}
-use Rattle.spec_execution.specs.Views.{View}
-use Rattle.spec_execution.specs.Runs.{Frame, Next, State, carried_out, call, calling, left_with, became, taken}
-use Rattle.spec_execution.specs.Runs as frames
+use Rattle.spec_loading.specs.wasm_form.declared.runtime.LoaderCall.{LoaderCall}
+use Rattle.spec_loading.specs.wasm_form.declared.runtime.Ref.TheVariants.{Loader}
+use Rattle.spec_loading.specs.wasm_form.declared.runtime.Trap.{Trap}
+use Rattle.spec_loading.specs.wasm_form.declared.runtime.Value.{Value}
+use Rattle.spec_loading.specs.wasm_form.declared.runtime.Answer.{Answer}
+use Rattle.spec_loading.specs.wasm_form.declared.runtime.Answer.TheVariants.{Reply}
+use Rattle.spec_loading.specs.wasm_form.declared.runtime.Write.{Write}
+use Rattle.spec_loading.specs.spec_runs.Systems.{Status, Moving, Waits, Returned, Exited, Trapped, System}
+use Rattle.spec_loading.specs.spec_runs.Agreement.{Silent}
+use Rattle.spec_loading.specs.spec_binary.Options.{◌>>=◌}
+use Rattle.spec_loading.specs.spec_runtime.Memories.{MemoryInstance}
+use Rattle.spec_loading.specs.spec_runtime.Names.{HostName}
+use Rattle.spec_loading.specs.spec_runtime.Hosts.{HostCall, answer_fits, all_written, hosts}
+use Rattle.spec_loading.specs.spec_execution.Activations.{Activation, move}
+use Rattle.spec_loading.specs.spec_execution.Views.{View}
+use Rattle.spec_loading.specs.spec_execution.Runs.{Frame, Next, State, carried_out, call, calling, left_with, became, taken}
+use Rattle.spec_loading.specs.spec_execution.Runs as frames
 use Rattle.spec_loading.specs.Phases.{LoaderFrame}
 use Rattle.spec_loading.specs.declared.task.After.{After}
 use Rattle.spec_loading.specs.declared.task.After.TheVariants.{CallEntry, GiveHandle}

@@ -1,10 +1,10 @@
 -- The run of the merged module agrees with that of the loaded set.
 use Rattle.std.proofs.Common.{◌≡◌, ◌≤◌, Bool, true, false, refl, arith}
-use Rattle.spec_runs.specs.Agreement.{Agree}
-use Rattle.spec_execution.specs.OneModule.{module_system, opened_state}
-use Rattle.spec_linking.specs.LinkedSets.{LinkedSet}
-use Rattle.spec_linking.specs.Slots.{linked_plan}
-use Rattle.spec_linking.proofs.LinkedFacts.{linked_limits}
+use Rattle.spec_loading.specs.spec_runs.Agreement.{Agree}
+use Rattle.spec_loading.specs.spec_execution.OneModule.{module_system, opened_state}
+use Rattle.spec_loading.specs.spec_linking.LinkedSets.{LinkedSet}
+use Rattle.spec_loading.specs.spec_linking.Slots.{linked_plan}
+use Rattle.spec_loading.proofs.of_spec_linking.LinkedFacts.{linked_limits}
 use Rattle.spec_loading.specs.Members.{uses_loader}
 use Rattle.spec_loading.specs.LoadedSet.{opening_memory, set_system, set_opening}
 use Rattle.merge_match.specs.Bounded.{IsBounded}

@@ -3,12 +3,12 @@ use Rattle.std.proofs.Common.{◌≡◌, ℕ, ◌+◌, ◌*◌, ◌≤◌, List,
 use Rattle.std.specs.List.{All}
 use Rattle.std.proofs.lemmas.List.{length-map}
 use Rattle.std.proofs.lemmas.List.Elements.{All-nil, All-cons, All-head, All-tail}
-use Rattle.wasm_form.specs.declared.module.Module.{Module}
-use Rattle.spec_runtime.specs.Names.{HostName}
-use Rattle.spec_linking.specs.Sets.{Member}
-use Rattle.spec_linking.specs.Gathering.{total_size, IsMember}
-use Rattle.spec_linking.specs.LinkedSets.{LinkedSet, hosts_of}
-use Rattle.spec_linking.specs.Slots.{linked_plan, fresh_from, fresh_functions, outside_slots}
+use Rattle.spec_reading.specs.wasm_form.declared.module.Module.{Module}
+use Rattle.spec_loading.specs.spec_runtime.Names.{HostName}
+use Rattle.spec_loading.specs.spec_linking.Sets.{Member}
+use Rattle.spec_loading.specs.spec_linking.Gathering.{total_size, IsMember}
+use Rattle.spec_loading.specs.spec_linking.LinkedSets.{LinkedSet, hosts_of}
+use Rattle.spec_loading.specs.spec_linking.Slots.{linked_plan, fresh_from, fresh_functions, outside_slots}
 use Rattle.spec_loading.specs.Members.{from_members}
 use Rattle.spec_loading.specs.LoadedSet.{own_functions}
 use Rattle.spec_loading.proofs.Rows.{texts_length}

@@ -5,41 +5,41 @@ use Rattle.std.specs.List.{position_from}
 use Rattle.std.proofs.lemmas.Bool.{and_parts, ltb-true, ltb-false, lt-ltb}
 use Rattle.std.proofs.lemmas.List.{length-map}
 use Rattle.std.proofs.lemmas.Option.{slice_get-map, slice_get_within, slice_get_past}
-use Rattle.wasm_form.specs.declared.types.ValType.TheVariants.{I32, FuncRef}
-use Rattle.wasm_form.specs.declared.types.FuncType.{FuncType}
-use Rattle.wasm_form.specs.declared.types.GlobalType.{GlobalType}
-use Rattle.wasm_form.specs.declared.types.TableType.{TableType}
-use Rattle.wasm_form.specs.declared.module.ImportDesc.TheVariants as imported
-use Rattle.wasm_form.specs.declared.module.Import.{Import}
-use Rattle.wasm_form.specs.declared.module.GlobalDef.{GlobalDef}
-use Rattle.wasm_form.specs.declared.module.Elem.{Elem}
-use Rattle.wasm_form.specs.declared.module.Module.{Module}
-use Rattle.wasm_form.specs.declared.runtime.Ref.{Ref}
-use Rattle.wasm_form.specs.declared.runtime.Ref.TheVariants.{Own, Loader, Host, Stub}
-use Rattle.spec_binary.specs.Options.{◌>>=◌}
-use Rattle.spec_binary.specs.SameTypes.{same_type}
-use Rattle.spec_binary.specs.Indices.{Function, function_type, function_with}
-use Rattle.spec_binary.specs.IndexSpaces.{imports_of, globals_in, tables_in, type_of_global, global_space, table_space}
-use Rattle.spec_binary.proofs.Lists.{slice_get-append-left, slice_get-append-right}
-use Rattle.spec_runtime.specs.Names.{HostName}
-use Rattle.spec_validation.specs.Faults.{elem_of_table, item_type, type_of_elem}
-use Rattle.spec_runs.specs.Systems.{only_if}
-use Rattle.spec_execution.specs.Views.{View, loader_type, type_of}
-use Rattle.spec_execution.specs.Instances.{global_value, segment_items}
-use Rattle.spec_execution.specs.Segments.{opened_items}
-use Rattle.spec_execution.specs.OneModule.{opened_parts}
-use Rattle.wasm_form.specs.declared.module.ElemItems.{ElemItems}
-use Rattle.wasm_form.specs.declared.module.ElemItems.TheVariants as elem_items
-use Rattle.spec_linking.specs.declared.fault.Kind.TheVariants as kind
-use Rattle.spec_linking.specs.declared.fault.LinkFault.TheVariants.{IllTyped}
-use Rattle.spec_linking.specs.Sets.{Member}
-use Rattle.spec_linking.specs.Imports.{ImportUse, SharedMemory, SharedTable, StackPointer, MemoryBase, TableBase, DataCell, SlotCell, EnvFunction, ModuleFunction, OtherUse, use_of, importing, is_i32_global}
-use Rattle.spec_linking.specs.LinkedSets.{LinkedSet, wasm_of, definition, hosts_of, set_hosts, function_ref}
-use Rattle.spec_linking.specs.Slots.{linked_plan, memory_base, table_base, is_shared_table, CellName, same_cell, cells_of, cell_value}
-use Rattle.spec_linking.specs.Links.{unless, data_cell_fault, slot_cell_fault, fault_as}
-use Rattle.spec_linking.proofs.Importing.{importing_length}
-use Rattle.spec_linking.proofs.LinkedFacts.{holds_so, or_none, linked_member}
-use Rattle.spec_safety.proofs.Lookups.{went_on, got}
+use Rattle.spec_reading.specs.wasm_form.declared.types.ValType.TheVariants.{I32, FuncRef}
+use Rattle.spec_reading.specs.wasm_form.declared.types.FuncType.{FuncType}
+use Rattle.spec_reading.specs.wasm_form.declared.types.GlobalType.{GlobalType}
+use Rattle.spec_reading.specs.wasm_form.declared.types.TableType.{TableType}
+use Rattle.spec_reading.specs.wasm_form.declared.module.ImportDesc.TheVariants as imported
+use Rattle.spec_reading.specs.wasm_form.declared.module.Import.{Import}
+use Rattle.spec_reading.specs.wasm_form.declared.module.GlobalDef.{GlobalDef}
+use Rattle.spec_reading.specs.wasm_form.declared.module.Elem.{Elem}
+use Rattle.spec_reading.specs.wasm_form.declared.module.Module.{Module}
+use Rattle.spec_reading.specs.wasm_form.declared.runtime.Ref.{Ref}
+use Rattle.spec_reading.specs.wasm_form.declared.runtime.Ref.TheVariants.{Own, Loader, Host, Stub}
+use Rattle.spec_reading.specs.spec_binary.Options.{◌>>=◌}
+use Rattle.spec_reading.specs.spec_binary.SameTypes.{same_type}
+use Rattle.spec_reading.specs.spec_binary.Indices.{Function, function_type, function_with}
+use Rattle.spec_reading.specs.spec_binary.IndexSpaces.{imports_of, globals_in, tables_in, type_of_global, global_space, table_space}
+use Rattle.spec_reading.proofs.of_spec_binary.Lists.{slice_get-append-left, slice_get-append-right}
+use Rattle.spec_loading.specs.spec_runtime.Names.{HostName}
+use Rattle.spec_loading.specs.spec_validation.Faults.{elem_of_table, item_type, type_of_elem}
+use Rattle.spec_loading.specs.spec_runs.Systems.{only_if}
+use Rattle.spec_loading.specs.spec_execution.Views.{View, loader_type, type_of}
+use Rattle.spec_loading.specs.spec_execution.Instances.{global_value, segment_items}
+use Rattle.spec_loading.specs.spec_execution.Segments.{opened_items}
+use Rattle.spec_loading.specs.spec_execution.OneModule.{opened_parts}
+use Rattle.spec_reading.specs.wasm_form.declared.module.ElemItems.{ElemItems}
+use Rattle.spec_reading.specs.wasm_form.declared.module.ElemItems.TheVariants as elem_items
+use Rattle.spec_loading.specs.spec_linking.declared.fault.Kind.TheVariants as kind
+use Rattle.spec_loading.specs.spec_linking.declared.fault.LinkFault.TheVariants.{IllTyped}
+use Rattle.spec_loading.specs.spec_linking.Sets.{Member}
+use Rattle.spec_loading.specs.spec_linking.Imports.{ImportUse, SharedMemory, SharedTable, StackPointer, MemoryBase, TableBase, DataCell, SlotCell, EnvFunction, ModuleFunction, OtherUse, use_of, importing, is_i32_global}
+use Rattle.spec_loading.specs.spec_linking.LinkedSets.{LinkedSet, wasm_of, definition, hosts_of, set_hosts, function_ref}
+use Rattle.spec_loading.specs.spec_linking.Slots.{linked_plan, memory_base, table_base, is_shared_table, CellName, same_cell, cells_of, cell_value}
+use Rattle.spec_loading.specs.spec_linking.Links.{unless, data_cell_fault, slot_cell_fault, fault_as}
+use Rattle.spec_loading.proofs.of_spec_linking.Importing.{importing_length}
+use Rattle.spec_loading.proofs.of_spec_linking.LinkedFacts.{holds_so, or_none, linked_member}
+use Rattle.spec_loading.proofs.of_spec_safety.Lookups.{went_on, got}
 use Rattle.spec_loading.specs.Addresses.{sum_before, item_address, globals_size, memory_base_address, table_base_address, cell_address, own_global_address, import_address, address_with, global_address, imported_tables, own_table_address, table_address}
 use Rattle.spec_loading.specs.Members.{Store, uses_loader, counts_of, set_view, from_members, opening_store}
 use Rattle.merge_match.specs.Renumbering.{Numbers, function}

@@ -3,16 +3,16 @@ use Rattle.std.proofs.Common.{◌≡◌, ℕ, ◌^◌, ◌<◌, [], ◌∷◌, S
 use Rattle.std.specs.Int.{w32, w64}
 use Rattle.std.proofs.lemmas.Int.{of_z-to_z}
 use denote.Hole.Carrier.{out}
-use Rattle.wasm_form.specs.declared.types.ValType.{ValType}
-use Rattle.wasm_form.specs.declared.types.ValType.TheVariants.{I32, I64, F32, F64, FuncRef, ExternRef}
-use Rattle.wasm_form.specs.declared.instr.Instr.{out-Instr}
-use Rattle.wasm_form.specs.declared.module.Module.{Module}
-use Rattle.wasm_form.specs.declared.runtime.Ref.{Ref}
-use Rattle.wasm_runtime.specs.declared.Value.{Value}
-use Rattle.wasm_runtime.specs.declared.Value.TheVariants.{Num, Func}
-use Rattle.spec_runtime.specs.Constants.{constant_in, no_globals}
-use Rattle.spec_execution.specs.Instances.{module_target, constant_offset}
-use Rattle.spec_linking.specs.LinkedSets.{LinkedSet}
+use Rattle.spec_reading.specs.wasm_form.declared.types.ValType.{ValType}
+use Rattle.spec_reading.specs.wasm_form.declared.types.ValType.TheVariants.{I32, I64, F32, F64, FuncRef, ExternRef}
+use Rattle.spec_reading.specs.wasm_form.declared.instr.Instr.{out-Instr}
+use Rattle.spec_reading.specs.wasm_form.declared.module.Module.{Module}
+use Rattle.spec_reading.specs.wasm_form.declared.runtime.Ref.{Ref}
+use Rattle.spec_reading.specs.wasm_form.declared.runtime.Value.{Value}
+use Rattle.spec_reading.specs.wasm_form.declared.runtime.Value.TheVariants.{Num, Func}
+use Rattle.spec_loading.specs.spec_runtime.Constants.{constant_in, no_globals}
+use Rattle.spec_loading.specs.spec_execution.Instances.{module_target, constant_offset}
+use Rattle.spec_loading.specs.spec_linking.LinkedSets.{LinkedSet}
 use Rattle.merge_match.specs.Renumbering.{Numbers, reference, value}
 use Rattle.merge_start.specs.Words.{number}
 use Rattle.merge_module.specs.MergedModule.{number_expr, constant_instr}

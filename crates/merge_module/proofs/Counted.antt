@@ -2,19 +2,19 @@
 use Rattle.std.proofs.Common.{◌≡◌, ℕ, suc, ◌+◌, ◌≤◌, Bool, true, false, List, [], ◌∷◌, ◌++◌, length, slice_get, Option, Some, None, refl, arith, length-append, if◌then◌else◌}
 use Rattle.std.specs.List.{All, flat_map, list_any}
 use Rattle.std.proofs.lemmas.List.Elements.{All-head, All-tail}
-use Rattle.wasm_form.specs.declared.types.FuncType.{FuncType}
-use Rattle.wasm_form.specs.declared.module.ImportDesc.{ImportDesc}
-use Rattle.wasm_form.specs.declared.module.ImportDesc.TheVariants as imported
-use Rattle.wasm_form.specs.declared.module.Import.{Import}
-use Rattle.wasm_form.specs.declared.module.Module.{Module}
-use Rattle.spec_binary.specs.IndexSpaces.{imports_of, functions_in, imported_count}
-use Rattle.spec_runtime.specs.Names.{HostName, host_typed}
-use Rattle.spec_linking.specs.Sets.{Member}
-use Rattle.spec_linking.specs.Gathering.{total_size, IsMember, IsSet}
-use Rattle.spec_linking.specs.declared.fault.Kind.TheVariants as kind
-use Rattle.spec_linking.specs.Definitions.{Definition, HostFunction, env_name}
-use Rattle.spec_linking.specs.Imports.{ImportUse, SlotCell, EnvFunction, ModuleFunction, use_of}
-use Rattle.spec_linking.specs.LinkedSets.{LinkedSet, definition, is_declared, host_named, where_declared, host_defined, host_as, host_of_import, hosts_from, is_same_name, first_names, hosts_of, function_ref}
+use Rattle.spec_reading.specs.wasm_form.declared.types.FuncType.{FuncType}
+use Rattle.spec_reading.specs.wasm_form.declared.module.ImportDesc.{ImportDesc}
+use Rattle.spec_reading.specs.wasm_form.declared.module.ImportDesc.TheVariants as imported
+use Rattle.spec_reading.specs.wasm_form.declared.module.Import.{Import}
+use Rattle.spec_reading.specs.wasm_form.declared.module.Module.{Module}
+use Rattle.spec_reading.specs.spec_binary.IndexSpaces.{imports_of, functions_in, imported_count}
+use Rattle.spec_loading.specs.spec_runtime.Names.{HostName, host_typed}
+use Rattle.spec_loading.specs.spec_linking.Sets.{Member}
+use Rattle.spec_loading.specs.spec_linking.Gathering.{total_size, IsMember, IsSet}
+use Rattle.spec_loading.specs.spec_linking.declared.fault.Kind.TheVariants as kind
+use Rattle.spec_loading.specs.spec_linking.Definitions.{Definition, HostFunction, env_name}
+use Rattle.spec_loading.specs.spec_linking.Imports.{ImportUse, SlotCell, EnvFunction, ModuleFunction, use_of}
+use Rattle.spec_loading.specs.spec_linking.LinkedSets.{LinkedSet, definition, is_declared, host_named, where_declared, host_defined, host_as, host_of_import, hosts_from, is_same_name, first_names, hosts_of, function_ref}
 use Rattle.spec_loading.specs.Addresses.{sum_before}
 use Rattle.spec_loading.specs.Members.{from_members}
 use Rattle.merge_index.specs.Numbering.{is_stub, stubs_of}

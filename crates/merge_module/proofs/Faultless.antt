@@ -5,18 +5,18 @@ use Rattle.std.specs.List.{All, list_all}
 use Rattle.std.proofs.lemmas.Bool.{and_parts, and_from}
 use Rattle.std.proofs.lemmas.List.{length-append}
 use Rattle.std.proofs.lemmas.List.Elements.{All-nil, All-cons, All-head, All-tail, All-append}
-use Rattle.wasm_form.specs.declared.types.TableType.{TableType}
-use Rattle.wasm_form.specs.declared.module.Import.{Import}
-use Rattle.wasm_form.specs.declared.module.GlobalDef.{GlobalDef}
-use Rattle.wasm_form.specs.declared.module.Elem.{Elem}
-use Rattle.wasm_form.specs.declared.module.Code.{Code}
-use Rattle.wasm_form.specs.declared.module.Module.{Module}
-use Rattle.spec_binary.specs.IndexSpaces.{memory_space}
-use Rattle.spec_validation.specs.declared.fault.Place.TheVariants as place
-use Rattle.spec_validation.specs.declared.fault.CheckFault.{CheckFault}
-use Rattle.spec_validation.specs.declared.fault.CheckFault.TheVariants.{UnsupportedType}
-use Rattle.spec_validation.specs.Faults.{Finding, ◌or_else◌, first_in, unless, is_supported, type_supported, desc_supported, import_supported, function_supported, table_supported, global_supported, item_type, elem_supported, body_supported, is_type, import_fits, table_bounded, memory_bounded, global_fits, names_distinct, export_fits, start_fits, elem_fits, data_fits, body_typed, support_fault, module_fault, fault}
-use Rattle.spec_linking.specs.Sets.{Member}
+use Rattle.spec_reading.specs.wasm_form.declared.types.TableType.{TableType}
+use Rattle.spec_reading.specs.wasm_form.declared.module.Import.{Import}
+use Rattle.spec_reading.specs.wasm_form.declared.module.GlobalDef.{GlobalDef}
+use Rattle.spec_reading.specs.wasm_form.declared.module.Elem.{Elem}
+use Rattle.spec_reading.specs.wasm_form.declared.module.Code.{Code}
+use Rattle.spec_reading.specs.wasm_form.declared.module.Module.{Module}
+use Rattle.spec_reading.specs.spec_binary.IndexSpaces.{memory_space}
+use Rattle.spec_loading.specs.spec_validation.declared.fault.Place.TheVariants as place
+use Rattle.spec_loading.specs.spec_validation.declared.fault.CheckFault.{CheckFault}
+use Rattle.spec_loading.specs.spec_validation.declared.fault.CheckFault.TheVariants.{UnsupportedType}
+use Rattle.spec_loading.specs.spec_validation.Faults.{Finding, ◌or_else◌, first_in, unless, is_supported, type_supported, desc_supported, import_supported, function_supported, table_supported, global_supported, item_type, elem_supported, body_supported, is_type, import_fits, table_bounded, memory_bounded, global_fits, names_distinct, export_fits, start_fits, elem_fits, data_fits, body_typed, support_fault, module_fault, fault}
+use Rattle.spec_loading.specs.spec_linking.Sets.{Member}
 use Rattle.spec_loading.specs.Members.{from_members}
 
 -- ---- findings

@@ -4,31 +4,31 @@ use Rattle.std.specs.Prelude.{unwrap_or, codes}
 use Rattle.std.specs.List.{All, flat_map}
 use Rattle.std.proofs.lemmas.List.{length-map}
 use Rattle.std.proofs.lemmas.Option.{slice_get_within}
-use Rattle.spec_execution.specs.Instances.{global_value, segment_items}
-use Rattle.spec_execution.specs.Segments.{opened_items}
+use Rattle.spec_loading.specs.spec_execution.Instances.{global_value, segment_items}
+use Rattle.spec_loading.specs.spec_execution.Segments.{opened_items}
 use Rattle.merge_module.proofs.Applied.{outside_number}
 use Rattle.merge_match.proofs.Lists.{length-slice_set}
-use Rattle.spec_binary.proofs.Lists.{holds_at}
+use Rattle.spec_reading.proofs.of_spec_binary.Lists.{holds_at}
 use Rattle.std.proofs.lemmas.List.Elements.{All-nil, All-cons, All-head, All-tail, All-append}
-use Rattle.wasm_form.specs.declared.module.Import.{Import}
-use Rattle.wasm_form.specs.declared.module.ImportDesc.TheVariants as imported
-use Rattle.wasm_form.specs.declared.module.GlobalDef.{GlobalDef}
-use Rattle.wasm_form.specs.declared.module.Export.{Export}
-use Rattle.wasm_form.specs.declared.module.ExportDesc.TheVariants as exported
-use Rattle.wasm_form.specs.declared.module.ExportDesc.{ExportDesc}
-use Rattle.wasm_form.specs.declared.module.Module.{Module}
-use Rattle.spec_binary.specs.Indices.{nullary}
-use Rattle.spec_binary.specs.IndexSpaces.{function_space}
-use Rattle.spec_binary.specs.WellFormed.{IsFormedType, IsFormedTable, IsFormedImport, IsFormedGlobal, IsFormedExport, IsFormedElem, IsFormedCode, IsFormedData, IsWellFormed}
-use Rattle.spec_binary.specs.WellFormed as formed
-use Rattle.spec_runtime.specs.Names.{HostName}
-use Rattle.spec_linking.specs.Sets.{Member}
-use Rattle.spec_linking.specs.LinkedSets.{LinkedSet, hosts_of}
-use Rattle.spec_linking.specs.Slots.{linked_plan, memory_base, table_base, cells_of, cell_value, fresh_functions, outside_slots, table_entries}
+use Rattle.spec_reading.specs.wasm_form.declared.module.Import.{Import}
+use Rattle.spec_reading.specs.wasm_form.declared.module.ImportDesc.TheVariants as imported
+use Rattle.spec_reading.specs.wasm_form.declared.module.GlobalDef.{GlobalDef}
+use Rattle.spec_reading.specs.wasm_form.declared.module.Export.{Export}
+use Rattle.spec_reading.specs.wasm_form.declared.module.ExportDesc.TheVariants as exported
+use Rattle.spec_reading.specs.wasm_form.declared.module.ExportDesc.{ExportDesc}
+use Rattle.spec_reading.specs.wasm_form.declared.module.Module.{Module}
+use Rattle.spec_reading.specs.spec_binary.Indices.{nullary}
+use Rattle.spec_reading.specs.spec_binary.IndexSpaces.{function_space}
+use Rattle.spec_reading.specs.spec_binary.WellFormed.{IsFormedType, IsFormedTable, IsFormedImport, IsFormedGlobal, IsFormedExport, IsFormedElem, IsFormedCode, IsFormedData, IsWellFormed}
+use Rattle.spec_reading.specs.spec_binary.WellFormed as formed
+use Rattle.spec_loading.specs.spec_runtime.Names.{HostName}
+use Rattle.spec_loading.specs.spec_linking.Sets.{Member}
+use Rattle.spec_loading.specs.spec_linking.LinkedSets.{LinkedSet, hosts_of}
+use Rattle.spec_loading.specs.spec_linking.Slots.{linked_plan, memory_base, table_base, cells_of, cell_value, fresh_functions, outside_slots, table_entries}
 use Rattle.spec_loading.specs.Members.{from_members, opened_global}
 use Rattle.spec_loading.specs.LoadedSet.{own_functions}
 use Rattle.spec_loading.proofs.Rows.{texts_length}
-use Rattle.spec_execution.specs.OneModule.{opened_parts}
+use Rattle.spec_loading.specs.spec_execution.OneModule.{opened_parts}
 use Rattle.merge_match.specs.Renumbering.{Numbers}
 use Rattle.merge_match.specs.Joined.{renumbered_code}
 use Rattle.merge_start.specs.Words.{Starts}
@@ -39,7 +39,7 @@ use Rattle.merge_module.specs.Laws.{IsWritable, IsFunction, HasShape}
 use Rattle.merge_module.proofs.Known.{IsKnown}
 use Rattle.merge_module.proofs.WithLoader.{with_all}
 use Rattle.merge_module.proofs.SetMembers.{member_formed}
-use Rattle.spec_linking.specs.Gathering.{IsMember, IsSet}
+use Rattle.spec_loading.specs.spec_linking.Gathering.{IsMember, IsSet}
 use Rattle.merge_module.proofs.Counted.{few_bytes, few_of, few_hosts}
 use Rattle.merge_module.proofs.StubLists.{lengths_same}
 use Rattle.merge_module.proofs.MergedSpaces.{first_host_type, few_types, few_funcs, few_codes, own_funcs, own_codes, generated_codes, generated_codes_many}

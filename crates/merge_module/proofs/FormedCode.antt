@@ -1,13 +1,13 @@
 -- Renumbered code has the forms of the binary format where the code has them, and as many blocks nested.
 use Rattle.std.proofs.Common.{◌≡◌, ℕ, suc, max, Bool, true, false, ◌&&◌, nat_eq, List, [], ◌∷◌, map, Some, None, refl, sym, ap, ap₂, ◌∙◌, subst}
 use Rattle.std.proofs.lemmas.Bool.{and_parts, and_from, eqb-true}
-use Rattle.wasm_form.specs.declared.instr.Instr.{Instr, roll-Instr, map-Instr, ind-Instr}
-use Rattle.wasm_form.specs.declared.instr.Instr.TheOpen as Open
-use Rattle.wasm_form.specs.declared.instr.Expr.{Expr}
-use Rattle.wasm_opcode.specs.Second.{second_form}
-use Rattle.wasm_form.proofs.Levels.{with_inside, fold_rolled}
-use Rattle.spec_binary.specs.Trees.{greatest, nesting_here, nesting_inside, nesting, nesting_all, all_true, Test, every_here, every_inside, every, every_of}
-use Rattle.spec_binary.specs.WellFormed.{has_form}
+use Rattle.spec_reading.specs.wasm_form.declared.instr.Instr.{Instr, roll-Instr, map-Instr, ind-Instr}
+use Rattle.spec_reading.specs.wasm_form.declared.instr.Instr.TheOpen as Open
+use Rattle.spec_reading.specs.wasm_form.declared.instr.Expr.{Expr}
+use Rattle.spec_reading.specs.wasm_form.Second.{second_form}
+use Rattle.spec_reading.proofs.of_wasm_form.Levels.{with_inside, fold_rolled}
+use Rattle.spec_reading.specs.spec_binary.Trees.{greatest, nesting_here, nesting_inside, nesting, nesting_all, all_true, Test, every_here, every_inside, every, every_of}
+use Rattle.spec_reading.specs.spec_binary.WellFormed.{has_form}
 use Rattle.merge_match.specs.Renumbering.{Numbers, first_in, second_in, renumbered, instr, code}
 use Rattle.merge_match.proofs.OneLevel.{inside as with_numbers, instr_rolled}
 

@@ -4,17 +4,17 @@ use Rattle.std.specs.List.{All}
 use Rattle.std.proofs.lemmas.Bool.{and_from}
 use Rattle.std.proofs.lemmas.List.{length-map}
 use Rattle.std.proofs.lemmas.List.Elements.{All-nil, All-cons, All-head, All-tail}
-use Rattle.wasm_form.specs.declared.instr.Instr.{Instr}
-use Rattle.wasm_form.specs.declared.instr.Expr.{Expr}
-use Rattle.wasm_form.specs.declared.module.ElemMode.{ElemMode}
-use Rattle.wasm_form.specs.declared.module.ElemMode.TheVariants as elem_mode
-use Rattle.wasm_form.specs.declared.module.ElemItems.{ElemItems}
-use Rattle.wasm_form.specs.declared.module.ElemItems.TheVariants as elem_items
-use Rattle.wasm_form.specs.declared.module.Elem.{Elem}
-use Rattle.wasm_form.specs.declared.module.Code.{Code}
-use Rattle.wasm_form.specs.declared.module.Data.{Data}
-use Rattle.spec_binary.specs.Trees.{every}
-use Rattle.spec_binary.specs.WellFormed.{has_form, IsFormedConstant, IsFormedElemMode, IsFormedItems, IsFormedElem, IsFormedCode, IsFormedData}
+use Rattle.spec_reading.specs.wasm_form.declared.instr.Instr.{Instr}
+use Rattle.spec_reading.specs.wasm_form.declared.instr.Expr.{Expr}
+use Rattle.spec_reading.specs.wasm_form.declared.module.ElemMode.{ElemMode}
+use Rattle.spec_reading.specs.wasm_form.declared.module.ElemMode.TheVariants as elem_mode
+use Rattle.spec_reading.specs.wasm_form.declared.module.ElemItems.{ElemItems}
+use Rattle.spec_reading.specs.wasm_form.declared.module.ElemItems.TheVariants as elem_items
+use Rattle.spec_reading.specs.wasm_form.declared.module.Elem.{Elem}
+use Rattle.spec_reading.specs.wasm_form.declared.module.Code.{Code}
+use Rattle.spec_reading.specs.wasm_form.declared.module.Data.{Data}
+use Rattle.spec_reading.specs.spec_binary.Trees.{every}
+use Rattle.spec_reading.specs.spec_binary.WellFormed.{has_form, IsFormedConstant, IsFormedElemMode, IsFormedItems, IsFormedElem, IsFormedCode, IsFormedData}
 use Rattle.merge_match.specs.Renumbering.{Numbers, expr}
 use Rattle.merge_match.specs.Joined.{renumbered_code}
 use Rattle.merge_start.specs.Words.{number}

@@ -6,42 +6,42 @@ use Rattle.std.specs.Int.{cast_unsigned, w32, w64}
 use Rattle.std.proofs.lemmas.Bool.{ltb-true, and_parts}
 use Rattle.std.proofs.lemmas.List.{length-map}
 use Rattle.std.proofs.lemmas.Option.{slice_get_within}
-use Rattle.wasm_form.specs.declared.types.ValType.{ValType}
-use Rattle.wasm_form.specs.declared.types.ValType.TheVariants.{I32, I64, FuncRef}
-use Rattle.wasm_form.specs.declared.types.GlobalType.{GlobalType}
-use Rattle.wasm_form.specs.declared.instr.Instr.{Instr, out-Instr}
-use Rattle.wasm_form.specs.declared.instr.Instr.TheOpen as Open
-use Rattle.wasm_form.specs.declared.instr.Expr.{Expr}
-use Rattle.wasm_form.specs.declared.module.ImportDesc.TheVariants as imported
-use Rattle.wasm_form.specs.declared.module.Import.{Import}
-use Rattle.wasm_form.specs.declared.module.GlobalDef.{GlobalDef}
-use Rattle.wasm_form.specs.declared.module.Module.{Module}
-use Rattle.wasm_form.specs.declared.runtime.Ref.{Ref}
-use Rattle.wasm_opcode.specs.declared.index.IndexForm.{IndexForm}
-use Rattle.wasm_opcode.specs.declared.index.IndexForm.TheVariants.{RefFunc, GlobalGet}
-use Rattle.wasm_opcode.specs.Index.{index_form}
-use Rattle.wasm_runtime.specs.declared.Value.{Value}
-use Rattle.wasm_runtime.specs.declared.Value.TheVariants.{Num, Func}
-use Rattle.spec_binary.specs.Options.{◌>>=◌}
-use Rattle.spec_binary.specs.SameTypes.{same_type}
-use Rattle.spec_binary.specs.IndexSpaces.{imports_of, globals_in, function_space}
-use Rattle.spec_binary.proofs.OneType.{same_types}
-use Rattle.spec_validation.specs.Faults.{is_function, immutable, constant_index, constant_step, constant_type, is_of_type, global_fits}
-use Rattle.spec_runtime.specs.Constants.{index_constant, instruction_constant, constant_in}
-use Rattle.spec_execution.specs.Values.{zero_of}
-use Rattle.spec_linking.specs.Sets.{Member}
-use Rattle.spec_linking.specs.Imports.{ImportUse, SharedMemory, SharedTable, StackPointer, MemoryBase, TableBase, DataCell, SlotCell, EnvFunction, ModuleFunction, OtherUse, use_of, importing, is_memory, is_function_table, is_i32_global}
-use Rattle.spec_linking.specs.LinkedSets.{LinkedSet, wasm_of, definition, function_ref}
-use Rattle.spec_linking.specs.Plans.{region_of, regions_of, texts_size}
-use Rattle.spec_linking.specs.Slots.{linked_plan, memory_base, table_base, base_as, base_value, imported_base}
-use Rattle.spec_linking.specs.Links.{unless, data_cell_fault, slot_cell_fault, fault_as}
-use Rattle.spec_linking.specs.declared.fault.Kind.TheVariants as kind
-use Rattle.spec_linking.specs.declared.fault.LinkFault.TheVariants.{IllTyped}
-use Rattle.spec_linking.proofs.LinkedFacts.{holds_so, or_none, linked_member}
-use Rattle.spec_linking.proofs.Placing.{bases_length}
-use Rattle.spec_safety.proofs.Lookups.{went_on, got}
-use Rattle.spec_safety.proofs.Spaces.{function_has_type}
-use Rattle.spec_validation.proofs.Parts.{parts_fit}
+use Rattle.spec_reading.specs.wasm_form.declared.types.ValType.{ValType}
+use Rattle.spec_reading.specs.wasm_form.declared.types.ValType.TheVariants.{I32, I64, FuncRef}
+use Rattle.spec_reading.specs.wasm_form.declared.types.GlobalType.{GlobalType}
+use Rattle.spec_reading.specs.wasm_form.declared.instr.Instr.{Instr, out-Instr}
+use Rattle.spec_reading.specs.wasm_form.declared.instr.Instr.TheOpen as Open
+use Rattle.spec_reading.specs.wasm_form.declared.instr.Expr.{Expr}
+use Rattle.spec_reading.specs.wasm_form.declared.module.ImportDesc.TheVariants as imported
+use Rattle.spec_reading.specs.wasm_form.declared.module.Import.{Import}
+use Rattle.spec_reading.specs.wasm_form.declared.module.GlobalDef.{GlobalDef}
+use Rattle.spec_reading.specs.wasm_form.declared.module.Module.{Module}
+use Rattle.spec_reading.specs.wasm_form.declared.runtime.Ref.{Ref}
+use Rattle.spec_reading.specs.wasm_form.declared.index.IndexForm.{IndexForm}
+use Rattle.spec_reading.specs.wasm_form.declared.index.IndexForm.TheVariants.{RefFunc, GlobalGet}
+use Rattle.spec_reading.specs.wasm_form.Index.{index_form}
+use Rattle.spec_reading.specs.wasm_form.declared.runtime.Value.{Value}
+use Rattle.spec_reading.specs.wasm_form.declared.runtime.Value.TheVariants.{Num, Func}
+use Rattle.spec_reading.specs.spec_binary.Options.{◌>>=◌}
+use Rattle.spec_reading.specs.spec_binary.SameTypes.{same_type}
+use Rattle.spec_reading.specs.spec_binary.IndexSpaces.{imports_of, globals_in, function_space}
+use Rattle.spec_reading.proofs.of_spec_binary.OneType.{same_types}
+use Rattle.spec_loading.specs.spec_validation.Faults.{is_function, immutable, constant_index, constant_step, constant_type, is_of_type, global_fits}
+use Rattle.spec_loading.specs.spec_runtime.Constants.{index_constant, instruction_constant, constant_in}
+use Rattle.spec_loading.specs.spec_execution.Values.{zero_of}
+use Rattle.spec_loading.specs.spec_linking.Sets.{Member}
+use Rattle.spec_loading.specs.spec_linking.Imports.{ImportUse, SharedMemory, SharedTable, StackPointer, MemoryBase, TableBase, DataCell, SlotCell, EnvFunction, ModuleFunction, OtherUse, use_of, importing, is_memory, is_function_table, is_i32_global}
+use Rattle.spec_loading.specs.spec_linking.LinkedSets.{LinkedSet, wasm_of, definition, function_ref}
+use Rattle.spec_loading.specs.spec_linking.Plans.{region_of, regions_of, texts_size}
+use Rattle.spec_loading.specs.spec_linking.Slots.{linked_plan, memory_base, table_base, base_as, base_value, imported_base}
+use Rattle.spec_loading.specs.spec_linking.Links.{unless, data_cell_fault, slot_cell_fault, fault_as}
+use Rattle.spec_loading.specs.spec_linking.declared.fault.Kind.TheVariants as kind
+use Rattle.spec_loading.specs.spec_linking.declared.fault.LinkFault.TheVariants.{IllTyped}
+use Rattle.spec_loading.proofs.of_spec_linking.LinkedFacts.{holds_so, or_none, linked_member}
+use Rattle.spec_loading.proofs.of_spec_linking.Placing.{bases_length}
+use Rattle.spec_loading.proofs.of_spec_safety.Lookups.{went_on, got}
+use Rattle.spec_loading.proofs.of_spec_safety.Spaces.{function_has_type}
+use Rattle.spec_loading.proofs.of_spec_validation.Parts.{parts_fit}
 use Rattle.spec_loading.specs.Members.{opened_global}
 use Rattle.merge_module.proofs.Known.{IsKnown}
 use Rattle.merge_module.proofs.ImportedGlobals.{global_import, global_no_function}

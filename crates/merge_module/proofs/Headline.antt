@@ -2,12 +2,12 @@
 use Rattle.std.proofs.Common.{◌≤◌, List, ℕ}
 use Rattle.std.specs.Prelude.{IsTrue}
 use Rattle.std.specs.List.{All}
-use Rattle.spec_binary.specs.Modules.{SpellsModule}
-use Rattle.spec_runtime.specs.Names.{HostName}
-use Rattle.spec_validation.specs.Faults.{is_function_supported}
-use Rattle.spec_execution.specs.OneModule.{opened_state}
-use Rattle.spec_linking.specs.LinkedSets.{LinkedSet, hosts_of}
-use Rattle.spec_linking.specs.Slots.{linked_plan}
+use Rattle.spec_reading.specs.spec_binary.Modules.{SpellsModule}
+use Rattle.spec_loading.specs.spec_runtime.Names.{HostName}
+use Rattle.spec_loading.specs.spec_validation.Faults.{is_function_supported}
+use Rattle.spec_loading.specs.spec_execution.OneModule.{opened_state}
+use Rattle.spec_loading.specs.spec_linking.LinkedSets.{LinkedSet, hosts_of}
+use Rattle.spec_loading.specs.spec_linking.Slots.{linked_plan}
 use Rattle.spec_loading.specs.LoadedSet.{opening_memory}
 use Rattle.spec_loading.specs.Merged.{Merged}
 use Rattle.merge_module.specs.MergedModule.{merged_module}

@@ -1,9 +1,9 @@
 -- The imports of a merged module are the host functions of its set, with their types.
 use Rattle.std.proofs.Common.{◌≡◌, ℕ, zero, suc, ◌+◌, ◌<◌, List, [], ◌∷◌, length, slice_get, Some, refl, ap, ◌∙◌, subst, arith}
-use Rattle.wasm_form.specs.declared.module.Module.{Module}
-use Rattle.spec_binary.specs.IndexSpaces.{imports_of, functions_in, tables_in, memories_in, globals_in}
-use Rattle.spec_runtime.specs.Names.{HostName}
-use Rattle.spec_execution.specs.Instances.{imported_hosts}
+use Rattle.spec_reading.specs.wasm_form.declared.module.Module.{Module}
+use Rattle.spec_reading.specs.spec_binary.IndexSpaces.{imports_of, functions_in, tables_in, memories_in, globals_in}
+use Rattle.spec_loading.specs.spec_runtime.Names.{HostName}
+use Rattle.spec_loading.specs.spec_execution.Instances.{imported_hosts}
 use Rattle.merge_module.specs.MergedModule.{host_imports}
 
 -- nothing but functions is imported

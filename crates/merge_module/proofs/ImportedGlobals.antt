@@ -1,13 +1,13 @@
 -- The imported globals of a member of a linked set: what they stand for, and that they are i32.
 use Rattle.std.proofs.Common.{◌≡◌, ℕ, zero, suc, Bool, true, false, List, [], ◌∷◌, ◌++◌, slice_get, Some, refl, sym, ap, ◌∙◌, if◌then◌else◌}
 use Rattle.std.specs.Prelude.{bytes_eq, codes}
-use Rattle.wasm_form.specs.declared.types.GlobalType.{GlobalType}
-use Rattle.wasm_form.specs.declared.module.ImportDesc.{ImportDesc}
-use Rattle.wasm_form.specs.declared.module.ImportDesc.TheVariants as imported
-use Rattle.wasm_form.specs.declared.module.Import.{Import}
-use Rattle.spec_binary.specs.IndexSpaces.{imports_of, globals_in}
-use Rattle.spec_linking.specs.Definitions.{env_name, got_mem_name, got_func_name}
-use Rattle.spec_linking.specs.Imports.{ImportUse, SharedMemory, SharedTable, StackPointer, MemoryBase, TableBase, DataCell, SlotCell, EnvFunction, ModuleFunction, OtherUse, function_use, is_import, use_of, importing}
+use Rattle.spec_reading.specs.wasm_form.declared.types.GlobalType.{GlobalType}
+use Rattle.spec_reading.specs.wasm_form.declared.module.ImportDesc.{ImportDesc}
+use Rattle.spec_reading.specs.wasm_form.declared.module.ImportDesc.TheVariants as imported
+use Rattle.spec_reading.specs.wasm_form.declared.module.Import.{Import}
+use Rattle.spec_reading.specs.spec_binary.IndexSpaces.{imports_of, globals_in}
+use Rattle.spec_loading.specs.spec_linking.Definitions.{env_name, got_mem_name, got_func_name}
+use Rattle.spec_loading.specs.spec_linking.Imports.{ImportUse, SharedMemory, SharedTable, StackPointer, MemoryBase, TableBase, DataCell, SlotCell, EnvFunction, ModuleFunction, OtherUse, function_use, is_import, use_of, importing}
 
 -- an import that gives a global
 pub record GlobalImport (is : List Import) (g : ℕ) (ty : GlobalType) : Type 0 where

@@ -1,19 +1,19 @@
 -- The imported tables of a member of a linked set are tables of functions.
 use Rattle.std.proofs.Common.{◌≡◌, ℕ, zero, suc, Bool, true, false, List, [], ◌∷◌, ◌++◌, slice_get, Some, None, refl, sym, ap, ◌∙◌, subst}
-use Rattle.wasm_form.specs.declared.types.ValType.TheVariants.{FuncRef}
-use Rattle.wasm_form.specs.declared.types.TableType.{TableType}
-use Rattle.wasm_form.specs.declared.module.ImportDesc.{ImportDesc}
-use Rattle.wasm_form.specs.declared.module.ImportDesc.TheVariants as imported
-use Rattle.wasm_form.specs.declared.module.Import.{Import}
-use Rattle.spec_binary.specs.IndexSpaces.{imports_of, tables_in}
-use Rattle.spec_binary.specs.SameTypes.{same_type}
-use Rattle.spec_linking.specs.declared.fault.Kind.TheVariants as kind
-use Rattle.spec_linking.specs.declared.fault.LinkFault.TheVariants.{IllTyped}
-use Rattle.spec_linking.specs.Sets.{Member}
-use Rattle.spec_linking.specs.Imports.{ImportUse, SharedMemory, SharedTable, StackPointer, MemoryBase, TableBase, DataCell, SlotCell, EnvFunction, ModuleFunction, OtherUse, use_of, is_memory, is_function_table, is_i32_global}
-use Rattle.spec_linking.specs.LinkedSets.{LinkedSet, definition}
-use Rattle.spec_linking.specs.Links.{unless, data_cell_fault, slot_cell_fault, fault_as, Links}
-use Rattle.spec_linking.proofs.LinkedFacts.{holds_so, or_none, linked_member}
+use Rattle.spec_reading.specs.wasm_form.declared.types.ValType.TheVariants.{FuncRef}
+use Rattle.spec_reading.specs.wasm_form.declared.types.TableType.{TableType}
+use Rattle.spec_reading.specs.wasm_form.declared.module.ImportDesc.{ImportDesc}
+use Rattle.spec_reading.specs.wasm_form.declared.module.ImportDesc.TheVariants as imported
+use Rattle.spec_reading.specs.wasm_form.declared.module.Import.{Import}
+use Rattle.spec_reading.specs.spec_binary.IndexSpaces.{imports_of, tables_in}
+use Rattle.spec_reading.specs.spec_binary.SameTypes.{same_type}
+use Rattle.spec_loading.specs.spec_linking.declared.fault.Kind.TheVariants as kind
+use Rattle.spec_loading.specs.spec_linking.declared.fault.LinkFault.TheVariants.{IllTyped}
+use Rattle.spec_loading.specs.spec_linking.Sets.{Member}
+use Rattle.spec_loading.specs.spec_linking.Imports.{ImportUse, SharedMemory, SharedTable, StackPointer, MemoryBase, TableBase, DataCell, SlotCell, EnvFunction, ModuleFunction, OtherUse, use_of, is_memory, is_function_table, is_i32_global}
+use Rattle.spec_loading.specs.spec_linking.LinkedSets.{LinkedSet, definition}
+use Rattle.spec_loading.specs.spec_linking.Links.{unless, data_cell_fault, slot_cell_fault, fault_as, Links}
+use Rattle.spec_loading.proofs.of_spec_linking.LinkedFacts.{holds_so, or_none, linked_member}
 use Rattle.merge_module.proofs.ImportedGlobals.{IsFitting, use_fits}
 
 -- an import that gives a table

@@ -2,24 +2,24 @@
 use Rattle.std.proofs.Common.{◌≡◌, ℕ, ◌+◌, ◌-◌, ◌<◌, ◌≤◌, Bool, true, false, length, slice_get, Option, Some, None, option_map, refl, sym, ap, ◌∙◌, subst, arith, if◌then◌else◌}
 use Rattle.std.specs.Prelude.{is_some, IsTrue, nat_lt}
 use Rattle.std.proofs.lemmas.Option.{slice_get_within}
-use Rattle.wasm_form.specs.declared.types.FuncType.{FuncType}
-use Rattle.wasm_form.specs.declared.module.Module.{Module}
-use Rattle.wasm_form.specs.declared.runtime.LoaderCall.{LoaderCall}
-use Rattle.wasm_form.specs.declared.runtime.Ref.{Ref}
-use Rattle.wasm_form.specs.declared.runtime.Ref.TheVariants.{Own, Loader, Host, Stub}
-use Rattle.spec_runs.specs.Systems.{only_if}
-use Rattle.spec_binary.specs.Options.{◌>>=◌}
-use Rattle.spec_binary.specs.Indices.{Function, function_type, function_at}
-use Rattle.spec_binary.specs.IndexSpaces.{functions_in, imported_count}
-use Rattle.spec_runtime.specs.Names.{HostName}
-use Rattle.spec_execution.specs.Views.{View, loader_type, type_of}
-use Rattle.spec_execution.specs.Ranges.{Exists}
-use Rattle.spec_execution.specs.Instances.{module_view}
-use Rattle.spec_linking.specs.Sets.{Member}
-use Rattle.spec_linking.specs.Gathering.{IsSet}
-use Rattle.spec_linking.specs.Imports.{importing}
-use Rattle.spec_linking.specs.LinkedSets.{LinkedSet, wasm_of, hosts_of, set_hosts, ref_with, function_ref}
-use Rattle.spec_safety.proofs.Lookups.{went_on}
+use Rattle.spec_reading.specs.wasm_form.declared.types.FuncType.{FuncType}
+use Rattle.spec_reading.specs.wasm_form.declared.module.Module.{Module}
+use Rattle.spec_reading.specs.wasm_form.declared.runtime.LoaderCall.{LoaderCall}
+use Rattle.spec_reading.specs.wasm_form.declared.runtime.Ref.{Ref}
+use Rattle.spec_reading.specs.wasm_form.declared.runtime.Ref.TheVariants.{Own, Loader, Host, Stub}
+use Rattle.spec_loading.specs.spec_runs.Systems.{only_if}
+use Rattle.spec_reading.specs.spec_binary.Options.{◌>>=◌}
+use Rattle.spec_reading.specs.spec_binary.Indices.{Function, function_type, function_at}
+use Rattle.spec_reading.specs.spec_binary.IndexSpaces.{functions_in, imported_count}
+use Rattle.spec_loading.specs.spec_runtime.Names.{HostName}
+use Rattle.spec_loading.specs.spec_execution.Views.{View, loader_type, type_of}
+use Rattle.spec_loading.specs.spec_execution.Ranges.{Exists}
+use Rattle.spec_loading.specs.spec_execution.Instances.{module_view}
+use Rattle.spec_loading.specs.spec_linking.Sets.{Member}
+use Rattle.spec_loading.specs.spec_linking.Gathering.{IsSet}
+use Rattle.spec_loading.specs.spec_linking.Imports.{importing}
+use Rattle.spec_loading.specs.spec_linking.LinkedSets.{LinkedSet, wasm_of, hosts_of, set_hosts, ref_with, function_ref}
+use Rattle.spec_loading.proofs.of_spec_safety.Lookups.{went_on}
 use Rattle.spec_loading.specs.Members.{Store, stub_type, uses_loader, set_view}
 use Rattle.spec_loading.specs.Addresses.{sum_before, item_address}
 use Rattle.merge_match.specs.Renumbering.{reference}

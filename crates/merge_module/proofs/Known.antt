@@ -1,19 +1,19 @@
 -- What is known of a linked set: that its members name only what there is, with the types that they give it, and that its plan fits.
 use Rattle.std.proofs.Common.{◌≡◌, ℕ, ◌+◌, ◌*◌, ◌<◌, ◌≤◌, length, slice_get, Option, Some}
 use Rattle.std.specs.Prelude.{IfSome}
-use Rattle.wasm_form.specs.declared.types.FuncType.{FuncType}
-use Rattle.wasm_form.specs.declared.runtime.Ref.{Ref}
-use Rattle.wasm_form.specs.declared.runtime.Ref.TheVariants.{Own}
-use Rattle.spec_binary.specs.Indices.{function_type}
-use Rattle.spec_runtime.specs.Memories.{page_size}
-use Rattle.spec_execution.specs.Views.{type_of}
-use Rattle.spec_execution.specs.Ranges.{HoldsAll}
-use Rattle.spec_linking.specs.Sets.{Member}
-use Rattle.spec_linking.specs.Gathering.{IsSet}
-use Rattle.spec_linking.specs.LinkedSets.{LinkedSet}
-use Rattle.spec_linking.specs.Slots.{linked_plan, table_entries}
-use Rattle.spec_linking.specs.Links.{Links}
-use Rattle.spec_safety.specs.Laws.{AreThere}
+use Rattle.spec_reading.specs.wasm_form.declared.types.FuncType.{FuncType}
+use Rattle.spec_reading.specs.wasm_form.declared.runtime.Ref.{Ref}
+use Rattle.spec_reading.specs.wasm_form.declared.runtime.Ref.TheVariants.{Own}
+use Rattle.spec_reading.specs.spec_binary.Indices.{function_type}
+use Rattle.spec_loading.specs.spec_runtime.Memories.{page_size}
+use Rattle.spec_loading.specs.spec_execution.Views.{type_of}
+use Rattle.spec_loading.specs.spec_execution.Ranges.{HoldsAll}
+use Rattle.spec_loading.specs.spec_linking.Sets.{Member}
+use Rattle.spec_loading.specs.spec_linking.Gathering.{IsSet}
+use Rattle.spec_loading.specs.spec_linking.LinkedSets.{LinkedSet}
+use Rattle.spec_loading.specs.spec_linking.Slots.{linked_plan, table_entries}
+use Rattle.spec_loading.specs.spec_linking.Links.{Links}
+use Rattle.spec_loading.specs.spec_safety.Laws.{AreThere}
 use Rattle.spec_loading.specs.declared.task.Phase.{Phase}
 use Rattle.spec_loading.specs.Members.{set_instances, set_view, opening_table, opening_store}
 use Rattle.spec_loading.specs.LoadedSet.{first_slot, own_functions, set_loading, opening_memory}

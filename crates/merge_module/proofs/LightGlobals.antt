@@ -1,11 +1,11 @@
 -- How much the globals of the merged module weigh, and how many tables it has.
 use Rattle.std.proofs.Common.{◌≡◌, ℕ, ◌+◌, ◌*◌, ◌≤◌, true, false, List, [], ◌∷◌, ◌++◌, length, map, refl, arith, length-append}
 use Rattle.std.specs.Prelude.{unwrap_or}
-use Rattle.wasm_form.specs.declared.module.GlobalDef.{GlobalDef}
-use Rattle.wasm_form.specs.declared.module.Module.{Module}
-use Rattle.spec_linking.specs.Sets.{Member}
-use Rattle.spec_linking.specs.LinkedSets.{LinkedSet}
-use Rattle.spec_linking.specs.Slots.{linked_plan, memory_base, table_base, cells_of, cell_value}
+use Rattle.spec_reading.specs.wasm_form.declared.module.GlobalDef.{GlobalDef}
+use Rattle.spec_reading.specs.wasm_form.declared.module.Module.{Module}
+use Rattle.spec_loading.specs.spec_linking.Sets.{Member}
+use Rattle.spec_loading.specs.spec_linking.LinkedSets.{LinkedSet}
+use Rattle.spec_loading.specs.spec_linking.Slots.{linked_plan, memory_base, table_base, cells_of, cell_value}
 use Rattle.spec_loading.specs.Members.{from_members, opened_global}
 use Rattle.wasm_encode.specs.Weight.{sum_of, global_weight}
 use Rattle.merge_match.specs.Renumbering.{Numbers}

@@ -2,18 +2,18 @@
 use Rattle.std.proofs.Common.{◌≤◌, ◌<◌, ℕ, suc, ◌+◌, ◌*◌, Bool, true, false, List, [], ◌∷◌, ◌++◌, length, Option, Some, None, refl, arith, if◌then◌else◌}
 use Rattle.std.specs.List.{filter_map, cons_option}
 use Rattle.std.proofs.lemmas.List.{length-drop}
-use Rattle.wasm_form.specs.declared.instr.Instr.{Instr}
-use Rattle.wasm_form.specs.declared.module.Export.{Export}
-use Rattle.wasm_form.specs.declared.module.Module.{Module}
-use Rattle.wasm_form.specs.declared.runtime.LoaderCall.{LoaderCall}
-use Rattle.wasm_form.specs.declared.runtime.LoaderCall.TheVariants.{Dlopen, Dlsym, Dlclose, Dlerror}
-use Rattle.spec_binary.specs.Options.{◌>>=◌}
-use Rattle.spec_linking.specs.Sets.{Member}
-use Rattle.spec_linking.specs.Gathering.{IsSet}
-use Rattle.spec_linking.specs.Orders.{closure}
-use Rattle.spec_linking.specs.Definitions.{member_definition}
-use Rattle.spec_linking.specs.LinkedSets.{LinkedSet}
-use Rattle.spec_linking.specs.Slots.{cell_number}
+use Rattle.spec_reading.specs.wasm_form.declared.instr.Instr.{Instr}
+use Rattle.spec_reading.specs.wasm_form.declared.module.Export.{Export}
+use Rattle.spec_reading.specs.wasm_form.declared.module.Module.{Module}
+use Rattle.spec_reading.specs.wasm_form.declared.runtime.LoaderCall.{LoaderCall}
+use Rattle.spec_reading.specs.wasm_form.declared.runtime.LoaderCall.TheVariants.{Dlopen, Dlsym, Dlclose, Dlerror}
+use Rattle.spec_reading.specs.spec_binary.Options.{◌>>=◌}
+use Rattle.spec_loading.specs.spec_linking.Sets.{Member}
+use Rattle.spec_loading.specs.spec_linking.Gathering.{IsSet}
+use Rattle.spec_loading.specs.spec_linking.Orders.{closure}
+use Rattle.spec_loading.specs.spec_linking.Definitions.{member_definition}
+use Rattle.spec_loading.specs.spec_linking.LinkedSets.{LinkedSet}
+use Rattle.spec_loading.specs.spec_linking.Slots.{cell_number}
 use Rattle.spec_loading.specs.LoaderAnswers.{bad_flags_error, no_module_error, bad_handle_error, no_symbol_error, bad_close_error, other_flags, not_closed}
 use Rattle.wasm_encode.specs.Weight.{sum_of, export_weight}
 use Rattle.merge_start.specs.Words.{Starts}

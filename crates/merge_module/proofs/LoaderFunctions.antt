@@ -2,16 +2,16 @@
 use Rattle.std.proofs.Common.{◌≡◌, ◌<◌, ℕ, suc, ◌+◌, ◌*◌, true, List, [], ◌∷◌, ◌++◌, length, replicate, slice_get, Some, refl, ap, ◌∙◌, arith}
 use Rattle.std.proofs.lemmas.List.{length-replicate}
 use Rattle.std.proofs.lemmas.Option.{slice_get_within}
-use Rattle.wasm_form.specs.declared.types.FuncType.{FuncType}
-use Rattle.wasm_form.specs.declared.module.Code.{Code}
-use Rattle.wasm_form.specs.declared.module.Module.{Module}
-use Rattle.wasm_form.specs.declared.runtime.LoaderCall.{LoaderCall}
-use Rattle.wasm_form.specs.declared.runtime.LoaderCall.TheVariants.{Dlopen, Dlsym, Dlclose, Dlerror}
-use Rattle.wasm_form.specs.declared.runtime.Ref.TheVariants.{Loader}
-use Rattle.spec_execution.specs.Views.{loader_type}
-use Rattle.spec_linking.specs.Sets.{Member}
-use Rattle.spec_linking.specs.Gathering.{IsSet}
-use Rattle.spec_linking.specs.LinkedSets.{LinkedSet, hosts_of}
+use Rattle.spec_reading.specs.wasm_form.declared.types.FuncType.{FuncType}
+use Rattle.spec_reading.specs.wasm_form.declared.module.Code.{Code}
+use Rattle.spec_reading.specs.wasm_form.declared.module.Module.{Module}
+use Rattle.spec_reading.specs.wasm_form.declared.runtime.LoaderCall.{LoaderCall}
+use Rattle.spec_reading.specs.wasm_form.declared.runtime.LoaderCall.TheVariants.{Dlopen, Dlsym, Dlclose, Dlerror}
+use Rattle.spec_reading.specs.wasm_form.declared.runtime.Ref.TheVariants.{Loader}
+use Rattle.spec_loading.specs.spec_execution.Views.{loader_type}
+use Rattle.spec_loading.specs.spec_linking.Sets.{Member}
+use Rattle.spec_loading.specs.spec_linking.Gathering.{IsSet}
+use Rattle.spec_loading.specs.spec_linking.LinkedSets.{LinkedSet, hosts_of}
 use Rattle.spec_loading.specs.Members.{from_members, uses_loader}
 use Rattle.merge_match.specs.Renumbering.{Numbers}
 use Rattle.merge_start.specs.Words.{Starts, entry_code, open_code}

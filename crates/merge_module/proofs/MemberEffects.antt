@@ -6,38 +6,38 @@ use Rattle.std.specs.List.{All, list_all}
 use Rattle.std.proofs.lemmas.Bool.{and_parts}
 use Rattle.std.proofs.lemmas.List.Elements.{All-head, All-tail}
 use Rattle.std.proofs.lemmas.Option.{slice_get_within}
-use Rattle.wasm_form.specs.declared.types.ValType.TheVariants.{I32}
-use Rattle.wasm_form.specs.declared.types.TableType.{TableType}
-use Rattle.wasm_form.specs.declared.instr.Instr.{Instr, out-Instr}
-use Rattle.wasm_form.specs.declared.instr.Instr.TheOpen as Open
-use Rattle.wasm_form.specs.declared.instr.Expr.{Expr}
-use Rattle.wasm_form.specs.declared.module.Import.{Import}
-use Rattle.wasm_form.specs.declared.module.ElemMode.{ElemMode}
-use Rattle.wasm_form.specs.declared.module.ElemMode.TheVariants as elem_mode
-use Rattle.wasm_form.specs.declared.module.ElemItems.{ElemItems}
-use Rattle.wasm_form.specs.declared.module.ElemItems.TheVariants as elem_items
-use Rattle.wasm_form.specs.declared.module.Elem.{Elem}
-use Rattle.wasm_form.specs.declared.module.DataMode.{DataMode}
-use Rattle.wasm_form.specs.declared.module.DataMode.TheVariants as data_mode
-use Rattle.wasm_form.specs.declared.module.Data.{Data}
-use Rattle.wasm_form.specs.declared.module.Module.{Module}
-use Rattle.wasm_form.specs.declared.runtime.Ref.{Ref}
-use Rattle.wasm_opcode.specs.declared.index.IndexForm.{IndexForm}
-use Rattle.wasm_opcode.specs.declared.index.IndexForm.TheVariants.{RefFunc, GlobalGet}
-use Rattle.wasm_opcode.specs.Index.{index_form}
-use Rattle.wasm_runtime.specs.declared.Value.TheVariants.{Func}
-use Rattle.spec_binary.specs.Options.{◌>>=◌}
-use Rattle.spec_binary.specs.IndexSpaces.{table_space, memory_space, globals_in}
-use Rattle.spec_binary.specs.WellFormed.{IsFormedItems, IsFormedElem, IsFormedData}
-use Rattle.spec_validation.specs.Faults.{constant_type, constant_step, is_of_type, is_constant, has_functions, elem_mode_fits, items_fit, elem_fits, data_mode_fits, data_fits}
-use Rattle.spec_runtime.specs.Constants.{index_constant, instruction_constant, constant_in, number_in}
-use Rattle.spec_execution.specs.Activations.{Effect, TableInit, ElemDrop, MemoryInit, DataDrop}
-use Rattle.spec_execution.specs.Segments.{items_count, effects_at, elem_effects, data_effects, all_effects, segment_effects}
-use Rattle.spec_linking.specs.Imports.{ImportUse, MemoryBase, TableBase, use_of, importing}
-use Rattle.spec_linking.specs.Sets.{Member}
-use Rattle.spec_linking.specs.LinkedSets.{LinkedSet, wasm_of, function_ref}
-use Rattle.spec_linking.specs.Slots.{linked_plan, memory_base, table_base, as_number, base_as, base_value, imported_base, member_number}
-use Rattle.spec_safety.proofs.Lookups.{went_on}
+use Rattle.spec_reading.specs.wasm_form.declared.types.ValType.TheVariants.{I32}
+use Rattle.spec_reading.specs.wasm_form.declared.types.TableType.{TableType}
+use Rattle.spec_reading.specs.wasm_form.declared.instr.Instr.{Instr, out-Instr}
+use Rattle.spec_reading.specs.wasm_form.declared.instr.Instr.TheOpen as Open
+use Rattle.spec_reading.specs.wasm_form.declared.instr.Expr.{Expr}
+use Rattle.spec_reading.specs.wasm_form.declared.module.Import.{Import}
+use Rattle.spec_reading.specs.wasm_form.declared.module.ElemMode.{ElemMode}
+use Rattle.spec_reading.specs.wasm_form.declared.module.ElemMode.TheVariants as elem_mode
+use Rattle.spec_reading.specs.wasm_form.declared.module.ElemItems.{ElemItems}
+use Rattle.spec_reading.specs.wasm_form.declared.module.ElemItems.TheVariants as elem_items
+use Rattle.spec_reading.specs.wasm_form.declared.module.Elem.{Elem}
+use Rattle.spec_reading.specs.wasm_form.declared.module.DataMode.{DataMode}
+use Rattle.spec_reading.specs.wasm_form.declared.module.DataMode.TheVariants as data_mode
+use Rattle.spec_reading.specs.wasm_form.declared.module.Data.{Data}
+use Rattle.spec_reading.specs.wasm_form.declared.module.Module.{Module}
+use Rattle.spec_reading.specs.wasm_form.declared.runtime.Ref.{Ref}
+use Rattle.spec_reading.specs.wasm_form.declared.index.IndexForm.{IndexForm}
+use Rattle.spec_reading.specs.wasm_form.declared.index.IndexForm.TheVariants.{RefFunc, GlobalGet}
+use Rattle.spec_reading.specs.wasm_form.Index.{index_form}
+use Rattle.spec_reading.specs.wasm_form.declared.runtime.Value.TheVariants.{Func}
+use Rattle.spec_reading.specs.spec_binary.Options.{◌>>=◌}
+use Rattle.spec_reading.specs.spec_binary.IndexSpaces.{table_space, memory_space, globals_in}
+use Rattle.spec_reading.specs.spec_binary.WellFormed.{IsFormedItems, IsFormedElem, IsFormedData}
+use Rattle.spec_loading.specs.spec_validation.Faults.{constant_type, constant_step, is_of_type, is_constant, has_functions, elem_mode_fits, items_fit, elem_fits, data_mode_fits, data_fits}
+use Rattle.spec_loading.specs.spec_runtime.Constants.{index_constant, instruction_constant, constant_in, number_in}
+use Rattle.spec_loading.specs.spec_execution.Activations.{Effect, TableInit, ElemDrop, MemoryInit, DataDrop}
+use Rattle.spec_loading.specs.spec_execution.Segments.{items_count, effects_at, elem_effects, data_effects, all_effects, segment_effects}
+use Rattle.spec_loading.specs.spec_linking.Imports.{ImportUse, MemoryBase, TableBase, use_of, importing}
+use Rattle.spec_loading.specs.spec_linking.Sets.{Member}
+use Rattle.spec_loading.specs.spec_linking.LinkedSets.{LinkedSet, wasm_of, function_ref}
+use Rattle.spec_loading.specs.spec_linking.Slots.{linked_plan, memory_base, table_base, as_number, base_as, base_value, imported_base, member_number}
+use Rattle.spec_loading.proofs.of_spec_safety.Lookups.{went_on}
 use Rattle.spec_loading.specs.Addresses.{table_address, elem_address, data_address}
 use Rattle.spec_loading.specs.Members.{Store, counts_of, set_view, opening_store}
 use Rattle.merge_start.specs.Started.{IsWord, HasAddress, AreEffectsReady}

@@ -5,21 +5,21 @@ use Rattle.std.specs.List.{All, list_all}
 use Rattle.std.proofs.lemmas.Bool.{and_parts}
 use Rattle.std.proofs.lemmas.List.{map-append}
 use Rattle.std.proofs.lemmas.List.Elements.{All-head, All-tail}
-use Rattle.wasm_form.specs.declared.types.ValType.TheVariants.{I32}
-use Rattle.wasm_form.specs.declared.module.GlobalDef.{GlobalDef}
-use Rattle.wasm_form.specs.declared.module.Module.{Module}
-use Rattle.wasm_form.specs.declared.runtime.Ref.{Ref}
-use Rattle.wasm_runtime.specs.declared.Value.{Value}
-use Rattle.wasm_runtime.specs.declared.Value.TheVariants.{Num}
-use Rattle.spec_binary.proofs.Lists.{holds_at}
-use Rattle.spec_validation.specs.Faults.{global_fits}
-use Rattle.spec_validation.proofs.Parts.{parts_fit}
-use Rattle.spec_execution.specs.Values.{zero_of}
-use Rattle.spec_execution.specs.Instances.{module_target, global_value}
-use Rattle.spec_linking.specs.Sets.{Member}
-use Rattle.spec_linking.specs.Gathering.{IsMember}
-use Rattle.spec_linking.specs.LinkedSets.{LinkedSet}
-use Rattle.spec_linking.specs.Slots.{linked_plan, memory_base, table_base, CellName, cells_of, cell_value}
+use Rattle.spec_reading.specs.wasm_form.declared.types.ValType.TheVariants.{I32}
+use Rattle.spec_reading.specs.wasm_form.declared.module.GlobalDef.{GlobalDef}
+use Rattle.spec_reading.specs.wasm_form.declared.module.Module.{Module}
+use Rattle.spec_reading.specs.wasm_form.declared.runtime.Ref.{Ref}
+use Rattle.spec_reading.specs.wasm_form.declared.runtime.Value.{Value}
+use Rattle.spec_reading.specs.wasm_form.declared.runtime.Value.TheVariants.{Num}
+use Rattle.spec_reading.proofs.of_spec_binary.Lists.{holds_at}
+use Rattle.spec_loading.specs.spec_validation.Faults.{global_fits}
+use Rattle.spec_loading.proofs.of_spec_validation.Parts.{parts_fit}
+use Rattle.spec_loading.specs.spec_execution.Values.{zero_of}
+use Rattle.spec_loading.specs.spec_execution.Instances.{module_target, global_value}
+use Rattle.spec_loading.specs.spec_linking.Sets.{Member}
+use Rattle.spec_loading.specs.spec_linking.Gathering.{IsMember}
+use Rattle.spec_loading.specs.spec_linking.LinkedSets.{LinkedSet}
+use Rattle.spec_loading.specs.spec_linking.Slots.{linked_plan, memory_base, table_base, CellName, cells_of, cell_value}
 use Rattle.spec_loading.specs.Members.{opened_global, opened_globals, opening_store, from_members}
 use Rattle.merge_match.specs.Renumbering.{Numbers, reference, value}
 use Rattle.merge_module.specs.MergedModule.{with_loader, number_global, own_global, member_globals, guard_globals, merged_globals}

@@ -1,31 +1,31 @@
 -- The element segments of the merged module hold at first what those of the members hold, by the numbers.
 use Rattle.std.proofs.Common.{◌≡◌, ℕ, suc, ◌+◌, List, [], ◌∷◌, ◌++◌, map, slice_get, Option, Some, None, option_map, refl, sym, ap₂, ◌∙◌, arith, subst}
 use Rattle.std.proofs.lemmas.List.{map-append}
-use Rattle.wasm_form.specs.declared.instr.Instr.{Instr, out-Instr}
-use Rattle.wasm_form.specs.declared.instr.Instr.TheOpen as Open
-use Rattle.wasm_form.specs.declared.instr.Expr.{Expr}
-use Rattle.wasm_form.specs.declared.module.ElemMode.{ElemMode}
-use Rattle.wasm_form.specs.declared.module.ElemMode.TheVariants as elem_mode
-use Rattle.wasm_form.specs.declared.module.ElemItems.{ElemItems}
-use Rattle.wasm_form.specs.declared.module.ElemItems.TheVariants as elem_items
-use Rattle.wasm_form.specs.declared.module.Elem.{Elem}
-use Rattle.wasm_form.specs.declared.module.Import.{Import}
-use Rattle.wasm_form.specs.declared.module.Module.{Module}
-use Rattle.wasm_form.specs.declared.runtime.Ref.{Ref}
-use Rattle.wasm_opcode.specs.declared.index.IndexForm.{IndexForm}
-use Rattle.wasm_opcode.specs.declared.index.IndexForm.TheVariants as index
-use Rattle.wasm_opcode.specs.Index.{index_form}
-use Rattle.wasm_runtime.specs.declared.Value.{Value}
-use Rattle.wasm_runtime.specs.declared.Value.TheVariants.{Func}
-use Rattle.spec_binary.specs.Options.{◌>>=◌}
-use Rattle.spec_binary.specs.IndexSpaces.{globals_in}
-use Rattle.spec_runtime.specs.Constants.{instruction_constant, constant_entry, reference_in, no_globals}
-use Rattle.spec_execution.specs.Segments.{opened_items}
-use Rattle.spec_execution.specs.Instances.{module_target, segment_items}
-use Rattle.spec_linking.specs.Sets.{Member}
-use Rattle.spec_linking.specs.Imports.{ImportUse, SharedMemory, SharedTable, StackPointer, MemoryBase, TableBase, DataCell, SlotCell, EnvFunction, ModuleFunction, OtherUse, use_of, importing}
-use Rattle.spec_linking.specs.LinkedSets.{LinkedSet, wasm_of, function_ref}
-use Rattle.spec_linking.specs.Slots.{as_number, memory_base, table_base, base_as, base_value, imported_base, member_items}
+use Rattle.spec_reading.specs.wasm_form.declared.instr.Instr.{Instr, out-Instr}
+use Rattle.spec_reading.specs.wasm_form.declared.instr.Instr.TheOpen as Open
+use Rattle.spec_reading.specs.wasm_form.declared.instr.Expr.{Expr}
+use Rattle.spec_reading.specs.wasm_form.declared.module.ElemMode.{ElemMode}
+use Rattle.spec_reading.specs.wasm_form.declared.module.ElemMode.TheVariants as elem_mode
+use Rattle.spec_reading.specs.wasm_form.declared.module.ElemItems.{ElemItems}
+use Rattle.spec_reading.specs.wasm_form.declared.module.ElemItems.TheVariants as elem_items
+use Rattle.spec_reading.specs.wasm_form.declared.module.Elem.{Elem}
+use Rattle.spec_reading.specs.wasm_form.declared.module.Import.{Import}
+use Rattle.spec_reading.specs.wasm_form.declared.module.Module.{Module}
+use Rattle.spec_reading.specs.wasm_form.declared.runtime.Ref.{Ref}
+use Rattle.spec_reading.specs.wasm_form.declared.index.IndexForm.{IndexForm}
+use Rattle.spec_reading.specs.wasm_form.declared.index.IndexForm.TheVariants as index
+use Rattle.spec_reading.specs.wasm_form.Index.{index_form}
+use Rattle.spec_reading.specs.wasm_form.declared.runtime.Value.{Value}
+use Rattle.spec_reading.specs.wasm_form.declared.runtime.Value.TheVariants.{Func}
+use Rattle.spec_reading.specs.spec_binary.Options.{◌>>=◌}
+use Rattle.spec_reading.specs.spec_binary.IndexSpaces.{globals_in}
+use Rattle.spec_loading.specs.spec_runtime.Constants.{instruction_constant, constant_entry, reference_in, no_globals}
+use Rattle.spec_loading.specs.spec_execution.Segments.{opened_items}
+use Rattle.spec_loading.specs.spec_execution.Instances.{module_target, segment_items}
+use Rattle.spec_loading.specs.spec_linking.Sets.{Member}
+use Rattle.spec_loading.specs.spec_linking.Imports.{ImportUse, SharedMemory, SharedTable, StackPointer, MemoryBase, TableBase, DataCell, SlotCell, EnvFunction, ModuleFunction, OtherUse, use_of, importing}
+use Rattle.spec_loading.specs.spec_linking.LinkedSets.{LinkedSet, wasm_of, function_ref}
+use Rattle.spec_loading.specs.spec_linking.Slots.{as_number, memory_base, table_base, base_as, base_value, imported_base, member_items}
 use Rattle.spec_loading.specs.Members.{from_members}
 use Rattle.merge_match.specs.Renumbering.{Numbers, reference, entry, expr, renumbered}
 use Rattle.merge_match.proofs.OneLevel.{inside, out_instr}

@@ -3,25 +3,25 @@ use Rattle.std.proofs.Common.{◌≡◌, ℕ, zero, suc, ◌+◌, ◌*◌, ◌<�
 use Rattle.std.specs.List.{All, flat_map, list_any}
 use Rattle.std.proofs.lemmas.List.{length-map, map-append}
 use Rattle.std.proofs.lemmas.List.Elements.{All-head, All-tail}
-use Rattle.wasm_form.specs.declared.types.TableType.{TableType}
-use Rattle.wasm_form.specs.declared.types.FuncType.{FuncType}
-use Rattle.wasm_form.specs.declared.module.Import.{Import}
-use Rattle.wasm_form.specs.declared.module.Data.{Data}
-use Rattle.wasm_form.specs.declared.module.Module.{Module}
-use Rattle.wasm_form.specs.declared.runtime.Ref.{Ref}
-use Rattle.wasm_form.specs.declared.runtime.Ref.TheVariants.{Own}
-use Rattle.wasm_runtime.specs.declared.Value.{Value}
-use Rattle.wasm_runtime.specs.declared.Value.TheVariants.{Num}
-use Rattle.spec_binary.specs.Options.{◌>>=◌}
-use Rattle.spec_runtime.specs.Tables.{TableInstance}
-use Rattle.spec_execution.specs.Segments.{opened_items}
-use Rattle.spec_execution.specs.Instances.{ModuleParts, module_target, function_named, global_value}
-use Rattle.spec_execution.specs.OneModule.{opened_table}
-use Rattle.spec_linking.specs.Sets.{Member}
-use Rattle.spec_linking.specs.Gathering.{total_size, IsMember}
-use Rattle.spec_linking.specs.Imports.{ImportUse, DataCell, SlotCell, use_of}
-use Rattle.spec_linking.specs.LinkedSets.{LinkedSet, wasm_of}
-use Rattle.spec_linking.specs.Slots.{linked_plan, CellName, cell_as, cell_of_import, same_cell, first_cells, cells_of, cell_value, fresh_of, member_items}
+use Rattle.spec_reading.specs.wasm_form.declared.types.TableType.{TableType}
+use Rattle.spec_reading.specs.wasm_form.declared.types.FuncType.{FuncType}
+use Rattle.spec_reading.specs.wasm_form.declared.module.Import.{Import}
+use Rattle.spec_reading.specs.wasm_form.declared.module.Data.{Data}
+use Rattle.spec_reading.specs.wasm_form.declared.module.Module.{Module}
+use Rattle.spec_reading.specs.wasm_form.declared.runtime.Ref.{Ref}
+use Rattle.spec_reading.specs.wasm_form.declared.runtime.Ref.TheVariants.{Own}
+use Rattle.spec_reading.specs.wasm_form.declared.runtime.Value.{Value}
+use Rattle.spec_reading.specs.wasm_form.declared.runtime.Value.TheVariants.{Num}
+use Rattle.spec_reading.specs.spec_binary.Options.{◌>>=◌}
+use Rattle.spec_loading.specs.spec_runtime.Tables.{TableInstance}
+use Rattle.spec_loading.specs.spec_execution.Segments.{opened_items}
+use Rattle.spec_loading.specs.spec_execution.Instances.{ModuleParts, module_target, function_named, global_value}
+use Rattle.spec_loading.specs.spec_execution.OneModule.{opened_table}
+use Rattle.spec_loading.specs.spec_linking.Sets.{Member}
+use Rattle.spec_loading.specs.spec_linking.Gathering.{total_size, IsMember}
+use Rattle.spec_loading.specs.spec_linking.Imports.{ImportUse, DataCell, SlotCell, use_of}
+use Rattle.spec_loading.specs.spec_linking.LinkedSets.{LinkedSet, wasm_of}
+use Rattle.spec_loading.specs.spec_linking.Slots.{linked_plan, CellName, cell_as, cell_of_import, same_cell, first_cells, cells_of, cell_value, fresh_of, member_items}
 use Rattle.spec_loading.specs.Addresses.{globals_size}
 use Rattle.spec_loading.specs.Members.{from_members, opened_global, opened_globals, opening_table, opening_store}
 use Rattle.merge_match.specs.Renumbering.{Numbers, entry, table_instance}

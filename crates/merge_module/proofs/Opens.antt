@@ -6,27 +6,27 @@ use Rattle.std.proofs.lemmas.Bool.{lt-ltb, le-ltb, le-leb}
 use Rattle.std.proofs.lemmas.List.{length-map, map-append, length-replicate}
 use Rattle.std.proofs.lemmas.List.Elements.{All-head, All-tail}
 use Rattle.std.proofs.lemmas.Option.{slice_get_within}
-use Rattle.wasm_form.specs.declared.types.FuncType.{FuncType}
-use Rattle.wasm_form.specs.declared.module.Module.{Module}
-use Rattle.wasm_form.specs.declared.module.Data.{Data}
-use Rattle.wasm_form.specs.declared.module.Elem.{Elem}
-use Rattle.wasm_form.specs.declared.runtime.Ref.{Ref}
-use Rattle.wasm_form.specs.declared.runtime.Ref.TheVariants.{Own, Loader, Host, Stub}
-use Rattle.spec_binary.specs.Options.{◌>>=◌}
-use Rattle.spec_binary.specs.Indices.{is_own, nullary}
-use Rattle.spec_binary.specs.IndexSpaces.{imported_count, function_space}
-use Rattle.spec_validation.specs.Faults.{most_entries}
-use Rattle.spec_runtime.specs.Memories.{page_size, zeros, written}
-use Rattle.spec_runtime.specs.Tables.{TableInstance, nulls, new_table, entries_initialized}
-use Rattle.spec_execution.specs.Segments.{goes_on, all_performed, opened_items}
-use Rattle.spec_execution.specs.Instances.{module_view, ModuleParts, module_target, function_named, segment_items, constant_offset}
-use Rattle.spec_execution.specs.OneModule.{module_entry, opened_table, opened_parts, opened_memory, segments_performed, opened_state, module_opening}
-use Rattle.spec_linking.specs.LinkedSets.{LinkedSet, hosts_of}
-use Rattle.spec_linking.specs.Slots.{linked_plan, fresh_functions, outside_slots, table_entries, table_most}
+use Rattle.spec_reading.specs.wasm_form.declared.types.FuncType.{FuncType}
+use Rattle.spec_reading.specs.wasm_form.declared.module.Module.{Module}
+use Rattle.spec_reading.specs.wasm_form.declared.module.Data.{Data}
+use Rattle.spec_reading.specs.wasm_form.declared.module.Elem.{Elem}
+use Rattle.spec_reading.specs.wasm_form.declared.runtime.Ref.{Ref}
+use Rattle.spec_reading.specs.wasm_form.declared.runtime.Ref.TheVariants.{Own, Loader, Host, Stub}
+use Rattle.spec_reading.specs.spec_binary.Options.{◌>>=◌}
+use Rattle.spec_reading.specs.spec_binary.Indices.{is_own, nullary}
+use Rattle.spec_reading.specs.spec_binary.IndexSpaces.{imported_count, function_space}
+use Rattle.spec_loading.specs.spec_validation.Faults.{most_entries}
+use Rattle.spec_loading.specs.spec_runtime.Memories.{page_size, zeros, written}
+use Rattle.spec_loading.specs.spec_runtime.Tables.{TableInstance, nulls, new_table, entries_initialized}
+use Rattle.spec_loading.specs.spec_execution.Segments.{goes_on, all_performed, opened_items}
+use Rattle.spec_loading.specs.spec_execution.Instances.{module_view, ModuleParts, module_target, function_named, segment_items, constant_offset}
+use Rattle.spec_loading.specs.spec_execution.OneModule.{module_entry, opened_table, opened_parts, opened_memory, segments_performed, opened_state, module_opening}
+use Rattle.spec_loading.specs.spec_linking.LinkedSets.{LinkedSet, hosts_of}
+use Rattle.spec_loading.specs.spec_linking.Slots.{linked_plan, fresh_functions, outside_slots, table_entries, table_most}
 use Rattle.spec_loading.specs.Texts.{error_texts}
 use Rattle.spec_loading.specs.Members.{opening_table}
 use Rattle.spec_loading.specs.LoadedSet.{opening_memory}
-use Rattle.spec_safety.proofs.Lookups.{went_on, got}
+use Rattle.spec_loading.proofs.of_spec_safety.Lookups.{went_on, got}
 use Rattle.merge_match.specs.Renumbering.{Numbers, reference, entry, table_instance}
 use Rattle.merge_match.specs.Parts.{number_of}
 use Rattle.merge_match.specs.Laws.{HasParts}

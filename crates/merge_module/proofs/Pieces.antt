@@ -3,23 +3,23 @@ use Rattle.std.proofs.Common.{◌≡◌, ◌≤◌, ℕ, suc, ◌+◌, true, Lis
 use Rattle.std.specs.Int.{cast_signed, w32, w64}
 use Rattle.std.specs.List.{list_all}
 use Rattle.std.proofs.lemmas.Bool.{and_parts, and_from}
-use Rattle.wasm_form.specs.declared.types.ValType.{ValType}
-use Rattle.wasm_form.specs.declared.types.ValType.TheVariants.{I32, I64, F32, F64, FuncRef, ExternRef}
-use Rattle.wasm_form.specs.declared.instr.BlockType.TheVariants.{Empty}
-use Rattle.wasm_form.specs.declared.instr.Instr.{Instr, Plain, Index, Block, Loop, If, Access, I64Const, RefNull, Prefixed, roll-Instr}
-use Rattle.wasm_form.specs.declared.instr.Instr.TheOpen as Open
-use Rattle.wasm_form.specs.declared.instr.Instr.TheVariants.{rolls-Plain, rolls-Index, rolls-Block, rolls-Loop, rolls-If, rolls-Access, rolls-I32Const, rolls-I64Const, rolls-RefNull, rolls-Prefixed}
-use Rattle.wasm_form.specs.declared.instr.Expr.{Expr}
-use Rattle.wasm_form.specs.declared.module.Code.{Code}
-use Rattle.wasm_form.specs.declared.module.Module.{Module}
-use Rattle.wasm_form.proofs.Levels.{with_inside}
-use Rattle.wasm_runtime.specs.declared.Value.{Value}
-use Rattle.wasm_runtime.specs.declared.Value.TheVariants.{Num, Func}
-use Rattle.spec_binary.specs.Operands.{control_operands, access_operands, reference_operands}
-use Rattle.spec_binary.specs.Trees.{nesting_here, nesting, nesting_all, every_here, every, every_of}
-use Rattle.spec_binary.specs.BodyLimits.{local_count}
-use Rattle.spec_binary.specs.WellFormed.{has_form, IsFormedCode}
-use Rattle.spec_validation.specs.Faults.{unsupported_here, unsupported, unsupported_of, is_group_supported}
+use Rattle.spec_reading.specs.wasm_form.declared.types.ValType.{ValType}
+use Rattle.spec_reading.specs.wasm_form.declared.types.ValType.TheVariants.{I32, I64, F32, F64, FuncRef, ExternRef}
+use Rattle.spec_reading.specs.wasm_form.declared.instr.BlockType.TheVariants.{Empty}
+use Rattle.spec_reading.specs.wasm_form.declared.instr.Instr.{Instr, Plain, Index, Block, Loop, If, Access, I64Const, RefNull, Prefixed, roll-Instr}
+use Rattle.spec_reading.specs.wasm_form.declared.instr.Instr.TheOpen as Open
+use Rattle.spec_reading.specs.wasm_form.declared.instr.Instr.TheVariants.{rolls-Plain, rolls-Index, rolls-Block, rolls-Loop, rolls-If, rolls-Access, rolls-I32Const, rolls-I64Const, rolls-RefNull, rolls-Prefixed}
+use Rattle.spec_reading.specs.wasm_form.declared.instr.Expr.{Expr}
+use Rattle.spec_reading.specs.wasm_form.declared.module.Code.{Code}
+use Rattle.spec_reading.specs.wasm_form.declared.module.Module.{Module}
+use Rattle.spec_reading.proofs.of_wasm_form.Levels.{with_inside}
+use Rattle.spec_reading.specs.wasm_form.declared.runtime.Value.{Value}
+use Rattle.spec_reading.specs.wasm_form.declared.runtime.Value.TheVariants.{Num, Func}
+use Rattle.spec_reading.specs.spec_binary.Operands.{control_operands, access_operands, reference_operands}
+use Rattle.spec_reading.specs.spec_binary.Trees.{nesting_here, nesting, nesting_all, every_here, every, every_of}
+use Rattle.spec_reading.specs.spec_binary.BodyLimits.{local_count}
+use Rattle.spec_reading.specs.spec_binary.WellFormed.{has_form, IsFormedCode}
+use Rattle.spec_loading.specs.spec_validation.Faults.{unsupported_here, unsupported, unsupported_of, is_group_supported}
 use Rattle.wasm_encode.specs.Weight.{units_here, units, units_of, code_weight}
 use Rattle.wasm_encode.proofs.Units.{units_level, units_then}
 use Rattle.merge_match.specs.Renumbering.{Numbers}

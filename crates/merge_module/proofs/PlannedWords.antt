@@ -1,11 +1,11 @@
 -- The bases of a set's members, and the ends of the plan, are words.
 use Rattle.std.proofs.Common.{◌≡◌, ℕ, zero, suc, ◌+◌, ◌*◌, ◌^◌, ◌≤◌, List, [], ◌∷◌, Some, slice_get, arith}
-use Rattle.spec_linking.specs.Plans.{Region, rounded_up, bases, end_of, texts_size, least_of, most_table, maxima, limits_in, table_limits, regions_of, pages_for}
-use Rattle.spec_linking.specs.LinkedSets.{LinkedSet}
-use Rattle.spec_linking.specs.Slots.{linked_plan, memory_base, table_base, table_entries, table_growth, table_most}
-use Rattle.spec_linking.specs.Links.{Links}
-use Rattle.spec_linking.proofs.LinkedFacts.{linked_limits}
-use Rattle.spec_linking.proofs.Placing.{above, end_above}
+use Rattle.spec_loading.specs.spec_linking.Plans.{Region, rounded_up, bases, end_of, texts_size, least_of, most_table, maxima, limits_in, table_limits, regions_of, pages_for}
+use Rattle.spec_loading.specs.spec_linking.LinkedSets.{LinkedSet}
+use Rattle.spec_loading.specs.spec_linking.Slots.{linked_plan, memory_base, table_base, table_entries, table_growth, table_most}
+use Rattle.spec_loading.specs.spec_linking.Links.{Links}
+use Rattle.spec_loading.proofs.of_spec_linking.LinkedFacts.{linked_limits}
+use Rattle.spec_loading.proofs.of_spec_linking.Placing.{above, end_above}
 use Rattle.merge_dl.proofs.SlotWords.{least_within, table_within}
 
 base_within : (size align : Region → ℕ) (end : ℕ) (rs : List Region) (m b : ℕ) → slice_get (bases size align end rs) m ≡ Some b

@@ -1,24 +1,24 @@
 -- The members of a linked set, its entry and its merged module are ready for the generated code.
 use Rattle.std.proofs.Common.{◌≡◌, ℕ, ◌<◌, ◌≤◌, true, length, slice_get, Option, Some, None, refl, sym, ap, ◌∙◌, subst, arith}
 use Rattle.std.specs.Prelude.{IfSome, is_some, IsTrue}
-use Rattle.wasm_form.specs.declared.module.Module.{Module}
-use Rattle.wasm_form.specs.declared.runtime.Ref.{Ref}
-use Rattle.wasm_form.specs.declared.runtime.Ref.TheVariants.{Own}
-use Rattle.spec_binary.specs.Options.{◌>>=◌}
-use Rattle.spec_binary.specs.Indices.{function_type}
-use Rattle.spec_binary.proofs.Lists.{got, holds_at}
-use Rattle.spec_validation.proofs.Parts.{parts_fit}
-use Rattle.spec_linking.specs.Sets.{Member}
-use Rattle.spec_linking.specs.Gathering.{IsMember, IsSet}
-use Rattle.spec_linking.specs.Imports.{importing}
-use Rattle.spec_linking.specs.LinkedSets.{LinkedSet, wasm_of, ref_with, function_ref}
-use Rattle.spec_linking.proofs.Importing.{importing_length}
-use Rattle.spec_linking.specs.Slots.{linked_plan}
-use Rattle.spec_linking.specs.Links.{set_entry}
+use Rattle.spec_reading.specs.wasm_form.declared.module.Module.{Module}
+use Rattle.spec_reading.specs.wasm_form.declared.runtime.Ref.{Ref}
+use Rattle.spec_reading.specs.wasm_form.declared.runtime.Ref.TheVariants.{Own}
+use Rattle.spec_reading.specs.spec_binary.Options.{◌>>=◌}
+use Rattle.spec_reading.specs.spec_binary.Indices.{function_type}
+use Rattle.spec_reading.proofs.of_spec_binary.Lists.{got, holds_at}
+use Rattle.spec_loading.proofs.of_spec_validation.Parts.{parts_fit}
+use Rattle.spec_loading.specs.spec_linking.Sets.{Member}
+use Rattle.spec_loading.specs.spec_linking.Gathering.{IsMember, IsSet}
+use Rattle.spec_loading.specs.spec_linking.Imports.{importing}
+use Rattle.spec_loading.specs.spec_linking.LinkedSets.{LinkedSet, wasm_of, ref_with, function_ref}
+use Rattle.spec_loading.proofs.of_spec_linking.Importing.{importing_length}
+use Rattle.spec_loading.specs.spec_linking.Slots.{linked_plan}
+use Rattle.spec_loading.specs.spec_linking.Links.{set_entry}
 use Rattle.std.proofs.lemmas.Option.{slice_get_past}
-use Rattle.spec_binary.specs.IndexSpaces.{functions_in}
-use Rattle.wasm_form.specs.declared.types.FuncType.{FuncType}
-use Rattle.spec_safety.proofs.Lookups.{went_on}
+use Rattle.spec_reading.specs.spec_binary.IndexSpaces.{functions_in}
+use Rattle.spec_reading.specs.wasm_form.declared.types.FuncType.{FuncType}
+use Rattle.spec_loading.proofs.of_spec_safety.Lookups.{went_on}
 use Rattle.spec_loading.specs.declared.task.Phase.{Phase}
 use Rattle.spec_loading.specs.Phases.{phase_function}
 use Rattle.spec_loading.specs.Members.{uses_loader, set_view}

@@ -6,42 +6,42 @@ use Rattle.std.proofs.lemmas.Bool.{and_parts, and_from, eqb-true, eq-eqb, or_lef
 use Rattle.std.proofs.lemmas.List.Folds.{list_any-append}
 use Rattle.std.proofs.lemmas.Option.{slice_get_within}
 use denote.Hole.Carrier.{out}
-use Rattle.wasm_form.specs.declared.types.ValType.{ValType}
-use Rattle.wasm_form.specs.declared.types.ValType.TheVariants.{I32, I64, F32, F64, FuncRef, ExternRef}
-use Rattle.wasm_form.specs.declared.instr.Instr.{Instr, out-Instr}
-use Rattle.wasm_form.specs.declared.instr.Instr.TheOpen as Open
-use Rattle.wasm_form.specs.declared.instr.Expr.{Expr}
-use Rattle.wasm_form.specs.declared.module.GlobalDef.{GlobalDef}
-use Rattle.wasm_form.specs.declared.module.ExportDesc.{ExportDesc}
-use Rattle.wasm_form.specs.declared.module.ExportDesc.TheVariants as exported
-use Rattle.wasm_form.specs.declared.module.Export.{Export}
-use Rattle.wasm_form.specs.declared.module.ElemItems.{ElemItems}
-use Rattle.wasm_form.specs.declared.module.ElemItems.TheVariants as elem_items
-use Rattle.wasm_form.specs.declared.module.Module.{Module}
-use Rattle.wasm_form.specs.declared.runtime.Ref.{Ref}
-use Rattle.wasm_opcode.specs.declared.index.IndexForm.{IndexForm}
-use Rattle.wasm_opcode.specs.declared.index.IndexForm.TheVariants as index
-use Rattle.wasm_opcode.specs.Index.{index_form}
-use Rattle.wasm_runtime.specs.declared.Value.{Value}
-use Rattle.wasm_runtime.specs.declared.Value.TheVariants.{Func}
-use Rattle.spec_binary.specs.Options.{◌>>=◌}
-use Rattle.spec_binary.specs.IndexSpaces.{function_space}
-use Rattle.spec_validation.specs.Faults.{is_function, constant_type, is_of_type, global_fits, refers_step, instr_refers, expr_refers, items_refer, elem_refers, desc_refers, export_refers, global_refers, refers}
-use Rattle.spec_validation.proofs.Parts.{parts_fit}
-use Rattle.spec_runtime.specs.Constants.{instruction_constant, constant_in}
-use Rattle.spec_execution.specs.Values.{zero_of}
-use Rattle.spec_linking.specs.Sets.{Member}
-use Rattle.spec_linking.specs.LinkedSets.{LinkedSet, wasm_of, function_ref}
-use Rattle.spec_linking.specs.Slots.{linked_plan, imported_base}
-use Rattle.spec_safety.proofs.Lookups.{went_on}
-use Rattle.spec_safety.proofs.Spaces.{function_has_type}
+use Rattle.spec_reading.specs.wasm_form.declared.types.ValType.{ValType}
+use Rattle.spec_reading.specs.wasm_form.declared.types.ValType.TheVariants.{I32, I64, F32, F64, FuncRef, ExternRef}
+use Rattle.spec_reading.specs.wasm_form.declared.instr.Instr.{Instr, out-Instr}
+use Rattle.spec_reading.specs.wasm_form.declared.instr.Instr.TheOpen as Open
+use Rattle.spec_reading.specs.wasm_form.declared.instr.Expr.{Expr}
+use Rattle.spec_reading.specs.wasm_form.declared.module.GlobalDef.{GlobalDef}
+use Rattle.spec_reading.specs.wasm_form.declared.module.ExportDesc.{ExportDesc}
+use Rattle.spec_reading.specs.wasm_form.declared.module.ExportDesc.TheVariants as exported
+use Rattle.spec_reading.specs.wasm_form.declared.module.Export.{Export}
+use Rattle.spec_reading.specs.wasm_form.declared.module.ElemItems.{ElemItems}
+use Rattle.spec_reading.specs.wasm_form.declared.module.ElemItems.TheVariants as elem_items
+use Rattle.spec_reading.specs.wasm_form.declared.module.Module.{Module}
+use Rattle.spec_reading.specs.wasm_form.declared.runtime.Ref.{Ref}
+use Rattle.spec_reading.specs.wasm_form.declared.index.IndexForm.{IndexForm}
+use Rattle.spec_reading.specs.wasm_form.declared.index.IndexForm.TheVariants as index
+use Rattle.spec_reading.specs.wasm_form.Index.{index_form}
+use Rattle.spec_reading.specs.wasm_form.declared.runtime.Value.{Value}
+use Rattle.spec_reading.specs.wasm_form.declared.runtime.Value.TheVariants.{Func}
+use Rattle.spec_reading.specs.spec_binary.Options.{◌>>=◌}
+use Rattle.spec_reading.specs.spec_binary.IndexSpaces.{function_space}
+use Rattle.spec_loading.specs.spec_validation.Faults.{is_function, constant_type, is_of_type, global_fits, refers_step, instr_refers, expr_refers, items_refer, elem_refers, desc_refers, export_refers, global_refers, refers}
+use Rattle.spec_loading.proofs.of_spec_validation.Parts.{parts_fit}
+use Rattle.spec_loading.specs.spec_runtime.Constants.{instruction_constant, constant_in}
+use Rattle.spec_loading.specs.spec_execution.Values.{zero_of}
+use Rattle.spec_loading.specs.spec_linking.Sets.{Member}
+use Rattle.spec_loading.specs.spec_linking.LinkedSets.{LinkedSet, wasm_of, function_ref}
+use Rattle.spec_loading.specs.spec_linking.Slots.{linked_plan, imported_base}
+use Rattle.spec_loading.proofs.of_spec_safety.Lookups.{went_on}
+use Rattle.spec_loading.proofs.of_spec_safety.Spaces.{function_has_type}
 use Rattle.spec_loading.specs.Members.{from_members, opened_global}
 use Rattle.merge_match.specs.Renumbering.{Numbers, index_in, renumbered, instr, expr}
 use Rattle.merge_match.specs.Parts.{number_of}
 use Rattle.merge_match.proofs.OneLevel.{inside as with_numbers, out_instr}
 use Rattle.merge_index.specs.Numbering.{function_number}
 use Rattle.merge_module.specs.MergedModule.{constant_instr, number_global, own_global, member_globals, guard_globals, renumbered_items, passive_elem, outside_elem, declared_elem, named_functions, exported_functions}
-use Rattle.spec_linking.specs.Slots.{cells_of, cell_value, memory_base, table_base}
+use Rattle.spec_loading.specs.spec_linking.Slots.{cells_of, cell_value, memory_base, table_base}
 use Rattle.merge_module.proofs.Known.{IsKnown}
 use Rattle.merge_module.proofs.SetMembers.{is_sound}
 use Rattle.merge_module.proofs.Applied.{slot_elems}

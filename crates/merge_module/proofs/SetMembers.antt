@@ -3,33 +3,33 @@ use Rattle.std.proofs.Common.{◌≡◌, ℕ, ◌+◌, ◌≤◌, List, [], ◌�
 use Rattle.std.specs.List.{All}
 use Rattle.std.proofs.lemmas.List.Elements.{All-head, All-tail}
 use Rattle.std.proofs.lemmas.List.Sums.{sum_by-append}
-use Rattle.wasm_form.specs.declared.types.ValType.{ValType}
-use Rattle.wasm_form.specs.declared.types.FuncType.{FuncType}
-use Rattle.wasm_form.specs.declared.types.TableType.{TableType}
-use Rattle.wasm_form.specs.declared.module.Import.{Import}
-use Rattle.wasm_form.specs.declared.module.GlobalDef.{GlobalDef}
-use Rattle.wasm_form.specs.declared.module.Export.{Export}
-use Rattle.wasm_form.specs.declared.module.Elem.{Elem}
-use Rattle.wasm_form.specs.declared.module.Code.{Code}
-use Rattle.wasm_form.specs.declared.module.Data.{Data}
-use Rattle.wasm_form.specs.declared.module.Module.{Module}
-use Rattle.spec_binary.specs.Name as names
-use Rattle.spec_binary.specs.Number.{SpellsUnsigned}
-use Rattle.spec_binary.proofs.UnsignedSpelling.{unsigned_some}
-use Rattle.spec_binary.specs.Types as types
-use Rattle.spec_binary.specs.Types.{SpellsFuncType, SpellsValType, SpellsRefType, SpellsTableType, SpellsGlobalType}
-use Rattle.spec_binary.specs.Parts.{SpellsImport, SpellsGlobal, SpellsExport, SpellsElem, SpellsCode, SpellsData}
-use Rattle.spec_binary.specs.Parts as parts
-use Rattle.spec_binary.specs.Modules.{SpellsModule}
-use Rattle.spec_binary.specs.WellFormed.{IsWellFormed}
-use Rattle.spec_binary.specs.DecodeAnswers.{DecodeAnswer, spelled}
-use Rattle.spec_binary.specs.declared.fault.DecodeFault.{DecodeFault}
-use Rattle.spec_linking.specs.Sets.{Member}
-use Rattle.spec_linking.specs.Gathering.{total_size, IsMember, IsSet}
+use Rattle.spec_reading.specs.wasm_form.declared.types.ValType.{ValType}
+use Rattle.spec_reading.specs.wasm_form.declared.types.FuncType.{FuncType}
+use Rattle.spec_reading.specs.wasm_form.declared.types.TableType.{TableType}
+use Rattle.spec_reading.specs.wasm_form.declared.module.Import.{Import}
+use Rattle.spec_reading.specs.wasm_form.declared.module.GlobalDef.{GlobalDef}
+use Rattle.spec_reading.specs.wasm_form.declared.module.Export.{Export}
+use Rattle.spec_reading.specs.wasm_form.declared.module.Elem.{Elem}
+use Rattle.spec_reading.specs.wasm_form.declared.module.Code.{Code}
+use Rattle.spec_reading.specs.wasm_form.declared.module.Data.{Data}
+use Rattle.spec_reading.specs.wasm_form.declared.module.Module.{Module}
+use Rattle.spec_reading.specs.spec_binary.Name as names
+use Rattle.spec_reading.specs.spec_binary.Number.{SpellsUnsigned}
+use Rattle.spec_reading.proofs.of_spec_binary.UnsignedSpelling.{unsigned_some}
+use Rattle.spec_reading.specs.spec_binary.Types as types
+use Rattle.spec_reading.specs.spec_binary.Types.{SpellsFuncType, SpellsValType, SpellsRefType, SpellsTableType, SpellsGlobalType}
+use Rattle.spec_reading.specs.spec_binary.Parts.{SpellsImport, SpellsGlobal, SpellsExport, SpellsElem, SpellsCode, SpellsData}
+use Rattle.spec_reading.specs.spec_binary.Parts as parts
+use Rattle.spec_reading.specs.spec_binary.Modules.{SpellsModule}
+use Rattle.spec_reading.specs.spec_binary.WellFormed.{IsWellFormed}
+use Rattle.spec_reading.specs.spec_binary.DecodeAnswers.{DecodeAnswer, spelled}
+use Rattle.spec_reading.specs.spec_binary.declared.fault.DecodeFault.{DecodeFault}
+use Rattle.spec_loading.specs.spec_linking.Sets.{Member}
+use Rattle.spec_loading.specs.spec_linking.Gathering.{total_size, IsMember, IsSet}
 use Rattle.spec_loading.specs.Members.{from_members}
-use Rattle.spec_linking.specs.LinkedSets.{LinkedSet, wasm_of}
-use Rattle.spec_validation.specs.Faults.{fault}
-use Rattle.spec_safety.proofs.Lookups.{went_on, holds_at}
+use Rattle.spec_loading.specs.spec_linking.LinkedSets.{LinkedSet, wasm_of}
+use Rattle.spec_loading.specs.spec_validation.Faults.{fault}
+use Rattle.spec_loading.proofs.of_spec_safety.Lookups.{went_on, holds_at}
 use Rattle.spec_reading.proofs.FormedSections.{spelled_formed}
 use Rattle.wasm_encode.proofs.Units.{items_within}
 use Rattle.merge_module.proofs.SpelledParts.{AreSpelled, module_spelled, decoded_text}

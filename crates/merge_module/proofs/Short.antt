@@ -1,10 +1,10 @@
 -- No section of the merged module of a brief set is too long to be written.
 use Rattle.std.proofs.Common.{ℕ, ◌+◌, ◌*◌, ◌≤◌, ◌<◌, ◌^◌, List, [], ◌∷◌, length, map, arith}
 use Rattle.std.specs.List.{All}
-use Rattle.wasm_form.specs.declared.module.Module.{Module}
-use Rattle.spec_runtime.specs.Names.{HostName}
-use Rattle.spec_linking.specs.LinkedSets.{LinkedSet, hosts_of}
-use Rattle.spec_linking.specs.Slots.{linked_plan}
+use Rattle.spec_reading.specs.wasm_form.declared.module.Module.{Module}
+use Rattle.spec_loading.specs.spec_runtime.Names.{HostName}
+use Rattle.spec_loading.specs.spec_linking.LinkedSets.{LinkedSet, hosts_of}
+use Rattle.spec_loading.specs.spec_linking.Slots.{linked_plan}
 use Rattle.wasm_encode.specs.SectionSizes.{types, imports, funcs, tables, memories, globals, exports, elems, codes, datas, IsContents}
 use Rattle.wasm_encode.specs.Laws.{WeightIsLeast, SectionsAreBounded, BodiesAreBounded}
 use Rattle.wasm_encode.specs.Weight.{sum_of, type_weight, import_weight, global_weight, export_weight, elem_weight, code_weight, data_weight}

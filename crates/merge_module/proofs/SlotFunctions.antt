@@ -4,28 +4,28 @@ use Rattle.std.specs.Prelude.{is_none, nat_lt, not}
 use Rattle.std.specs.List.{All, list_any, filter, filter_map, cons_option}
 use Rattle.std.proofs.lemmas.Bool.{and_parts, or_left, or_right, ltb-true, ltb-false}
 use Rattle.std.proofs.lemmas.List.Elements.{All-nil, All-cons, All-head, All-tail, All-append, All-filter}
-use Rattle.wasm_form.specs.declared.module.ExportDesc.{ExportDesc}
-use Rattle.wasm_form.specs.declared.module.ExportDesc.TheVariants as desc
-use Rattle.wasm_form.specs.declared.module.Import.{Import}
-use Rattle.wasm_form.specs.declared.module.Export.{Export}
-use Rattle.wasm_form.specs.declared.module.Module.{Module}
-use Rattle.wasm_form.specs.declared.runtime.LoaderCall.TheVariants.{Dlopen, Dlsym, Dlclose, Dlerror}
-use Rattle.wasm_form.specs.declared.runtime.LoaderCall.{LoaderCall}
-use Rattle.wasm_form.specs.declared.runtime.Ref.{Ref}
-use Rattle.wasm_form.specs.declared.runtime.Ref.TheVariants.{Own, Loader, Host, Stub}
-use Rattle.spec_binary.specs.Options.{◌>>=◌}
-use Rattle.spec_binary.specs.Indices.{is_own}
-use Rattle.spec_binary.specs.IndexSpaces.{imports_of, functions_in, imported_count, function_space}
-use Rattle.spec_validation.proofs.Parts.{parts_fit}
-use Rattle.spec_linking.specs.declared.fault.Kind.TheVariants as kind
-use Rattle.spec_linking.specs.Orders.{is_among}
-use Rattle.spec_linking.specs.Sets.{Member}
-use Rattle.spec_linking.specs.Definitions.{reserved_names, is_one_of, own_only, own_global, Symbol, FunctionSymbol, DataSymbol, data_symbol, desc_symbol, export_symbol, function_in, defined_function, Definition, LoaderFunction, HeapBase, HeapEnd, MemberFunction, MemberData, HostFunction, WeakSymbol, Undefined, env_name}
-use Rattle.spec_linking.specs.Imports.{ImportUse, SharedMemory, SharedTable, StackPointer, MemoryBase, TableBase, DataCell, SlotCell, EnvFunction, ModuleFunction, OtherUse, use_of}
-use Rattle.spec_linking.specs.LinkedSets.{LinkedSet, wasm_of, definition, hosts_of, is_named, host_entry, host_ref}
-use Rattle.spec_linking.specs.Slots.{same_ref, segment_slot, with_function, functions_with, defined_functions, fresh_in, fresh_of, outside_ref, outside_as, outside_of_import, outside_from, outside_refs, all_loaders, is_host_ref, first_refs, outside_slots}
-use Rattle.spec_safety.proofs.Lookups.{went_on, got}
-use Rattle.spec_safety.proofs.Spaces.{function_has_type}
+use Rattle.spec_reading.specs.wasm_form.declared.module.ExportDesc.{ExportDesc}
+use Rattle.spec_reading.specs.wasm_form.declared.module.ExportDesc.TheVariants as desc
+use Rattle.spec_reading.specs.wasm_form.declared.module.Import.{Import}
+use Rattle.spec_reading.specs.wasm_form.declared.module.Export.{Export}
+use Rattle.spec_reading.specs.wasm_form.declared.module.Module.{Module}
+use Rattle.spec_reading.specs.wasm_form.declared.runtime.LoaderCall.TheVariants.{Dlopen, Dlsym, Dlclose, Dlerror}
+use Rattle.spec_reading.specs.wasm_form.declared.runtime.LoaderCall.{LoaderCall}
+use Rattle.spec_reading.specs.wasm_form.declared.runtime.Ref.{Ref}
+use Rattle.spec_reading.specs.wasm_form.declared.runtime.Ref.TheVariants.{Own, Loader, Host, Stub}
+use Rattle.spec_reading.specs.spec_binary.Options.{◌>>=◌}
+use Rattle.spec_reading.specs.spec_binary.Indices.{is_own}
+use Rattle.spec_reading.specs.spec_binary.IndexSpaces.{imports_of, functions_in, imported_count, function_space}
+use Rattle.spec_loading.proofs.of_spec_validation.Parts.{parts_fit}
+use Rattle.spec_loading.specs.spec_linking.declared.fault.Kind.TheVariants as kind
+use Rattle.spec_loading.specs.spec_linking.Orders.{is_among}
+use Rattle.spec_loading.specs.spec_linking.Sets.{Member}
+use Rattle.spec_loading.specs.spec_linking.Definitions.{reserved_names, is_one_of, own_only, own_global, Symbol, FunctionSymbol, DataSymbol, data_symbol, desc_symbol, export_symbol, function_in, defined_function, Definition, LoaderFunction, HeapBase, HeapEnd, MemberFunction, MemberData, HostFunction, WeakSymbol, Undefined, env_name}
+use Rattle.spec_loading.specs.spec_linking.Imports.{ImportUse, SharedMemory, SharedTable, StackPointer, MemoryBase, TableBase, DataCell, SlotCell, EnvFunction, ModuleFunction, OtherUse, use_of}
+use Rattle.spec_loading.specs.spec_linking.LinkedSets.{LinkedSet, wasm_of, definition, hosts_of, is_named, host_entry, host_ref}
+use Rattle.spec_loading.specs.spec_linking.Slots.{same_ref, segment_slot, with_function, functions_with, defined_functions, fresh_in, fresh_of, outside_ref, outside_as, outside_of_import, outside_from, outside_refs, all_loaders, is_host_ref, first_refs, outside_slots}
+use Rattle.spec_loading.proofs.of_spec_safety.Lookups.{went_on, got}
+use Rattle.spec_loading.proofs.of_spec_safety.Spaces.{function_has_type}
 use Rattle.spec_loading.specs.Members.{is_loader, loader_as, loader_from, uses_loader}
 use Rattle.merge_dl.proofs.SlotWords.{position_within}
 use Rattle.merge_module.proofs.SetMembers.{IsSound}

@@ -1,14 +1,14 @@
 -- What cells hold, and the bases of members, are words.
 use Rattle.std.proofs.Common.{◌≡◌, ℕ, ◌+◌, ◌%◌, ◌^◌, ◌<◌, ◌≤◌, List, Option, Some, None, refl, arith}
 use Rattle.std.specs.Prelude.{unwrap_or}
-use Rattle.wasm_form.specs.declared.runtime.Ref.TheVariants.{Own, Loader}
-use Rattle.spec_linking.specs.Plans.{most_table}
-use Rattle.spec_linking.specs.Definitions.{Definition, LoaderFunction, HeapBase, HeapEnd, MemberFunction, MemberData, HostFunction, WeakSymbol, Undefined, env_name}
-use Rattle.spec_linking.specs.LinkedSets.{LinkedSet, definition, host_ref}
-use Rattle.spec_linking.specs.Slots.{linked_plan, memory_base, table_base, slot_of, heap_end, cell_number, CellName, cell_value}
-use Rattle.spec_linking.specs.Links.{Links}
-use Rattle.spec_linking.proofs.LinkedFacts.{linked_limits}
-use Rattle.spec_safety.proofs.Lookups.{went_on}
+use Rattle.spec_reading.specs.wasm_form.declared.runtime.Ref.TheVariants.{Own, Loader}
+use Rattle.spec_loading.specs.spec_linking.Plans.{most_table}
+use Rattle.spec_loading.specs.spec_linking.Definitions.{Definition, LoaderFunction, HeapBase, HeapEnd, MemberFunction, MemberData, HostFunction, WeakSymbol, Undefined, env_name}
+use Rattle.spec_loading.specs.spec_linking.LinkedSets.{LinkedSet, definition, host_ref}
+use Rattle.spec_loading.specs.spec_linking.Slots.{linked_plan, memory_base, table_base, slot_of, heap_end, cell_number, CellName, cell_value}
+use Rattle.spec_loading.specs.spec_linking.Links.{Links}
+use Rattle.spec_loading.proofs.of_spec_linking.LinkedFacts.{linked_limits}
+use Rattle.spec_loading.proofs.of_spec_safety.Lookups.{went_on}
 use Rattle.merge_dl.proofs.SlotWords.{slot_within}
 use Rattle.merge_module.proofs.PlannedWords.{table_base_within, heap_within, memory_base_within}
 

@@ -3,26 +3,26 @@ use Rattle.std.proofs.Common.{ℕ, ℤ, pos, negsuc, ◌^◌, ◌<◌, List, [],
 use Rattle.std.specs.Int.{cast_unsigned, w32, w64}
 use Rattle.std.proofs.lemmas.Int.{ints}
 use denote.Hole.Carrier.{out}
-use Rattle.wasm_form.specs.declared.instr.Instr.{Instr, out-Instr}
-use Rattle.wasm_form.specs.declared.instr.Instr.TheOpen as Open
-use Rattle.wasm_form.specs.declared.instr.Expr.{Expr}
-use Rattle.wasm_form.specs.declared.module.ElemMode.{ElemMode}
-use Rattle.wasm_form.specs.declared.module.ElemMode.TheVariants as elem_mode
-use Rattle.wasm_form.specs.declared.module.Elem.{Elem}
-use Rattle.wasm_form.specs.declared.module.DataMode.{DataMode}
-use Rattle.wasm_form.specs.declared.module.DataMode.TheVariants as data_mode
-use Rattle.wasm_form.specs.declared.module.Data.{Data}
-use Rattle.wasm_form.specs.declared.module.GlobalDef.{GlobalDef}
-use Rattle.spec_binary.specs.Number.{IsSigned}
-use Rattle.wasm_form.specs.declared.module.Module.{Module}
-use Rattle.spec_binary.proofs.SignedSpelling.{signed_range}
-use Rattle.spec_binary.proofs.Joined.{each_all}
+use Rattle.spec_reading.specs.wasm_form.declared.instr.Instr.{Instr, out-Instr}
+use Rattle.spec_reading.specs.wasm_form.declared.instr.Instr.TheOpen as Open
+use Rattle.spec_reading.specs.wasm_form.declared.instr.Expr.{Expr}
+use Rattle.spec_reading.specs.wasm_form.declared.module.ElemMode.{ElemMode}
+use Rattle.spec_reading.specs.wasm_form.declared.module.ElemMode.TheVariants as elem_mode
+use Rattle.spec_reading.specs.wasm_form.declared.module.Elem.{Elem}
+use Rattle.spec_reading.specs.wasm_form.declared.module.DataMode.{DataMode}
+use Rattle.spec_reading.specs.wasm_form.declared.module.DataMode.TheVariants as data_mode
+use Rattle.spec_reading.specs.wasm_form.declared.module.Data.{Data}
+use Rattle.spec_reading.specs.wasm_form.declared.module.GlobalDef.{GlobalDef}
+use Rattle.spec_reading.specs.spec_binary.Number.{IsSigned}
+use Rattle.spec_reading.specs.wasm_form.declared.module.Module.{Module}
+use Rattle.spec_reading.proofs.of_spec_binary.SignedSpelling.{signed_range}
+use Rattle.spec_reading.proofs.of_spec_binary.Joined.{each_all}
 use Rattle.std.specs.List.{All}
 use Rattle.merge_module.proofs.SpelledParts.{AreSpelled}
-use Rattle.spec_binary.specs.Instructions.{SpellsInstr, SpellsInstrs, SpellsExpr}
-use Rattle.spec_binary.specs.Instructions as instructions
-use Rattle.spec_binary.specs.Parts.{SpellsConstant, SpellsGlobal, SpellsElemMode, SpellsElem, SpellsDataMode, SpellsData}
-use Rattle.spec_binary.specs.Parts as parts
+use Rattle.spec_reading.specs.spec_binary.Instructions.{SpellsInstr, SpellsInstrs, SpellsExpr}
+use Rattle.spec_reading.specs.spec_binary.Instructions as instructions
+use Rattle.spec_reading.specs.spec_binary.Parts.{SpellsConstant, SpellsGlobal, SpellsElemMode, SpellsElem, SpellsDataMode, SpellsData}
+use Rattle.spec_reading.specs.spec_binary.Parts as parts
 
 -- a number fits its type
 abbrev pub FitsHere : Open.Instr-F Instr Expr → Type 0

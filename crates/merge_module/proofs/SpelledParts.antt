@@ -1,15 +1,15 @@
 -- What is spelled of each part of a module: each of its items, in no more bytes than there are.
 use Rattle.std.proofs.Common.{◌≡◌, ℕ, ◌+◌, ◌≤◌, List, [], ◌++◌, length, Result, Ok, ap, subst, arith, length-append}
-use Rattle.wasm_form.specs.declared.module.Module.{Module}
-use Rattle.spec_binary.specs.Number.{SpellsUnsigned}
-use Rattle.spec_binary.specs.Sequence.{SpellsEach, SpellsVec, none, vec}
-use Rattle.spec_binary.specs.Types.{SpellsFuncType, SpellsTableType}
-use Rattle.spec_binary.specs.Parts.{SpellsImport, SpellsGlobal, SpellsExport, SpellsElem, SpellsCode, SpellsData}
-use Rattle.spec_binary.specs.Sections.{Progress, at_start, Contents, IsSection, Chain, custom, types, imports, funcs, tables, memories, globals, exports, start, elems, data_count, codes, datas, section}
-use Rattle.spec_binary.specs.Sections as sections
-use Rattle.spec_binary.specs.Modules.{header, SpellsModule}
-use Rattle.spec_binary.specs.declared.fault.DecodeFault.{DecodeFault}
-use Rattle.spec_binary.specs.DecodeAnswers.{DecodeAnswer, spelled}
+use Rattle.spec_reading.specs.wasm_form.declared.module.Module.{Module}
+use Rattle.spec_reading.specs.spec_binary.Number.{SpellsUnsigned}
+use Rattle.spec_reading.specs.spec_binary.Sequence.{SpellsEach, SpellsVec, none, vec}
+use Rattle.spec_reading.specs.spec_binary.Types.{SpellsFuncType, SpellsTableType}
+use Rattle.spec_reading.specs.spec_binary.Parts.{SpellsImport, SpellsGlobal, SpellsExport, SpellsElem, SpellsCode, SpellsData}
+use Rattle.spec_reading.specs.spec_binary.Sections.{Progress, at_start, Contents, IsSection, Chain, custom, types, imports, funcs, tables, memories, globals, exports, start, elems, data_count, codes, datas, section}
+use Rattle.spec_reading.specs.spec_binary.Sections as sections
+use Rattle.spec_reading.specs.spec_binary.Modules.{header, SpellsModule}
+use Rattle.spec_reading.specs.spec_binary.declared.fault.DecodeFault.{DecodeFault}
+use Rattle.spec_reading.specs.spec_binary.DecodeAnswers.{DecodeAnswer, spelled}
 
 -- each of these, one after the other
 pub record Part {A : Type 0} (Spells : A → List ℕ → Type 0) (xs : List A) : Type 0 where

@@ -2,10 +2,10 @@
 use Rattle.std.proofs.Common.{◌≡◌, ℕ, zero, suc, ◌+◌, ◌-◌, ◌<◌, ◌≤◌, Bool, true, false, List, [], ◌∷◌, ◌++◌, length, slice_get, Some, cond, refl, sym, ap, ◌∙◌, subst, arith}
 use Rattle.std.specs.Prelude.{take}
 use Rattle.std.specs.List.{filter, range_with_len}
-use Rattle.wasm_form.specs.declared.module.Module.{Module}
-use Rattle.spec_linking.specs.Sets.{Member}
+use Rattle.spec_reading.specs.wasm_form.declared.module.Module.{Module}
+use Rattle.spec_loading.specs.spec_linking.Sets.{Member}
 use Rattle.spec_loading.specs.Members.{from_members}
-use Rattle.spec_binary.proofs.Lists.{slice_get-append-left, slice_get-append-right}
+use Rattle.spec_reading.proofs.of_spec_binary.Lists.{slice_get-append-left, slice_get-append-right}
 use Rattle.std.proofs.lemmas.List.{length-append}
 
 module _ (test : ℕ → Bool) where

@@ -2,18 +2,18 @@
 use Rattle.std.proofs.Common.{◌≡◌, ℕ, Bool, true, nat_le, ◌+◌, List, [], ◌∷◌, map, Some, None, refl, sym, ap, ◌∙◌, subst}
 use Rattle.std.specs.Prelude.{not}
 use Rattle.std.specs.List.{list_all}
-use Rattle.wasm_form.specs.declared.instr.BlockType.{BlockType}
-use Rattle.wasm_form.specs.declared.instr.BlockType.TheVariants as block
-use Rattle.wasm_form.specs.declared.instr.Instr.{Instr, roll-Instr, map-Instr, ind-Instr}
-use Rattle.wasm_form.specs.declared.instr.Instr.TheOpen as Open
-use Rattle.wasm_form.specs.declared.instr.Expr.{Expr}
-use Rattle.wasm_form.specs.declared.module.Code.{Code}
-use Rattle.wasm_form.specs.declared.module.Module.{Module}
-use Rattle.wasm_form.proofs.Levels.{with_inside, fold_rolled}
-use Rattle.spec_validation.specs.declared.fault.Place.TheVariants as place
-use Rattle.spec_validation.specs.declared.fault.CheckFault.{CheckFault}
-use Rattle.spec_validation.specs.declared.fault.CheckFault.TheVariants.{UnsupportedOp, UnsupportedType}
-use Rattle.spec_validation.specs.Faults.{Finding, ◌or_else◌, unless, is_supported, type_supported, is_float_opcode, block_supported, unsupported_here, first_of, unsupported_inside, unsupported, unsupported_of, is_group_supported, body_supported}
+use Rattle.spec_reading.specs.wasm_form.declared.instr.BlockType.{BlockType}
+use Rattle.spec_reading.specs.wasm_form.declared.instr.BlockType.TheVariants as block
+use Rattle.spec_reading.specs.wasm_form.declared.instr.Instr.{Instr, roll-Instr, map-Instr, ind-Instr}
+use Rattle.spec_reading.specs.wasm_form.declared.instr.Instr.TheOpen as Open
+use Rattle.spec_reading.specs.wasm_form.declared.instr.Expr.{Expr}
+use Rattle.spec_reading.specs.wasm_form.declared.module.Code.{Code}
+use Rattle.spec_reading.specs.wasm_form.declared.module.Module.{Module}
+use Rattle.spec_reading.proofs.of_wasm_form.Levels.{with_inside, fold_rolled}
+use Rattle.spec_loading.specs.spec_validation.declared.fault.Place.TheVariants as place
+use Rattle.spec_loading.specs.spec_validation.declared.fault.CheckFault.{CheckFault}
+use Rattle.spec_loading.specs.spec_validation.declared.fault.CheckFault.TheVariants.{UnsupportedOp, UnsupportedType}
+use Rattle.spec_loading.specs.spec_validation.Faults.{Finding, ◌or_else◌, unless, is_supported, type_supported, is_float_opcode, block_supported, unsupported_here, first_of, unsupported_inside, unsupported, unsupported_of, is_group_supported, body_supported}
 use Rattle.merge_match.specs.Renumbering.{Numbers, block_type as numbered_block, renumbered, instr, code, expr}
 use Rattle.merge_match.proofs.OneLevel.{inside as with_numbers, instr_rolled}
 use Rattle.merge_module.proofs.Faultless.{neither, both_none, holds_so, so_none}

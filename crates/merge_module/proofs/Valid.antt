@@ -6,48 +6,48 @@ use Rattle.std.proofs.lemmas.Bool.{and_parts, and_from, lt-ltb, ltb-true, le-leb
 use Rattle.std.proofs.lemmas.List.Elements.{All-nil, All-cons, All-head, All-tail, All-append}
 use Rattle.std.proofs.lemmas.Option.{slice_get_within}
 use denote.Hole.Carrier.{out}
-use Rattle.wasm_form.specs.declared.types.ValType.{ValType}
-use Rattle.wasm_form.specs.declared.types.ValType.TheVariants.{I32, I64, F32, F64, FuncRef, ExternRef}
-use Rattle.wasm_form.specs.declared.types.FuncType.{FuncType}
-use Rattle.wasm_form.specs.declared.types.TableType.{TableType}
-use Rattle.wasm_form.specs.declared.types.GlobalType.{GlobalType}
-use Rattle.wasm_form.specs.declared.instr.Instr.{Instr, out-Instr}
-use Rattle.wasm_form.specs.declared.instr.Instr.TheOpen as Open
-use Rattle.wasm_form.specs.declared.instr.Expr.{Expr}
-use Rattle.wasm_form.specs.declared.module.ImportDesc.{ImportDesc}
-use Rattle.wasm_form.specs.declared.module.ImportDesc.TheVariants as imported
-use Rattle.wasm_form.specs.declared.module.Import.{Import}
-use Rattle.wasm_form.specs.declared.module.GlobalDef.{GlobalDef}
-use Rattle.wasm_form.specs.declared.module.ExportDesc.{ExportDesc}
-use Rattle.wasm_form.specs.declared.module.ExportDesc.TheVariants as exported
-use Rattle.wasm_form.specs.declared.module.Export.{Export}
-use Rattle.wasm_form.specs.declared.module.ElemMode.{ElemMode}
-use Rattle.wasm_form.specs.declared.module.ElemMode.TheVariants as elem_mode
-use Rattle.wasm_form.specs.declared.module.ElemItems.{ElemItems}
-use Rattle.wasm_form.specs.declared.module.ElemItems.TheVariants as elem_items
-use Rattle.wasm_form.specs.declared.module.Elem.{Elem}
-use Rattle.wasm_form.specs.declared.module.Module.{Module}
-use Rattle.wasm_form.specs.declared.runtime.Ref.{Ref}
-use Rattle.wasm_form.specs.declared.runtime.Ref.TheVariants.{Own, Loader, Host, Stub}
-use Rattle.wasm_opcode.specs.declared.index.IndexForm.{IndexForm}
-use Rattle.wasm_opcode.specs.declared.index.IndexForm.TheVariants as index
-use Rattle.wasm_opcode.specs.Index.{index_form}
-use Rattle.wasm_runtime.specs.declared.Value.{Value}
-use Rattle.wasm_runtime.specs.declared.Value.TheVariants.{Num, Func}
-use Rattle.spec_binary.specs.Options.{◌>>=◌}
-use Rattle.spec_binary.specs.SameTypes.{same_type}
-use Rattle.spec_binary.specs.Indices.{nullary, function_type}
-use Rattle.spec_binary.specs.IndexSpaces.{imports_of, functions_in, globals_in, function_space, imported_count, table_space}
-use Rattle.spec_runtime.specs.Names.{HostName}
-use Rattle.spec_validation.specs.Faults.{is_supported, is_function_supported, type_supported, desc_supported, item_type, is_type, most_entries, table_bounded, memory_bounded, is_function, immutable, constant_step, constant_type, is_of_type, is_constant, global_fits, is_there, export_fits, elem_mode_fits, items_fit, elem_fits, body_supported, data_fits, fault}
-use Rattle.spec_validation.proofs.Parts.{parts_fit}
-use Rattle.spec_execution.specs.Instances.{module_target, function_named}
-use Rattle.spec_linking.specs.Sets.{Member}
-use Rattle.spec_linking.specs.Gathering.{IsMember}
-use Rattle.spec_linking.specs.LinkedSets.{LinkedSet, wasm_of, hosts_of, function_ref}
-use Rattle.spec_linking.specs.Slots.{linked_plan, memory_base, table_base, cells_of, cell_value, fresh_of, outside_slots, table_entries, table_most}
-use Rattle.spec_linking.proofs.LinkedFacts.{linked_limits}
-use Rattle.spec_safety.proofs.Lookups.{went_on, got, holds_at}
+use Rattle.spec_reading.specs.wasm_form.declared.types.ValType.{ValType}
+use Rattle.spec_reading.specs.wasm_form.declared.types.ValType.TheVariants.{I32, I64, F32, F64, FuncRef, ExternRef}
+use Rattle.spec_reading.specs.wasm_form.declared.types.FuncType.{FuncType}
+use Rattle.spec_reading.specs.wasm_form.declared.types.TableType.{TableType}
+use Rattle.spec_reading.specs.wasm_form.declared.types.GlobalType.{GlobalType}
+use Rattle.spec_reading.specs.wasm_form.declared.instr.Instr.{Instr, out-Instr}
+use Rattle.spec_reading.specs.wasm_form.declared.instr.Instr.TheOpen as Open
+use Rattle.spec_reading.specs.wasm_form.declared.instr.Expr.{Expr}
+use Rattle.spec_reading.specs.wasm_form.declared.module.ImportDesc.{ImportDesc}
+use Rattle.spec_reading.specs.wasm_form.declared.module.ImportDesc.TheVariants as imported
+use Rattle.spec_reading.specs.wasm_form.declared.module.Import.{Import}
+use Rattle.spec_reading.specs.wasm_form.declared.module.GlobalDef.{GlobalDef}
+use Rattle.spec_reading.specs.wasm_form.declared.module.ExportDesc.{ExportDesc}
+use Rattle.spec_reading.specs.wasm_form.declared.module.ExportDesc.TheVariants as exported
+use Rattle.spec_reading.specs.wasm_form.declared.module.Export.{Export}
+use Rattle.spec_reading.specs.wasm_form.declared.module.ElemMode.{ElemMode}
+use Rattle.spec_reading.specs.wasm_form.declared.module.ElemMode.TheVariants as elem_mode
+use Rattle.spec_reading.specs.wasm_form.declared.module.ElemItems.{ElemItems}
+use Rattle.spec_reading.specs.wasm_form.declared.module.ElemItems.TheVariants as elem_items
+use Rattle.spec_reading.specs.wasm_form.declared.module.Elem.{Elem}
+use Rattle.spec_reading.specs.wasm_form.declared.module.Module.{Module}
+use Rattle.spec_reading.specs.wasm_form.declared.runtime.Ref.{Ref}
+use Rattle.spec_reading.specs.wasm_form.declared.runtime.Ref.TheVariants.{Own, Loader, Host, Stub}
+use Rattle.spec_reading.specs.wasm_form.declared.index.IndexForm.{IndexForm}
+use Rattle.spec_reading.specs.wasm_form.declared.index.IndexForm.TheVariants as index
+use Rattle.spec_reading.specs.wasm_form.Index.{index_form}
+use Rattle.spec_reading.specs.wasm_form.declared.runtime.Value.{Value}
+use Rattle.spec_reading.specs.wasm_form.declared.runtime.Value.TheVariants.{Num, Func}
+use Rattle.spec_reading.specs.spec_binary.Options.{◌>>=◌}
+use Rattle.spec_reading.specs.spec_binary.SameTypes.{same_type}
+use Rattle.spec_reading.specs.spec_binary.Indices.{nullary, function_type}
+use Rattle.spec_reading.specs.spec_binary.IndexSpaces.{imports_of, functions_in, globals_in, function_space, imported_count, table_space}
+use Rattle.spec_loading.specs.spec_runtime.Names.{HostName}
+use Rattle.spec_loading.specs.spec_validation.Faults.{is_supported, is_function_supported, type_supported, desc_supported, item_type, is_type, most_entries, table_bounded, memory_bounded, is_function, immutable, constant_step, constant_type, is_of_type, is_constant, global_fits, is_there, export_fits, elem_mode_fits, items_fit, elem_fits, body_supported, data_fits, fault}
+use Rattle.spec_loading.proofs.of_spec_validation.Parts.{parts_fit}
+use Rattle.spec_loading.specs.spec_execution.Instances.{module_target, function_named}
+use Rattle.spec_loading.specs.spec_linking.Sets.{Member}
+use Rattle.spec_loading.specs.spec_linking.Gathering.{IsMember}
+use Rattle.spec_loading.specs.spec_linking.LinkedSets.{LinkedSet, wasm_of, hosts_of, function_ref}
+use Rattle.spec_loading.specs.spec_linking.Slots.{linked_plan, memory_base, table_base, cells_of, cell_value, fresh_of, outside_slots, table_entries, table_most}
+use Rattle.spec_loading.proofs.of_spec_linking.LinkedFacts.{linked_limits}
+use Rattle.spec_loading.proofs.of_spec_safety.Lookups.{went_on, got, holds_at}
 use Rattle.spec_loading.specs.Members.{uses_loader, from_members, opened_global}
 use Rattle.merge_match.specs.Renumbering.{Numbers, index_in, renumbered, expr, reference}
 use Rattle.merge_match.specs.Joined.{renumbered_code}

@@ -5,26 +5,26 @@ use Rattle.std.specs.List.{filter, range_with_len}
 use Rattle.std.proofs.lemmas.Bool.Decides.{nat_tests}
 use Rattle.std.proofs.lemmas.List.{length-map}
 use Rattle.std.proofs.lemmas.Option.{slice_get-map, slice_get_within}
-use Rattle.wasm_form.specs.declared.types.ValType.{ValType}
-use Rattle.wasm_form.specs.declared.types.FuncType.{FuncType}
-use Rattle.wasm_form.specs.declared.instr.Instr.{roll-Instr}
-use Rattle.wasm_form.specs.declared.instr.Instr.TheOpen as Open
-use Rattle.wasm_form.specs.declared.module.Code.{Code}
-use Rattle.wasm_form.specs.declared.module.Module.{Module}
-use Rattle.wasm_form.specs.declared.runtime.Ref.{Ref}
-use Rattle.wasm_form.specs.declared.runtime.Ref.TheVariants.{Own, Loader, Host, Stub}
-use Rattle.spec_binary.specs.Options.{◌>>=◌}
-use Rattle.spec_binary.specs.IndexSpaces.{memory_space, function_space, imported_count}
-use Rattle.spec_validation.specs.Context.{Context}
-use Rattle.spec_validation.specs.Stacks.{holding, unreachable, begins, ends_with}
-use Rattle.spec_validation.specs.Typing.{Meaning, after, height}
-use Rattle.spec_validation.specs.Faults.{Finding, first_in, body_context, type_of_body, body_height, body_typed}
-use Rattle.spec_validation.specs.declared.fault.CheckFault.TheVariants.{BadBody}
-use Rattle.spec_validation.proofs.Levels.{after_rolled}
-use Rattle.spec_validation.proofs.Parts.{body_fits}
-use Rattle.spec_linking.specs.Sets.{Member}
-use Rattle.spec_linking.specs.LinkedSets.{LinkedSet, wasm_of, hosts_of, function_ref}
-use Rattle.spec_linking.specs.Slots.{linked_plan}
+use Rattle.spec_reading.specs.wasm_form.declared.types.ValType.{ValType}
+use Rattle.spec_reading.specs.wasm_form.declared.types.FuncType.{FuncType}
+use Rattle.spec_reading.specs.wasm_form.declared.instr.Instr.{roll-Instr}
+use Rattle.spec_reading.specs.wasm_form.declared.instr.Instr.TheOpen as Open
+use Rattle.spec_reading.specs.wasm_form.declared.module.Code.{Code}
+use Rattle.spec_reading.specs.wasm_form.declared.module.Module.{Module}
+use Rattle.spec_reading.specs.wasm_form.declared.runtime.Ref.{Ref}
+use Rattle.spec_reading.specs.wasm_form.declared.runtime.Ref.TheVariants.{Own, Loader, Host, Stub}
+use Rattle.spec_reading.specs.spec_binary.Options.{◌>>=◌}
+use Rattle.spec_reading.specs.spec_binary.IndexSpaces.{memory_space, function_space, imported_count}
+use Rattle.spec_loading.specs.spec_validation.Context.{Context}
+use Rattle.spec_loading.specs.spec_validation.Stacks.{holding, unreachable, begins, ends_with}
+use Rattle.spec_loading.specs.spec_validation.Typing.{Meaning, after, height}
+use Rattle.spec_loading.specs.spec_validation.Faults.{Finding, first_in, body_context, type_of_body, body_height, body_typed}
+use Rattle.spec_loading.specs.spec_validation.declared.fault.CheckFault.TheVariants.{BadBody}
+use Rattle.spec_loading.proofs.of_spec_validation.Levels.{after_rolled}
+use Rattle.spec_loading.proofs.of_spec_validation.Parts.{body_fits}
+use Rattle.spec_loading.specs.spec_linking.Sets.{Member}
+use Rattle.spec_loading.specs.spec_linking.LinkedSets.{LinkedSet, wasm_of, hosts_of, function_ref}
+use Rattle.spec_loading.specs.spec_linking.Slots.{linked_plan}
 use Rattle.spec_loading.specs.Addresses.{sum_before}
 use Rattle.spec_loading.specs.Members.{from_members}
 use Rattle.merge_match.specs.Renumbering.{Numbers}

@@ -5,37 +5,37 @@ use Rattle.std.specs.List.{list_all}
 use Rattle.std.proofs.lemmas.Bool.{and_parts, lt-ltb}
 use Rattle.std.proofs.lemmas.List.{length-map}
 use Rattle.std.proofs.lemmas.Option.{slice_get-map, slice_get_within}
-use Rattle.wasm_form.specs.declared.types.ValType.TheVariants.{I32, FuncRef}
-use Rattle.wasm_form.specs.declared.types.TableType.{TableType}
-use Rattle.wasm_form.specs.declared.instr.Instr.{Instr}
-use Rattle.wasm_form.specs.declared.module.ElemMode.{ElemMode}
-use Rattle.wasm_form.specs.declared.module.ElemMode.TheVariants as elem_mode
-use Rattle.wasm_form.specs.declared.module.ElemItems.{ElemItems}
-use Rattle.wasm_form.specs.declared.module.ElemItems.TheVariants as elem_items
-use Rattle.wasm_form.specs.declared.types.FuncType.{FuncType}
-use Rattle.wasm_form.specs.declared.module.GlobalDef.{GlobalDef}
-use Rattle.wasm_form.specs.declared.module.Elem.{Elem}
-use Rattle.wasm_form.specs.declared.module.Code.{Code}
-use Rattle.wasm_form.specs.declared.module.DataMode.{DataMode}
-use Rattle.wasm_form.specs.declared.module.DataMode.TheVariants as data_mode
-use Rattle.wasm_form.specs.declared.module.Data.{Data}
-use Rattle.wasm_form.specs.declared.module.Module.{Module}
-use Rattle.wasm_form.specs.declared.runtime.Ref.{Ref}
-use Rattle.wasm_form.specs.declared.runtime.Ref.TheVariants.{Own}
-use Rattle.spec_binary.specs.Options.{◌>>=◌}
-use Rattle.spec_binary.specs.SameTypes.{same_type}
-use Rattle.spec_binary.specs.Indices.{nullary, function_type}
-use Rattle.spec_binary.specs.IndexSpaces.{global_space, table_space}
-use Rattle.spec_validation.specs.Context.{Context}
-use Rattle.spec_validation.specs.Typing.{height}
-use Rattle.spec_validation.specs.Faults.{first_in, is_constant, has_functions, elem_of_table, type_of_elem, item_type, items_fit, elem_mode_fits, elem_fits, body_context, type_of_body}
-use Rattle.spec_validation.proofs.Parts.{parts_fit}
-use Rattle.spec_execution.specs.Activations.{Effect, TableInit, ElemDrop, MemoryInit, DataDrop}
-use Rattle.spec_execution.specs.Segments.{items_count, effects_at, elem_effects, data_effects, all_effects, segment_effects}
-use Rattle.spec_linking.specs.Sets.{Member}
-use Rattle.spec_linking.specs.LinkedSets.{LinkedSet, wasm_of, function_ref}
-use Rattle.spec_linking.specs.Slots.{linked_plan, member_number}
-use Rattle.spec_safety.proofs.Lookups.{got}
+use Rattle.spec_reading.specs.wasm_form.declared.types.ValType.TheVariants.{I32, FuncRef}
+use Rattle.spec_reading.specs.wasm_form.declared.types.TableType.{TableType}
+use Rattle.spec_reading.specs.wasm_form.declared.instr.Instr.{Instr}
+use Rattle.spec_reading.specs.wasm_form.declared.module.ElemMode.{ElemMode}
+use Rattle.spec_reading.specs.wasm_form.declared.module.ElemMode.TheVariants as elem_mode
+use Rattle.spec_reading.specs.wasm_form.declared.module.ElemItems.{ElemItems}
+use Rattle.spec_reading.specs.wasm_form.declared.module.ElemItems.TheVariants as elem_items
+use Rattle.spec_reading.specs.wasm_form.declared.types.FuncType.{FuncType}
+use Rattle.spec_reading.specs.wasm_form.declared.module.GlobalDef.{GlobalDef}
+use Rattle.spec_reading.specs.wasm_form.declared.module.Elem.{Elem}
+use Rattle.spec_reading.specs.wasm_form.declared.module.Code.{Code}
+use Rattle.spec_reading.specs.wasm_form.declared.module.DataMode.{DataMode}
+use Rattle.spec_reading.specs.wasm_form.declared.module.DataMode.TheVariants as data_mode
+use Rattle.spec_reading.specs.wasm_form.declared.module.Data.{Data}
+use Rattle.spec_reading.specs.wasm_form.declared.module.Module.{Module}
+use Rattle.spec_reading.specs.wasm_form.declared.runtime.Ref.{Ref}
+use Rattle.spec_reading.specs.wasm_form.declared.runtime.Ref.TheVariants.{Own}
+use Rattle.spec_reading.specs.spec_binary.Options.{◌>>=◌}
+use Rattle.spec_reading.specs.spec_binary.SameTypes.{same_type}
+use Rattle.spec_reading.specs.spec_binary.Indices.{nullary, function_type}
+use Rattle.spec_reading.specs.spec_binary.IndexSpaces.{global_space, table_space}
+use Rattle.spec_loading.specs.spec_validation.Context.{Context}
+use Rattle.spec_loading.specs.spec_validation.Typing.{height}
+use Rattle.spec_loading.specs.spec_validation.Faults.{first_in, is_constant, has_functions, elem_of_table, type_of_elem, item_type, items_fit, elem_mode_fits, elem_fits, body_context, type_of_body}
+use Rattle.spec_loading.proofs.of_spec_validation.Parts.{parts_fit}
+use Rattle.spec_loading.specs.spec_execution.Activations.{Effect, TableInit, ElemDrop, MemoryInit, DataDrop}
+use Rattle.spec_loading.specs.spec_execution.Segments.{items_count, effects_at, elem_effects, data_effects, all_effects, segment_effects}
+use Rattle.spec_loading.specs.spec_linking.Sets.{Member}
+use Rattle.spec_loading.specs.spec_linking.LinkedSets.{LinkedSet, wasm_of, function_ref}
+use Rattle.spec_loading.specs.spec_linking.Slots.{linked_plan, member_number}
+use Rattle.spec_loading.proofs.of_spec_safety.Lookups.{got}
 use Rattle.spec_loading.specs.declared.task.Phase.{Phase}
 use Rattle.spec_loading.specs.declared.task.Phase.TheVariants.{Place, Start, Relocate, Construct}
 use Rattle.spec_loading.specs.declared.task.Task.{Task}

@@ -1,19 +1,19 @@
 -- The bodies of the functions of the loader, and of what they call, are well typed in the merged module, and so all its bodies are.
 use Rattle.std.proofs.Common.{◌≡◌, ◌≤◌, ◌<◌, ℕ, suc, ◌+◌, ◌*◌, true, List, ◌∷◌, ◌++◌, length, slice_get, Some, None, refl, subst, arith}
 use Rattle.std.proofs.lemmas.Option.{slice_get_within}
-use Rattle.wasm_form.specs.declared.types.FuncType.{FuncType}
-use Rattle.wasm_form.specs.declared.module.Code.{Code}
-use Rattle.wasm_form.specs.declared.module.Module.{Module}
-use Rattle.wasm_form.specs.declared.runtime.LoaderCall.{LoaderCall}
-use Rattle.wasm_form.specs.declared.runtime.LoaderCall.TheVariants.{Dlopen, Dlsym, Dlclose, Dlerror}
-use Rattle.spec_binary.specs.Indices.{function_type, function_with}
-use Rattle.spec_validation.specs.Typing.{height}
-use Rattle.spec_validation.specs.Faults.{first_in, body_context, type_of_body, body_typed}
-use Rattle.spec_execution.specs.Views.{loader_type}
-use Rattle.spec_linking.specs.Sets.{Member}
-use Rattle.spec_linking.specs.LinkedSets.{LinkedSet}
-use Rattle.spec_linking.specs.Slots.{linked_plan}
-use Rattle.spec_safety.proofs.Lookups.{got}
+use Rattle.spec_reading.specs.wasm_form.declared.types.FuncType.{FuncType}
+use Rattle.spec_reading.specs.wasm_form.declared.module.Code.{Code}
+use Rattle.spec_reading.specs.wasm_form.declared.module.Module.{Module}
+use Rattle.spec_reading.specs.wasm_form.declared.runtime.LoaderCall.{LoaderCall}
+use Rattle.spec_reading.specs.wasm_form.declared.runtime.LoaderCall.TheVariants.{Dlopen, Dlsym, Dlclose, Dlerror}
+use Rattle.spec_reading.specs.spec_binary.Indices.{function_type, function_with}
+use Rattle.spec_loading.specs.spec_validation.Typing.{height}
+use Rattle.spec_loading.specs.spec_validation.Faults.{first_in, body_context, type_of_body, body_typed}
+use Rattle.spec_loading.specs.spec_execution.Views.{loader_type}
+use Rattle.spec_loading.specs.spec_linking.Sets.{Member}
+use Rattle.spec_loading.specs.spec_linking.LinkedSets.{LinkedSet}
+use Rattle.spec_loading.specs.spec_linking.Slots.{linked_plan}
+use Rattle.spec_loading.proofs.of_spec_safety.Lookups.{got}
 use Rattle.spec_loading.specs.Phases.{open_frame}
 use Rattle.spec_loading.specs.Members.{from_members, uses_loader}
 use Rattle.merge_match.specs.Renumbering.{Numbers}

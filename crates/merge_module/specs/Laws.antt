@@ -1,22 +1,22 @@
 -- What is so of the merged module of a linked set.
 use Rattle.std.specs.Prelude.{◌≡◌, ℕ, ◌+◌, ◌≤◌, ◌<◌, ◌^◌, List, [], ◌∷◌, length, slice_get, Some, None, IsTrue, Contains}
 use Rattle.std.specs.List.{All}
-use Rattle.wasm_form.specs.declared.module.ImportDesc.{ImportDesc}
-use Rattle.wasm_form.specs.declared.module.ImportDesc.TheVariants as imported
-use Rattle.wasm_form.specs.declared.module.Import.{Import}
-use Rattle.wasm_form.specs.declared.module.Code.{Code}
-use Rattle.wasm_form.specs.declared.module.Module.{Module}
-use Rattle.spec_binary.specs.Indices.{function_type, nullary}
-use Rattle.spec_binary.specs.Parts.{SpellsFunc}
-use Rattle.spec_binary.specs.Modules.{SpellsModule}
-use Rattle.spec_binary.specs.WellFormed.{IsShort, IsFormedType, IsWellFormed}
-use Rattle.spec_runtime.specs.Names.{HostName}
-use Rattle.spec_validation.specs.Faults.{is_function_supported}
-use Rattle.spec_linking.specs.Sets.{Member}
-use Rattle.spec_linking.specs.Gathering.{IsSet}
-use Rattle.spec_linking.specs.LinkedSets.{LinkedSet, hosts_of}
-use Rattle.spec_linking.specs.Slots.{linked_plan}
-use Rattle.spec_linking.specs.Links.{Links}
+use Rattle.spec_reading.specs.wasm_form.declared.module.ImportDesc.{ImportDesc}
+use Rattle.spec_reading.specs.wasm_form.declared.module.ImportDesc.TheVariants as imported
+use Rattle.spec_reading.specs.wasm_form.declared.module.Import.{Import}
+use Rattle.spec_reading.specs.wasm_form.declared.module.Code.{Code}
+use Rattle.spec_reading.specs.wasm_form.declared.module.Module.{Module}
+use Rattle.spec_reading.specs.spec_binary.Indices.{function_type, nullary}
+use Rattle.spec_reading.specs.spec_binary.Parts.{SpellsFunc}
+use Rattle.spec_reading.specs.spec_binary.Modules.{SpellsModule}
+use Rattle.spec_reading.specs.spec_binary.WellFormed.{IsShort, IsFormedType, IsWellFormed}
+use Rattle.spec_loading.specs.spec_runtime.Names.{HostName}
+use Rattle.spec_loading.specs.spec_validation.Faults.{is_function_supported}
+use Rattle.spec_loading.specs.spec_linking.Sets.{Member}
+use Rattle.spec_loading.specs.spec_linking.Gathering.{IsSet}
+use Rattle.spec_loading.specs.spec_linking.LinkedSets.{LinkedSet, hosts_of}
+use Rattle.spec_loading.specs.spec_linking.Slots.{linked_plan}
+use Rattle.spec_loading.specs.spec_linking.Links.{Links}
 use Rattle.spec_loading.specs.Merged.{Merged}
 use Rattle.wasm_encode.specs.SectionSizes.{IsContents}
 use Rattle.merge_module.specs.MergedModule.{shared_table_type, shared_memory_type, entry_exports, merged_module}

@@ -2,38 +2,38 @@
 use Rattle.std.specs.Prelude.{ℕ, ◌+◌, ◌*◌, true, false, List, [], ◌∷◌, ◌++◌, length, map, replicate, slice_get, Bool, Some, None, unwrap_or, codes, if◌then◌else◌}
 use Rattle.std.specs.Int.{cast_signed, w64}
 use Rattle.std.specs.List.{flat_map}
-use Rattle.wasm_form.specs.declared.types.ValType.{ValType}
-use Rattle.wasm_form.specs.declared.types.ValType.TheVariants.{I32, I64, FuncRef}
-use Rattle.wasm_form.specs.declared.types.FuncType.{FuncType}
-use Rattle.wasm_form.specs.declared.types.Limits.{Limits}
-use Rattle.wasm_form.specs.declared.types.TableType.{TableType}
-use Rattle.wasm_form.specs.declared.instr.Instr.{Instr, Index, I64Const, RefNull, roll-Instr}
-use Rattle.wasm_form.specs.declared.instr.Instr.TheOpen as Open
-use Rattle.wasm_form.specs.declared.instr.Expr.{Expr}
-use Rattle.wasm_form.specs.declared.module.ImportDesc.TheVariants as imported
-use Rattle.wasm_form.specs.declared.module.Import.{Import}
-use Rattle.wasm_form.specs.declared.module.GlobalDef.{GlobalDef}
-use Rattle.wasm_form.specs.declared.module.ExportDesc.{ExportDesc}
-use Rattle.wasm_form.specs.declared.module.ExportDesc.TheVariants as exported
-use Rattle.wasm_form.specs.declared.module.Export.{Export}
-use Rattle.wasm_form.specs.declared.module.ElemMode.{ElemMode}
-use Rattle.wasm_form.specs.declared.module.ElemMode.TheVariants as elem_mode
-use Rattle.wasm_form.specs.declared.module.ElemItems.{ElemItems}
-use Rattle.wasm_form.specs.declared.module.ElemItems.TheVariants as elem_items
-use Rattle.wasm_form.specs.declared.module.Elem.{Elem}
-use Rattle.wasm_form.specs.declared.module.Code.{Code}
-use Rattle.wasm_form.specs.declared.module.DataMode.TheVariants as data_mode
-use Rattle.wasm_form.specs.declared.module.Data.{Data}
-use Rattle.wasm_form.specs.declared.module.Module.{Module}
-use Rattle.wasm_form.specs.declared.runtime.LoaderCall.TheVariants.{Dlopen, Dlsym, Dlclose, Dlerror}
-use Rattle.wasm_form.specs.declared.runtime.Ref.{Ref}
-use Rattle.wasm_runtime.specs.declared.Value.{Value}
-use Rattle.wasm_runtime.specs.declared.Value.TheVariants.{Num, Func}
-use Rattle.spec_binary.specs.Indices.{nullary}
-use Rattle.spec_binary.specs.IndexSpaces.{function_space}
-use Rattle.spec_runtime.specs.Names.{HostName}
-use Rattle.spec_linking.specs.LinkedSets.{LinkedSet, hosts_of}
-use Rattle.spec_linking.specs.Slots.{linked_plan, memory_base, table_base, cells_of, cell_value, fresh_functions, outside_slots, table_entries, table_most}
+use Rattle.spec_reading.specs.wasm_form.declared.types.ValType.{ValType}
+use Rattle.spec_reading.specs.wasm_form.declared.types.ValType.TheVariants.{I32, I64, FuncRef}
+use Rattle.spec_reading.specs.wasm_form.declared.types.FuncType.{FuncType}
+use Rattle.spec_reading.specs.wasm_form.declared.types.Limits.{Limits}
+use Rattle.spec_reading.specs.wasm_form.declared.types.TableType.{TableType}
+use Rattle.spec_reading.specs.wasm_form.declared.instr.Instr.{Instr, Index, I64Const, RefNull, roll-Instr}
+use Rattle.spec_reading.specs.wasm_form.declared.instr.Instr.TheOpen as Open
+use Rattle.spec_reading.specs.wasm_form.declared.instr.Expr.{Expr}
+use Rattle.spec_reading.specs.wasm_form.declared.module.ImportDesc.TheVariants as imported
+use Rattle.spec_reading.specs.wasm_form.declared.module.Import.{Import}
+use Rattle.spec_reading.specs.wasm_form.declared.module.GlobalDef.{GlobalDef}
+use Rattle.spec_reading.specs.wasm_form.declared.module.ExportDesc.{ExportDesc}
+use Rattle.spec_reading.specs.wasm_form.declared.module.ExportDesc.TheVariants as exported
+use Rattle.spec_reading.specs.wasm_form.declared.module.Export.{Export}
+use Rattle.spec_reading.specs.wasm_form.declared.module.ElemMode.{ElemMode}
+use Rattle.spec_reading.specs.wasm_form.declared.module.ElemMode.TheVariants as elem_mode
+use Rattle.spec_reading.specs.wasm_form.declared.module.ElemItems.{ElemItems}
+use Rattle.spec_reading.specs.wasm_form.declared.module.ElemItems.TheVariants as elem_items
+use Rattle.spec_reading.specs.wasm_form.declared.module.Elem.{Elem}
+use Rattle.spec_reading.specs.wasm_form.declared.module.Code.{Code}
+use Rattle.spec_reading.specs.wasm_form.declared.module.DataMode.TheVariants as data_mode
+use Rattle.spec_reading.specs.wasm_form.declared.module.Data.{Data}
+use Rattle.spec_reading.specs.wasm_form.declared.module.Module.{Module}
+use Rattle.spec_reading.specs.wasm_form.declared.runtime.LoaderCall.TheVariants.{Dlopen, Dlsym, Dlclose, Dlerror}
+use Rattle.spec_reading.specs.wasm_form.declared.runtime.Ref.{Ref}
+use Rattle.spec_reading.specs.wasm_form.declared.runtime.Value.{Value}
+use Rattle.spec_reading.specs.wasm_form.declared.runtime.Value.TheVariants.{Num, Func}
+use Rattle.spec_reading.specs.spec_binary.Indices.{nullary}
+use Rattle.spec_reading.specs.spec_binary.IndexSpaces.{function_space}
+use Rattle.spec_loading.specs.spec_runtime.Names.{HostName}
+use Rattle.spec_loading.specs.spec_linking.LinkedSets.{LinkedSet, hosts_of}
+use Rattle.spec_loading.specs.spec_linking.Slots.{linked_plan, memory_base, table_base, cells_of, cell_value, fresh_functions, outside_slots, table_entries, table_most}
 use Rattle.spec_loading.specs.Texts.{error_texts}
 use Rattle.spec_loading.specs.declared.task.Phase.TheVariants.{Place, Start, Relocate, Construct}
 use Rattle.spec_loading.specs.Members.{from_members, uses_loader, opened_global}

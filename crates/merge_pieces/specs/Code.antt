@@ -17,7 +17,11 @@ guarded guard stage work =
 abbrev pub phase_calls : ℕ → ℕ → List ℕ → List Instr
 phase_calls first before ms = map (λ m. Index 0x10 (first + 4 * m + before)) ms
 
--- the functions of the phases of some members, the last of them in an order of its own, and then an instruction
+-- the functions of the phases of some members, the last of them in an order of its own
+abbrev pub phases_code : ℕ → List ℕ → List ℕ → List Instr
+phases_code first breadth post = phase_calls first 0 breadth ++ (phase_calls first 1 breadth ++ (phase_calls first 2 breadth ++ phase_calls first 3 post))
+
+-- .. and then an instruction
 abbrev pub opening_code : ℕ → List ℕ → List ℕ → Instr → List Instr
 opening_code first breadth post last =
     phase_calls first 0 breadth ++ (phase_calls first 1 breadth ++ (phase_calls first 2 breadth ++ (phase_calls first 3 post ++ last ∷ [])))

@@ -1,6 +1,6 @@
 // The code that opens members, and their guards.
-ghost use Rattle.std.specs.Prelude.{◌≡◌, ◌+◌, ◌<◌, ◌^◌, IfOk};
-ghost use Rattle.merge_pieces.specs.Code.{number, guarded, phase_calls, opening_code, AreFew};
+ghost use Rattle.std.specs.Prelude.{◌≡◌, ◌+◌, ◌<◌, ◌^◌, ◌++◌, IfOk, OnOk};
+ghost use Rattle.merge_pieces.specs.Code.{number, guarded, phase_calls, phases_code, opening_code, AreFew};
 
 use std::alloc::Global;
 use wasm_form::{BlockType, Expr, Instr, List, Memory};
@@ -42,22 +42,35 @@ pub fn guarded(
 }
 
 // The functions of the phase after so many are called for some members, in order, where each member has four from a first one on.
-fn phase_calls(
-    alloc: Global,
-    first: u32,
-    before: u32,
-    members: &[u32],
-) -> Result<Vec<Instr>, Memory>
+fn push_phase(code: &mut Vec<Instr>, first: u32, before: u32, members: &[u32]) -> Result<(), Memory>
     requires first { first < 2 ^ 31 }
     requires phase { before < 4 }
     requires few { AreFew members.now }
-    ensures { IfOk result (λ code. code.items ≡ phase_calls first before members.now) }
+    ensures { OnOk result (code.new.items ≡ code.old.items ++ phase_calls first before members.now) }
 {
-    let mut code = Vec::new(alloc);
     for m in members {
         code.push(Instr::Index(0x10, first + 4 * *m + before))?;
     }
-    Ok(code)
+    Ok(())
+}
+
+// The phases of some members, the last of them in an order of its own.
+fn push_phases(
+    code: &mut Vec<Instr>,
+    first: u32,
+    breadth: &[u32],
+    post: &[u32],
+) -> Result<(), Memory>
+    requires first { first < 2 ^ 31 }
+    requires breadth { AreFew breadth.now }
+    requires post { AreFew post.now }
+    ensures { OnOk result (code.new.items ≡ code.old.items ++ phases_code first breadth.now post.now) }
+{
+    push_phase(code, first, 0, breadth)?;
+    push_phase(code, first, 1, breadth)?;
+    push_phase(code, first, 2, breadth)?;
+    push_phase(code, first, 3, post)?;
+    Ok(())
 }
 
 /// The phases of some members, the last of them in an order of its own, and then an instruction. The functions of the phases come from a first
@@ -74,13 +87,16 @@ pub fn opening_code(
     requires post { AreFew post.now }
     ensures { IfOk result (λ code. code.items ≡ opening_code first breadth.now post.now last) }
 {
-    let mut code = phase_calls(alloc, first, 0, breadth)?;
-    let mut start = phase_calls(alloc, first, 1, breadth)?;
-    let mut relocate = phase_calls(alloc, first, 2, breadth)?;
-    let mut construct = phase_calls(alloc, first, 3, post)?;
-    code.append(&mut start)?;
-    code.append(&mut relocate)?;
-    code.append(&mut construct)?;
-    code.push(last)?;
-    Ok(code)
+    let mut code = Vec::new(alloc);
+    match push_phases(&mut code, first, breadth, post) {
+        Ok(()) => {
+            code.push(last)?;
+            Ok(code)
+        }
+        Err(memory) => {
+            drop(code);
+            drop(last);
+            Err(memory)
+        }
+    }
 }

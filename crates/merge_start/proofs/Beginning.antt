@@ -1,15 +1,15 @@
 -- What is the same in the beginning.
 use Rattle.std.proofs.Common.{◌≡◌, ℕ, zero, suc, ◌<◌, ◌≤◌, List, [], ◌∷◌, ◌++◌, length, map, slice_get, Some, refl, ap, ◌∙◌, arith}
 use Rattle.std.proofs.lemmas.List.{length-map}
-use Rattle.wasm_runtime.specs.declared.Value.{Value}
-use Rattle.wasm_runtime.specs.declared.Value.TheVariants.{Num}
-use Rattle.spec_linking.specs.LinkedSets.{LinkedSet}
+use Rattle.wasm_form.specs.declared.runtime.Value.{Value}
+use Rattle.wasm_form.specs.declared.runtime.Value.TheVariants.{Num}
+use Rattle.spec_loading.specs.spec_linking.LinkedSets.{LinkedSet}
 use Rattle.spec_loading.specs.Members.{opening_table, opening_store, from_members}
 use Rattle.spec_loading.specs.LoadedSet.{set_opening}
 use Rattle.merge_match.specs.Renumbering.{Numbers}
 use Rattle.merge_match.proofs.Openings.{opening_is_inside}
-use Rattle.spec_execution.specs.Instances.{ModuleParts}
-use Rattle.spec_execution.specs.OneModule.{opened_table}
+use Rattle.spec_loading.specs.spec_execution.Instances.{ModuleParts}
+use Rattle.spec_loading.specs.spec_execution.OneModule.{opened_table}
 use Rattle.merge_start.specs.Words.{Starts}
 use Rattle.merge_start.specs.Started.{Same, IsOpened}
 

@@ -2,8 +2,8 @@
 use Rattle.std.proofs.Common.{◌≡◌, ◌<◌, ℕ, suc, ◌+◌, List, [], ◌∷◌, ◌++◌, length, drop, get_or, refl, sym, ap, ap₂, ◌∙◌, append_assoc, arith}
 use Rattle.std.proofs.Math.Seq.{drop-cons}
 use Rattle.wasm_form.specs.declared.instr.Instr.{Instr}
-use Rattle.spec_execution.specs.Activations.{Effect}
-use Rattle.spec_execution.specs.Segments.{all_effects}
+use Rattle.spec_loading.specs.spec_execution.Activations.{Effect}
+use Rattle.spec_loading.specs.spec_execution.Segments.{all_effects}
 use Rattle.merge_match.specs.Renumbering.{Numbers}
 use Rattle.merge_match.specs.Moves.{effect}
 use Rattle.merge_start.specs.Words.{effect_code, effects_code}

@@ -9,19 +9,19 @@ use Rattle.wasm_form.specs.declared.module.Module.{Module}
 use Rattle.wasm_form.specs.declared.runtime.Ref.TheVariants.{Own}
 use Rattle.wasm_form.specs.declared.runtime.Ref.{Ref}
 use Rattle.wasm_form.specs.declared.runtime.Trap.{Trap}
-use Rattle.wasm_runtime.specs.declared.Value.{Value}
-use Rattle.wasm_runtime.specs.declared.Value.TheVariants.{Num}
-use Rattle.spec_runs.specs.Systems.{Moving}
-use Rattle.spec_binary.specs.Options.{◌>>=◌}
-use Rattle.spec_binary.proofs.Lists.{got}
-use Rattle.spec_runtime.specs.Memories.{MemoryInstance}
-use Rattle.spec_execution.specs.Activations.{Activation, with_values}
-use Rattle.spec_execution.specs.Segments.{Performed}
-use Rattle.spec_execution.specs.Runs.{Frame, Next, call, calling, stands, became}
-use Rattle.spec_execution.specs.Runs as frames
-use Rattle.spec_execution.specs.Instances.{ModuleParts, module_hosts, module_view, module_target}
-use Rattle.spec_execution.specs.OneModule.{Starting, ModuleState, module_next, module_step}
-use Rattle.spec_linking.specs.LinkedSets.{LinkedSet}
+use Rattle.wasm_form.specs.declared.runtime.Value.{Value}
+use Rattle.wasm_form.specs.declared.runtime.Value.TheVariants.{Num}
+use Rattle.spec_loading.specs.spec_runs.Systems.{Moving}
+use Rattle.spec_loading.specs.spec_binary.Options.{◌>>=◌}
+use Rattle.spec_loading.proofs.of_spec_binary.Lists.{got}
+use Rattle.spec_loading.specs.spec_runtime.Memories.{MemoryInstance}
+use Rattle.spec_loading.specs.spec_execution.Activations.{Activation, with_values}
+use Rattle.spec_loading.specs.spec_execution.Segments.{Performed}
+use Rattle.spec_loading.specs.spec_execution.Runs.{Frame, Next, call, calling, stands, became}
+use Rattle.spec_loading.specs.spec_execution.Runs as frames
+use Rattle.spec_loading.specs.spec_execution.Instances.{ModuleParts, module_hosts, module_view, module_target}
+use Rattle.spec_loading.specs.spec_execution.OneModule.{Starting, ModuleState, module_next, module_step}
+use Rattle.spec_loading.specs.spec_linking.LinkedSets.{LinkedSet}
 use Rattle.spec_loading.specs.declared.task.Phase.{Phase}
 use Rattle.spec_loading.specs.declared.task.Phase.TheVariants.{Place, Start, Relocate, Construct}
 use Rattle.spec_loading.specs.declared.task.Task.{Task}

@@ -5,15 +5,15 @@ use Rattle.std.proofs.lemmas.List.{length-map}
 use Rattle.std.proofs.lemmas.List.Elements.{All-same, All-weaker}
 use Rattle.std.proofs.lemmas.Option.{slice_get-map}
 use Rattle.wasm_form.specs.declared.module.Module.{Module}
-use Rattle.spec_binary.specs.Options.{◌>>=◌}
-use Rattle.spec_linking.specs.Sets as sets
-use Rattle.spec_linking.specs.Sets.{most_members}
-use Rattle.spec_linking.specs.Plans.{Plan, stack_end, texts_size, sizes_of, region_of, regions_of}
-use Rattle.spec_linking.specs.Orders.{closure, post_order}
-use Rattle.spec_linking.specs.LinkedSets.{LinkedSet, wasm_of}
-use Rattle.spec_linking.proofs.Placing.{bases_length}
-use Rattle.dyl_search.specs.declared.set.Member.{Member}
-use Rattle.dyl_search.specs.Gathers.{member_of}
+use Rattle.spec_loading.specs.spec_binary.Options.{◌>>=◌}
+use Rattle.spec_loading.specs.spec_linking.Sets as sets
+use Rattle.spec_loading.specs.spec_linking.Sets.{most_members}
+use Rattle.spec_loading.specs.spec_linking.Plans.{Plan, stack_end, texts_size, sizes_of, region_of, regions_of}
+use Rattle.spec_loading.specs.spec_linking.Orders.{closure, post_order}
+use Rattle.spec_loading.specs.spec_linking.LinkedSets.{LinkedSet, wasm_of}
+use Rattle.spec_loading.proofs.of_spec_linking.Placing.{bases_length}
+use Rattle.dyl_link.specs.dyl_search.declared.set.Member.{Member}
+use Rattle.dyl_link.specs.dyl_search.Gathers.{member_of}
 use Rattle.dyl_link.specs.Kept.{Kept, IsLinked}
 use Rattle.merge_start.specs.Listed.{AreBases, AreFew, bases_from, module_of}
 use Rattle.merge_start.proofs.Offsets.{are_bases}

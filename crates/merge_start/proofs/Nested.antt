@@ -1,7 +1,7 @@
 -- A member is opened while the program runs: code that calls the function that opens it, and returns what that gives, comes in one step to
 -- what stands for the loader's new frame.
 use Rattle.std.proofs.Common.{◌∷◌, refl, ◌∙◌}
-use Rattle.spec_execution.specs.Runs as frames
+use Rattle.spec_loading.specs.spec_execution.Runs as frames
 use Rattle.merge_start.specs.Laws.{calls_opening, MembersOpenAsMerged}
 use Rattle.merge_start.proofs.Frames.{calls_at}
 use Rattle.merge_start.proofs.Returning.{standing}

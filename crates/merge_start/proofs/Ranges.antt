@@ -3,11 +3,11 @@ use Rattle.std.proofs.Common.{◌≡◌, ℕ, zero, suc, ◌+◌, ◌<◌, List,
 use Rattle.std.specs.List.{All}
 use Rattle.std.proofs.lemmas.List.{length-map}
 use Rattle.std.proofs.lemmas.List.Elements.{All-nil, All-cons, All-head, All-tail, All-same, All-push, All-map, All-weaker}
-use Rattle.spec_binary.proofs.Lists.{holds_at}
-use Rattle.spec_linking.specs.Sets.{Member, ClosedSet}
-use Rattle.spec_linking.specs.Orders.{is_among, needed_of, needs, needed_by, with_number, with_numbers, breadth_from, closure, Walk, entering, leaving, walk_each, walk_from, post_order}
-use Rattle.spec_linking.specs.Gathering.{names_of, number_among, IsNumbered, IsSet}
-use Rattle.spec_linking.specs.LinkedSets.{LinkedSet}
+use Rattle.spec_loading.proofs.of_spec_binary.Lists.{holds_at}
+use Rattle.spec_loading.specs.spec_linking.Sets.{Member, ClosedSet}
+use Rattle.spec_loading.specs.spec_linking.Orders.{is_among, needed_of, needs, needed_by, with_number, with_numbers, breadth_from, closure, Walk, entering, leaving, walk_each, walk_from, post_order}
+use Rattle.spec_loading.specs.spec_linking.Gathering.{names_of, number_among, IsNumbered, IsSet}
+use Rattle.spec_loading.specs.spec_linking.LinkedSets.{LinkedSet}
 use Rattle.spec_loading.specs.declared.task.Phase.{Phase}
 use Rattle.spec_loading.specs.declared.task.Phase.TheVariants.{Place, Start, Relocate, Construct}
 use Rattle.spec_loading.specs.declared.task.Task.{Task}

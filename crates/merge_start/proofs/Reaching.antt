@@ -9,18 +9,18 @@ use Rattle.wasm_form.specs.declared.instr.Instr.{Instr, Plain, Index, If, Prefix
 use Rattle.wasm_form.specs.declared.instr.Instr.TheVariants.{outs-If}
 use Rattle.wasm_form.specs.declared.module.Module.{Module}
 use Rattle.wasm_form.specs.declared.runtime.Trap.{Trap}
-use Rattle.wasm_runtime.specs.declared.Value.{Value}
-use Rattle.wasm_runtime.specs.declared.Value.TheVariants.{Num}
-use Rattle.spec_runs.specs.Systems.{Moving}
-use Rattle.spec_runs.specs.Agreement.{Silent}
-use Rattle.spec_runtime.specs.Numerics.{W32}
-use Rattle.spec_execution.specs.Values.{low}
-use Rattle.spec_execution.specs.Activations.{Level, Activation, Effect, TableInit, ElemDrop, MemoryInit, DataDrop, one_if}
-use Rattle.spec_execution.specs.Views.{Effected, Gives, Traps, performed}
-use Rattle.spec_execution.specs.Runs.{Frame}
-use Rattle.spec_execution.specs.Runs as frames
-use Rattle.spec_execution.specs.Instances.{ModuleParts, module_view}
-use Rattle.spec_execution.specs.OneModule.{Starting, ModuleState, module_step}
+use Rattle.wasm_form.specs.declared.runtime.Value.{Value}
+use Rattle.wasm_form.specs.declared.runtime.Value.TheVariants.{Num}
+use Rattle.spec_loading.specs.spec_runs.Systems.{Moving}
+use Rattle.spec_loading.specs.spec_runs.Agreement.{Silent}
+use Rattle.spec_loading.specs.spec_runtime.Numerics.{W32}
+use Rattle.spec_loading.specs.spec_execution.Values.{low}
+use Rattle.spec_loading.specs.spec_execution.Activations.{Level, Activation, Effect, TableInit, ElemDrop, MemoryInit, DataDrop, one_if}
+use Rattle.spec_loading.specs.spec_execution.Views.{Effected, Gives, Traps, performed}
+use Rattle.spec_loading.specs.spec_execution.Runs.{Frame}
+use Rattle.spec_loading.specs.spec_execution.Runs as frames
+use Rattle.spec_loading.specs.spec_execution.Instances.{ModuleParts, module_view}
+use Rattle.spec_loading.specs.spec_execution.OneModule.{Starting, ModuleState, module_step}
 use Rattle.merge_match.specs.Matching.{system_of}
 use Rattle.merge_start.specs.Words.{number, effect_code, guarded}
 use Rattle.merge_start.specs.Running.{Changing, Around, at, ends_at, Reaches, there, goes, Does}

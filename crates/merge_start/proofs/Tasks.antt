@@ -1,9 +1,9 @@
 -- The code of the tasks of opening, by lists of members.
 use Rattle.std.proofs.Common.{◌≡◌, ℕ, ◌+◌, ◌-◌, List, [], ◌∷◌, ◌++◌, Some, refl, sym, ap, ap₂, ◌∙◌, append_assoc}
 use Rattle.wasm_form.specs.declared.instr.Instr.{Instr, Index}
-use Rattle.spec_linking.specs.LinkedSets.{LinkedSet}
-use Rattle.spec_linking.specs.Orders.{closure, post_order}
-use Rattle.spec_linking.specs.Links.{set_entry}
+use Rattle.spec_loading.specs.spec_linking.LinkedSets.{LinkedSet}
+use Rattle.spec_loading.specs.spec_linking.Orders.{closure, post_order}
+use Rattle.spec_loading.specs.spec_linking.Links.{set_entry}
 use Rattle.spec_loading.specs.declared.task.Phase.{Phase}
 use Rattle.spec_loading.specs.declared.task.Task.{Task}
 use Rattle.spec_loading.specs.declared.task.Phase.TheVariants.{Place, Start, Relocate, Construct}

@@ -9,8 +9,8 @@ use Rattle.wasm_form.specs.declared.module.DataMode.{DataMode}
 use Rattle.wasm_form.specs.declared.module.DataMode.TheVariants as data_mode
 use Rattle.wasm_form.specs.declared.module.Data.{Data}
 use Rattle.wasm_form.specs.declared.module.Module.{Module}
-use Rattle.spec_validation.specs.Faults.{fault, is_constant, elem_mode_fits, elem_fits, data_mode_fits, data_fits, items_fit}
-use Rattle.spec_validation.proofs.Parts.{parts_fit}
+use Rattle.spec_loading.specs.spec_validation.Faults.{fault, is_constant, elem_mode_fits, elem_fits, data_mode_fits, data_fits, items_fit}
+use Rattle.spec_loading.proofs.of_spec_validation.Parts.{parts_fit}
 use Rattle.merge_start.specs.Listed.{HasElemMode, HasElemOffset, HasDataMode, HasDataOffset}
 
 first_holds : (a b : Bool) → (a && b) ≡ true → a ≡ true

@@ -4,18 +4,18 @@ use Rattle.wasm_form.specs.declared.instr.Instr.{Instr, Index}
 use Rattle.wasm_form.specs.declared.module.Module.{Module}
 use Rattle.wasm_form.specs.declared.runtime.LoaderCall.{LoaderCall}
 use Rattle.wasm_form.specs.declared.runtime.Ref.TheVariants.{Loader}
-use Rattle.spec_runs.specs.Systems.{Moving}
-use Rattle.spec_runs.specs.Agreement.{StepLaw, Agree}
-use Rattle.spec_binary.specs.Options.{◌>>=◌}
-use Rattle.spec_runtime.specs.Memories.{MemoryInstance}
-use Rattle.spec_execution.specs.Activations.{Activation}
-use Rattle.spec_execution.specs.Segments.{Performed}
-use Rattle.spec_execution.specs.Runs.{Frame, call, calling, became}
-use Rattle.spec_execution.specs.Runs as frames
-use Rattle.spec_execution.specs.Instances.{ModuleParts, module_hosts, module_view}
-use Rattle.spec_execution.specs.OneModule.{Starting, ModuleState, module_step, module_system, opened_state}
-use Rattle.spec_linking.specs.Gathering.{IsSet}
-use Rattle.spec_linking.specs.LinkedSets.{LinkedSet}
+use Rattle.spec_loading.specs.spec_runs.Systems.{Moving}
+use Rattle.spec_loading.specs.spec_runs.Agreement.{StepLaw, Agree}
+use Rattle.spec_loading.specs.spec_binary.Options.{◌>>=◌}
+use Rattle.spec_loading.specs.spec_runtime.Memories.{MemoryInstance}
+use Rattle.spec_loading.specs.spec_execution.Activations.{Activation}
+use Rattle.spec_loading.specs.spec_execution.Segments.{Performed}
+use Rattle.spec_loading.specs.spec_execution.Runs.{Frame, call, calling, became}
+use Rattle.spec_loading.specs.spec_execution.Runs as frames
+use Rattle.spec_loading.specs.spec_execution.Instances.{ModuleParts, module_hosts, module_view}
+use Rattle.spec_loading.specs.spec_execution.OneModule.{Starting, ModuleState, module_step, module_system, opened_state}
+use Rattle.spec_loading.specs.spec_linking.Gathering.{IsSet}
+use Rattle.spec_loading.specs.spec_linking.LinkedSets.{LinkedSet}
 use Rattle.spec_loading.specs.Phases.{LoaderFrame, open_frame}
 use Rattle.spec_loading.specs.Loading.{LoaderState, goes_on, went}
 use Rattle.spec_loading.specs.Members.{Store, set_view, uses_loader}

@@ -13,23 +13,23 @@ use Rattle.wasm_form.specs.declared.module.DataMode.TheVariants as data_mode
 use Rattle.wasm_form.specs.declared.module.Data.{Data}
 use Rattle.wasm_form.specs.declared.module.Import.{Import}
 use Rattle.wasm_form.specs.declared.module.Module.{Module}
-use Rattle.wasm_opcode.specs.declared.index.IndexForm.{IndexForm}
-use Rattle.wasm_opcode.specs.declared.index.IndexForm.TheVariants.{GlobalGet}
-use Rattle.spec_binary.specs.Options.{◌>>=◌}
-use Rattle.spec_binary.specs.IndexSpaces.{globals_in, table_space}
-use Rattle.spec_validation.specs.Faults.{is_constant}
-use Rattle.spec_runtime.specs.Constants.{instruction_constant, constant_number, number_in}
-use Rattle.spec_execution.specs.Activations.{TableInit}
-use Rattle.spec_execution.specs.Segments.{segment_effects}
-use Rattle.spec_linking.specs.Imports.{ImportUse, MemoryBase, TableBase, use_of}
-use Rattle.spec_linking.specs.LinkedSets.{LinkedSet, wasm_of}
-use Rattle.spec_linking.specs.Slots.{as_number, imported_base}
-use Rattle.spec_linking.specs.Links.{set_entry}
+use Rattle.wasm_form.specs.declared.index.IndexForm.{IndexForm}
+use Rattle.wasm_form.specs.declared.index.IndexForm.TheVariants.{GlobalGet}
+use Rattle.spec_loading.specs.spec_binary.Options.{◌>>=◌}
+use Rattle.spec_loading.specs.spec_binary.IndexSpaces.{globals_in, table_space}
+use Rattle.spec_loading.specs.spec_validation.Faults.{is_constant}
+use Rattle.spec_loading.specs.spec_runtime.Constants.{instruction_constant, constant_number, number_in}
+use Rattle.spec_loading.specs.spec_execution.Activations.{TableInit}
+use Rattle.spec_loading.specs.spec_execution.Segments.{segment_effects}
+use Rattle.spec_loading.specs.spec_linking.Imports.{ImportUse, MemoryBase, TableBase, use_of}
+use Rattle.spec_loading.specs.spec_linking.LinkedSets.{LinkedSet, wasm_of}
+use Rattle.spec_loading.specs.spec_linking.Slots.{as_number, imported_base}
+use Rattle.spec_loading.specs.spec_linking.Links.{set_entry}
 use Rattle.spec_loading.specs.declared.task.Phase.{Phase}
 use Rattle.spec_loading.specs.declared.task.Phase.TheVariants.{Place, Start, Relocate, Construct}
 use Rattle.spec_loading.specs.Phases.{stage_of, phase_function}
 use Rattle.spec_loading.specs.Addresses.{sum_before}
-use Rattle.dyl_search.specs.declared.set.Member.{Member}
+use Rattle.dyl_link.specs.dyl_search.declared.set.Member.{Member}
 use Rattle.dyl_link.specs.Kept.{Kept, fresh_in, IsLinked}
 use Rattle.merge_match.specs.Renumbering.{Numbers}
 use Rattle.merge_match.specs.Parts.{nowhere, number_of}

@@ -1,11 +1,11 @@
 -- The points of generated code that stand for the loader's frames.
 use Rattle.std.specs.Prelude.{◌≡◌, ℕ, ◌+◌, ◌<◌, List, [], ◌∷◌, length, None}
 use Rattle.wasm_form.specs.declared.instr.Instr.{Instr, Plain}
-use Rattle.spec_execution.specs.Activations.{Activation}
-use Rattle.spec_execution.specs.Runs.{Frame}
-use Rattle.spec_execution.specs.Runs as frames
-use Rattle.spec_execution.specs.OneModule.{Starting, ModuleState}
-use Rattle.spec_linking.specs.LinkedSets.{LinkedSet}
+use Rattle.spec_loading.specs.spec_execution.Activations.{Activation}
+use Rattle.spec_loading.specs.spec_execution.Runs.{Frame}
+use Rattle.spec_loading.specs.spec_execution.Runs as frames
+use Rattle.spec_loading.specs.spec_execution.OneModule.{Starting, ModuleState}
+use Rattle.spec_loading.specs.spec_linking.LinkedSets.{LinkedSet}
 use Rattle.spec_loading.specs.declared.task.Task.{Task}
 use Rattle.spec_loading.specs.declared.task.After.{After}
 use Rattle.spec_loading.specs.declared.task.After.TheVariants.{CallEntry, GiveHandle}

@@ -1,14 +1,14 @@
 // The bases of a member, among its imported globals.
 ghost use Rattle.std.specs.Prelude.{◌≡◌, ◌++◌, ◌<◌, length, map, IfOk, OnOk};
-ghost use Rattle.spec_binary.specs.IndexSpaces.{globals_in};
-ghost use Rattle.spec_linking.specs.Imports as imports;
-ghost use Rattle.spec_linking.specs.LinkedSets.{LinkedSet};
-ghost use Rattle.dyl_imports.specs.Uses.{use_value};
+ghost use Rattle.spec_loading.specs.spec_binary.IndexSpaces.{globals_in};
+ghost use Rattle.spec_loading.specs.spec_linking.Imports as imports;
+ghost use Rattle.spec_loading.specs.spec_linking.LinkedSets.{LinkedSet};
+ghost use Rattle.dyl_link.specs.dyl_imports.Uses.{use_value};
 ghost use Rattle.dyl_link.specs.Kept.{IsLinked};
 ghost use Rattle.merge_start.specs.Listed.{IsOfSet, AreBases, base_of, bases_from};
 
-use dyl_imports::{Use, use_of};
 use dyl_link::Linked;
+use dyl_link::dyl_imports::{Use, use_of};
 use std::alloc::Global;
 use wasm_form::{Import, ImportDesc, Memory};
 

@@ -2,7 +2,7 @@
 ghost use Rattle.std.specs.Prelude.{◌≡◌, ◌+◌, ◌<◌, ◌≤◌, ◌^◌, length, IfOk};
 ghost use Rattle.merge_start.specs.Listed.{item, call_at, spans_at, behind, Fit};
 ghost use Rattle.merge_start.specs.Listed as listed;
-ghost use Rattle.spec_binary.specs.IndexSpaces.{imports_of, tables_in, table_space};
+ghost use Rattle.spec_loading.specs.spec_binary.IndexSpaces.{imports_of, tables_in, table_space};
 
 use wasm_form::{Import, ImportDesc, List, Memory, Module};
 

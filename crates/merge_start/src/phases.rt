@@ -10,7 +10,7 @@ use crate::part::{Part, nullary_part};
 use crate::segments::{datas_code, elems_code};
 use crate::words::{call, table_init};
 use dyl_link::Linked;
-use dyl_search::Member;
+use dyl_link::dyl_search::Member;
 use merge_pieces::guarded;
 use std::alloc::Global;
 use wasm_form::{Instr, Memory, Module};

@@ -1,15 +1,16 @@
 // The code that applies the active segments of a member.
 ghost use Rattle.std.specs.Prelude.{◌≡◌, All, IfOk};
 ghost use Rattle.wasm_form.specs.declared.instr.Instr.{out-Instr};
-ghost use Rattle.spec_execution.specs.Segments as segments;
+ghost use Rattle.spec_loading.specs.spec_execution.Segments as segments;
 ghost use Rattle.merge_start.specs.Words.{effects_code};
 ghost use Rattle.merge_start.specs.Listed.{numbers_at, indexed, instruction_number, number_with, IsOffsetOf, Fit, IsOffset, HasElemOffset, HasDataOffset};
 
 use crate::numbers::{Spans, StartNumbers, as_number};
 use crate::words::{data_applied, elem_applied};
 use std::alloc::Global;
-use wasm_form::{Data, DataMode, Elem, ElemItems, ElemMode, Expr, Instr, Memory};
-use wasm_opcode::{IndexForm, index_form};
+use wasm_form::{
+    Data, DataMode, Elem, ElemItems, ElemMode, Expr, IndexForm, Instr, Memory, index_form,
+};
 
 fn global_number(form: Option<IndexForm>, g: u32, bases: &[Option<u32>]) -> Option<u32>
     ensures { result ≡ indexed bases.now form g }

@@ -1,7 +1,7 @@
 // The words of generated code.
 ghost use Rattle.std.specs.Prelude.{◌≡◌, IfOk};
-ghost use Rattle.spec_execution.specs.Activations as effects;
-ghost use Rattle.spec_execution.specs.Segments.{elem_applied, data_applied};
+ghost use Rattle.spec_loading.specs.spec_execution.Activations as effects;
+ghost use Rattle.spec_loading.specs.spec_execution.Segments.{elem_applied, data_applied};
 ghost use Rattle.merge_start.specs.Words.{effect_code, effects_code, call_code};
 ghost use Rattle.merge_start.specs.Listed.{numbers_at, Fit};
 

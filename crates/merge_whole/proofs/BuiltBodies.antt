@@ -2,8 +2,8 @@
 use Rattle.std.proofs.Common.{◌≡◌, ◌<◌, ℕ, zero, suc, ◌+◌, List, [], ◌∷◌, ◌++◌, length, map, drop, slice_get, if◌then◌else◌, is_some, IsTrue, Option, Some, option_map, refl, sym, ap, ◌∙◌, arith, append_assoc}
 use Rattle.wasm_form.specs.declared.module.Code.{Code}
 use Rattle.wasm_form.specs.declared.module.Module.{Module}
-use Rattle.spec_binary.specs.Options.{◌>>=◌}
-use Rattle.dyl_search.specs.declared.set.Member.{Member}
+use Rattle.spec_reading.specs.spec_binary.Options.{◌>>=◌}
+use Rattle.dyl_link.specs.dyl_search.declared.set.Member.{Member}
 use Rattle.dyl_link.specs.Kept.{Kept, function_in}
 use Rattle.merge_index.specs.Numbering.{is_stub}
 use Rattle.merge_index.specs.Lists.{module_of}

@@ -3,16 +3,16 @@ use Rattle.std.proofs.Common.{◌≡◌, ℕ, ◌^◌, ◌≤◌, ◌<◌, Resul
 use Rattle.std.specs.List.{All}
 use Rattle.std.proofs.lemmas.List.Elements.{All-nil, All-cons}
 use Rattle.wasm_form.specs.declared.module.Module.{Module}
-use Rattle.spec_binary.specs.Modules.{SpellsModule}
-use Rattle.spec_binary.specs.WellFormed.{IsWellFormed}
-use Rattle.spec_binary.specs.DecodeAnswers as answers
-use Rattle.spec_binary.specs.DecodeAnswers.{DecodeAnswer}
+use Rattle.spec_reading.specs.spec_binary.Modules.{SpellsModule}
+use Rattle.spec_reading.specs.spec_binary.WellFormed.{IsWellFormed}
+use Rattle.spec_reading.specs.spec_binary.DecodeAnswers as answers
+use Rattle.spec_reading.specs.spec_binary.DecodeAnswers.{DecodeAnswer}
 use Rattle.spec_reading.specs.Laws.{OneModule}
 use Rattle.spec_merging.specs.declared.fault.MergeFault.{MergeFault}
 use Rattle.spec_merging.specs.declared.fault.MergeFault.TheVariants as faults
-use Rattle.spec_runtime.specs.Names.{HostName}
-use Rattle.spec_linking.specs.Plans.{Plan}
-use Rattle.spec_linking.specs.LinkedSets.{LinkedSet, hosts_of}
+use Rattle.spec_loading.specs.spec_runtime.Names.{HostName}
+use Rattle.spec_loading.specs.spec_linking.Plans.{Plan}
+use Rattle.spec_loading.specs.spec_linking.LinkedSets.{LinkedSet, hosts_of}
 use Rattle.dyl_link.specs.Kept.{Kept, IsLinked}
 use Rattle.merge_start.proofs.Linked.{members_are}
 use Rattle.merge_module.specs.MergedModule.{merged_module}

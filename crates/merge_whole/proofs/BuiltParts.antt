@@ -5,12 +5,12 @@ use Rattle.std.proofs.lemmas.List.{map-append}
 use Rattle.wasm_form.specs.declared.types.FuncType.{FuncType}
 use Rattle.wasm_form.specs.declared.module.Code.{Code}
 use Rattle.wasm_form.specs.declared.module.Module.{Module}
-use Rattle.spec_binary.specs.Indices.{nullary}
-use Rattle.spec_binary.specs.IndexSpaces.{function_space}
-use Rattle.spec_linking.specs.Sets as sets
-use Rattle.spec_linking.specs.LinkedSets.{LinkedSet, function_ref}
+use Rattle.spec_reading.specs.spec_binary.Indices.{nullary}
+use Rattle.spec_reading.specs.spec_binary.IndexSpaces.{function_space}
+use Rattle.spec_loading.specs.spec_linking.Sets as sets
+use Rattle.spec_loading.specs.spec_linking.LinkedSets.{LinkedSet, function_ref}
 use Rattle.spec_loading.specs.Members.{from_members, uses_loader}
-use Rattle.dyl_search.specs.declared.set.Member.{Member}
+use Rattle.dyl_link.specs.dyl_search.declared.set.Member.{Member}
 use Rattle.dyl_link.specs.Kept.{Kept, IsLinked}
 use Rattle.merge_match.specs.Renumbering.{Numbers}
 use Rattle.merge_start.specs.Words.{Starts, entry_code}

@@ -11,7 +11,7 @@ use Rattle.wasm_form.specs.declared.module.Code.{Code}
 use Rattle.wasm_form.specs.declared.module.Data.{Data}
 use Rattle.wasm_form.specs.declared.module.Custom.{Custom}
 use Rattle.wasm_form.specs.declared.module.Module.{Module}
-use Rattle.spec_linking.specs.LinkedSets.{LinkedSet}
+use Rattle.spec_loading.specs.spec_linking.LinkedSets.{LinkedSet}
 use Rattle.spec_loading.specs.declared.task.Phase.TheVariants.{Place}
 use Rattle.dyl_link.specs.Kept.{Kept, IsLinked}
 use Rattle.merge_start.specs.declared.numbers.StartNumbers.{StartNumbers}

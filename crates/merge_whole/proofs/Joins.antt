@@ -3,9 +3,9 @@ use Rattle.std.proofs.Common.{◌≡◌, ℕ, List, [], ◌∷◌, ◌++◌, Som
 use Rattle.wasm_form.specs.declared.types.ValType.TheVariants.{FuncRef}
 use Rattle.wasm_form.specs.declared.types.TableType.{TableType}
 use Rattle.wasm_form.specs.declared.module.Module.{Module}
-use Rattle.spec_linking.specs.Sets as sets
-use Rattle.spec_linking.specs.Plans.{Plan}
-use Rattle.spec_linking.specs.LinkedSets.{LinkedSet}
+use Rattle.spec_loading.specs.spec_linking.Sets as sets
+use Rattle.spec_loading.specs.spec_linking.Plans.{Plan}
+use Rattle.spec_loading.specs.spec_linking.LinkedSets.{LinkedSet}
 use Rattle.spec_loading.specs.Members.{from_members}
 use Rattle.dyl_link.specs.Kept.{Kept, IsLinked}
 use Rattle.merge_module.specs.MergedModule.{merged_tables, shared_memory_type, merged_datas}

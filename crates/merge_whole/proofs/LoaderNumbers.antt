@@ -3,7 +3,7 @@ use Rattle.std.proofs.Common.{◌≡◌, ◌<◌, ℕ, ◌+◌, Bool, true, fals
 use Rattle.std.specs.List.{range_with_len}
 use Rattle.std.proofs.lemmas.Bool.Decides.{nat_tests}
 use Rattle.wasm_form.specs.declared.runtime.LoaderCall.TheVariants.{Dlopen, Dlsym, Dlclose, Dlerror}
-use Rattle.spec_linking.specs.LinkedSets.{LinkedSet}
+use Rattle.spec_loading.specs.spec_linking.LinkedSets.{LinkedSet}
 use Rattle.spec_loading.specs.Members.{uses_loader}
 use Rattle.dyl_link.specs.Kept.{Kept, IsLinked}
 use Rattle.merge_start.proofs.Linked.{members_count}

@@ -10,13 +10,13 @@ use Rattle.wasm_form.specs.declared.module.Code.{Code}
 use Rattle.wasm_form.specs.declared.module.DataMode.TheVariants as data_mode
 use Rattle.wasm_form.specs.declared.module.Data.{Data}
 use Rattle.wasm_form.specs.declared.module.Module.{Module}
-use Rattle.spec_binary.specs.Indices.{nullary}
-use Rattle.spec_binary.specs.IndexSpaces.{functions_in, imports_of}
-use Rattle.spec_runtime.specs.Names.{HostName}
-use Rattle.spec_linking.specs.LinkedSets.{LinkedSet}
+use Rattle.spec_reading.specs.spec_binary.Indices.{nullary}
+use Rattle.spec_reading.specs.spec_binary.IndexSpaces.{functions_in, imports_of}
+use Rattle.spec_loading.specs.spec_runtime.Names.{HostName}
+use Rattle.spec_loading.specs.spec_linking.LinkedSets.{LinkedSet}
 use Rattle.spec_loading.specs.Texts.{error_texts}
 use Rattle.spec_loading.specs.Members.{from_members}
-use Rattle.dyl_search.specs.declared.set.Member.{Member}
+use Rattle.dyl_link.specs.dyl_search.declared.set.Member.{Member}
 use Rattle.dyl_link.specs.Kept.{Kept, function_in}
 use Rattle.merge_match.specs.Renumbering.{Numbers}
 use Rattle.merge_match.specs.Joined.{renumbered_code}

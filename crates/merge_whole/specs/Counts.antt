@@ -2,12 +2,12 @@
 use Rattle.std.specs.Prelude.{ℕ, ◌+◌, List, [], ◌∷◌, length, map, Option, None, option_map}
 use Rattle.std.specs.List.{range_with_len}
 use Rattle.wasm_form.specs.declared.module.Module.{Module}
-use Rattle.spec_binary.specs.IndexSpaces.{table_space}
-use Rattle.spec_linking.specs.Sets as sets
+use Rattle.spec_reading.specs.spec_binary.IndexSpaces.{table_space}
+use Rattle.spec_loading.specs.spec_linking.Sets as sets
 use Rattle.spec_loading.specs.declared.task.Phase.TheVariants.{Start, Relocate, Construct}
 use Rattle.spec_loading.specs.Phases.{phase_function}
-use Rattle.dyl_search.specs.declared.set.Member.{Member}
-use Rattle.dyl_search.specs.Gathers.{member_of}
+use Rattle.dyl_link.specs.dyl_search.declared.set.Member.{Member}
+use Rattle.dyl_link.specs.dyl_search.Gathers.{member_of}
 use Rattle.merge_match.specs.Renumbering.{Numbers}
 use Rattle.spec_loading.specs.Members.{from_members}
 use Rattle.dyl_link.specs.Kept.{Kept}

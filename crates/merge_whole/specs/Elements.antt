@@ -6,7 +6,7 @@ use Rattle.wasm_form.specs.declared.module.ElemItems.TheVariants as elem_items
 use Rattle.wasm_form.specs.declared.module.Elem.{Elem}
 use Rattle.wasm_form.specs.declared.module.Module.{Module}
 use Rattle.wasm_form.specs.declared.runtime.Ref.TheVariants.{Own}
-use Rattle.spec_linking.specs.Sets as sets
+use Rattle.spec_loading.specs.spec_linking.Sets as sets
 use Rattle.spec_loading.specs.Members.{from_members}
 use Rattle.dyl_link.specs.Kept.{Kept, fresh_in}
 use Rattle.merge_match.specs.Renumbering.{Numbers}

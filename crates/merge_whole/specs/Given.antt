@@ -1,6 +1,6 @@
 -- What the merged module is made with: the numbers, the globals and the element segments.
 use Rattle.std.specs.Prelude.{◌≡◌, true, false, Option, Some, None}
-use Rattle.spec_linking.specs.LinkedSets.{LinkedSet}
+use Rattle.spec_loading.specs.spec_linking.LinkedSets.{LinkedSet}
 use Rattle.spec_loading.specs.Members.{uses_loader}
 use Rattle.merge_start.specs.Words.{Starts}
 use Rattle.merge_start.specs.Listed.{AreListed}

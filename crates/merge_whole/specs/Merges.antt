@@ -1,9 +1,9 @@
 -- What it is that bytes merge a linked set in the form that is written here, and how much there is of a set.
 use Rattle.std.specs.Prelude.{ℕ, ◌+◌, ◌*◌, ◌^◌, List, length, sum_by, Ok}
-use Rattle.spec_binary.specs.DecodeAnswers.{DecodeAnswer}
-use Rattle.spec_linking.specs.Gathering.{total_size}
-use Rattle.spec_linking.specs.Sets.{Member}
-use Rattle.spec_linking.specs.LinkedSets.{LinkedSet}
+use Rattle.spec_reading.specs.spec_binary.DecodeAnswers.{DecodeAnswer}
+use Rattle.spec_loading.specs.spec_linking.Gathering.{total_size}
+use Rattle.spec_loading.specs.spec_linking.Sets.{Member}
+use Rattle.spec_loading.specs.spec_linking.LinkedSets.{LinkedSet}
 use Rattle.spec_loading.specs.Merged.{Merged}
 pub use Rattle.merge_module.specs.MergedModule.{merged_module}
 pub use Rattle.merge_module.specs.Laws.{IsSupported, HasShape}

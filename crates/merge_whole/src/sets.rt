@@ -1,9 +1,9 @@
 // The bytes of the merged module of a linked set.
 ghost use Rattle.std.specs.Prelude.{◌≡◌, ◌^◌, ◌≤◌, ◌⊎◌, ℕ, [], All, IfOk, IfErr, Err};
 ghost use Rattle.spec_merging.specs.declared.fault.MergeFault.TheVariants as faults;
-ghost use Rattle.spec_linking.specs.LinkedSets.{LinkedSet};
-ghost use Rattle.spec_binary.specs.Modules.{SpellsModule};
-ghost use Rattle.spec_binary.specs.WellFormed.{IsWellFormed};
+ghost use Rattle.spec_loading.specs.spec_linking.LinkedSets.{LinkedSet};
+ghost use Rattle.spec_reading.specs.spec_binary.Modules.{SpellsModule};
+ghost use Rattle.spec_reading.specs.spec_binary.WellFormed.{IsWellFormed};
 ghost use Rattle.dyl_link.specs.Kept.{IsLinked};
 ghost use Rattle.wasm_encode.specs.SectionSizes.{IsFirstTooLong};
 ghost use Rattle.merge_module.specs.MergedModule.{merged_module};

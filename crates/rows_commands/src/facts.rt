@@ -1,7 +1,7 @@
 // What is told of a command, and what came of it.
 use crate::texts::shown;
+use spec_binary::wasm_form::Memory;
 use std::alloc::{AllocError, Global};
-use wasm_form::Memory;
 
 /// Facts of a command: what each is of, and its bytes. Those of one thing belong together.
 #[derive(Drop)]

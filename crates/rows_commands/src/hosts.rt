@@ -5,8 +5,8 @@ use crate::facts::Facts;
 use crate::row::Row;
 use crate::world::perform_with;
 use host_table::{Callback, HostTable, Put, Reply};
+use spec_binary::wasm_form::{FuncType, List, Memory, ValType};
 use std::alloc::Global;
-use wasm_form::{FuncType, List, Memory, ValType};
 
 /// The type of a function from an i32 to an i32.
 fn i32_to_i32(alloc: Global) -> Result<FuncType, Memory>

@@ -3,8 +3,8 @@ use crate::facts::Facts;
 use dyl_app::{Outcome, Ran, RunEnd, SetFault, status, tell};
 use dyl_outside::MemSink;
 use spec_binary::DecodeFault;
+use spec_binary::wasm_form::{List, Memory};
 use std::alloc::Global;
-use wasm_form::{List, Memory};
 
 /// The outcome that is named: want of memory, a run that is stuck, or too many locals in a function of the largest number.
 fn outcome_named(alloc: Global, name: &str) -> Outcome {

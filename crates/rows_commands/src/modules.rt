@@ -1,8 +1,8 @@
 // Modules by their parts.
 use crate::texts::{names_of, word_of};
 use crate::words::{Words, put_sized};
+use spec_binary::wasm_form::Memory;
 use std::alloc::Global;
-use wasm_form::Memory;
 use wasm_leb::put_u32;
 
 /// A module: of each part what it is and its text. A later line of a part stands for an earlier one.

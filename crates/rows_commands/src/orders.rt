@@ -1,8 +1,8 @@
 // What words are read as.
 use crate::facts::Facts;
 use dyl_front::{LinkOptions, Order, SetOptions, WordFault, read_words, usage_line};
+use spec_binary::wasm_form::{List, Memory, Text};
 use std::alloc::{AllocError, Global};
-use wasm_form::{List, Memory, Text};
 
 /// Texts with something between two.
 fn joined(alloc: Global, texts: &List<Text>, between: &str) -> Result<String, AllocError> {

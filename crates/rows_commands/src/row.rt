@@ -1,7 +1,7 @@
 // What a row's commands find.
 use dyl_outside::MemFiles;
+use spec_binary::wasm_form::Memory;
 use std::alloc::{AllocError, Global};
-use wasm_form::Memory;
 
 /// A row: what its commands find, and what is told otherwise than it came.
 #[derive(Drop)]

@@ -7,8 +7,8 @@ use crate::row::Row;
 use crate::texts::{bytes_of, names_of, words_of};
 use crate::words::Words;
 use crate::world::{add_generated, perform};
+use spec_binary::wasm_form::Memory;
 use std::alloc::{AllocError, Global};
-use wasm_form::Memory;
 
 /// How far a text has come: what words stand for, its modules, the row, a command with what is told of it, what is to
 /// be printed, how many rows there were and how many weren't as told.

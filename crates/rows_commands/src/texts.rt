@@ -1,6 +1,6 @@
 // Bytes as text in a line, and back.
+use spec_binary::wasm_form::Memory;
 use std::alloc::{AllocError, Global};
-use wasm_form::Memory;
 
 /// Appends what stands behind a backslash: `n` is a line feed, and two hexadecimal digits are a byte.
 fn put_escaped(to: &mut Vec<u8>, text: &str) -> Result<(), AllocError> {

@@ -1,7 +1,7 @@
 // Bytes by words.
 use crate::texts::bytes_of;
+use spec_binary::wasm_form::Memory;
 use std::alloc::Global;
-use wasm_form::Memory;
 use wasm_leb::{put_s64, put_u32};
 
 /// Names of bytes, as `i32.const` of an opcode.

@@ -7,8 +7,8 @@ use dyl_app::{Outcome, Ran, RunEnd, serve, status};
 use dyl_gen::make;
 use dyl_outside::{Files, MemAmbient, MemFiles, MemSink, MemSource};
 use host_table::HostTable;
+use spec_binary::wasm_form::Memory;
 use std::alloc::{AllocError, Global};
-use wasm_form::Memory;
 
 /// All that a command is over but its host functions.
 #[derive(Drop)]

@@ -5,9 +5,8 @@ use crate::code::hex;
 use crate::record;
 use std::alloc::{AllocError, Global};
 use wasm_check::{Checked, check};
-use wasm_codec::round_trip;
 use wasm_decode::decode;
-use wasm_encode::{EncodeFault, encode};
+use wasm_encode::{EncodeFault, encode, round_trip};
 use wasm_form::Module;
 
 // The height of a body, if there is one.

@@ -2,7 +2,7 @@
 ghost use Rattle.std.specs.Prelude.{◌≡◌, map, sum, nat_lt};
 ghost use Rattle.spec_hosts.specs.Ends.{are_many, bytes_written};
 
-use wasm_runtime::Answer;
+use spec_hosts::wasm_form::Answer;
 
 // The most answers, and the most bytes that they may have written.
 const MOST_ANSWERS: usize = 1_048_576;

@@ -2,7 +2,7 @@
 ghost use Rattle.std.specs.Prelude.{◌≡◌, ◌<◌, ◌^◌};
 ghost use Rattle.spec_hosts.specs.Ends.{bytes_written};
 
-use wasm_runtime::Answer;
+use spec_hosts::wasm_form::Answer;
 
 /// The bytes that an answer writes.
 pub fn bytes_written(answer: &Answer) -> u128

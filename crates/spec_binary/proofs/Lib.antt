@@ -6,3 +6,4 @@ pub mod Options
 pub mod Lists
 pub mod Locals
 pub mod OneType
+pub use Rattle.wasm_form.proofs as of_wasm_form

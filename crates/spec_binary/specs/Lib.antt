@@ -19,3 +19,4 @@ pub mod Indices
 pub mod Exports
 pub mod WellFormed
 pub mod DecodeAnswers
+pub use Rattle.wasm_form.specs as wasm_form

@@ -3,7 +3,7 @@ use Rattle.std.proofs.Common.{◌≡◌, ℕ, zero, suc, List, [], ◌∷◌, �
 use Rattle.dyl_outside.specs.declared.fault.IoFault.{IoFault}
 use Rattle.dyl_outside.specs.declared.fault.IoFault.TheVariants.{Failed, Memory}
 use Rattle.dyl_outside.specs.Ambient.{AmbientState}
-use Rattle.wasm_runtime.specs.declared.Answer.{Answer}
+use Rattle.spec_runtime.specs.wasm_form.declared.runtime.Answer.{Answer}
 use Rattle.spec_hosts.specs.Devices.{Devices}
 use Rattle.spec_hosts.specs.Calls as calls
 use Rattle.spec_hosts.specs.Hosted.{Draws, DrawsSome, AfterWord, IsAnswered, MayBegin}

@@ -3,12 +3,12 @@ use Rattle.std.proofs.Common.{◌≡◌, ℕ, Bool, true, false, cond, List, [],
 use Rattle.std.specs.Map.{lookup}
 use Rattle.std.specs.Option.{option_or}
 use Rattle.std.specs.Str.{bytes_eq}
-use Rattle.wasm_form.specs.declared.types.FuncType.{FuncType}
-use Rattle.spec_binary.specs.SameTypes.{same_function_type}
+use Rattle.spec_runtime.specs.wasm_form.declared.types.FuncType.{FuncType}
+use Rattle.spec_runtime.specs.spec_binary.SameTypes.{same_function_type}
 use Rattle.spec_runtime.specs.Names.{HostModule, HostName, Unknown, Fits, OtherType, no_names, empty_module, host_module, host_match, module_match, is_rest_type}
 use Rattle.spec_hosts.specs.Calls.{WasiCall, wasi_name, name_of, type_of_call, all_calls, first_named, call_named, with_wasi}
 use Rattle.spec_hosts.specs.Laws.{IsWasiType, run_names, host_called}
-use Rattle.spec_binary.proofs.OneType.{one_function_type}
+use Rattle.spec_runtime.proofs.of_spec_binary.OneType.{one_function_type}
 use Rattle.spec_hosts.proofs.Modules.{through, whole_stays, first_stays}
 
 -- ---- what a match tells

@@ -3,9 +3,9 @@ use Rattle.std.proofs.Common.{◌≡◌, ℕ, zero, suc, ◌+◌, ◌*◌, ◌�
 use Rattle.std.proofs.lemmas.Bool.{and_parts, not-false}
 use Rattle.dyl_outside.specs.declared.fault.IoFault.{IoFault}
 use Rattle.dyl_outside.specs.declared.fault.IoFault.TheVariants.{Failed, Memory}
-use Rattle.wasm_form.specs.declared.types.ValType.TheVariants.{I32}
-use Rattle.wasm_form.specs.declared.types.FuncType.{FuncType}
-use Rattle.wasm_runtime.specs.declared.Answer.{Answer}
+use Rattle.spec_runtime.specs.wasm_form.declared.types.ValType.TheVariants.{I32}
+use Rattle.spec_runtime.specs.wasm_form.declared.types.FuncType.{FuncType}
+use Rattle.spec_runtime.specs.wasm_form.declared.runtime.Answer.{Answer}
 use Rattle.spec_runtime.specs.Names.{is_rest_type, is_one_i32}
 use Rattle.spec_runtime.specs.Memories.{MemoryInstance, little}
 use Rattle.spec_runtime.specs.Hosts.{numbers_fit, fits_results}

@@ -5,9 +5,9 @@ use Rattle.dyl_outside.specs.declared.fault.IoFault.TheVariants.{Failed, Memory}
 use Rattle.dyl_outside.specs.Faults.{FaultCount}
 use Rattle.dyl_outside.specs.Sink.{SinkState, IsPut, Puts}
 use Rattle.dyl_outside.specs.Ambient.{AmbientState}
-use Rattle.wasm_form.specs.declared.memory.Memory as wanting
-use Rattle.wasm_runtime.specs.declared.Answer.{Answer}
-use Rattle.spec_runs.specs.Systems.{System, run, event}
+use Rattle.spec_runtime.specs.wasm_form.declared.memory.Memory as wanting
+use Rattle.spec_runtime.specs.wasm_form.declared.runtime.Answer.{Answer}
+use Rattle.spec_runtime.specs.spec_runs.Systems.{System, run, event}
 use Rattle.spec_runtime.specs.Memories.{MemoryInstance}
 use Rattle.spec_runtime.specs.Hosts.{HostCall, hosts}
 use Rattle.spec_hosts.specs.Devices.{Devices, KeepsFront, KeepsFronts}

@@ -2,7 +2,7 @@
 use Rattle.std.proofs.Common.{◌≡◌, ℕ, ◌+◌, ◌*◌, ◌≤◌, true, List, [], ◌∷◌, ◌++◌, length, map, take, drop, IsTrue, refl, arith, le-leb, leb-true, length-append, length-take}
 use Rattle.std.proofs.lemmas.Bool.{and_from, and_parts}
 use Rattle.std.proofs.lemmas.List.Sums.{sum_by-cons}
-use Rattle.wasm_runtime.specs.declared.Write.{Write}
+use Rattle.spec_runtime.specs.wasm_form.declared.runtime.Write.{Write}
 use Rattle.spec_runtime.specs.Memories.{MemoryInstance}
 use Rattle.spec_runtime.specs.Hosts.{writes_fit}
 use Rattle.spec_hosts.specs.Calls.{bytes_at, word_at, is_in, are_in, with_zero, texts_size, pointers_at, texts_at, filled}

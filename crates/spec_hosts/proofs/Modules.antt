@@ -6,7 +6,7 @@ use Rattle.std.specs.Str.{bytes_eq}
 use Rattle.std.proofs.lemmas.Bool.{false_from_ne_true}
 use Rattle.std.proofs.lemmas.Cmp.{nat_list_eq_equiv}
 use Rattle.std.proofs.lemmas.Slice.Eq.{bytes_eq-Decides}
-use Rattle.wasm_form.specs.declared.types.FuncType.{FuncType}
+use Rattle.spec_runtime.specs.wasm_form.declared.types.FuncType.{FuncType}
 use Rattle.spec_runtime.specs.Names.{HostModule, HostName, HostNames, empty_module, host_module, change_module, declares, with_function, with_name, with_names}
 use Rattle.spec_hosts.specs.Laws.{host_called}
 

@@ -1,12 +1,12 @@
 -- The calls of WASI preview 1: their names and types, what they test, and what they want of the outside.
 use Rattle.std.specs.Prelude.{ℕ, zero, suc, ◌+◌, ◌*◌, ◌/◌, List, [], ◌∷◌, ◌++◌, length, map, take, drop, replicate, sum, min, nat_eq, nat_lt, nat_le, Bool, true, false, ◌||◌, not, Option, Some, None, bytes_eq, codes, if◌then◌else◌}
 use Rattle.std.specs.List.{list_all, flat_map}
-use Rattle.wasm_form.specs.declared.types.ValType.{ValType}
-use Rattle.wasm_form.specs.declared.types.ValType.TheVariants.{I32, I64}
-use Rattle.wasm_form.specs.declared.types.FuncType.{FuncType}
-use Rattle.wasm_runtime.specs.declared.Write.{Write}
-use Rattle.wasm_runtime.specs.declared.Answer.{Answer}
-use Rattle.wasm_runtime.specs.declared.Answer.TheVariants.{Reply, Exit}
+use Rattle.spec_runtime.specs.wasm_form.declared.types.ValType.{ValType}
+use Rattle.spec_runtime.specs.wasm_form.declared.types.ValType.TheVariants.{I32, I64}
+use Rattle.spec_runtime.specs.wasm_form.declared.types.FuncType.{FuncType}
+use Rattle.spec_runtime.specs.wasm_form.declared.runtime.Write.{Write}
+use Rattle.spec_runtime.specs.wasm_form.declared.runtime.Answer.{Answer}
+use Rattle.spec_runtime.specs.wasm_form.declared.runtime.Answer.TheVariants.{Reply, Exit}
 use Rattle.spec_runtime.specs.Memories.{MemoryInstance, little, little_value}
 use Rattle.spec_runtime.specs.Names.{HostName, HostNames, with_names, with_rest}
 

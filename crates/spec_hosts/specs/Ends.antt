@@ -1,9 +1,9 @@
 -- How a run over a host ends: by itself, or because of a limit.
 use Rattle.std.specs.Prelude.{◌≡◌, ◌≤◌, ◌<◌, ◌-◌, ℕ, List, ◌++◌, length, map, sum, take, nat_le, None, Bool, true, false, ◌||◌}
-use Rattle.wasm_form.specs.declared.runtime.Trap.{Trap}
-use Rattle.wasm_runtime.specs.declared.Answer.{Answer}
-use Rattle.wasm_runtime.specs.declared.Answer.TheVariants as answers
-use Rattle.spec_runs.specs.Systems.{Status, Moving, Waits, Returned, Exited, Trapped, System, run, event, IsReal}
+use Rattle.spec_runtime.specs.wasm_form.declared.runtime.Trap.{Trap}
+use Rattle.spec_runtime.specs.wasm_form.declared.runtime.Answer.{Answer}
+use Rattle.spec_runtime.specs.wasm_form.declared.runtime.Answer.TheVariants as answers
+use Rattle.spec_runtime.specs.spec_runs.Systems.{Status, Moving, Waits, Returned, Exited, Trapped, System, run, event, IsReal}
 use Rattle.spec_runtime.specs.Memories.{MemoryInstance}
 use Rattle.spec_runtime.specs.Hosts.{HostCall, hosts}
 use Rattle.spec_hosts.specs.declared.ran.Ran.{Ran}

@@ -6,8 +6,8 @@ use Rattle.dyl_outside.specs.declared.fault.IoFault.TheVariants.{Failed, Memory}
 use Rattle.dyl_outside.specs.Source.{SourceState, Takes}
 use Rattle.dyl_outside.specs.Sink.{SinkState, Puts}
 use Rattle.dyl_outside.specs.Ambient.{AmbientState, GivesTime, GivesWord}
-use Rattle.wasm_form.specs.declared.memory.Memory as wanting
-use Rattle.wasm_runtime.specs.declared.Answer.{Answer}
+use Rattle.spec_runtime.specs.wasm_form.declared.memory.Memory as wanting
+use Rattle.spec_runtime.specs.wasm_form.declared.runtime.Answer.{Answer}
 use Rattle.spec_runtime.specs.Memories.{MemoryInstance}
 use Rattle.spec_runtime.specs.Names.{HostNames}
 use Rattle.spec_runtime.specs.Hosts.{HostCall}

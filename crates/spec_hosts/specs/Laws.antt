@@ -1,7 +1,7 @@
 -- What is so of the calls of WASI, and of the names that are declared for a run: those of WASI, and then those of a table.
 use Rattle.std.specs.Prelude.{◌≡◌, ℕ, List, [], ◌∷◌, Option, Some, None, IsSomeAnd, false, ◌&&◌, bytes_eq, IsTrue, if◌then◌else◌}
-use Rattle.wasm_form.specs.declared.types.FuncType.{FuncType}
-use Rattle.wasm_runtime.specs.declared.Answer.{Answer}
+use Rattle.spec_runtime.specs.wasm_form.declared.types.FuncType.{FuncType}
+use Rattle.spec_runtime.specs.wasm_form.declared.runtime.Answer.{Answer}
 use Rattle.spec_runtime.specs.Memories.{MemoryInstance}
 use Rattle.spec_runtime.specs.Names.{HostName, HostNames, Fits, no_names, with_names, host_match, is_rest_type}
 use Rattle.spec_runtime.specs.Hosts.{numbers_fit, fits_results}

@@ -5,7 +5,9 @@ ghost use Rattle.spec_hosts.specs.Laws.{WasiGoesFirst, OthersAreOfTheTable, Wasi
 
 mod ran;
 
+pub use dyl_outside;
 pub use ran::{Ran, RunEnd};
+pub use spec_runtime::{spec_binary, wasm_form};
 
 /// Where WASI is declared before the host functions of a table, each declared type is that of its call or of its entry.
 pub fn names_have_their_types()

@@ -1,6 +1,5 @@
 // How a run over a host ends.
-use wasm_form::{List, Trap};
-use wasm_runtime::Answer;
+use spec_runtime::wasm_form::{Answer, List, Trap};
 
 /// How a run ended: by itself, by a limit, or because valid code had no step, which never comes.
 #[derive(Clone, Copy, Debug, PartialEq, Eq)]

@@ -1,18 +1,18 @@
 -- Worked sets: their plans, definitions, slots, cells and faults.
 use Rattle.std.proofs.Common.{◌≡◌, ℕ, List, [], ◌∷◌, ◌++◌, Some, None, true, false, refl, replicate}
 use Rattle.std.specs.Prelude.{codes, map, pos}
-use Rattle.wasm_form.specs.declared.types.ValType.TheVariants.{I32, FuncRef}
-use Rattle.wasm_form.specs.declared.types.FuncType.{FuncType}
-use Rattle.wasm_form.specs.declared.instr.Instr.{out-Instr, I32Const}
-use Rattle.wasm_form.specs.declared.instr.Expr.{Expr}
+use Rattle.spec_execution.specs.wasm_form.declared.types.ValType.TheVariants.{I32, FuncRef}
+use Rattle.spec_execution.specs.wasm_form.declared.types.FuncType.{FuncType}
+use Rattle.spec_execution.specs.wasm_form.declared.instr.Instr.{out-Instr, I32Const}
+use Rattle.spec_execution.specs.wasm_form.declared.instr.Expr.{Expr}
 use denote.Hole.Carrier.{out}
-use Rattle.wasm_form.specs.declared.module.ImportDesc.TheVariants as imported
-use Rattle.wasm_form.specs.declared.module.ElemMode.TheVariants as elem_mode
-use Rattle.wasm_form.specs.declared.module.Import.{Import}
-use Rattle.wasm_form.specs.declared.module.Module.{Module}
-use Rattle.wasm_form.specs.declared.runtime.LoaderCall.TheVariants.{Dlopen, Dlsym}
-use Rattle.wasm_form.specs.declared.runtime.Ref.TheVariants.{Own, Loader, Host, Stub}
-use Rattle.spec_runtime.specs.Names.{no_names, with_names, with_rest}
+use Rattle.spec_execution.specs.wasm_form.declared.module.ImportDesc.TheVariants as imported
+use Rattle.spec_execution.specs.wasm_form.declared.module.ElemMode.TheVariants as elem_mode
+use Rattle.spec_execution.specs.wasm_form.declared.module.Import.{Import}
+use Rattle.spec_execution.specs.wasm_form.declared.module.Module.{Module}
+use Rattle.spec_execution.specs.wasm_form.declared.runtime.LoaderCall.TheVariants.{Dlopen, Dlsym}
+use Rattle.spec_execution.specs.wasm_form.declared.runtime.Ref.TheVariants.{Own, Loader, Host, Stub}
+use Rattle.spec_execution.specs.spec_runtime.Names.{no_names, with_names, with_rest}
 use Rattle.spec_linking.specs.declared.fault.Kind.TheVariants as kind
 use Rattle.spec_linking.specs.declared.fault.LinkFault.TheVariants.{MemoryLimit, TableLimit, NoEntry, TlsExport, Unresolved, IllTyped, Duplicate, OwnMemory}
 use Rattle.spec_linking.specs.Records.{DylinkRecord, ImportNote, empty_record}

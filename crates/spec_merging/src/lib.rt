@@ -4,3 +4,4 @@
 mod fault;
 
 pub use fault::MergeFault;
+pub use wasm_form;

@@ -3,8 +3,8 @@ use Rattle.std.proofs.Common.{◌≡◌, ℕ, ℤ, pos, negsuc, ◌<◌, ◌≤�
 use Rattle.std.specs.Prelude.{◌⊎◌}
 use Rattle.std.proofs.lemmas.Int.{ints}
 use Rattle.std.proofs.lemmas.Bool.{eqb-true, ne_eqb, lt-ltb, le-ltb}
-use Rattle.wasm_form.specs.declared.instr.BlockType.{BlockType}
-use Rattle.wasm_form.specs.declared.instr.BlockType.TheVariants.{Empty, Value, Index as TypeIndex}
+use Rattle.spec_binary.specs.wasm_form.declared.instr.BlockType.{BlockType}
+use Rattle.spec_binary.specs.wasm_form.declared.instr.BlockType.TheVariants.{Empty, Value, Index as TypeIndex}
 use Rattle.spec_binary.specs.Number.{SpellsSigned, last, last_below, more}
 use Rattle.spec_binary.specs.Types.{i32, i64, f32, f64, reference, func_ref, extern_ref}
 use Rattle.spec_binary.specs.Instructions.{SpellsBlockType, empty, value, index}

@@ -2,7 +2,7 @@
 use Rattle.std.proofs.Common.{◌≡◌, ℕ, ◌≤◌, List, [], ◌++◌, length, Ok, Err, refl, sym, ap, subst, ◌∙◌, append_assoc, inl, inr}
 use Rattle.std.specs.Prelude.{◌⊎◌}
 use Rattle.std.proofs.lemmas.List.{append-nil}
-use Rattle.wasm_form.specs.declared.module.Code.{Code}
+use Rattle.spec_binary.specs.wasm_form.declared.module.Code.{Code}
 use Rattle.spec_binary.specs.Number.{SpellsUnsigned}
 use Rattle.spec_binary.specs.Trees.{nesting_all}
 use Rattle.spec_binary.specs.BodyLimits.{local_count, most_locals, most_nested}

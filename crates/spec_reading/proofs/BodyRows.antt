@@ -2,7 +2,7 @@
 use Rattle.std.proofs.Common.{◌≡◌, ℕ, zero, suc, ◌+◌, ◌<◌, List, [], ◌∷◌, ◌++◌, length, Result, Ok, Err, refl, sym, ap, subst, ◌∙◌, append_assoc, arith, inl, inr}
 use Rattle.std.specs.List.{All, AllByRecursion}
 use Rattle.std.proofs.lemmas.List.Elements.{All-nil, All-cons, recursion_from_All}
-use Rattle.wasm_form.specs.declared.module.Code.{Code}
+use Rattle.spec_binary.specs.wasm_form.declared.module.Code.{Code}
 use Rattle.spec_binary.specs.Sequence.{SpellsEach, none, next}
 use Rattle.spec_binary.specs.Parts.{SpellsCode}
 use Rattle.spec_binary.specs.declared.fault.DecodeFault.{DecodeFault}

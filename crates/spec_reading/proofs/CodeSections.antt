@@ -2,7 +2,7 @@
 use Rattle.std.proofs.Common.{◌≡◌, ℕ, ◌+◌, ◌<◌, List, [], ◌∷◌, ◌++◌, length, Result, Ok, Err, refl, sym, ap, subst, ◌∙◌, arith, inl, inr}
 use Rattle.std.specs.List.{All}
 use Rattle.std.proofs.lemmas.List.{append-nil}
-use Rattle.wasm_form.specs.declared.module.Code.{Code}
+use Rattle.spec_binary.specs.wasm_form.declared.module.Code.{Code}
 use Rattle.spec_binary.specs.Number.{SpellsUnsigned}
 use Rattle.spec_binary.specs.Sequence.{SpellsEach, SpellsVec, vec}
 use Rattle.spec_binary.specs.Parts.{SpellsCode}

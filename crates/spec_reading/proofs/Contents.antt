@@ -2,7 +2,7 @@
 use Rattle.std.proofs.Common.{◌≡◌, ℕ, ◌<◌, ◌≤◌, cond, ltb, eqb, List, ◌++◌, Result, Ok, Err, refl, sym, subst, arith, inl, inr}
 use Rattle.std.specs.List.{All}
 use Rattle.std.proofs.lemmas.Bool.{lt-ltb, ltb-true, eqb-true}
-use Rattle.wasm_form.specs.declared.module.Code.{Code}
+use Rattle.spec_binary.specs.wasm_form.declared.module.Code.{Code}
 use Rattle.spec_binary.specs.Number.{SpellsUnsigned}
 use Rattle.spec_binary.specs.Name.{SpellsName}
 use Rattle.spec_binary.specs.Sequence.{SpellsVec}

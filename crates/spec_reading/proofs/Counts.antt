@@ -4,8 +4,8 @@ use Rattle.std.specs.Prelude.{IsTrue}
 use Rattle.std.specs.List.{AllByRecursion, list_all}
 use Rattle.std.proofs.lemmas.List.Elements.{All-from_recursion, recursion_from_All}
 use Rattle.std.proofs.lemmas.Bool.{and_parts, eqb-true, eq-eqb}
-use Rattle.wasm_form.specs.declared.module.Code.{Code}
-use Rattle.wasm_form.specs.declared.module.Module.{Module}
+use Rattle.spec_binary.specs.wasm_form.declared.module.Code.{Code}
+use Rattle.spec_binary.specs.wasm_form.declared.module.Module.{Module}
 use Rattle.spec_binary.specs.Trees.{every_of}
 use Rattle.spec_binary.specs.WellFormed.{names_no_data, IsDataCounted, CountsAgree}
 use Rattle.spec_reading.specs.Sections.{leaves_data, is_data_counted, counts_agree}

@@ -2,10 +2,10 @@
 use Rattle.std.proofs.Common.{◌≡◌, ℕ, ◌^◌, true, List, length, refl, ◌∙◌}
 use Rattle.std.specs.Prelude.{All, IsTrue, nat_lt}
 use Rattle.std.proofs.lemmas.Bool.{lt-ltb}
-use Rattle.wasm_form.specs.declared.types.ValType.{ValType}
-use Rattle.wasm_form.specs.declared.instr.Instr.{Instr}
-use Rattle.wasm_form.specs.declared.instr.Instr.TheOpen as Open
-use Rattle.wasm_form.specs.declared.instr.Expr.{Expr}
+use Rattle.spec_binary.specs.wasm_form.declared.types.ValType.{ValType}
+use Rattle.spec_binary.specs.wasm_form.declared.instr.Instr.{Instr}
+use Rattle.spec_binary.specs.wasm_form.declared.instr.Instr.TheOpen as Open
+use Rattle.spec_binary.specs.wasm_form.declared.instr.Expr.{Expr}
 use Rattle.spec_binary.specs.Name.{SpellsName, name}
 use Rattle.spec_binary.specs.Sequence.{SpellsVec, vec}
 use Rattle.spec_binary.proofs.UnsignedSpelling.{unsigned_small}

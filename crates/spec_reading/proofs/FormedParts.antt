@@ -1,18 +1,18 @@
 -- What the sections hold is well formed where it is spelled.
 use Rattle.std.proofs.Common.{ℕ, List, refl}
-use Rattle.wasm_form.specs.declared.types.FuncType.{FuncType}
-use Rattle.wasm_form.specs.declared.types.TableType.{TableType}
-use Rattle.wasm_form.specs.declared.instr.Expr.{Expr}
-use Rattle.wasm_form.specs.declared.module.ImportDesc.{ImportDesc}
-use Rattle.wasm_form.specs.declared.module.Import.{Import}
-use Rattle.wasm_form.specs.declared.module.GlobalDef.{GlobalDef}
-use Rattle.wasm_form.specs.declared.module.Export.{Export}
-use Rattle.wasm_form.specs.declared.module.ElemMode.{ElemMode}
-use Rattle.wasm_form.specs.declared.module.ElemItems.{ElemItems}
-use Rattle.wasm_form.specs.declared.module.Elem.{Elem}
-use Rattle.wasm_form.specs.declared.module.Code.{Code}
-use Rattle.wasm_form.specs.declared.module.DataMode.{DataMode}
-use Rattle.wasm_form.specs.declared.module.Data.{Data}
+use Rattle.spec_binary.specs.wasm_form.declared.types.FuncType.{FuncType}
+use Rattle.spec_binary.specs.wasm_form.declared.types.TableType.{TableType}
+use Rattle.spec_binary.specs.wasm_form.declared.instr.Expr.{Expr}
+use Rattle.spec_binary.specs.wasm_form.declared.module.ImportDesc.{ImportDesc}
+use Rattle.spec_binary.specs.wasm_form.declared.module.Import.{Import}
+use Rattle.spec_binary.specs.wasm_form.declared.module.GlobalDef.{GlobalDef}
+use Rattle.spec_binary.specs.wasm_form.declared.module.Export.{Export}
+use Rattle.spec_binary.specs.wasm_form.declared.module.ElemMode.{ElemMode}
+use Rattle.spec_binary.specs.wasm_form.declared.module.ElemItems.{ElemItems}
+use Rattle.spec_binary.specs.wasm_form.declared.module.Elem.{Elem}
+use Rattle.spec_binary.specs.wasm_form.declared.module.Code.{Code}
+use Rattle.spec_binary.specs.wasm_form.declared.module.DataMode.{DataMode}
+use Rattle.spec_binary.specs.wasm_form.declared.module.Data.{Data}
 use Rattle.spec_binary.specs.Types.{SpellsFuncType, function as function_type, SpellsTableType, table as table_type}
 use Rattle.spec_binary.specs.Parts.{SpellsConstant, constant, SpellsImportDesc, function as imported_function, table as imported_table, memory as imported_memory, global as imported_global, SpellsImport, «import», SpellsGlobal, global as defined_global, SpellsExport, export, SpellsElemMode, first_table, passive as passive_element, named_table, declarative, SpellsElemItems, functions, kind_and_functions, expressions, type_and_expressions, SpellsElem, segment as element_segment, SpellsFunc, func, SpellsCode, code, SpellsDataMode, first_memory, passive as passive_data, named_memory, SpellsData, segment as data_segment}
 use Rattle.spec_binary.specs.WellFormed.{IsShort, IsFormedType, IsFormedTable, IsFormedDesc, IsFormedImport, IsFormedBody, IsFormedConstant, IsFormedGlobal, IsFormedExport, IsFormedElemMode, IsFormedItems, IsFormedElem, IsFormedDataMode, IsFormedData}

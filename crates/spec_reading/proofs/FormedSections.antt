@@ -3,10 +3,10 @@
 use Rattle.std.proofs.Common.{◌≡◌, ℕ, ◌<◌, ◌≤◌, List, [], ◌∷◌, ◌++◌, Some, refl, subst, arith, inl, rules}
 use Rattle.std.specs.Prelude.{All}
 use Rattle.std.proofs.lemmas.List.Elements.{All-nil}
-use Rattle.wasm_form.specs.declared.types.Limits.{Limits}
-use Rattle.wasm_form.specs.declared.module.Code.{Code}
-use Rattle.wasm_form.specs.declared.module.Custom.{Custom}
-use Rattle.wasm_form.specs.declared.module.Module.{Module}
+use Rattle.spec_binary.specs.wasm_form.declared.types.Limits.{Limits}
+use Rattle.spec_binary.specs.wasm_form.declared.module.Code.{Code}
+use Rattle.spec_binary.specs.wasm_form.declared.module.Custom.{Custom}
+use Rattle.spec_binary.specs.wasm_form.declared.module.Module.{Module}
 use Rattle.spec_binary.specs.Sequence.{SpellsVec}
 use Rattle.spec_binary.specs.BodyLimits.{IsWithinLimits}
 use Rattle.spec_binary.specs.Sections.{Progress, at_start, empty_module, Contents, custom, types, imports, funcs, tables, memories, globals, exports, elems, codes, datas, start, data_count, Chain, done, next as next_section}

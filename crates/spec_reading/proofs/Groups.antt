@@ -2,7 +2,7 @@
 use Rattle.std.proofs.Common.{◌≡◌, ℕ, zero, suc, ◌+◌, ◌<◌, ◌≤◌, true, false, ltb, List, [], ◌∷◌, ◌++◌, length, Ok, Err, refl, sym, ap, subst, ◌∙◌, append_assoc, arith, inl, inr}
 use Rattle.std.specs.Prelude.{◌⊎◌}
 use Rattle.std.proofs.lemmas.Bool.{ltb-false, le-ltb, lt-ltb, ltb-true}
-use Rattle.wasm_form.specs.declared.module.Group.{Group}
+use Rattle.spec_binary.specs.wasm_form.declared.module.Group.{Group}
 use Rattle.spec_binary.specs.Number.{SpellsUnsigned}
 use Rattle.spec_binary.specs.Sequence.{SpellsEach, none, next, SpellsVec, vec}
 use Rattle.spec_binary.specs.BodyLimits.{local_count, most_locals}

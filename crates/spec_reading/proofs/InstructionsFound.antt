@@ -1,9 +1,9 @@
 -- Instructions that are read are spelled so, and no more blocks are nested in them than may be.
 use Rattle.std.proofs.Common.{◌≡◌, ℕ, zero, suc, max, ◌≤◌, true, eqb, List, [], ◌∷◌, ◌++◌, length, Some, None, Ok, refl, sym, ap, subst, ◌∙◌, append_assoc, arith, inl, inr}
 use Rattle.std.proofs.lemmas.Bool.{eqb-true}
-use Rattle.wasm_form.specs.declared.instr.BlockType.{BlockType}
-use Rattle.wasm_form.specs.declared.instr.Instr.{Instr, Plain, Block, Loop, If}
-use Rattle.wasm_form.specs.declared.instr.Expr.{Expr}
+use Rattle.spec_binary.specs.wasm_form.declared.instr.BlockType.{BlockType}
+use Rattle.spec_binary.specs.wasm_form.declared.instr.Instr.{Instr, Plain, Block, Loop, If}
+use Rattle.spec_binary.specs.wasm_form.declared.instr.Expr.{Expr}
 use Rattle.spec_binary.specs.Operands.{Operands, NoOperand, OneIndex, BlockBody, LoopBody, IfBodies, Labels, TypeAndTable, ValueTypes, OneRefType, MemoryArgument, MemorySizeByte, MemoryGrowByte, OneI32, OneI64, OneF32, OneF64, SecondOpcode, NoOpcode, operands}
 use Rattle.spec_binary.specs.Instructions.{SpellsBlockType, SpellsInstr, plain, block, loop, if_alone, if_else, SpellsInstrs, done, next, SpellsExpr, expr}
 use Rattle.spec_binary.specs.Trees.{nesting, nesting_all}

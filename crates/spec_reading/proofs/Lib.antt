@@ -26,3 +26,5 @@ pub mod Counts
 pub mod Ending
 pub mod OneAnswer
 pub mod ModulesAlone
+pub use Rattle.spec_binary.proofs as of_spec_binary
+pub use Rattle.spec_binary.proofs.of_wasm_form as of_wasm_form

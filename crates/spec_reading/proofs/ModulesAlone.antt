@@ -2,8 +2,8 @@
 use Rattle.std.proofs.Common.{ℕ, ◌+◌, ◌≤◌, List, [], ◌∷◌, sym, ap, ◌∙◌, arith}
 use Rattle.std.specs.List.{AllByRecursion}
 use Rattle.std.proofs.lemmas.List.Elements.{All-from_recursion}
-use Rattle.wasm_form.specs.declared.module.Code.{Code}
-use Rattle.wasm_form.specs.declared.module.Module.{Module}
+use Rattle.spec_binary.specs.wasm_form.declared.module.Code.{Code}
+use Rattle.spec_binary.specs.wasm_form.declared.module.Module.{Module}
 use Rattle.spec_binary.specs.BodyLimits.{local_count}
 use Rattle.spec_binary.specs.Trees.{nesting_all}
 use Rattle.spec_binary.specs.Sections.{Progress}

@@ -1,13 +1,13 @@
 -- What the sections hold is read as it is spelled.
 use Rattle.std.proofs.Common.{◌≡◌, ℕ, true, eqb, List, [], ◌∷◌, ◌++◌, Result, Ok, Err, refl, sym, ap, subst, ◌∙◌, append_assoc, arith, inl, inr}
 use Rattle.std.proofs.lemmas.Bool.{eqb-true}
-use Rattle.wasm_form.specs.declared.instr.Expr.{Expr}
-use Rattle.wasm_form.specs.declared.module.ImportDesc.TheVariants as imported
-use Rattle.wasm_form.specs.declared.module.Import.{Import}
-use Rattle.wasm_form.specs.declared.module.GlobalDef.{GlobalDef}
-use Rattle.wasm_form.specs.declared.module.ExportDesc.{ExportDesc}
-use Rattle.wasm_form.specs.declared.module.ExportDesc.TheVariants as exported
-use Rattle.wasm_form.specs.declared.module.Export.{Export}
+use Rattle.spec_binary.specs.wasm_form.declared.instr.Expr.{Expr}
+use Rattle.spec_binary.specs.wasm_form.declared.module.ImportDesc.TheVariants as imported
+use Rattle.spec_binary.specs.wasm_form.declared.module.Import.{Import}
+use Rattle.spec_binary.specs.wasm_form.declared.module.GlobalDef.{GlobalDef}
+use Rattle.spec_binary.specs.wasm_form.declared.module.ExportDesc.{ExportDesc}
+use Rattle.spec_binary.specs.wasm_form.declared.module.ExportDesc.TheVariants as exported
+use Rattle.spec_binary.specs.wasm_form.declared.module.Export.{Export}
 use Rattle.spec_binary.specs.Number.{SpellsUnsigned}
 use Rattle.spec_binary.specs.Types.{SpellsLimits, SpellsTableType, SpellsGlobalType}
 use Rattle.spec_binary.specs.Parts as spells

@@ -1,12 +1,12 @@
 -- Each instruction's nesting, and each test of instructions, by what is inside.
 use Rattle.std.proofs.Common.{◌≡◌, ℕ, suc, max, ℤ, ◌&&◌, List, [], ◌∷◌, map, refl, sym, ap, ◌∙◌, None, Some}
-use Rattle.wasm_form.specs.declared.types.ValType.{ValType}
-use Rattle.wasm_form.specs.declared.instr.BlockType.{BlockType}
-use Rattle.wasm_form.specs.declared.instr.Instr.{Instr, Plain, Index, Block, Loop, If, BrTable, CallIndirect, Select, Access, MemorySize, MemoryGrow, I32Const, I64Const, F32Const, F64Const, RefNull, Prefixed, roll-Instr}
-use Rattle.wasm_form.specs.declared.instr.Instr.TheOpen as Open
-use Rattle.wasm_form.specs.declared.instr.Instr.TheVariants.{rolls-Plain, rolls-Index, rolls-Block, rolls-Loop, rolls-If, rolls-BrTable, rolls-CallIndirect, rolls-Select, rolls-Access, rolls-MemorySize, rolls-MemoryGrow, rolls-I32Const, rolls-I64Const, rolls-F32Const, rolls-F64Const, rolls-RefNull, rolls-Prefixed}
-use Rattle.wasm_form.specs.declared.instr.Expr.{Expr}
-use Rattle.wasm_form.proofs.Levels.{with_inside, fold_rolled}
+use Rattle.spec_binary.specs.wasm_form.declared.types.ValType.{ValType}
+use Rattle.spec_binary.specs.wasm_form.declared.instr.BlockType.{BlockType}
+use Rattle.spec_binary.specs.wasm_form.declared.instr.Instr.{Instr, Plain, Index, Block, Loop, If, BrTable, CallIndirect, Select, Access, MemorySize, MemoryGrow, I32Const, I64Const, F32Const, F64Const, RefNull, Prefixed, roll-Instr}
+use Rattle.spec_binary.specs.wasm_form.declared.instr.Instr.TheOpen as Open
+use Rattle.spec_binary.specs.wasm_form.declared.instr.Instr.TheVariants.{rolls-Plain, rolls-Index, rolls-Block, rolls-Loop, rolls-If, rolls-BrTable, rolls-CallIndirect, rolls-Select, rolls-Access, rolls-MemorySize, rolls-MemoryGrow, rolls-I32Const, rolls-I64Const, rolls-F32Const, rolls-F64Const, rolls-RefNull, rolls-Prefixed}
+use Rattle.spec_binary.specs.wasm_form.declared.instr.Expr.{Expr}
+use Rattle.spec_binary.proofs.of_wasm_form.Levels.{with_inside, fold_rolled}
 use Rattle.spec_binary.specs.Trees.{greatest, nesting_here, nesting_inside, nesting, nesting_all, all_true, Test, every_here, every_inside, every, every_of}
 
 greatest_nesting : (is : List Instr) → greatest (map nesting is) ≡ nesting_all is

@@ -1,7 +1,7 @@
 -- Reading bodies, with their limits (WebAssembly Core 2.0, section 5.5.13).
 use Rattle.std.specs.Prelude.{ℕ, zero, suc, ◌+◌, List, [], ◌∷◌, Result, Ok, Err, nat_lt, if◌then◌else◌}
-use Rattle.wasm_form.specs.declared.module.Group.{Group}
-use Rattle.wasm_form.specs.declared.module.Code.{Code}
+use Rattle.spec_binary.specs.wasm_form.declared.module.Group.{Group}
+use Rattle.spec_binary.specs.wasm_form.declared.module.Code.{Code}
 use Rattle.spec_binary.specs.BodyLimits.{most_locals, most_nested}
 use Rattle.spec_binary.specs.declared.fault.DecodeFault.{DecodeFault}
 use Rattle.spec_binary.specs.declared.fault.DecodeFault.TheVariants as fault

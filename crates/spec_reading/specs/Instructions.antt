@@ -1,9 +1,9 @@
 -- Reading instructions and expressions (WebAssembly Core 2.0, section 5.4).
 use Rattle.std.specs.Prelude.{ℕ, ℤ, pos, negsuc, zero, suc, Bool, ◌||◌, List, [], ◌∷◌, length, None, Some, Result, Ok, Err, nat_eq, nat_lt, if◌then◌else◌}
-use Rattle.wasm_form.specs.declared.instr.BlockType.{BlockType}
-use Rattle.wasm_form.specs.declared.instr.BlockType.TheVariants.{Empty, Value, Index as TypeIndex}
-use Rattle.wasm_form.specs.declared.instr.Instr.{Instr, Plain, Index, Block, Loop, If, BrTable, CallIndirect, Select, Access, MemorySize, MemoryGrow, I32Const, I64Const, F32Const, F64Const, RefNull, Prefixed}
-use Rattle.wasm_form.specs.declared.instr.Expr.{Expr}
+use Rattle.spec_binary.specs.wasm_form.declared.instr.BlockType.{BlockType}
+use Rattle.spec_binary.specs.wasm_form.declared.instr.BlockType.TheVariants.{Empty, Value, Index as TypeIndex}
+use Rattle.spec_binary.specs.wasm_form.declared.instr.Instr.{Instr, Plain, Index, Block, Loop, If, BrTable, CallIndirect, Select, Access, MemorySize, MemoryGrow, I32Const, I64Const, F32Const, F64Const, RefNull, Prefixed}
+use Rattle.spec_binary.specs.wasm_form.declared.instr.Expr.{Expr}
 use Rattle.spec_binary.specs.Operands.{Operands, NoOperand, OneIndex, BlockBody, LoopBody, IfBodies, Labels, TypeAndTable, ValueTypes, OneRefType, MemoryArgument, MemorySizeByte, MemoryGrowByte, OneI32, OneI64, OneF32, OneF64, SecondOpcode, NoOpcode, operands, SecondOperands, NoNumber, OneNumber, TwoNumbers, NumberAndZero, OneZero, TwoZeros, NoSecondOpcode, second_operands}
 use Rattle.spec_reading.specs.Steps.{Break, Broken, TooDeep, ◌>>=◌, Read}
 use Rattle.spec_reading.specs.Values.{number_at, signed_at, bits_at, byte_at, vec_at}

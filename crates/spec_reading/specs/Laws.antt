@@ -1,6 +1,6 @@
 -- What reading from left to right finds is what the definition of spelling says.
 use Rattle.std.specs.Prelude.{◌≡◌, ℕ, List, All, Result}
-use Rattle.wasm_form.specs.declared.module.Module.{Module}
+use Rattle.spec_binary.specs.wasm_form.declared.module.Module.{Module}
 use Rattle.spec_binary.specs.BodyLimits.{IsWithinLimits}
 use Rattle.spec_binary.specs.Modules.{SpellsModule}
 use Rattle.spec_binary.specs.WellFormed.{CountsAgree, IsWellFormed}

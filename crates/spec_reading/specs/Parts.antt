@@ -1,23 +1,23 @@
 -- Reading what the sections hold (WebAssembly Core 2.0, section 5.5).
 use Rattle.std.specs.Prelude.{ℕ, ◌%◌, List, [], ◌∷◌, Result, Ok, Err, nat_eq, nat_lt, if◌then◌else◌}
-use Rattle.wasm_form.specs.declared.types.ValType.{ValType}
-use Rattle.wasm_form.specs.declared.types.ValType.TheVariants.{FuncRef}
-use Rattle.wasm_form.specs.declared.instr.Expr.{Expr}
-use Rattle.wasm_form.specs.declared.module.ImportDesc.{ImportDesc}
-use Rattle.wasm_form.specs.declared.module.ImportDesc.TheVariants as imported
-use Rattle.wasm_form.specs.declared.module.Import.{Import}
-use Rattle.wasm_form.specs.declared.module.GlobalDef.{GlobalDef}
-use Rattle.wasm_form.specs.declared.module.ExportDesc.{ExportDesc}
-use Rattle.wasm_form.specs.declared.module.ExportDesc.TheVariants as exported
-use Rattle.wasm_form.specs.declared.module.Export.{Export}
-use Rattle.wasm_form.specs.declared.module.ElemMode.{ElemMode}
-use Rattle.wasm_form.specs.declared.module.ElemMode.TheVariants as element
-use Rattle.wasm_form.specs.declared.module.ElemItems.{ElemItems}
-use Rattle.wasm_form.specs.declared.module.ElemItems.TheVariants.{Funcs, Exprs}
-use Rattle.wasm_form.specs.declared.module.Elem.{Elem}
-use Rattle.wasm_form.specs.declared.module.DataMode.{DataMode}
-use Rattle.wasm_form.specs.declared.module.DataMode.TheVariants as data_mode
-use Rattle.wasm_form.specs.declared.module.Data.{Data}
+use Rattle.spec_binary.specs.wasm_form.declared.types.ValType.{ValType}
+use Rattle.spec_binary.specs.wasm_form.declared.types.ValType.TheVariants.{FuncRef}
+use Rattle.spec_binary.specs.wasm_form.declared.instr.Expr.{Expr}
+use Rattle.spec_binary.specs.wasm_form.declared.module.ImportDesc.{ImportDesc}
+use Rattle.spec_binary.specs.wasm_form.declared.module.ImportDesc.TheVariants as imported
+use Rattle.spec_binary.specs.wasm_form.declared.module.Import.{Import}
+use Rattle.spec_binary.specs.wasm_form.declared.module.GlobalDef.{GlobalDef}
+use Rattle.spec_binary.specs.wasm_form.declared.module.ExportDesc.{ExportDesc}
+use Rattle.spec_binary.specs.wasm_form.declared.module.ExportDesc.TheVariants as exported
+use Rattle.spec_binary.specs.wasm_form.declared.module.Export.{Export}
+use Rattle.spec_binary.specs.wasm_form.declared.module.ElemMode.{ElemMode}
+use Rattle.spec_binary.specs.wasm_form.declared.module.ElemMode.TheVariants as element
+use Rattle.spec_binary.specs.wasm_form.declared.module.ElemItems.{ElemItems}
+use Rattle.spec_binary.specs.wasm_form.declared.module.ElemItems.TheVariants.{Funcs, Exprs}
+use Rattle.spec_binary.specs.wasm_form.declared.module.Elem.{Elem}
+use Rattle.spec_binary.specs.wasm_form.declared.module.DataMode.{DataMode}
+use Rattle.spec_binary.specs.wasm_form.declared.module.DataMode.TheVariants as data_mode
+use Rattle.spec_binary.specs.wasm_form.declared.module.Data.{Data}
 use Rattle.spec_reading.specs.Steps.{Break, Broken, TooDeep, TooManyLocals, ◌>>=◌, Read}
 use Rattle.spec_reading.specs.Values.{number_at, byte_at, cut_at, name_at, vec_at}
 use Rattle.spec_reading.specs.Types.{ref_type_at, limits_at, table_type_at, global_type_at}

@@ -1,8 +1,8 @@
 -- Reading sections and modules (WebAssembly Core 2.0, sections 5.5.2 to 5.5.16).
 use Rattle.std.specs.Prelude.{ℕ, zero, suc, Bool, ◌&&◌, List, [], ◌∷◌, length, take, drop, Option, None, Some, Result, Ok, Err, nat_eq, nat_lt, bytes_eq, if◌then◌else◌}
 use Rattle.std.specs.List.{list_all}
-use Rattle.wasm_form.specs.declared.module.Code.{Code}
-use Rattle.wasm_form.specs.declared.module.Module.{Module}
+use Rattle.spec_binary.specs.wasm_form.declared.module.Code.{Code}
+use Rattle.spec_binary.specs.wasm_form.declared.module.Module.{Module}
 use Rattle.spec_binary.specs.Trees.{every_of}
 use Rattle.spec_binary.specs.Sections.{Progress, at_start, with_custom, with_types, with_imports, with_funcs, with_tables, with_memories, with_globals, with_exports, with_start, with_elems, with_data_count, with_codes, with_datas}
 use Rattle.spec_binary.specs.Modules.{header}

@@ -1,11 +1,11 @@
 -- Reading types (WebAssembly Core 2.0, section 5.3).
 use Rattle.std.specs.Prelude.{ℕ, Bool, true, false, List, [], ◌∷◌, Some, None, Result, Ok, Err, nat_eq, if◌then◌else◌}
-use Rattle.wasm_form.specs.declared.types.ValType.{ValType}
-use Rattle.wasm_form.specs.declared.types.ValType.TheVariants.{I32, I64, F32, F64, FuncRef, ExternRef}
-use Rattle.wasm_form.specs.declared.types.FuncType.{FuncType}
-use Rattle.wasm_form.specs.declared.types.Limits.{Limits}
-use Rattle.wasm_form.specs.declared.types.TableType.{TableType}
-use Rattle.wasm_form.specs.declared.types.GlobalType.{GlobalType}
+use Rattle.spec_binary.specs.wasm_form.declared.types.ValType.{ValType}
+use Rattle.spec_binary.specs.wasm_form.declared.types.ValType.TheVariants.{I32, I64, F32, F64, FuncRef, ExternRef}
+use Rattle.spec_binary.specs.wasm_form.declared.types.FuncType.{FuncType}
+use Rattle.spec_binary.specs.wasm_form.declared.types.Limits.{Limits}
+use Rattle.spec_binary.specs.wasm_form.declared.types.TableType.{TableType}
+use Rattle.spec_binary.specs.wasm_form.declared.types.GlobalType.{GlobalType}
 use Rattle.spec_reading.specs.Steps.{Break, Broken, ◌>>=◌, Read}
 use Rattle.spec_reading.specs.Values.{number_at, vec_at}
 

@@ -3,6 +3,8 @@
 
 ghost use Rattle.spec_reading.specs.Laws.{OneModule, ReadingAnswers, SpelledIsFormed};
 
+pub use spec_binary;
+
 /// There is one answer for bytes, and reading from left to right gives it (WebAssembly Core 2.0, chapter 5).
 pub fn reading_answers()
     ensures { ReadingAnswers }

@@ -2,17 +2,17 @@
 -- imported globals with their values.
 use Rattle.std.specs.Prelude.{ℕ, List, [], ◌∷◌, map, slice_get, Option, Some, None}
 use Rattle.std.specs.Int.{cast_unsigned, w32, w64}
-use Rattle.wasm_form.specs.declared.instr.Instr.{Instr, out-Instr}
-use Rattle.wasm_form.specs.declared.instr.Instr.TheOpen as Open
-use Rattle.wasm_form.specs.declared.instr.Expr.{Expr}
-use Rattle.wasm_form.specs.declared.module.ElemItems.{ElemItems}
-use Rattle.wasm_form.specs.declared.module.ElemItems.TheVariants as elem_items
-use Rattle.wasm_form.specs.declared.runtime.Ref.{Ref}
-use Rattle.wasm_opcode.specs.declared.index.IndexForm.{IndexForm}
-use Rattle.wasm_opcode.specs.declared.index.IndexForm.TheVariants.{RefFunc, GlobalGet}
-use Rattle.wasm_opcode.specs.Index.{index_form}
-use Rattle.wasm_runtime.specs.declared.Value.{Value}
-use Rattle.wasm_runtime.specs.declared.Value.TheVariants.{Num, Func}
+use Rattle.spec_binary.specs.wasm_form.declared.instr.Instr.{Instr, out-Instr}
+use Rattle.spec_binary.specs.wasm_form.declared.instr.Instr.TheOpen as Open
+use Rattle.spec_binary.specs.wasm_form.declared.instr.Expr.{Expr}
+use Rattle.spec_binary.specs.wasm_form.declared.module.ElemItems.{ElemItems}
+use Rattle.spec_binary.specs.wasm_form.declared.module.ElemItems.TheVariants as elem_items
+use Rattle.spec_binary.specs.wasm_form.declared.runtime.Ref.{Ref}
+use Rattle.spec_binary.specs.wasm_form.declared.index.IndexForm.{IndexForm}
+use Rattle.spec_binary.specs.wasm_form.declared.index.IndexForm.TheVariants.{RefFunc, GlobalGet}
+use Rattle.spec_binary.specs.wasm_form.Index.{index_form}
+use Rattle.spec_binary.specs.wasm_form.declared.runtime.Value.{Value}
+use Rattle.spec_binary.specs.wasm_form.declared.runtime.Value.TheVariants.{Num, Func}
 use Rattle.spec_binary.specs.Options.{◌>>=◌}
 
 -- ref.func, or global.get of an imported global

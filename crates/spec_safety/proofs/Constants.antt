@@ -4,29 +4,29 @@ use Rattle.std.specs.Prelude.{if◌then◌else◌, unwrap_or}
 use Rattle.std.specs.List.{list_all}
 use Rattle.std.proofs.lemmas.Bool.{ltb-true, and_parts}
 use Rattle.std.proofs.lemmas.List.Elements.{All-nil, All-cons}
-use Rattle.wasm_form.specs.declared.types.ValType.{ValType}
-use Rattle.wasm_form.specs.declared.types.ValType.TheVariants.{FuncRef}
-use Rattle.wasm_form.specs.declared.instr.Instr.{Instr, out-Instr}
-use Rattle.wasm_form.specs.declared.instr.Instr.TheOpen as Open
-use Rattle.wasm_form.specs.declared.instr.Expr.{Expr}
-use Rattle.wasm_form.specs.declared.module.GlobalDef.{GlobalDef}
-use Rattle.wasm_form.specs.declared.module.ElemMode.{ElemMode}
-use Rattle.wasm_form.specs.declared.module.ElemMode.TheVariants as elem_mode
-use Rattle.wasm_form.specs.declared.module.ElemItems.{ElemItems}
-use Rattle.wasm_form.specs.declared.module.ElemItems.TheVariants as elem_items
-use Rattle.wasm_form.specs.declared.module.Elem.{Elem}
-use Rattle.wasm_form.specs.declared.module.Module.{Module}
-use Rattle.wasm_form.specs.declared.runtime.Ref.{Ref}
-use Rattle.wasm_opcode.specs.declared.index.IndexForm.{IndexForm}
-use Rattle.wasm_opcode.specs.declared.index.IndexForm.TheVariants.{RefFunc}
-use Rattle.wasm_opcode.specs.Index.{index_form}
-use Rattle.wasm_runtime.specs.declared.Value.{Value}
-use Rattle.wasm_runtime.specs.declared.Value.TheVariants.{Num, Func}
-use Rattle.spec_binary.specs.Options.{◌>>=◌}
-use Rattle.spec_binary.specs.IndexSpaces.{function_space}
-use Rattle.spec_validation.specs.Faults.{is_function, is_of_type, is_constant, global_fits, elem_mode_fits, items_fit, elem_fits}
-use Rattle.spec_validation.specs.Faults as valid
-use Rattle.spec_runtime.specs.Constants.{index_constant, instruction_constant, no_globals, reference_in}
+use Rattle.spec_execution.specs.wasm_form.declared.types.ValType.{ValType}
+use Rattle.spec_execution.specs.wasm_form.declared.types.ValType.TheVariants.{FuncRef}
+use Rattle.spec_execution.specs.wasm_form.declared.instr.Instr.{Instr, out-Instr}
+use Rattle.spec_execution.specs.wasm_form.declared.instr.Instr.TheOpen as Open
+use Rattle.spec_execution.specs.wasm_form.declared.instr.Expr.{Expr}
+use Rattle.spec_execution.specs.wasm_form.declared.module.GlobalDef.{GlobalDef}
+use Rattle.spec_execution.specs.wasm_form.declared.module.ElemMode.{ElemMode}
+use Rattle.spec_execution.specs.wasm_form.declared.module.ElemMode.TheVariants as elem_mode
+use Rattle.spec_execution.specs.wasm_form.declared.module.ElemItems.{ElemItems}
+use Rattle.spec_execution.specs.wasm_form.declared.module.ElemItems.TheVariants as elem_items
+use Rattle.spec_execution.specs.wasm_form.declared.module.Elem.{Elem}
+use Rattle.spec_execution.specs.wasm_form.declared.module.Module.{Module}
+use Rattle.spec_execution.specs.wasm_form.declared.runtime.Ref.{Ref}
+use Rattle.spec_execution.specs.wasm_form.declared.index.IndexForm.{IndexForm}
+use Rattle.spec_execution.specs.wasm_form.declared.index.IndexForm.TheVariants.{RefFunc}
+use Rattle.spec_execution.specs.wasm_form.Index.{index_form}
+use Rattle.spec_execution.specs.wasm_form.declared.runtime.Value.{Value}
+use Rattle.spec_execution.specs.wasm_form.declared.runtime.Value.TheVariants.{Num, Func}
+use Rattle.spec_execution.specs.spec_binary.Options.{◌>>=◌}
+use Rattle.spec_execution.specs.spec_binary.IndexSpaces.{function_space}
+use Rattle.spec_execution.specs.spec_validation.Faults.{is_function, is_of_type, is_constant, global_fits, elem_mode_fits, items_fit, elem_fits}
+use Rattle.spec_execution.specs.spec_validation.Faults as valid
+use Rattle.spec_execution.specs.spec_runtime.Constants.{index_constant, instruction_constant, no_globals, reference_in}
 use Rattle.spec_execution.specs.Values.{zero_value, zero_of}
 use Rattle.spec_execution.specs.Ranges.{ReferenceExists, ValueExists, AllExist}
 use Rattle.spec_execution.specs.Instances.{module_target, module_view, constant_value, global_value, constant_reference, segment_items}

@@ -1,3 +1,5 @@
 pub mod Levels
 pub mod Names
 pub mod Parts
+pub use Rattle.spec_binary.proofs as of_spec_binary
+pub use Rattle.spec_binary.proofs.of_wasm_form as of_wasm_form

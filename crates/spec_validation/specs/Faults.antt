@@ -1,39 +1,39 @@
 -- The first fault of a module (WebAssembly Core 2.0, section 3.4, and what this program supports).
 use Rattle.std.specs.Prelude.{ℕ, ◌+◌, length, ◌&&◌, ◌||◌, not, nat_eq, nat_le, nat_lt, Bool, true, false, List, [], ◌∷◌, ◌++◌, slice_get, Option, Some, None, is_some, if◌then◌else◌, bytes_eq}
 use Rattle.std.specs.List.{list_all, list_any}
-use Rattle.wasm_form.specs.declared.types.ValType.{ValType}
-use Rattle.wasm_form.specs.declared.types.ValType.TheVariants.{I32, I64, FuncRef}
-use Rattle.wasm_form.specs.declared.types.FuncType.{FuncType}
-use Rattle.wasm_form.specs.declared.types.Limits.{Limits}
-use Rattle.wasm_form.specs.declared.types.TableType.{TableType}
-use Rattle.wasm_form.specs.declared.types.GlobalType.{GlobalType}
-use Rattle.wasm_form.specs.declared.instr.BlockType.{BlockType}
-use Rattle.wasm_form.specs.declared.instr.BlockType.TheVariants as block
-use Rattle.wasm_form.specs.declared.instr.Instr.{Instr, out-Instr, fold-Instr}
-use Rattle.wasm_form.specs.declared.instr.Instr.TheOpen as Open
-use Rattle.wasm_form.specs.declared.instr.Expr.{Expr}
-use Rattle.wasm_form.specs.declared.module.ImportDesc.{ImportDesc}
-use Rattle.wasm_form.specs.declared.module.ImportDesc.TheVariants as imported
-use Rattle.wasm_form.specs.declared.module.Import.{Import}
-use Rattle.wasm_form.specs.declared.module.GlobalDef.{GlobalDef}
-use Rattle.wasm_form.specs.declared.module.ExportDesc.{ExportDesc}
-use Rattle.wasm_form.specs.declared.module.ExportDesc.TheVariants as exported
-use Rattle.wasm_form.specs.declared.module.Export.{Export}
-use Rattle.wasm_form.specs.declared.module.ElemMode.{ElemMode}
-use Rattle.wasm_form.specs.declared.module.ElemMode.TheVariants as element
-use Rattle.wasm_form.specs.declared.module.ElemItems.{ElemItems}
-use Rattle.wasm_form.specs.declared.module.ElemItems.TheVariants.{Funcs, Exprs}
-use Rattle.wasm_form.specs.declared.module.Elem.{Elem}
-use Rattle.wasm_form.specs.declared.module.Group.{Group}
-use Rattle.wasm_form.specs.declared.module.Code.{Code}
-use Rattle.wasm_form.specs.declared.module.DataMode.{DataMode}
-use Rattle.wasm_form.specs.declared.module.DataMode.TheVariants as data_mode
-use Rattle.wasm_form.specs.declared.module.Data.{Data}
-use Rattle.wasm_form.specs.declared.module.Module.{Module}
-use Rattle.wasm_opcode.specs.declared.index.IndexForm.{IndexForm}
-use Rattle.wasm_opcode.specs.declared.index.IndexForm.TheVariants.{RefFunc, GlobalGet}
-use Rattle.wasm_opcode.specs.Ranges.{within}
-use Rattle.wasm_opcode.specs.Index.{index_form}
+use Rattle.spec_binary.specs.wasm_form.declared.types.ValType.{ValType}
+use Rattle.spec_binary.specs.wasm_form.declared.types.ValType.TheVariants.{I32, I64, FuncRef}
+use Rattle.spec_binary.specs.wasm_form.declared.types.FuncType.{FuncType}
+use Rattle.spec_binary.specs.wasm_form.declared.types.Limits.{Limits}
+use Rattle.spec_binary.specs.wasm_form.declared.types.TableType.{TableType}
+use Rattle.spec_binary.specs.wasm_form.declared.types.GlobalType.{GlobalType}
+use Rattle.spec_binary.specs.wasm_form.declared.instr.BlockType.{BlockType}
+use Rattle.spec_binary.specs.wasm_form.declared.instr.BlockType.TheVariants as block
+use Rattle.spec_binary.specs.wasm_form.declared.instr.Instr.{Instr, out-Instr, fold-Instr}
+use Rattle.spec_binary.specs.wasm_form.declared.instr.Instr.TheOpen as Open
+use Rattle.spec_binary.specs.wasm_form.declared.instr.Expr.{Expr}
+use Rattle.spec_binary.specs.wasm_form.declared.module.ImportDesc.{ImportDesc}
+use Rattle.spec_binary.specs.wasm_form.declared.module.ImportDesc.TheVariants as imported
+use Rattle.spec_binary.specs.wasm_form.declared.module.Import.{Import}
+use Rattle.spec_binary.specs.wasm_form.declared.module.GlobalDef.{GlobalDef}
+use Rattle.spec_binary.specs.wasm_form.declared.module.ExportDesc.{ExportDesc}
+use Rattle.spec_binary.specs.wasm_form.declared.module.ExportDesc.TheVariants as exported
+use Rattle.spec_binary.specs.wasm_form.declared.module.Export.{Export}
+use Rattle.spec_binary.specs.wasm_form.declared.module.ElemMode.{ElemMode}
+use Rattle.spec_binary.specs.wasm_form.declared.module.ElemMode.TheVariants as element
+use Rattle.spec_binary.specs.wasm_form.declared.module.ElemItems.{ElemItems}
+use Rattle.spec_binary.specs.wasm_form.declared.module.ElemItems.TheVariants.{Funcs, Exprs}
+use Rattle.spec_binary.specs.wasm_form.declared.module.Elem.{Elem}
+use Rattle.spec_binary.specs.wasm_form.declared.module.Group.{Group}
+use Rattle.spec_binary.specs.wasm_form.declared.module.Code.{Code}
+use Rattle.spec_binary.specs.wasm_form.declared.module.DataMode.{DataMode}
+use Rattle.spec_binary.specs.wasm_form.declared.module.DataMode.TheVariants as data_mode
+use Rattle.spec_binary.specs.wasm_form.declared.module.Data.{Data}
+use Rattle.spec_binary.specs.wasm_form.declared.module.Module.{Module}
+use Rattle.spec_binary.specs.wasm_form.declared.index.IndexForm.{IndexForm}
+use Rattle.spec_binary.specs.wasm_form.declared.index.IndexForm.TheVariants.{RefFunc, GlobalGet}
+use Rattle.spec_binary.specs.wasm_form.Ranges.{within}
+use Rattle.spec_binary.specs.wasm_form.Index.{index_form}
 use Rattle.spec_binary.specs.Options.{◌>>=◌}
 use Rattle.spec_binary.specs.SameTypes.{same_type}
 use Rattle.spec_binary.specs.IndexSpaces.{imports_of, globals_in, function_space, table_space, memory_space, global_space}

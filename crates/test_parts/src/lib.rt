@@ -1,5 +1,5 @@
-//! Parts that rows of text can't show: sets that are gathered from files of the system.
+//! Parts through their public doors: what rows of text can't say of devices, of host functions, of modules and of gathered sets.
 #![tactic(auto)]
 
 #[cfg(test)]
-mod disk;
+mod tests;

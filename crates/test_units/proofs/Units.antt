@@ -8,15 +8,15 @@ use Rattle.wasm_form.specs.declared.types.FuncType.{FuncType}
 use Rattle.wasm_form.specs.declared.module.Module.{Module}
 use Rattle.wasm_form.specs.declared.runtime.Ref.{Ref}
 use Rattle.wasm_form.specs.declared.runtime.Ref.TheVariants.{Own, Loader, Host, Stub}
-use Rattle.wasm_runtime.specs.declared.Value.TheVariants.{Num}
-use Rattle.spec_binary.specs.Options.{◌>>=◌}
-use Rattle.spec_binary.specs.Indices.{is_own, function_type}
-use Rattle.spec_binary.specs.IndexSpaces.{imported_count, function_space}
-use Rattle.spec_binary.specs.Exports.{exported_as, exported_function, own_function}
-use Rattle.spec_runtime.specs.Tables.{TableInstance, nulls, new_table}
-use Rattle.spec_execution.specs.Views.{View}
-use Rattle.spec_execution.specs.Instances.{ModuleParts, function_named, module_target, module_view, store_view}
-use Rattle.spec_execution.specs.Ranges.{IsWhole, HoldsAll, Exists, ReferenceExists, IsFrameInRange, AllInRange}
+use Rattle.wasm_form.specs.declared.runtime.Value.TheVariants.{Num}
+use Rattle.spec_safety.specs.spec_binary.Options.{◌>>=◌}
+use Rattle.spec_safety.specs.spec_binary.Indices.{is_own, function_type}
+use Rattle.spec_safety.specs.spec_binary.IndexSpaces.{imported_count, function_space}
+use Rattle.spec_safety.specs.spec_binary.Exports.{exported_as, exported_function, own_function}
+use Rattle.spec_safety.specs.spec_runtime.Tables.{TableInstance, nulls, new_table}
+use Rattle.spec_safety.specs.spec_execution.Views.{View}
+use Rattle.spec_safety.specs.spec_execution.Instances.{ModuleParts, function_named, module_target, module_view, store_view}
+use Rattle.spec_safety.specs.spec_execution.Ranges.{IsWhole, HoldsAll, Exists, ReferenceExists, IsFrameInRange, AllInRange}
 use Rattle.spec_safety.specs.Laws.{AreThere, StoreIsWhole}
 use Rattle.test_units.specs.Pairs.{module_of, other, imported_as, in_unit, pair_instances, pair_parts, IsUnit}
 use Rattle.test_units.specs.Runs.{AreCalled}

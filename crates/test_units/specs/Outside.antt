@@ -1,8 +1,8 @@
 -- The types of what two units call outside.
 use Rattle.std.specs.Prelude.{◌≡◌}
 use Rattle.wasm_form.specs.declared.runtime.LoaderCall.TheVariants.{Dlopen, Dlsym, Dlclose, Dlerror}
-use Rattle.spec_binary.specs.Indices.{nullary}
-use Rattle.spec_execution.specs.Views.{loader_type}
+use Rattle.spec_safety.specs.spec_binary.Indices.{nullary}
+use Rattle.spec_safety.specs.spec_execution.Views.{loader_type}
 use Rattle.test_units.specs.declared.outside.OutsideTypes.TheInside.{Inside}
 use Rattle.test_units.specs.Pairs.{stub_type}
 

@@ -6,13 +6,13 @@ use Rattle.wasm_form.specs.declared.module.Module.{Module}
 use Rattle.wasm_form.specs.declared.runtime.LoaderCall.TheVariants.{Dlopen}
 use Rattle.wasm_form.specs.declared.runtime.Ref.{Ref}
 use Rattle.wasm_form.specs.declared.runtime.Ref.TheVariants.{Own, Loader, Host, Stub}
-use Rattle.wasm_runtime.specs.declared.Value.{Value}
-use Rattle.spec_binary.specs.Options.{◌>>=◌}
-use Rattle.spec_binary.specs.Indices.{nullary, function_at}
-use Rattle.spec_runtime.specs.Memories.{MemoryInstance}
-use Rattle.spec_runtime.specs.Tables.{TableInstance}
-use Rattle.spec_execution.specs.Instances.{ModuleParts, Instances, store_view, module_counts, module_target, module_height, module_view}
-use Rattle.spec_execution.specs.Ranges.{IsWhole, Exists}
+use Rattle.wasm_form.specs.declared.runtime.Value.{Value}
+use Rattle.spec_safety.specs.spec_binary.Options.{◌>>=◌}
+use Rattle.spec_safety.specs.spec_binary.Indices.{nullary, function_at}
+use Rattle.spec_safety.specs.spec_runtime.Memories.{MemoryInstance}
+use Rattle.spec_safety.specs.spec_runtime.Tables.{TableInstance}
+use Rattle.spec_safety.specs.spec_execution.Instances.{ModuleParts, Instances, store_view, module_counts, module_target, module_height, module_view}
+use Rattle.spec_safety.specs.spec_execution.Ranges.{IsWhole, Exists}
 use Rattle.wasm_view.specs.Seen.{Seen}
 
 -- the module of a unit, and the number of the other unit

@@ -1,9 +1,9 @@
 -- A machine over two units.
 use Rattle.std.specs.Prelude.{◌≡◌, ℕ, [], ◌∷◌}
 use Rattle.wasm_form.specs.declared.runtime.Ref.TheVariants.{Own}
-use Rattle.spec_execution.specs.Instances.{ModuleParts}
-use Rattle.spec_execution.specs.Views.{View}
-use Rattle.spec_execution.specs.Ranges.{AllInRange, Exists}
+use Rattle.spec_safety.specs.spec_execution.Instances.{ModuleParts}
+use Rattle.spec_safety.specs.spec_execution.Views.{View}
+use Rattle.spec_safety.specs.spec_execution.Ranges.{AllInRange, Exists}
 use Rattle.wasm_view.specs.Seen.{Seen}
 use Rattle.wasm_machine.specs.Machines.{MachineState, IsOver}
 use Rattle.test_units.specs.declared.pair.Pair.{Pair}

@@ -1,7 +1,7 @@
 // The types of what two units call outside.
 ghost use Rattle.std.specs.Prelude.{◌≡◌, IfOk, IfSome};
-ghost use Rattle.spec_binary.specs.Indices.{nullary};
-ghost use Rattle.spec_execution.specs.Views.{loader_type};
+ghost use Rattle.spec_safety.specs.spec_binary.Indices.{nullary};
+ghost use Rattle.spec_safety.specs.spec_execution.Views.{loader_type};
 ghost use Rattle.test_units.specs.Pairs.{stub_type};
 
 use std::alloc::Global;

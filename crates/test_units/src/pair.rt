@@ -9,9 +9,8 @@ use crate::outside::OutsideTypes;
 use spec_safety::{checked_code_is_in_range, store_is_in_range};
 use std::alloc::Global;
 use wasm_check::Checked;
-use wasm_form::{Code, FuncType, Import, ImportDesc, LoaderCall, Memory, Ref, Trap};
+use wasm_form::{Code, FuncType, Import, ImportDesc, LoaderCall, Memory, Ref, Trap, Value};
 use wasm_instance::{Instance, exported_function};
-use wasm_runtime::Value;
 use wasm_space::{Slots, Space};
 use wasm_view::View;
 
@@ -115,7 +114,7 @@ impl<'m> Pair<'m> {
 }
 
 impl<'m> View<'m> for Pair<'m> {
-    ghost use Rattle.spec_execution.specs.Instances.{ModuleParts};
+    ghost use Rattle.spec_safety.specs.spec_execution.Instances.{ModuleParts};
     ghost use Rattle.test_units.specs.Pairs.{pair_seen};
 
     ghost Units = { ModuleParts };

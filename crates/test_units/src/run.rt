@@ -1,6 +1,6 @@
 // A machine over two units.
 ghost use Rattle.std.specs.Prelude.{◌≡◌, true};
-ghost use Rattle.spec_binary.specs.Indices.{nullary};
+ghost use Rattle.spec_safety.specs.spec_binary.Indices.{nullary};
 ghost use Rattle.wasm_machine.specs.Machines.{IsStart, IsReady, MayMark, IsMarked};
 ghost use Rattle.test_units.specs.Runs.{StandsOpen};
 

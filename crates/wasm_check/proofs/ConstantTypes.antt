@@ -12,13 +12,13 @@ use Rattle.wasm_form.specs.declared.instr.Expr.{Expr}
 use Rattle.wasm_form.specs.declared.module.Module.{Module}
 use Rattle.wasm_form.specs.declared.runtime.Ref.{Ref}
 use Rattle.wasm_form.specs.declared.runtime.Ref.TheVariants.{Own}
-use Rattle.wasm_opcode.specs.declared.index.IndexForm.{IndexForm}
-use Rattle.wasm_opcode.specs.declared.index.IndexForm.TheVariants.{RefFunc, GlobalGet}
-use Rattle.wasm_opcode.specs.Index.{index_form}
-use Rattle.wasm_runtime.specs.declared.Value.{Value}
-use Rattle.wasm_runtime.specs.declared.Value.TheVariants as values
-use Rattle.spec_binary.specs.Options.{◌>>=◌}
-use Rattle.spec_binary.specs.IndexSpaces.{imports_of, globals_in, function_space}
+use Rattle.wasm_form.specs.declared.index.IndexForm.{IndexForm}
+use Rattle.wasm_form.specs.declared.index.IndexForm.TheVariants.{RefFunc, GlobalGet}
+use Rattle.wasm_form.specs.Index.{index_form}
+use Rattle.wasm_form.specs.declared.runtime.Value.{Value}
+use Rattle.wasm_form.specs.declared.runtime.Value.TheVariants as values
+use Rattle.spec_validation.specs.spec_binary.Options.{◌>>=◌}
+use Rattle.spec_validation.specs.spec_binary.IndexSpaces.{imports_of, globals_in, function_space}
 use Rattle.spec_validation.specs.Faults.{is_function, immutable, constant_index, constant_step, constant_type}
 use Rattle.spec_runtime.specs.Constants.{index_constant, instruction_constant, constant_in, numbered_globals}
 use Rattle.wasm_check.specs.declared.value.Constant.{Constant}

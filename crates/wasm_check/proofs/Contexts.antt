@@ -12,9 +12,9 @@ use Rattle.wasm_form.specs.declared.instr.Instr.{Instr}
 use Rattle.wasm_form.specs.declared.module.Group.{Group}
 use Rattle.wasm_form.specs.declared.module.Code.{Code}
 use Rattle.wasm_form.specs.declared.module.Module.{Module}
-use Rattle.spec_binary.specs.Options.{◌>>=◌}
-use Rattle.spec_binary.specs.Indices.{declared_locals, function_type}
-use Rattle.spec_binary.specs.IndexSpaces.{function_space, table_space, memory_space, global_space}
+use Rattle.spec_validation.specs.spec_binary.Options.{◌>>=◌}
+use Rattle.spec_validation.specs.spec_binary.Indices.{declared_locals, function_type}
+use Rattle.spec_validation.specs.spec_binary.IndexSpaces.{function_space, table_space, memory_space, global_space}
 use Rattle.spec_validation.specs.Context.{Context}
 use Rattle.spec_validation.specs.Typing.{height}
 use Rattle.spec_validation.specs.Faults.{refers, elem_of_table, type_of_elem, is_some_memory, body_context}

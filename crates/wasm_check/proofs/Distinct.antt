@@ -12,7 +12,7 @@ use Rattle.std.proofs.lemmas.List.Folds.{list_any-append}
 use Rattle.std.proofs.lemmas.Map.Text.{is_eq-slice_cmp}
 use Rattle.std.proofs.lemmas.Slice.Eq.{bytes_eq-Decides}
 use Rattle.wasm_form.specs.declared.module.Export.{Export}
-use Rattle.spec_binary.specs.Exports.{AllDistinct, name_of}
+use Rattle.spec_validation.specs.spec_binary.Exports.{AllDistinct, name_of}
 use Rattle.spec_validation.specs.Faults.{names_distinct}
 use Rattle.spec_validation.proofs.Names.{distinct_tested, tested_distinct}
 

@@ -8,10 +8,10 @@ use Rattle.wasm_form.specs.declared.instr.Instr.TheOpen as Open
 use Rattle.wasm_form.specs.declared.instr.Expr.{Expr}
 use Rattle.wasm_form.specs.declared.module.Module.{Module}
 use Rattle.wasm_form.specs.declared.runtime.Ref.{Ref}
-use Rattle.wasm_runtime.specs.declared.Value.{Value}
-use Rattle.wasm_runtime.specs.declared.Value.TheVariants as values
-use Rattle.spec_binary.specs.Options.{◌>>=◌}
-use Rattle.spec_binary.specs.IndexSpaces.{imports_of, globals_in, function_space}
+use Rattle.wasm_form.specs.declared.runtime.Value.{Value}
+use Rattle.wasm_form.specs.declared.runtime.Value.TheVariants as values
+use Rattle.spec_validation.specs.spec_binary.Options.{◌>>=◌}
+use Rattle.spec_validation.specs.spec_binary.IndexSpaces.{imports_of, globals_in, function_space}
 use Rattle.wasm_check.specs.declared.value.Constant.{Constant}
 use Rattle.wasm_check.specs.declared.value.Constant.TheVariants.{Num, Func}
 

@@ -1,10 +1,10 @@
 -- The heights of bodies, as they are kept.
 use Rattle.std.specs.Prelude.{◌≡◌, ℕ, ◌<◌, List, length, slice_get, Option, Some, None}
 use Rattle.wasm_form.specs.declared.module.Module.{Module}
-use Rattle.spec_binary.specs.Saturated.{saturated}
-use Rattle.spec_binary.specs.Options.{◌>>=◌}
-use Rattle.spec_binary.specs.IndexSpaces.{function_space}
-use Rattle.spec_binary.specs.WellFormed.{IsWellFormed}
+use Rattle.spec_validation.specs.spec_binary.Saturated.{saturated}
+use Rattle.spec_validation.specs.spec_binary.Options.{◌>>=◌}
+use Rattle.spec_validation.specs.spec_binary.IndexSpaces.{function_space}
+use Rattle.spec_validation.specs.spec_binary.WellFormed.{IsWellFormed}
 use Rattle.spec_validation.specs.Faults.{body_height, fault}
 
 -- the height of a body, by its number

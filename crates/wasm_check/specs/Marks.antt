@@ -1,8 +1,8 @@
 -- Marks of functions, by their indices.
 use Rattle.std.specs.Prelude.{◌≡◌, ℕ, ◌<◌, Bool, true, false, ◌||◌, List, length, get_or, slice_get, Option, Some}
 use Rattle.wasm_form.specs.declared.module.Module.{Module}
-use Rattle.wasm_opcode.specs.declared.index.IndexForm.{IndexForm}
-use Rattle.wasm_opcode.specs.declared.index.IndexForm.TheVariants.{RefFunc}
+use Rattle.wasm_form.specs.declared.index.IndexForm.{IndexForm}
+use Rattle.wasm_form.specs.declared.index.IndexForm.TheVariants.{RefFunc}
 use Rattle.spec_validation.specs.Faults.{refers}
 use Rattle.wasm_typing.specs.Contexts.{is_marked}
 

@@ -1,13 +1,13 @@
 // The bodies of a module: each is well typed.
 ghost use Rattle.std.specs.Prelude.{◌≡◌, ◌++◌, ◌<◌, ◌^◌, ◌∷◌, [], length, Some, IfOk, OnOk};
-ghost use Rattle.spec_binary.specs.IndexSpaces.{memory_space};
+ghost use Rattle.spec_validation.specs.spec_binary.IndexSpaces.{memory_space};
 ghost use Rattle.spec_validation.specs.Typing.{height};
 ghost use Rattle.wasm_typing.specs.Answers.{Obtains};
 ghost use Rattle.spec_validation.specs.Faults as validation;
 ghost use Rattle.wasm_check.specs.Answers.{ChecksTo};
 ghost use Rattle.wasm_check.specs.Spaces.{AreSpaces};
 ghost use Rattle.wasm_check.specs.Marks.{AreMarks};
-ghost use Rattle.spec_binary.specs.Saturated.{saturated};
+ghost use Rattle.spec_validation.specs.spec_binary.Saturated.{saturated};
 ghost use Rattle.wasm_check.specs.Heights.{HaveHeights};
 
 use crate::spaces::Spaces;

@@ -1,9 +1,9 @@
 // Modules without a fault.
 ghost use Rattle.std.specs.Prelude.{◌≡◌, ◌<◌, length, Some, None, IfOk, IfErr, OnOk};
-ghost use Rattle.spec_binary.specs.WellFormed.{IsWellFormed};
-ghost use Rattle.spec_binary.specs.IndexSpaces.{function_space};
+ghost use Rattle.spec_validation.specs.spec_binary.WellFormed.{IsWellFormed};
+ghost use Rattle.spec_validation.specs.spec_binary.IndexSpaces.{function_space};
 ghost use Rattle.spec_validation.specs.Faults.{support_fault, fault};
-ghost use Rattle.spec_binary.specs.Indices.{function_type};
+ghost use Rattle.spec_validation.specs.spec_binary.Indices.{function_type};
 ghost use Rattle.wasm_check.specs.Answers.{ChecksTo, IsFirst};
 ghost use Rattle.wasm_check.specs.Inside.{AreSupported};
 ghost use Rattle.wasm_check.specs.Heights.{height_of, IsChecked};

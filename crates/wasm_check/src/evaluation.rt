@@ -2,7 +2,7 @@
 ghost use Rattle.std.specs.Prelude.{◌≡◌, length, is_some, IsTrue, IfOk, Some};
 ghost use Rattle.wasm_form.specs.declared.types.ValType.{ValType};
 ghost use Rattle.wasm_form.specs.declared.instr.Instr.{out-Instr};
-ghost use Rattle.spec_binary.specs.IndexSpaces.{imports_of, globals_in};
+ghost use Rattle.spec_validation.specs.spec_binary.IndexSpaces.{imports_of, globals_in};
 ghost use Rattle.spec_validation.specs.Faults.{constant_type};
 ghost use Rattle.spec_runtime.specs.Constants as constants;
 ghost use Rattle.spec_runtime.specs.Constants.{constant_of, numbered_globals};
@@ -10,8 +10,7 @@ ghost use Rattle.wasm_check.specs.Constants.{StandsFor, IsOfType, AreOfTypes, Gi
 
 use crate::value::Constant;
 use std::alloc::Global;
-use wasm_form::{Expr, Instr, Memory, Module};
-use wasm_opcode::{IndexForm, index_form};
+use wasm_form::{Expr, IndexForm, Instr, Memory, Module, index_form};
 
 fn index_constant(form: IndexForm, n: u32, imported: &[u64]) -> Option<Constant>
     ensures { StandsFor result (λ functions. constants.index_constant functions (numbered_globals imported.now) form n) }

@@ -1,11 +1,11 @@
 // Which part of a module is not valid (section 3.4).
 ghost use Rattle.std.specs.Prelude.{◌≡◌, ◌&&◌, length, slice_get, nat_le, Some, None, if◌then◌else◌, IfSome, IfNone};
 ghost use Rattle.std.specs.List.{list_all};
-ghost use Rattle.spec_binary.specs.SameTypes as types;
-ghost use Rattle.spec_binary.specs.Indices as indices;
+ghost use Rattle.spec_validation.specs.spec_binary.SameTypes as types;
+ghost use Rattle.spec_validation.specs.spec_binary.Indices as indices;
 ghost use Rattle.wasm_form.specs.declared.types.ValType.TheVariants.{FuncRef};
 ghost use Rattle.wasm_form.specs.declared.instr.Instr.{out-Instr};
-ghost use Rattle.spec_binary.specs.IndexSpaces.{function_space, table_space, memory_space};
+ghost use Rattle.spec_validation.specs.spec_binary.IndexSpaces.{function_space, table_space, memory_space};
 ghost use Rattle.spec_validation.specs.Faults as validation;
 ghost use Rattle.wasm_check.specs.Answers.{ChecksTo};
 ghost use Rattle.wasm_check.specs.Spaces.{AreSpaces};
@@ -16,9 +16,8 @@ use spec_validation::{CheckFault, Field};
 use std::alloc::Global;
 use wasm_form::{
     Data, DataMode, Elem, ElemItems, ElemMode, ExportDesc, Expr, FuncType, GlobalType, ImportDesc,
-    Instr, Limits, Module, TableType, ValType,
+    IndexForm, Instr, Limits, Module, TableType, ValType, index_form,
 };
-use wasm_opcode::{IndexForm, index_form};
 
 // The most entries that a table begins with.
 const MOST_ENTRIES: u32 = 1_048_576;

@@ -1,7 +1,7 @@
 // What is not supported in a body: its locals first, then the instructions in the order of their bytes.
 ghost use Rattle.std.specs.Prelude.{◌≡◌, ◌+◌, ◌<◌, ◌^◌, length, nat_le};
 ghost use Rattle.std.specs.List.{list_all};
-ghost use Rattle.wasm_opcode.specs.Ranges as ranges;
+ghost use Rattle.wasm_form.specs.Ranges as ranges;
 ghost use Rattle.spec_validation.specs.Faults as validation;
 ghost use Rattle.wasm_check.specs.Answers.{ChecksTo};
 ghost use Rattle.wasm_check.specs.Inside.{unsupported_else, AreSupported};

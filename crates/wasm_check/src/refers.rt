@@ -2,13 +2,15 @@
 ghost use Rattle.std.specs.Prelude.{◌≡◌, ℕ, Bool, false, length, nat_eq, replicate, IfOk};
 ghost use Rattle.std.specs.List.{list_any};
 ghost use Rattle.wasm_form.specs.declared.instr.Instr.TheOpen as Open;
-ghost use Rattle.spec_binary.specs.IndexSpaces.{function_space};
+ghost use Rattle.spec_validation.specs.spec_binary.IndexSpaces.{function_space};
 ghost use Rattle.spec_validation.specs.Faults as validation;
 ghost use Rattle.wasm_check.specs.Marks.{refers_form, Adds, AreMarks};
 
 use std::alloc::Global;
-use wasm_form::{Elem, ElemItems, Export, ExportDesc, Expr, GlobalDef, Instr, Memory, Module};
-use wasm_opcode::{IndexForm, index_form};
+use wasm_form::{
+    Elem, ElemItems, Export, ExportDesc, Expr, GlobalDef, IndexForm, Instr, Memory, Module,
+    index_form,
+};
 
 // What refers to functions.
 trait Referring {

@@ -2,10 +2,10 @@
 use Rattle.std.proofs.Common.{◌≡◌, ℕ, List, Result, Ok, Err, refl, subst, sym}
 use Rattle.std.specs.Prelude.{IfOk}
 use Rattle.wasm_form.specs.declared.module.Module.{Module}
-use Rattle.spec_binary.specs.declared.fault.DecodeFault.{DecodeFault}
-use Rattle.spec_binary.specs.declared.fault.DecodeFault.TheVariants as faults
-use Rattle.spec_binary.specs.WellFormed.{IsWellFormed}
-use Rattle.spec_binary.specs.DecodeAnswers.{DecodeAnswer, too_many_locals, too_deep, no_header, malformed, counts, spelled}
+use Rattle.spec_reading.specs.spec_binary.declared.fault.DecodeFault.{DecodeFault}
+use Rattle.spec_reading.specs.spec_binary.declared.fault.DecodeFault.TheVariants as faults
+use Rattle.spec_reading.specs.spec_binary.WellFormed.{IsWellFormed}
+use Rattle.spec_reading.specs.spec_binary.DecodeAnswers.{DecodeAnswer, too_many_locals, too_deep, no_header, malformed, counts, spelled}
 use Rattle.spec_reading.specs.Sections.{answer_of}
 use Rattle.spec_reading.specs.Laws.{ReadingAnswers, SpelledIsFormed}
 use Rattle.spec_reading.proofs.Steps.{ok_is}

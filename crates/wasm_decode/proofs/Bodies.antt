@@ -7,7 +7,7 @@ use Rattle.wasm_form.specs.declared.module.Group.{Group}
 use Rattle.wasm_form.specs.declared.module.Code.{Code}
 use Rattle.wasm_read.specs.declared.broken.Break.{Break}
 use Rattle.wasm_read.specs.declared.broken.Break.TheVariants as breaks
-use Rattle.spec_binary.specs.declared.fault.DecodeFault.{DecodeFault}
+use Rattle.spec_reading.specs.spec_binary.declared.fault.DecodeFault.{DecodeFault}
 use Rattle.spec_reading.specs.Steps as steps
 use Rattle.spec_reading.specs.Steps.{◌>>=◌, Read}
 use Rattle.spec_reading.specs.Values.{number_at}

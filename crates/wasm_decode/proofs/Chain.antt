@@ -2,11 +2,11 @@
 use Rattle.std.proofs.Common.{◌≡◌, ℕ, suc, ◌-◌, ◌+◌, ◌^◌, ◌<◌, ◌≤◌, min, Bool, true, false, eqb, List, [], ◌∷◌, length, Result, Ok, Err, refl, sym, ap, ◌∙◌, arith}
 use Rattle.std.proofs.lemmas.Bool.{eqb-true}
 use Rattle.std.proofs.lemmas.List.{nil_from_length}
-use Rattle.spec_binary.specs.declared.fault.DecodeFault.{DecodeFault}
-use Rattle.spec_binary.specs.declared.fault.DecodeFault.TheVariants as faults
-use Rattle.spec_binary.specs.Sections.{Progress, at_start}
-use Rattle.spec_binary.specs.declared.fault.DecodeFault.TheVariants.{Malformed, Counts, TooDeep, TooManyLocals}
-use Rattle.spec_binary.specs.Saturated.{saturated}
+use Rattle.spec_reading.specs.spec_binary.declared.fault.DecodeFault.{DecodeFault}
+use Rattle.spec_reading.specs.spec_binary.declared.fault.DecodeFault.TheVariants as faults
+use Rattle.spec_reading.specs.spec_binary.Sections.{Progress, at_start}
+use Rattle.spec_reading.specs.spec_binary.declared.fault.DecodeFault.TheVariants.{Malformed, Counts, TooDeep, TooManyLocals}
+use Rattle.spec_reading.specs.spec_binary.Saturated.{saturated}
 use Rattle.spec_reading.specs.Bodies.{usual_room}
 use Rattle.spec_reading.specs.Sections.{section_at, chain_at}
 use Rattle.wasm_decode.specs.Given.{Refuses}

@@ -6,8 +6,8 @@ use Rattle.wasm_form.specs.declared.instr.Instr.{Instr, Block, Loop, If, Prefixe
 use Rattle.wasm_form.specs.declared.instr.Instr.TheOpen as Open
 use Rattle.wasm_form.specs.declared.instr.Instr.TheVariants.{rolls-Block, rolls-Loop, rolls-If, rolls-Prefixed}
 use Rattle.wasm_form.specs.declared.instr.Expr.{Expr}
-use Rattle.spec_binary.specs.Trees.{every, every_here, every_inside, every_of}
-use Rattle.spec_binary.specs.WellFormed.{names_no_data}
+use Rattle.spec_reading.specs.spec_binary.Trees.{every, every_here, every_inside, every_of}
+use Rattle.spec_reading.specs.spec_binary.WellFormed.{names_no_data}
 use Rattle.spec_reading.proofs.Trees.{every-Block, every-Loop, every-If-alone, every-If-else, every-Prefixed}
 use Rattle.wasm_decode.specs.Counts.{other_names_no_data}
 

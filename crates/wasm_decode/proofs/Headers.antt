@@ -3,9 +3,9 @@ use Rattle.std.proofs.Common.{◌≡◌, ℕ, true, false, List, ◌++◌, take,
 use Rattle.std.specs.Str.{bytes_eq}
 use Rattle.std.proofs.lemmas.List.{take-append-drop}
 use Rattle.std.proofs.lemmas.Slice.Eq.{bytes_eq-Decides}
-use Rattle.spec_binary.specs.Sections.{at_start}
-use Rattle.spec_binary.specs.Modules.{header}
-use Rattle.spec_binary.specs.declared.fault.DecodeFault.TheVariants.{Malformed}
+use Rattle.spec_reading.specs.spec_binary.Sections.{at_start}
+use Rattle.spec_reading.specs.spec_binary.Modules.{header}
+use Rattle.spec_reading.specs.spec_binary.declared.fault.DecodeFault.TheVariants.{Malformed}
 use Rattle.spec_reading.specs.Bodies.{usual_room}
 use Rattle.spec_reading.specs.Sections.{chain_at, sections_at}
 

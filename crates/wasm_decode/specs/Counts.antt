@@ -1,8 +1,8 @@
 -- Whether the instructions of an `else` name no data segment.
 use Rattle.std.specs.Prelude.{Bool, true, Option, None, Some}
 use Rattle.wasm_form.specs.declared.instr.Expr.{Expr}
-use Rattle.spec_binary.specs.Trees.{every_of}
-use Rattle.spec_binary.specs.WellFormed.{names_no_data}
+use Rattle.spec_reading.specs.spec_binary.Trees.{every_of}
+use Rattle.spec_reading.specs.spec_binary.WellFormed.{names_no_data}
 
 abbrev pub other_names_no_data : Option Expr → Bool
 other_names_no_data None = true

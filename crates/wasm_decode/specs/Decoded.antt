@@ -1,9 +1,9 @@
 -- What a decoded result says of the bytes.
 use Rattle.std.specs.Prelude.{ℕ, List, Result, Err}
 use Rattle.wasm_form.specs.declared.module.Module.{Module}
-use Rattle.spec_binary.specs.declared.fault.DecodeFault.{DecodeFault}
-use Rattle.spec_binary.specs.declared.fault.DecodeFault.TheVariants as faults
-use Rattle.spec_binary.specs.DecodeAnswers.{DecodeAnswer}
+use Rattle.spec_reading.specs.spec_binary.declared.fault.DecodeFault.{DecodeFault}
+use Rattle.spec_reading.specs.spec_binary.declared.fault.DecodeFault.TheVariants as faults
+use Rattle.spec_reading.specs.spec_binary.DecodeAnswers.{DecodeAnswer}
 use Rattle.wasm_decode.specs.Given.{Tells}
 
 -- The result is to say of the bytes. Of want of memory nothing is said.

@@ -1,5 +1,5 @@
 -- What the sections so far say, as the definition of spelling has it.
-use Rattle.spec_binary.specs.Sections as said
+use Rattle.spec_reading.specs.spec_binary.Sections as said
 use Rattle.wasm_decode.specs.declared.section.Progress.{Progress}
 
 abbrev pub progress_of : Progress → said.Progress

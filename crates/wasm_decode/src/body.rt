@@ -7,7 +7,7 @@ ghost use Rattle.wasm_read.specs.Given.{Gives};
 ghost use Rattle.wasm_decode.specs.Given.{Tells};
 
 use crate::fault::{fault_in_body, fault_in_section};
-use spec_binary::DecodeFault;
+use spec_reading::spec_binary::DecodeFault;
 use std::alloc::Global;
 use wasm_form::{Code, Group, List};
 use wasm_read::{Break, contents_of, expr_of, u32_of, val_type_of};

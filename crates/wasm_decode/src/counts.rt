@@ -1,7 +1,7 @@
 // Whether the numbers agree that sections say of one another (WebAssembly Core 2.0, sections 5.5.15 and 5.5.16).
 ghost use Rattle.std.specs.Prelude.{◌≡◌, ℕ};
-ghost use Rattle.spec_binary.specs.Trees.{every, every_of};
-ghost use Rattle.spec_binary.specs.WellFormed.{names_no_data};
+ghost use Rattle.spec_reading.specs.spec_binary.Trees.{every, every_of};
+ghost use Rattle.spec_reading.specs.spec_binary.WellFormed.{names_no_data};
 ghost use Rattle.spec_reading.specs.Sections.{leaves_data, is_data_counted, counts_agree};
 ghost use Rattle.wasm_decode.specs.Counts.{other_names_no_data};
 

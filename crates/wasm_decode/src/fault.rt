@@ -2,7 +2,7 @@
 ghost use Rattle.std.specs.Prelude.{◌≡◌};
 ghost use Rattle.wasm_decode.specs.Given.{fault_of_section, fault_of_body};
 
-use spec_binary::DecodeFault;
+use spec_reading::spec_binary::DecodeFault;
 use wasm_read::Break;
 
 // Why decoding ends where reading ends so in a section behind so many.

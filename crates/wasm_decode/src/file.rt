@@ -1,10 +1,10 @@
 // Modules (WebAssembly Core 2.0, section 5.5.16).
 ghost use Rattle.std.specs.Prelude.{◌≡◌, ℕ, ◌++◌, List as Listing, Result as Returned, IfOk, IfSome, IfNone};
 ghost use Rattle.wasm_form.specs.declared.module.Module.{Module};
-ghost use Rattle.spec_binary.specs.Modules.{header};
-ghost use Rattle.spec_binary.specs.WellFormed.{IsWellFormed};
-ghost use Rattle.spec_binary.specs.declared.fault.DecodeFault.{DecodeFault};
-ghost use Rattle.spec_binary.specs.DecodeAnswers.{DecodeAnswer};
+ghost use Rattle.spec_reading.specs.spec_binary.Modules.{header};
+ghost use Rattle.spec_reading.specs.spec_binary.WellFormed.{IsWellFormed};
+ghost use Rattle.spec_reading.specs.spec_binary.declared.fault.DecodeFault.{DecodeFault};
+ghost use Rattle.spec_reading.specs.spec_binary.DecodeAnswers.{DecodeAnswer};
 ghost use Rattle.spec_reading.specs.Bodies.{usual_room};
 ghost use Rattle.spec_reading.specs.Sections.{sections_at, answer_of};
 ghost use Rattle.wasm_decode.specs.Given.{Tells};
@@ -13,7 +13,7 @@ ghost use Rattle.wasm_decode.specs.Decoded.{Decodes, Yields};
 
 use crate::counts::counts_agree;
 use crate::section::{Progress, sections_of};
-use spec_binary::DecodeFault;
+use spec_reading::spec_binary::DecodeFault;
 use std::alloc::Global;
 use wasm_form::Module;
 

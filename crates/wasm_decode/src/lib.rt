@@ -8,4 +8,4 @@ mod file;
 mod section;
 
 pub use file::decode;
-pub use spec_binary::DecodeFault;
+pub use spec_reading::spec_binary::DecodeFault;

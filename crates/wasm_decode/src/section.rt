@@ -1,6 +1,6 @@
 // Sections one after the other (WebAssembly Core 2.0, sections 5.5.2 to 5.5.15).
 ghost use Rattle.std.specs.Prelude.{◌≡◌, ℕ, ◌≤◌, ◌<◌, length, IfOk};
-ghost use Rattle.spec_binary.specs.Sections as said;
+ghost use Rattle.spec_reading.specs.spec_binary.Sections as said;
 ghost use Rattle.spec_reading.specs.Values.{number_at, vec_at};
 ghost use Rattle.spec_reading.specs.Types.{func_type_at, table_type_at, limits_at};
 ghost use Rattle.spec_reading.specs.Parts.{import_at, global_at, export_at, elem_at, data_at};
@@ -11,7 +11,7 @@ ghost use Rattle.wasm_decode.specs.Sections.{progress_of};
 
 use crate::body::codes_of;
 use crate::fault::fault_in_section;
-use spec_binary::DecodeFault;
+use spec_reading::spec_binary::DecodeFault;
 use std::alloc::Global;
 use wasm_form::{
     Custom, Data, Elem, Export, FuncType, GlobalDef, Import, Limits, List, Module, TableType,

@@ -4,16 +4,16 @@ use Rattle.std.specs.Prelude.{suc}
 use Rattle.std.proofs.lemmas.List.Elements.{All-head, All-tail, All-nil, All-cons, All-contains, Contains-append_cases}
 use Rattle.wasm_form.specs.declared.module.Custom.{Custom}
 use Rattle.wasm_form.specs.declared.module.Module.{Module}
-use Rattle.spec_binary.specs.Sequence.{SpellsEach, none, next}
-use Rattle.spec_binary.proofs.UnsignedSpelling.{unsigned_small}
-use Rattle.spec_binary.specs.Sections.{Progress, at_start, with_custom, custom as custom_contents, IsSection, section as one_section, Chain, done}
-use Rattle.spec_binary.specs.Modules.{header}
-use Rattle.spec_binary.specs.WellFormed as formed
-use Rattle.spec_binary.specs.WellFormed.{IsShort, HasRank, ArePlaced, none as no_more, behind, first}
+use Rattle.spec_reading.specs.spec_binary.Sequence.{SpellsEach, none, next}
+use Rattle.spec_reading.proofs.of_spec_binary.UnsignedSpelling.{unsigned_small}
+use Rattle.spec_reading.specs.spec_binary.Sections.{Progress, at_start, with_custom, custom as custom_contents, IsSection, section as one_section, Chain, done}
+use Rattle.spec_reading.specs.spec_binary.Modules.{header}
+use Rattle.spec_reading.specs.spec_binary.WellFormed as formed
+use Rattle.spec_reading.specs.spec_binary.WellFormed.{IsShort, HasRank, ArePlaced, none as no_more, behind, first}
 use Rattle.wasm_encode.specs.SectionSizes.{IsContents, types, imports, funcs, tables, memories, globals, exports, elems, codes, datas, rank_of, IsTooLongCustom, IsTooLong, contents, body, custom}
 use Rattle.wasm_encode.specs.Written.{SpellsCustom, custom as custom_section, AddsCustoms}
 use Rattle.wasm_encode.specs.Begun.{paid, Accounts, IsBegun}
-use Rattle.spec_binary.proofs.Joined.{each_parts, each_all}
+use Rattle.spec_reading.proofs.of_spec_binary.Joined.{each_parts, each_all}
 use Rattle.wasm_encode.proofs.Chains.{chain_next, chain_along}
 
 -- where custom sections stand

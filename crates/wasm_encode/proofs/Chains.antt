@@ -1,6 +1,6 @@
 -- Chains of sections.
 use Rattle.std.proofs.Common.{◌≡◌, ℕ, suc, List, [], ◌++◌, sym, subst, append_assoc, append-nil}
-use Rattle.spec_binary.specs.Sections.{Progress, Contents, IsSection, Chain, done, next}
+use Rattle.spec_reading.specs.spec_binary.Sections.{Progress, Contents, IsSection, Chain, done, next}
 
 pub chain_along : {s t : Progress} {k : ℕ} (w v : List ℕ) → w ≡ v → Chain s k w t → Chain s k v t
 chain_along {s} {t} {k} w v e = subst (λ x. Chain s k x t) e

@@ -2,14 +2,14 @@
 use Rattle.std.proofs.Common.{◌≡◌, ℕ, ◌+◌, ◌≤◌, List, [], ◌++◌, length, length-append, None, refl, subst, arith}
 use Rattle.std.specs.Prelude.{nat_eq, if◌then◌else◌}
 use Rattle.wasm_form.specs.declared.module.Module.{Module}
-use Rattle.spec_binary.specs.Number.{SpellsUnsigned, IsShortest}
-use Rattle.spec_binary.specs.Sequence.{SpellsEach, none, SpellsVec}
-use Rattle.spec_binary.specs.Types.{SpellsFuncType, SpellsLimits, SpellsTableType}
-use Rattle.spec_binary.specs.Parts.{SpellsImport, SpellsGlobal, SpellsExport, SpellsElem, SpellsCode, SpellsData}
-use Rattle.spec_binary.specs.Sections.{Progress, with_custom, with_types, with_imports, with_funcs, with_tables, with_memories, with_globals, with_exports, with_start, with_elems, with_data_count, with_codes, with_datas, at_start, empty_module, Contents, custom, types, imports, funcs, tables, memories, globals, exports, start, elems, data_count, codes, datas, IsSection, Chain, done, next as chain_next}
+use Rattle.spec_reading.specs.spec_binary.Number.{SpellsUnsigned, IsShortest}
+use Rattle.spec_reading.specs.spec_binary.Sequence.{SpellsEach, none, SpellsVec}
+use Rattle.spec_reading.specs.spec_binary.Types.{SpellsFuncType, SpellsLimits, SpellsTableType}
+use Rattle.spec_reading.specs.spec_binary.Parts.{SpellsImport, SpellsGlobal, SpellsExport, SpellsElem, SpellsCode, SpellsData}
+use Rattle.spec_reading.specs.spec_binary.Sections.{Progress, with_custom, with_types, with_imports, with_funcs, with_tables, with_memories, with_globals, with_exports, with_start, with_elems, with_data_count, with_codes, with_datas, at_start, empty_module, Contents, custom, types, imports, funcs, tables, memories, globals, exports, start, elems, data_count, codes, datas, IsSection, Chain, done, next as chain_next}
 use Rattle.wasm_encode.specs.Written.{SpellsSome, some, SpellsCustom, custom as custom_section}
 use Rattle.wasm_encode.specs.Begun.{Costs, nothing, section, paid, Accounts}
-use Rattle.spec_binary.proofs.Joined.{each_joined, each_one}
+use Rattle.spec_reading.proofs.of_spec_binary.Joined.{each_joined, each_one}
 use Rattle.wasm_encode.proofs.SectionForms.{shorter_contents}
 
 -- a section that is no longer than any

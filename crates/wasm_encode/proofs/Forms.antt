@@ -7,9 +7,9 @@ use Rattle.wasm_form.specs.declared.instr.BlockType.{BlockType}
 use Rattle.wasm_form.specs.declared.instr.Instr.{Instr, Plain, Index, Block, Loop, If, BrTable, Select, Access, RefNull, Prefixed}
 use Rattle.wasm_form.specs.declared.instr.Instr.TheOpen as Open
 use Rattle.wasm_form.specs.declared.instr.Expr.{Expr}
-use Rattle.spec_binary.specs.Operands.{NoOperand, OneIndex, MemoryArgument, operands}
-use Rattle.spec_binary.specs.Trees.{every, every_of}
-use Rattle.spec_binary.specs.WellFormed.{is_reference_type, has_form}
+use Rattle.spec_reading.specs.spec_binary.Operands.{NoOperand, OneIndex, MemoryArgument, operands}
+use Rattle.spec_reading.specs.spec_binary.Trees.{every, every_of}
+use Rattle.spec_reading.specs.spec_binary.WellFormed.{is_reference_type, has_form}
 use Rattle.spec_reading.proofs.Trees.{every-Plain, every-Index, every-Block, every-Loop, every-If-alone, every-If-else, every-BrTable, every-Select, every-Access, every-RefNull, every-Prefixed}
 use Rattle.wasm_encode.proofs.Operands.{plain_opcode, index_opcode, access_opcode}
 

@@ -7,14 +7,14 @@ use Rattle.wasm_form.specs.declared.instr.Instr.{Instr, Plain, Index, Block, Loo
 use Rattle.wasm_form.specs.declared.instr.Instr.TheOpen as Open
 use Rattle.wasm_form.specs.declared.instr.Instr.TheVariants.{rolls-Plain, rolls-Index, rolls-Block, rolls-Loop, rolls-If, rolls-BrTable, rolls-CallIndirect, rolls-Select, rolls-Access, rolls-MemorySize, rolls-MemoryGrow, rolls-I32Const, rolls-I64Const, rolls-F32Const, rolls-F64Const, rolls-RefNull, rolls-Prefixed}
 use Rattle.wasm_form.specs.declared.instr.Expr.{Expr}
-use Rattle.spec_binary.specs.Number.{SpellsUnsigned, SpellsSigned, IsShortest, Appends}
-use Rattle.spec_binary.specs.Sequence.{SpellsEach, none, next as each_next, SpellsVec}
-use Rattle.spec_binary.specs.Types.{SpellsRefType, SpellsValType}
-use Rattle.spec_binary.specs.Operands.{NoOperand, OneIndex, MemoryArgument, control_operands, access_operands, reference_operands, operands}
-use Rattle.spec_binary.specs.Instructions.{SpellsBlockType, empty, value, index as type_index, SpellsBits, SpellsSecond, SpellsInstr, plain, index, block, loop, if_alone, if_else, labels, type_and_table, value_types, ref_type, memory_argument, memory_size, memory_grow, i32_const, i64_const, f32_const, f64_const, second, SpellsInstrs, done, next, SpellsExpr, expr}
-use Rattle.spec_binary.specs.Joined.{IsByte, Joined}
+use Rattle.spec_reading.specs.spec_binary.Number.{SpellsUnsigned, SpellsSigned, IsShortest, Appends}
+use Rattle.spec_reading.specs.spec_binary.Sequence.{SpellsEach, none, next as each_next, SpellsVec}
+use Rattle.spec_reading.specs.spec_binary.Types.{SpellsRefType, SpellsValType}
+use Rattle.spec_reading.specs.spec_binary.Operands.{NoOperand, OneIndex, MemoryArgument, control_operands, access_operands, reference_operands, operands}
+use Rattle.spec_reading.specs.spec_binary.Instructions.{SpellsBlockType, empty, value, index as type_index, SpellsBits, SpellsSecond, SpellsInstr, plain, index, block, loop, if_alone, if_else, labels, type_and_table, value_types, ref_type, memory_argument, memory_size, memory_grow, i32_const, i64_const, f32_const, f64_const, second, SpellsInstrs, done, next, SpellsExpr, expr}
+use Rattle.spec_reading.specs.spec_binary.Joined.{IsByte, Joined}
 use Rattle.wasm_encode.specs.Bodies.{IsBody, IsBodies}
-use Rattle.spec_binary.proofs.Joined.{joined, behind, unjoined, after_byte, AtMost, itself, appends_byte, appends_joined, appends_like}
+use Rattle.spec_reading.proofs.of_spec_binary.Joined.{joined, behind, unjoined, after_byte, AtMost, itself, appends_byte, appends_joined, appends_like}
 use Rattle.wasm_encode.proofs.TypeForms.{coded_written}
 
 -- what follows the opcode

@@ -1,8 +1,8 @@
 -- A module weighs no more than the bytes that spell it.
 use Rattle.std.proofs.Common.{◌≡◌, ℕ, ◌≤◌, List, length, length-append, ap, subst, arith}
 use Rattle.wasm_form.specs.declared.module.Module.{Module}
-use Rattle.spec_binary.specs.Sections.{section as one_section}
-use Rattle.spec_binary.specs.Modules.{header, SpellsModule}
+use Rattle.spec_reading.specs.spec_binary.Sections.{section as one_section}
+use Rattle.spec_reading.specs.spec_binary.Modules.{header, SpellsModule}
 use Rattle.wasm_encode.specs.SectionSizes.{types, imports, funcs, tables, memories, globals, exports, elems, codes, datas, IsContents}
 use Rattle.wasm_encode.specs.Written.{SpellsCustom}
 use Rattle.wasm_encode.specs.Begun.{Costs, nothing, section, Accounts}

@@ -18,16 +18,16 @@ use Rattle.wasm_form.specs.declared.module.DataMode.{DataMode}
 use Rattle.wasm_form.specs.declared.module.Data.{Data}
 use Rattle.wasm_form.specs.declared.module.Custom.{Custom}
 use Rattle.wasm_form.specs.declared.module.Module.{Module}
-use Rattle.spec_binary.specs.Number.{SpellsUnsigned}
-use Rattle.spec_binary.specs.Name.{SpellsName}
-use Rattle.spec_binary.specs.Name as names
-use Rattle.spec_binary.specs.Sequence.{SpellsEach, SpellsVec, none, next, vec}
-use Rattle.spec_binary.proofs.UnsignedSpelling.{unsigned_some, unsigned_few}
-use Rattle.spec_binary.specs.Types.{SpellsFuncType, SpellsLimits, SpellsTableType, SpellsMutability, SpellsGlobalType}
-use Rattle.spec_binary.specs.Types as types
-use Rattle.spec_binary.specs.Parts.{SpellsByte, SpellsConstant, SpellsImportDesc, SpellsImport, SpellsGlobal, SpellsExportDesc, SpellsExport, SpellsElemMode, SpellsElemItems, SpellsElem, SpellsGroup, SpellsFunc, SpellsCode, SpellsDataMode, SpellsData}
-use Rattle.spec_binary.specs.Parts as parts
-use Rattle.spec_binary.specs.Sections.{section}
+use Rattle.spec_reading.specs.spec_binary.Number.{SpellsUnsigned}
+use Rattle.spec_reading.specs.spec_binary.Name.{SpellsName}
+use Rattle.spec_reading.specs.spec_binary.Name as names
+use Rattle.spec_reading.specs.spec_binary.Sequence.{SpellsEach, SpellsVec, none, next, vec}
+use Rattle.spec_reading.proofs.of_spec_binary.UnsignedSpelling.{unsigned_some, unsigned_few}
+use Rattle.spec_reading.specs.spec_binary.Types.{SpellsFuncType, SpellsLimits, SpellsTableType, SpellsMutability, SpellsGlobalType}
+use Rattle.spec_reading.specs.spec_binary.Types as types
+use Rattle.spec_reading.specs.spec_binary.Parts.{SpellsByte, SpellsConstant, SpellsImportDesc, SpellsImport, SpellsGlobal, SpellsExportDesc, SpellsExport, SpellsElemMode, SpellsElemItems, SpellsElem, SpellsGroup, SpellsFunc, SpellsCode, SpellsDataMode, SpellsData}
+use Rattle.spec_reading.specs.spec_binary.Parts as parts
+use Rattle.spec_reading.specs.spec_binary.Sections.{section}
 use Rattle.wasm_encode.specs.SectionSizes.{types, imports, funcs, tables, memories, globals, exports, elems, codes, datas, IsContents}
 use Rattle.wasm_encode.specs.Written.{SpellsCustom, custom}
 use Rattle.wasm_encode.specs.Weight.{sum_of, expr_weight, type_weight, import_weight, global_weight, export_weight, code_weight, mode_weight, items_weight, elem_weight, data_mode_weight, data_weight, custom_weight, section_weight}

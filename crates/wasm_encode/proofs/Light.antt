@@ -3,7 +3,7 @@ use Rattle.std.proofs.Common.{◌≡◌, ℕ, zero, suc, ◌+◌, ◌*◌, ◌�
 use Rattle.std.specs.Prelude.{Contains}
 use Rattle.wasm_form.specs.declared.module.Code.{Code}
 use Rattle.wasm_form.specs.declared.module.Module.{Module}
-use Rattle.spec_binary.specs.Parts.{SpellsFunc}
+use Rattle.spec_reading.specs.spec_binary.Parts.{SpellsFunc}
 use Rattle.wasm_encode.specs.SectionSizes.{types, imports, funcs, tables, memories, globals, exports, elems, codes, datas, IsContents, IsTooLong, contents, body, custom, IsFirstTooLong}
 use Rattle.wasm_encode.specs.Weight.{sum_of, code_weight, custom_weight, section_weight, weight}
 use Rattle.wasm_encode.proofs.Lengths.{contents_about, name_short, func_about}

@@ -6,12 +6,12 @@ use Rattle.std.proofs.lemmas.Bool.{and_parts, cases_lt, cases_eq, lt-ltb, le-ltb
 use Rattle.std.proofs.Math.Nat.{pow-suc, pow-succ', div-div-eq-div-mul}
 use Rattle.std.specs.Int.{byte_at, bytes_low_first, to_le_bytes}
 use Rattle.wasm_form.specs.declared.instr.Instr.TheOpen as Open
-use Rattle.spec_binary.specs.Number.{SpellsUnsigned, IsShortest, Appends}
-use Rattle.spec_binary.specs.Operands.{Operands, NoOperand, OneIndex, MemoryArgument, operands, SecondOperands, NoNumber, OneNumber, TwoNumbers, NumberAndZero, OneZero, TwoZeros, NoSecondOpcode, second_operands}
-use Rattle.spec_binary.specs.Instructions.{SpellsBits, none, next, SpellsSecond, no_number, one_number, two_numbers, number_and_zero, one_zero, two_zeros}
-use Rattle.spec_binary.specs.WellFormed.{has_form}
-use Rattle.spec_binary.specs.Joined.{IsByte, Joined}
-use Rattle.spec_binary.proofs.Joined.{joined, behind, unjoined, itself, appends_byte, appends_joined, appends_like, appends_nothing, appends_after}
+use Rattle.spec_reading.specs.spec_binary.Number.{SpellsUnsigned, IsShortest, Appends}
+use Rattle.spec_reading.specs.spec_binary.Operands.{Operands, NoOperand, OneIndex, MemoryArgument, operands, SecondOperands, NoNumber, OneNumber, TwoNumbers, NumberAndZero, OneZero, TwoZeros, NoSecondOpcode, second_operands}
+use Rattle.spec_reading.specs.spec_binary.Instructions.{SpellsBits, none, next, SpellsSecond, no_number, one_number, two_numbers, number_and_zero, one_zero, two_zeros}
+use Rattle.spec_reading.specs.spec_binary.WellFormed.{has_form}
+use Rattle.spec_reading.specs.spec_binary.Joined.{IsByte, Joined}
+use Rattle.spec_reading.proofs.of_spec_binary.Joined.{joined, behind, unjoined, itself, appends_byte, appends_joined, appends_like, appends_nothing, appends_after}
 
 -- the forms that a well formed instruction's opcode has
 plain_form : (op : ℕ) (o : Operands) → operands op ≡ o → IsTrue (has_form (Open.Plain op)) → operands op ≡ NoOperand

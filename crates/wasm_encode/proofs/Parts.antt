@@ -13,17 +13,17 @@ use Rattle.wasm_form.specs.declared.module.ExportDesc.TheVariants as exported
 use Rattle.wasm_form.specs.declared.module.Export.{Export}
 use Rattle.wasm_form.specs.declared.module.Group.{Group}
 use Rattle.wasm_form.specs.declared.module.Code.{Code}
-use Rattle.spec_binary.specs.Number.{SpellsUnsigned, IsShortest, Appends}
-use Rattle.spec_binary.specs.Name.{SpellsName}
-use Rattle.spec_binary.specs.Sequence.{SpellsVec}
-use Rattle.spec_binary.specs.Types.{SpellsValType, SpellsLimits, SpellsTableType, SpellsGlobalType}
-use Rattle.spec_binary.specs.Instructions.{SpellsExpr}
-use Rattle.spec_binary.specs.Trees.{nesting_all}
-use Rattle.spec_binary.specs.Parts as part
-use Rattle.spec_binary.specs.Parts.{SpellsByte, byte, SpellsConstant, constant, SpellsImportDesc, SpellsImport, import, SpellsGlobal, SpellsExportDesc, SpellsExport, export, SpellsGroup, group, SpellsFunc, func, SpellsCode, code}
-use Rattle.spec_binary.specs.Joined.{IsByte, Joined, IsSized}
+use Rattle.spec_reading.specs.spec_binary.Number.{SpellsUnsigned, IsShortest, Appends}
+use Rattle.spec_reading.specs.spec_binary.Name.{SpellsName}
+use Rattle.spec_reading.specs.spec_binary.Sequence.{SpellsVec}
+use Rattle.spec_reading.specs.spec_binary.Types.{SpellsValType, SpellsLimits, SpellsTableType, SpellsGlobalType}
+use Rattle.spec_reading.specs.spec_binary.Instructions.{SpellsExpr}
+use Rattle.spec_reading.specs.spec_binary.Trees.{nesting_all}
+use Rattle.spec_reading.specs.spec_binary.Parts as part
+use Rattle.spec_reading.specs.spec_binary.Parts.{SpellsByte, byte, SpellsConstant, constant, SpellsImportDesc, SpellsImport, import, SpellsGlobal, SpellsExportDesc, SpellsExport, export, SpellsGroup, group, SpellsFunc, func, SpellsCode, code}
+use Rattle.spec_reading.specs.spec_binary.Joined.{IsByte, Joined, IsSized}
 use Rattle.wasm_encode.specs.SectionSizes.{IsTooLongBody}
-use Rattle.spec_binary.proofs.Joined.{joined, behind, unjoined, itself, whole, appends_byte, appends_joined, appends_like, appends_after, shortest_size}
+use Rattle.spec_reading.proofs.of_spec_binary.Joined.{joined, behind, unjoined, itself, whole, appends_byte, appends_joined, appends_like, appends_after, shortest_size}
 use Rattle.wasm_encode.proofs.TypeForms.{coded_written}
 
 byte_is : {b : ℕ} {w : List ℕ} → SpellsByte b w → IsByte b w

@@ -5,15 +5,15 @@ use Rattle.std.proofs.lemmas.List.Elements.{All-append, All-nil, All-cons}
 use Rattle.std.proofs.Math.Seq.{take-suc, drop-cons}
 use Rattle.std.proofs.Common.{add-one}
 use Rattle.wasm_form.specs.declared.module.Custom.{Custom}
-use Rattle.spec_binary.specs.Number.{SpellsUnsigned, IsShortest, Appends}
-use Rattle.spec_binary.specs.Name.{SpellsName}
-use Rattle.spec_binary.specs.Sequence.{SpellsVec}
-use Rattle.spec_binary.proofs.UnsignedSpelling.{unsigned_length}
-use Rattle.spec_binary.specs.Sections.{IsSection, section as one_section}
-use Rattle.spec_binary.specs.Joined.{IsSized}
+use Rattle.spec_reading.specs.spec_binary.Number.{SpellsUnsigned, IsShortest, Appends}
+use Rattle.spec_reading.specs.spec_binary.Name.{SpellsName}
+use Rattle.spec_reading.specs.spec_binary.Sequence.{SpellsVec}
+use Rattle.spec_reading.proofs.of_spec_binary.UnsignedSpelling.{unsigned_length}
+use Rattle.spec_reading.specs.spec_binary.Sections.{IsSection, section as one_section}
+use Rattle.spec_reading.specs.spec_binary.Joined.{IsSized}
 use Rattle.wasm_encode.specs.SectionSizes.{IsTooLongCustom}
 use Rattle.wasm_encode.specs.Written.{AddsSection, section, IsLongList, whole, part, SpellsSome, some, SpellsCustom, custom, IsRun}
-use Rattle.spec_binary.proofs.Joined.{itself, whole as whole_of, shortest_like, unsigned_below}
+use Rattle.spec_reading.proofs.of_spec_binary.Joined.{itself, whole as whole_of, shortest_like, unsigned_below}
 
 -- one section
 least_section : {id : ℕ} {contents other : List ℕ} (size : List ℕ) → IsShortest (SpellsUnsigned 32 (length contents)) size → IsSection id contents other → length (id ∷ (size ++ contents)) ≤ length other

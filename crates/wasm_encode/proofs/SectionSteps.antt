@@ -6,20 +6,20 @@ use Rattle.std.proofs.lemmas.Bool.{cases_lt}
 use Rattle.wasm_form.specs.declared.module.Custom.{Custom}
 use Rattle.wasm_form.specs.declared.module.Code.{Code}
 use Rattle.wasm_form.specs.declared.module.Module.{Module}
-use Rattle.spec_binary.specs.Number.{last, IsShortest}
-use Rattle.spec_binary.specs.Sequence.{SpellsEach, none, SpellsVec, vec}
-use Rattle.spec_binary.proofs.UnsignedSpelling.{unsigned_small}
-use Rattle.spec_binary.specs.Parts.{SpellsCode, code}
-use Rattle.spec_binary.specs.Sections.{IsSection}
-use Rattle.spec_binary.specs.Modules.{header, SpellsModule}
-use Rattle.spec_binary.specs.WellFormed.{HasRank}
+use Rattle.spec_reading.specs.spec_binary.Number.{last, IsShortest}
+use Rattle.spec_reading.specs.spec_binary.Sequence.{SpellsEach, none, SpellsVec, vec}
+use Rattle.spec_reading.proofs.of_spec_binary.UnsignedSpelling.{unsigned_small}
+use Rattle.spec_reading.specs.spec_binary.Parts.{SpellsCode, code}
+use Rattle.spec_reading.specs.spec_binary.Sections.{IsSection}
+use Rattle.spec_reading.specs.spec_binary.Modules.{header, SpellsModule}
+use Rattle.spec_reading.specs.spec_binary.WellFormed.{HasRank}
 use Rattle.wasm_encode.specs.declared.fault.EncodeFault.{EncodeFault}
 use Rattle.wasm_encode.specs.declared.fault.EncodeFault.TheVariants.{SectionSize, Memory}
 use Rattle.wasm_encode.specs.SectionSizes.{IsContents, types, imports, funcs, tables, memories, globals, exports, elems, codes, datas, rank_of, IsTooLongBody, IsTooLong, contents, body, custom, IsFirstTooLong}
 use Rattle.wasm_encode.specs.Written.{AddsSection, nothing, section, IsLongList, whole, part, SpellsCustom, AddsCustoms, IsLongCustom}
 use Rattle.wasm_encode.specs.Begun.{so_far, Accounts, IsBegun}
 use Rattle.wasm_encode.specs.ListSections.{IsStep, IsListStep}
-use Rattle.spec_binary.proofs.Joined.{each_all}
+use Rattle.spec_reading.proofs.of_spec_binary.Joined.{each_all}
 use Rattle.wasm_encode.proofs.Chains.{chain_next}
 use Rattle.wasm_encode.proofs.Costs.{costs_least, accounts_of}
 use Rattle.wasm_encode.proofs.Begun.{rank_some, section_small, placed_all, placed_none, customs_begun}

@@ -12,14 +12,14 @@ use Rattle.wasm_form.specs.declared.module.Elem.{Elem}
 use Rattle.wasm_form.specs.declared.module.DataMode.{DataMode}
 use Rattle.wasm_form.specs.declared.module.DataMode.TheVariants as data_mode
 use Rattle.wasm_form.specs.declared.module.Data.{Data}
-use Rattle.spec_binary.specs.Number.{SpellsUnsigned, last, IsShortest, Appends}
-use Rattle.spec_binary.specs.Sequence.{SpellsVec}
-use Rattle.spec_binary.proofs.UnsignedSpelling.{unsigned_some}
-use Rattle.spec_binary.specs.Parts as part
-use Rattle.spec_binary.specs.Parts.{SpellsByte, SpellsConstant, SpellsElemMode, SpellsElemItems, SpellsElem, SpellsDataMode, SpellsData}
-use Rattle.spec_binary.specs.Joined.{Joined}
+use Rattle.spec_reading.specs.spec_binary.Number.{SpellsUnsigned, last, IsShortest, Appends}
+use Rattle.spec_reading.specs.spec_binary.Sequence.{SpellsVec}
+use Rattle.spec_reading.proofs.of_spec_binary.UnsignedSpelling.{unsigned_some}
+use Rattle.spec_reading.specs.spec_binary.Parts as part
+use Rattle.spec_reading.specs.spec_binary.Parts.{SpellsByte, SpellsConstant, SpellsElemMode, SpellsElemItems, SpellsElem, SpellsDataMode, SpellsData}
+use Rattle.spec_reading.specs.spec_binary.Joined.{Joined}
 use Rattle.wasm_encode.specs.Segments.{IsPlace, is_func_ref, plain_items, names_table, mode_flags, elem_flags, IsElemMode, IsItems, names_memory, data_flags, IsDataMode}
-use Rattle.spec_binary.proofs.Joined.{joined, behind, unjoined, AtMost, itself, appends_joined, appends_like, appends_nothing}
+use Rattle.spec_reading.proofs.of_spec_binary.Joined.{joined, behind, unjoined, AtMost, itself, appends_joined, appends_like, appends_nothing}
 
 -- flags below 128 take one byte
 flags_least : {n : ℕ} {w : List ℕ} (flags : ℕ) → flags < 128 → SpellsUnsigned 32 n w → AtMost (SpellsUnsigned 32 flags) w

@@ -3,10 +3,10 @@ use Rattle.std.proofs.Common.{ℕ, ◌+◌, ◌*◌, ◌≤◌, List, length, le
 use Rattle.std.specs.Prelude.{nat_eq, if◌then◌else◌}
 use Rattle.wasm_form.specs.declared.module.Custom.{Custom}
 use Rattle.wasm_form.specs.declared.module.Module.{Module}
-use Rattle.spec_binary.specs.Sequence.{SpellsEach}
-use Rattle.spec_binary.proofs.UnsignedSpelling.{unsigned_few}
-use Rattle.spec_binary.specs.Sections.{IsSection, section as one_section}
-use Rattle.spec_binary.specs.Modules.{header}
+use Rattle.spec_reading.specs.spec_binary.Sequence.{SpellsEach}
+use Rattle.spec_reading.proofs.of_spec_binary.UnsignedSpelling.{unsigned_few}
+use Rattle.spec_reading.specs.spec_binary.Sections.{IsSection, section as one_section}
+use Rattle.spec_reading.specs.spec_binary.Modules.{header}
 use Rattle.wasm_encode.specs.SectionSizes.{types, imports, funcs, tables, memories, globals, exports, elems, codes, datas, IsContents}
 use Rattle.wasm_encode.specs.Written.{SpellsSome, some, SpellsCustom}
 use Rattle.wasm_encode.specs.Begun.{Costs, nothing, section, paid, Accounts, IsBegun}

@@ -6,12 +6,12 @@ use Rattle.wasm_form.specs.declared.types.FuncType.{FuncType}
 use Rattle.wasm_form.specs.declared.types.Limits.{Limits}
 use Rattle.wasm_form.specs.declared.types.TableType.{TableType}
 use Rattle.wasm_form.specs.declared.types.GlobalType.{GlobalType}
-use Rattle.spec_binary.specs.Number.{SpellsUnsigned, IsShortest, Appends}
-use Rattle.spec_binary.specs.Sequence.{SpellsVec}
-use Rattle.spec_binary.specs.Types.{SpellsRefType, func_ref, extern_ref, SpellsValType, i32, i64, f32, f64, reference, SpellsFuncType, function, SpellsLimits, open_ended, bounded, SpellsTableType, table, SpellsMutability, constant, variable, SpellsGlobalType, global}
-use Rattle.spec_binary.specs.WellFormed.{is_reference_type}
-use Rattle.spec_binary.specs.Joined.{IsByte, Joined}
-use Rattle.spec_binary.proofs.Joined.{joined, behind, unjoined, after_byte, AtMost, itself, appends_byte, appends_joined, appends_like}
+use Rattle.spec_reading.specs.spec_binary.Number.{SpellsUnsigned, IsShortest, Appends}
+use Rattle.spec_reading.specs.spec_binary.Sequence.{SpellsVec}
+use Rattle.spec_reading.specs.spec_binary.Types.{SpellsRefType, func_ref, extern_ref, SpellsValType, i32, i64, f32, f64, reference, SpellsFuncType, function, SpellsLimits, open_ended, bounded, SpellsTableType, table, SpellsMutability, constant, variable, SpellsGlobalType, global}
+use Rattle.spec_reading.specs.spec_binary.WellFormed.{is_reference_type}
+use Rattle.spec_reading.specs.spec_binary.Joined.{IsByte, Joined}
+use Rattle.spec_reading.proofs.of_spec_binary.Joined.{joined, behind, unjoined, after_byte, AtMost, itself, appends_byte, appends_joined, appends_like}
 
 -- Where a byte and a word are spelled so, whatever is spelled so is that byte and such a word.
 pub coded_written : {P R : List ℕ → Type 0} (b : ℕ) (old new : List ℕ) → ((w : List ℕ) → P w → R (b ∷ w)) → ((other : List ℕ) → R other → AtMost (Joined (IsByte b) P) other)

@@ -6,15 +6,15 @@ use Rattle.wasm_form.specs.declared.instr.Instr.{Instr, Plain, Index, Block, Loo
 use Rattle.wasm_form.specs.declared.instr.Instr.TheOpen as Open
 use Rattle.wasm_form.specs.declared.instr.Instr.TheVariants.{rolls-Plain, rolls-Index, rolls-Block, rolls-Loop, rolls-If, rolls-BrTable, rolls-CallIndirect, rolls-Select, rolls-Access, rolls-MemorySize, rolls-MemoryGrow, rolls-I32Const, rolls-I64Const, rolls-F32Const, rolls-F64Const, rolls-RefNull, rolls-Prefixed}
 use Rattle.wasm_form.specs.declared.instr.Expr.{Expr}
-use Rattle.spec_binary.specs.Number.{SpellsUnsigned}
-use Rattle.spec_binary.specs.Sequence.{SpellsEach, SpellsVec, none, next, vec}
-use Rattle.spec_binary.proofs.UnsignedSpelling.{unsigned_some, unsigned_few}
-use Rattle.spec_binary.proofs.SignedSpelling.{signed_length}
+use Rattle.spec_reading.specs.spec_binary.Number.{SpellsUnsigned}
+use Rattle.spec_reading.specs.spec_binary.Sequence.{SpellsEach, SpellsVec, none, next, vec}
+use Rattle.spec_reading.proofs.of_spec_binary.UnsignedSpelling.{unsigned_some, unsigned_few}
+use Rattle.spec_reading.proofs.of_spec_binary.SignedSpelling.{signed_length}
 use Rattle.wasm_form.proofs.Levels.{with_inside, fold_rolled}
-use Rattle.spec_binary.specs.Types.{SpellsValType, SpellsRefType}
-use Rattle.spec_binary.specs.Types as types
-use Rattle.spec_binary.specs.Instructions.{SpellsBlockType, SpellsBits, SpellsSecond, SpellsInstr, SpellsInstrs, SpellsExpr}
-use Rattle.spec_binary.specs.Instructions as spelled
+use Rattle.spec_reading.specs.spec_binary.Types.{SpellsValType, SpellsRefType}
+use Rattle.spec_reading.specs.spec_binary.Types as types
+use Rattle.spec_reading.specs.spec_binary.Instructions.{SpellsBlockType, SpellsBits, SpellsSecond, SpellsInstr, SpellsInstrs, SpellsExpr}
+use Rattle.spec_reading.specs.spec_binary.Instructions as spelled
 use Rattle.wasm_encode.specs.Weight.{all_units, units_here, units_inside, units, units_of, expr_weight}
 
 lists_units : (is : List Instr) → all_units (map units is) ≡ units_of is

@@ -2,13 +2,13 @@
 use Rattle.std.specs.Prelude.{◌≡◌, ℕ, zero, suc, ◌+◌, ◌*◌, ◌≤◌, Bool, true, false, List, [], ◌++◌, length, Contains, Option, None, nat_lt, ◌⊎◌}
 use Rattle.wasm_form.specs.declared.module.Custom.{Custom}
 use Rattle.wasm_form.specs.declared.module.Module.{Module}
-use Rattle.spec_binary.specs.Number.{SpellsUnsigned}
-use Rattle.spec_binary.specs.Sequence.{SpellsEach, SpellsVec}
-use Rattle.spec_binary.specs.Types.{SpellsFuncType, SpellsLimits, SpellsTableType}
-use Rattle.spec_binary.specs.Parts.{SpellsImport, SpellsGlobal, SpellsExport, SpellsElem, SpellsCode, SpellsData}
-use Rattle.spec_binary.specs.Sections.{Progress, at_start, IsSection, Chain}
-use Rattle.spec_binary.specs.Modules.{header}
-use Rattle.spec_binary.specs.WellFormed.{HasRank, ArePlaced}
+use Rattle.spec_reading.specs.spec_binary.Number.{SpellsUnsigned}
+use Rattle.spec_reading.specs.spec_binary.Sequence.{SpellsEach, SpellsVec}
+use Rattle.spec_reading.specs.spec_binary.Types.{SpellsFuncType, SpellsLimits, SpellsTableType}
+use Rattle.spec_reading.specs.spec_binary.Parts.{SpellsImport, SpellsGlobal, SpellsExport, SpellsElem, SpellsCode, SpellsData}
+use Rattle.spec_reading.specs.spec_binary.Sections.{Progress, at_start, IsSection, Chain}
+use Rattle.spec_reading.specs.spec_binary.Modules.{header}
+use Rattle.spec_reading.specs.spec_binary.WellFormed.{HasRank, ArePlaced}
 use Rattle.wasm_encode.specs.SectionSizes.{IsTooLong, IsTooLongCustom}
 use Rattle.wasm_encode.specs.Written.{SpellsSome, SpellsCustom}
 

@@ -2,8 +2,8 @@
 use Rattle.std.specs.Prelude.{ℕ, List}
 use Rattle.wasm_form.specs.declared.instr.BlockType.{BlockType}
 use Rattle.wasm_form.specs.declared.instr.Expr.{Expr}
-use Rattle.spec_binary.specs.Instructions.{SpellsBlockType, SpellsInstrs}
-use Rattle.spec_binary.specs.Joined.{IsByte, Joined}
+use Rattle.spec_reading.specs.spec_binary.Instructions.{SpellsBlockType, SpellsInstrs}
+use Rattle.spec_reading.specs.spec_binary.Joined.{IsByte, Joined}
 
 -- the type, the instructions, and the byte that ends them
 abbrev pub IsBody : BlockType → Expr → List ℕ → Type 0

@@ -2,8 +2,8 @@
 use Rattle.std.specs.Prelude.{ℕ, ◌+◌, ◌*◌, ◌≤◌, ◌^◌, List, length, Contains}
 use Rattle.wasm_form.specs.declared.module.Code.{Code}
 use Rattle.wasm_form.specs.declared.module.Module.{Module}
-use Rattle.spec_binary.specs.Parts.{SpellsFunc}
-use Rattle.spec_binary.specs.Modules.{SpellsModule}
+use Rattle.spec_reading.specs.spec_binary.Parts.{SpellsFunc}
+use Rattle.spec_reading.specs.spec_binary.Modules.{SpellsModule}
 use Rattle.wasm_encode.specs.SectionSizes.{IsContents, IsFirstTooLong}
 use Rattle.wasm_encode.specs.Weight.{section_weight, weight}
 

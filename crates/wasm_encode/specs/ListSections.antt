@@ -2,9 +2,9 @@
 use Rattle.std.specs.Prelude.{◌≡◌, ℕ, suc, ◌*◌, ◌<◌, List, []}
 use Rattle.wasm_form.specs.declared.module.Custom.{Custom}
 use Rattle.wasm_form.specs.declared.module.Module.{Module}
-use Rattle.spec_binary.specs.Sequence.{SpellsVec}
-use Rattle.spec_binary.specs.Sections.{Progress, Contents}
-use Rattle.spec_binary.specs.WellFormed.{HasRank}
+use Rattle.spec_reading.specs.spec_binary.Sequence.{SpellsVec}
+use Rattle.spec_reading.specs.spec_binary.Sections.{Progress, Contents}
+use Rattle.spec_reading.specs.spec_binary.WellFormed.{HasRank}
 use Rattle.wasm_encode.specs.SectionSizes.{IsTooLong, IsFirstTooLong}
 use Rattle.wasm_encode.specs.Written.{AddsSection, IsLongList}
 use Rattle.wasm_encode.specs.Begun.{so_far, Costs, Accounts, IsBegun}

@@ -9,11 +9,11 @@ use Rattle.wasm_form.specs.declared.module.ElemItems.{ElemItems}
 use Rattle.wasm_form.specs.declared.module.ElemItems.TheVariants.{Funcs, Exprs}
 use Rattle.wasm_form.specs.declared.module.DataMode.{DataMode}
 use Rattle.wasm_form.specs.declared.module.DataMode.TheVariants as data_mode
-use Rattle.spec_binary.specs.Number.{SpellsUnsigned}
-use Rattle.spec_binary.specs.Sequence.{SpellsVec}
-use Rattle.spec_binary.specs.Types.{SpellsRefType}
-use Rattle.spec_binary.specs.Parts.{SpellsConstant}
-use Rattle.spec_binary.specs.Joined.{IsByte, Joined}
+use Rattle.spec_reading.specs.spec_binary.Number.{SpellsUnsigned}
+use Rattle.spec_reading.specs.spec_binary.Sequence.{SpellsVec}
+use Rattle.spec_reading.specs.spec_binary.Types.{SpellsRefType}
+use Rattle.spec_reading.specs.spec_binary.Parts.{SpellsConstant}
+use Rattle.spec_reading.specs.spec_binary.Joined.{IsByte, Joined}
 
 -- an offset, and before it the number of the table or memory where that is named
 abbrev pub IsPlace : Bool → ℕ → Expr → List ℕ → Type 0

@@ -1,10 +1,10 @@
 -- What writing sections does.
 use Rattle.std.specs.Prelude.{◌≡◌, ◌≢◌, ℕ, ◌^◌, ◌≤◌, List, ◌∷◌, ◌++◌, length, take, drop, All, Contains, Option, Some}
 use Rattle.wasm_form.specs.declared.module.Custom.{Custom}
-use Rattle.spec_binary.specs.Number.{SpellsUnsigned, IsShortest, Appends}
-use Rattle.spec_binary.specs.Name.{SpellsName}
-use Rattle.spec_binary.specs.Sequence.{SpellsEach, SpellsVec}
-use Rattle.spec_binary.specs.Sections.{IsSection}
+use Rattle.spec_reading.specs.spec_binary.Number.{SpellsUnsigned, IsShortest, Appends}
+use Rattle.spec_reading.specs.spec_binary.Name.{SpellsName}
+use Rattle.spec_reading.specs.spec_binary.Sequence.{SpellsEach, SpellsVec}
+use Rattle.spec_reading.specs.spec_binary.Sections.{IsSection}
 use Rattle.wasm_encode.specs.SectionSizes.{IsTooLongCustom}
 
 -- The new text is the old one with the shortest section of such contents at its end, or just the old one where the section is left out.

@@ -1,6 +1,6 @@
 // Bodies (section 5.5.13).
-ghost use Rattle.spec_binary.specs.Parts.{SpellsGroup, SpellsCode};
-ghost use Rattle.spec_binary.specs.WellFormed.{IsFormedCode};
+ghost use Rattle.spec_reading.specs.spec_binary.Parts.{SpellsGroup, SpellsCode};
+ghost use Rattle.spec_reading.specs.spec_binary.WellFormed.{IsFormedCode};
 ghost use Rattle.wasm_encode.specs.SectionSizes.{IsTooLongBody};
 
 use crate::fault::PartFault;

@@ -1,14 +1,14 @@
 // Imports, globals and exports (sections 5.5.5, 5.5.9 and 5.5.10).
 ghost use Rattle.std.specs.Prelude.{◌≡◌, OnOk};
-ghost use Rattle.spec_binary.specs.Number.{IsShortest, Appends};
-ghost use Rattle.spec_binary.specs.Parts.{
+ghost use Rattle.spec_reading.specs.spec_binary.Number.{IsShortest, Appends};
+ghost use Rattle.spec_reading.specs.spec_binary.Parts.{
   SpellsImportDesc,
   SpellsImport,
   SpellsGlobal,
   SpellsExportDesc,
   SpellsExport,
 };
-ghost use Rattle.spec_binary.specs.WellFormed.{
+ghost use Rattle.spec_reading.specs.spec_binary.WellFormed.{
   IsFormedDesc,
   IsFormedImport,
   IsFormedGlobal,

@@ -1,9 +1,9 @@
 // Instructions and expressions (section 5.4).
 ghost use Rattle.std.specs.Prelude.{◌≡◌, ◌<◌, ◌^◌, length, OnOk, IsTrue};
-ghost use Rattle.spec_binary.specs.Number.{IsShortest, Appends, SpellsUnsigned, SpellsSigned};
-ghost use Rattle.spec_binary.specs.Sequence.{SpellsVec};
-ghost use Rattle.spec_binary.specs.Types.{SpellsRefType, SpellsValType};
-ghost use Rattle.spec_binary.specs.Instructions.{
+ghost use Rattle.spec_reading.specs.spec_binary.Number.{IsShortest, Appends, SpellsUnsigned, SpellsSigned};
+ghost use Rattle.spec_reading.specs.spec_binary.Sequence.{SpellsVec};
+ghost use Rattle.spec_reading.specs.spec_binary.Types.{SpellsRefType, SpellsValType};
+ghost use Rattle.spec_reading.specs.spec_binary.Instructions.{
   SpellsBlockType,
   SpellsBits,
   SpellsSecond,
@@ -11,12 +11,12 @@ ghost use Rattle.spec_binary.specs.Instructions.{
   SpellsInstrs,
   SpellsExpr,
 };
-ghost use Rattle.spec_binary.specs.Parts.{SpellsConstant};
-ghost use Rattle.spec_binary.specs.Trees.{every, every_of};
-ghost use Rattle.spec_binary.specs.WellFormed.{is_reference_type, has_form, IsFormedBody, IsFormedConstant};
+ghost use Rattle.spec_reading.specs.spec_binary.Parts.{SpellsConstant};
+ghost use Rattle.spec_reading.specs.spec_binary.Trees.{every, every_of};
+ghost use Rattle.spec_reading.specs.spec_binary.WellFormed.{is_reference_type, has_form, IsFormedBody, IsFormedConstant};
 ghost use Rattle.wasm_form.specs.declared.instr.Instr.{If};
 ghost use Rattle.wasm_form.specs.declared.instr.Instr.TheOpen as Open;
-ghost use Rattle.spec_binary.specs.Joined.{IsByte, Joined};
+ghost use Rattle.spec_reading.specs.spec_binary.Joined.{IsByte, Joined};
 ghost use Rattle.wasm_encode.specs.Bodies.{IsBody, IsBodies};
 
 use crate::fault::PartFault;

@@ -2,6 +2,7 @@
 #![tactic(auto)]
 
 mod code;
+mod codec;
 mod fault;
 mod import;
 mod instr;
@@ -12,6 +13,7 @@ mod section;
 mod segment;
 mod types;
 
+pub use codec::round_trip;
 pub use fault::EncodeFault;
 pub use laws::{light_modules_fit, weights_bound_lengths};
 pub use module::encode;

@@ -1,8 +1,8 @@
 // Modules (section 5.5.16).
 ghost use Rattle.std.specs.Prelude.{◌≡◌, ℕ, suc, ◌+◌, ◌*◌, ◌<◌, ◌≤◌, ◌^◌, ◌⊎◌, length, All, OnOk, IfOk};
-ghost use Rattle.spec_binary.specs.Number.{IsShortest};
-ghost use Rattle.spec_binary.specs.Modules.{header, SpellsModule};
-ghost use Rattle.spec_binary.specs.WellFormed.{IsWellFormed};
+ghost use Rattle.spec_reading.specs.spec_binary.Number.{IsShortest};
+ghost use Rattle.spec_reading.specs.spec_binary.Modules.{header, SpellsModule};
+ghost use Rattle.spec_reading.specs.spec_binary.WellFormed.{IsWellFormed};
 ghost use Rattle.wasm_encode.specs.SectionSizes.{IsFirstTooLong};
 ghost use Rattle.wasm_encode.specs.Begun.{IsBegun};
 ghost use Rattle.wasm_encode.specs.Weight.{weight};

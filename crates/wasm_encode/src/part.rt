@@ -1,9 +1,9 @@
 // What stands in the vectors of the format, and vectors of it (section 5.1.3).
 ghost use Rattle.std.specs.Prelude.{◌≡◌, ℕ, ◌^◌, ◌<◌, ◌≤◌, List as Listing, length, All, Contains, OnOk};
-ghost use Rattle.spec_binary.specs.Number.{IsShortest, Appends, SpellsUnsigned};
-ghost use Rattle.spec_binary.specs.Sequence.{SpellsEach, SpellsVec};
-ghost use Rattle.spec_binary.specs.Parts.{SpellsByte};
-ghost use Rattle.spec_binary.specs.Joined.{IsByte, Joined, IsSized};
+ghost use Rattle.spec_reading.specs.spec_binary.Number.{IsShortest, Appends, SpellsUnsigned};
+ghost use Rattle.spec_reading.specs.spec_binary.Sequence.{SpellsEach, SpellsVec};
+ghost use Rattle.spec_reading.specs.spec_binary.Parts.{SpellsByte};
+ghost use Rattle.spec_reading.specs.spec_binary.Joined.{IsByte, Joined, IsSized};
 
 use crate::fault::PartFault;
 use std::alloc::Global;

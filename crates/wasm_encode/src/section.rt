@@ -13,10 +13,10 @@ ghost use Rattle.std.specs.Prelude.{
   OnOk,
   IfOk,
 };
-ghost use Rattle.spec_binary.specs.Number.{IsShortest, Appends};
-ghost use Rattle.spec_binary.specs.Sequence.{SpellsVec};
-ghost use Rattle.spec_binary.specs.Sections.{IsSection};
-ghost use Rattle.spec_binary.specs.WellFormed.{IsShort};
+ghost use Rattle.spec_reading.specs.spec_binary.Number.{IsShortest, Appends};
+ghost use Rattle.spec_reading.specs.spec_binary.Sequence.{SpellsVec};
+ghost use Rattle.spec_reading.specs.spec_binary.Sections.{IsSection};
+ghost use Rattle.spec_reading.specs.spec_binary.WellFormed.{IsShort};
 ghost use Rattle.wasm_encode.specs.SectionSizes.{IsTooLongCustom};
 ghost use Rattle.wasm_encode.specs.Written.{
   AddsSection,

@@ -1,8 +1,8 @@
 // Element segments and data segments (sections 5.5.12 and 5.5.14).
 ghost use Rattle.std.specs.Prelude.{◌≡◌, OnOk};
-ghost use Rattle.spec_binary.specs.Number.{IsShortest, Appends};
-ghost use Rattle.spec_binary.specs.Parts.{SpellsElem, SpellsData};
-ghost use Rattle.spec_binary.specs.WellFormed.{
+ghost use Rattle.spec_reading.specs.spec_binary.Number.{IsShortest, Appends};
+ghost use Rattle.spec_reading.specs.spec_binary.Parts.{SpellsElem, SpellsData};
+ghost use Rattle.spec_reading.specs.spec_binary.WellFormed.{
   IsFormedConstant,
   IsFormedElemMode,
   IsFormedItems,

@@ -1,7 +1,7 @@
 // Types (section 5.3).
 ghost use Rattle.std.specs.Prelude.{◌≡◌, List as Listing, [], ◌∷◌, OnOk, IsTrue};
-ghost use Rattle.spec_binary.specs.Number.{IsShortest, Appends};
-ghost use Rattle.spec_binary.specs.Types.{
+ghost use Rattle.spec_reading.specs.spec_binary.Number.{IsShortest, Appends};
+ghost use Rattle.spec_reading.specs.spec_binary.Types.{
   SpellsValType,
   SpellsRefType,
   SpellsFuncType,
@@ -10,7 +10,7 @@ ghost use Rattle.spec_binary.specs.Types.{
   SpellsMutability,
   SpellsGlobalType,
 };
-ghost use Rattle.spec_binary.specs.WellFormed.{is_reference_type, IsFormedType, IsFormedTable};
+ghost use Rattle.spec_reading.specs.spec_binary.WellFormed.{is_reference_type, IsFormedType, IsFormedTable};
 
 use crate::fault::PartFault;
 use crate::part::{Part, put_numbered, put_vec};

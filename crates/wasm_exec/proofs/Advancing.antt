@@ -1,15 +1,15 @@
 -- A run after further steps of code, of which none takes an answer.
 use Rattle.std.proofs.Common.{◌≡◌, ℕ, zero, suc, ◌<◌, ◌≤◌, false, List, ◌++◌, Option, Some, None, inl, inr, refl, sym, ap, ◌∙◌, subst, append-nil, le_refl, arith}
 use Rattle.std.proofs.lemmas.Bool.{cases_lt}
-use Rattle.wasm_form.specs.declared.runtime.Trap.{Trap}
-use Rattle.wasm_runtime.specs.declared.Answer.{Answer}
-use Rattle.wasm_runtime.specs.declared.Asked.{Asked}
-use Rattle.spec_runs.specs.Systems.{Status, Moving, Waits, Returned, Exited, Trapped, event, IsReal}
-use Rattle.spec_runs.proofs.Runs.{event_moving}
-use Rattle.spec_runtime.specs.Memories.{MemoryInstance}
-use Rattle.spec_runtime.specs.Names.{HostName, HostNames}
-use Rattle.spec_runtime.specs.Hosts.{HostCall}
-use Rattle.spec_runtime.specs.Recorded.{Recorded, waits}
+use Rattle.spec_hosts.specs.wasm_form.declared.runtime.Trap.{Trap}
+use Rattle.spec_hosts.specs.wasm_form.declared.runtime.Answer.{Answer}
+use Rattle.spec_hosts.specs.wasm_form.declared.runtime.Asked.{Asked}
+use Rattle.spec_hosts.specs.spec_runs.Systems.{Status, Moving, Waits, Returned, Exited, Trapped, event, IsReal}
+use Rattle.spec_hosts.proofs.of_spec_runs.Runs.{event_moving}
+use Rattle.spec_hosts.specs.spec_runtime.Memories.{MemoryInstance}
+use Rattle.spec_hosts.specs.spec_runtime.Names.{HostName, HostNames}
+use Rattle.spec_hosts.specs.spec_runtime.Hosts.{HostCall}
+use Rattle.spec_hosts.specs.spec_runtime.Recorded.{Recorded, waits}
 use Rattle.spec_hosts.specs.Ends.{taken_of}
 use Rattle.wasm_exec.specs.Courses.{Course}
 use Rattle.wasm_exec.specs.Recordings.{after, status_at, IsAt, Advances}

@@ -6,20 +6,20 @@ use Rattle.std.proofs.lemmas.List.Sums.{sum-map, sum_by_push}
 use Rattle.std.proofs.lemmas.Option.{same_Some, slice_get-map, slice_get_within}
 use Rattle.std.proofs.lemmas.List.{length-map}
 use Rattle.std.specs.Option.{option_map}
-use Rattle.wasm_form.specs.declared.runtime.Trap.{Trap}
-use Rattle.wasm_runtime.specs.declared.Answer.{Answer}
-use Rattle.wasm_runtime.specs.declared.Asked.{Asked}
-use Rattle.spec_runs.specs.Systems.{Status, Moving, Waits, Returned, Exited, Trapped, Ran, event_at}
-use Rattle.spec_runs.proofs.Runs.{run_append, real_append}
-use Rattle.spec_runtime.specs.Memories.{MemoryInstance}
-use Rattle.spec_runtime.specs.Names.{HostName, HostNames}
-use Rattle.spec_runtime.specs.Hosts.{HostCall, hosts, answer_fits, numbers_fit}
-use Rattle.spec_runtime.specs.Recorded.{Recorded, AreLeft}
+use Rattle.spec_hosts.specs.wasm_form.declared.runtime.Trap.{Trap}
+use Rattle.spec_hosts.specs.wasm_form.declared.runtime.Answer.{Answer}
+use Rattle.spec_hosts.specs.wasm_form.declared.runtime.Asked.{Asked}
+use Rattle.spec_hosts.specs.spec_runs.Systems.{Status, Moving, Waits, Returned, Exited, Trapped, Ran, event_at}
+use Rattle.spec_hosts.proofs.of_spec_runs.Runs.{run_append, real_append}
+use Rattle.spec_hosts.specs.spec_runtime.Memories.{MemoryInstance}
+use Rattle.spec_hosts.specs.spec_runtime.Names.{HostName, HostNames}
+use Rattle.spec_hosts.specs.spec_runtime.Hosts.{HostCall, hosts, answer_fits, numbers_fit}
+use Rattle.spec_hosts.specs.spec_runtime.Recorded.{Recorded, AreLeft}
 use Rattle.spec_hosts.specs.Devices.{Devices}
 use Rattle.spec_hosts.specs.Hosted.{Embedder, IsHosted, Hosted, IsBroken, BreaksOff}
 use Rattle.spec_hosts.specs.Ends.{bytes_written, are_many, taken_of}
-use Rattle.host_table.specs.Names.{host_name_of}
-use Rattle.host_table.specs.declared.host.HostName as code
+use Rattle.dyl_link.specs.host_table.Names.{host_name_of}
+use Rattle.dyl_link.specs.host_table.declared.host.HostName as code
 use Rattle.wasm_exec.specs.Courses.{Course}
 use Rattle.wasm_exec.specs.Recordings.{reached, status_at, memory_at, IsAt, Awaits, with_answer}
 use Rattle.wasm_exec.specs.Driving.{Progress, IsAskedOf, event_reached, IsRunning, IsReady, IsDriven, IsPrepared}

@@ -1,15 +1,15 @@
 -- A run that has made no step.
 use Rattle.std.proofs.Common.{◌≡◌, ℕ, [], Option, Some, None, Result, Ok, Err, inl, refl, sym, ap, subst, arith}
-use Rattle.wasm_form.specs.declared.module.Module.{Module}
-use Rattle.wasm_form.specs.declared.runtime.Trap.{Trap}
-use Rattle.spec_runs.specs.Systems.{Status, Moving}
-use Rattle.spec_runtime.specs.Names.{HostNames}
-use Rattle.spec_runtime.specs.Hosts.{HostCall}
-use Rattle.spec_execution.specs.Instances.{ModuleParts}
-use Rattle.spec_execution.specs.OneModule.{ModuleState, module_entry, segments_performed, opened_with, module_opening}
-use Rattle.spec_execution.specs.Segments.{Performed}
-use Rattle.spec_execution.specs.declared.fault.SingleFault.{SingleFault}
-use Rattle.spec_execution.specs.declared.fault.SingleFault.TheVariants as fault
+use Rattle.spec_hosts.specs.wasm_form.declared.module.Module.{Module}
+use Rattle.spec_hosts.specs.wasm_form.declared.runtime.Trap.{Trap}
+use Rattle.spec_hosts.specs.spec_runs.Systems.{Status, Moving}
+use Rattle.spec_hosts.specs.spec_runtime.Names.{HostNames}
+use Rattle.spec_hosts.specs.spec_runtime.Hosts.{HostCall}
+use Rattle.spec_loading.specs.spec_execution.Instances.{ModuleParts}
+use Rattle.spec_loading.specs.spec_execution.OneModule.{ModuleState, module_entry, segments_performed, opened_with, module_opening}
+use Rattle.spec_loading.specs.spec_execution.Segments.{Performed}
+use Rattle.spec_loading.specs.spec_execution.declared.fault.SingleFault.{SingleFault}
+use Rattle.spec_loading.specs.spec_execution.declared.fault.SingleFault.TheVariants as fault
 use Rattle.spec_hosts.specs.Devices.{Devices}
 use Rattle.spec_hosts.specs.Hosted.{Embedder}
 use Rattle.spec_hosts.specs.Ends.{IsCutShort}

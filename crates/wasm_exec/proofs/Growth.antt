@@ -1,7 +1,7 @@
 -- How the runs of a system grow by steps that are made.
 use Rattle.std.proofs.Common.{◌≡◌, ℕ, zero, suc, ◌≤◌, List, ◌++◌, Some, refl, sym, ap, ◌∙◌, subst, arith}
-use Rattle.spec_runs.specs.Systems.{Outside, System, Ran, run, event, with_next, IsReal}
-use Rattle.spec_runs.proofs.Runs.{run_last, real_split}
+use Rattle.spec_hosts.specs.spec_runs.Systems.{Outside, System, Ran, run, event, with_next, IsReal}
+use Rattle.spec_hosts.proofs.of_spec_runs.Runs.{run_last, real_split}
 
 -- fewer of the steps are real too
 pub real_front : {O : Outside} (S : System O) (k n : ℕ) (s : S.State) (answers : List O.Answer) → k ≤ n → IsReal S n s answers → IsReal S k s answers

@@ -5,14 +5,14 @@ use Rattle.std.specs.Str.{bytes_eq}
 use Rattle.std.proofs.lemmas.Bool.{and_from, and_parts}
 use Rattle.std.proofs.lemmas.List.Elements.{All-head, All-tail}
 use Rattle.std.proofs.lemmas.Slice.Eq.{bytes_eq-Decides}
-use Rattle.wasm_form.specs.declared.types.ValType.{ValType}
-use Rattle.wasm_form.specs.declared.types.ValType.TheVariants.{I32}
-use Rattle.wasm_form.specs.declared.types.FuncType.{FuncType}
-use Rattle.spec_binary.specs.SameTypes.{same_type}
-use Rattle.spec_runtime.specs.Names.{HostName, Fits, host_match, is_integer, has_integers, is_one_i32}
+use Rattle.spec_hosts.specs.wasm_form.declared.types.ValType.{ValType}
+use Rattle.spec_hosts.specs.wasm_form.declared.types.ValType.TheVariants.{I32}
+use Rattle.spec_hosts.specs.wasm_form.declared.types.FuncType.{FuncType}
+use Rattle.spec_hosts.specs.spec_binary.SameTypes.{same_type}
+use Rattle.spec_hosts.specs.spec_runtime.Names.{HostName, Fits, host_match, is_integer, has_integers, is_one_i32}
 use Rattle.spec_hosts.specs.Calls.{WasiCall, ProcExit, wasi_name, call_named, type_of_call}
 use Rattle.spec_hosts.specs.Laws.{run_names, host_called, IsTypeWhere, WasiGoesFirst, OthersAreOfTheTable}
-use Rattle.host_table.specs.Names.{is_called}
+use Rattle.dyl_link.specs.host_table.Names.{is_called}
 use Rattle.wasm_exec.specs.Executed.{HaveIntegers}
 
 one_integer : (types : List ValType) → is_one_i32 types ≡ true → list_all is_integer types ≡ true

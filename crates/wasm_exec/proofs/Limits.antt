@@ -2,12 +2,12 @@
 use Rattle.std.proofs.Common.{◌≡◌, ℕ, ◌+◌, ◌-◌, ◌<◌, ◌≤◌, List, ◌++◌, length, take, Bool, true, false, inl, inr, refl, ap, ◌∙◌, arith, length-append}
 use Rattle.std.proofs.lemmas.Bool.{cases_lt}
 use Rattle.std.proofs.lemmas.List.{take-append-le}
-use Rattle.wasm_form.specs.declared.runtime.Trap.{Trap}
-use Rattle.wasm_runtime.specs.declared.Answer.{Answer}
-use Rattle.spec_runs.specs.Systems.{Status, Moving, Waits, Returned, Exited, Trapped, Ran, IsReal}
-use Rattle.spec_runs.proofs.Runs.{run_append}
-use Rattle.spec_runtime.specs.Hosts.{HostCall, hosts}
-use Rattle.spec_runtime.specs.Recorded.{waits}
+use Rattle.spec_hosts.specs.wasm_form.declared.runtime.Trap.{Trap}
+use Rattle.spec_hosts.specs.wasm_form.declared.runtime.Answer.{Answer}
+use Rattle.spec_hosts.specs.spec_runs.Systems.{Status, Moving, Waits, Returned, Exited, Trapped, Ran, IsReal}
+use Rattle.spec_hosts.proofs.of_spec_runs.Runs.{run_append}
+use Rattle.spec_hosts.specs.spec_runtime.Hosts.{HostCall, hosts}
+use Rattle.spec_hosts.specs.spec_runtime.Recorded.{waits}
 use Rattle.spec_hosts.specs.Ends.{are_many, taken_of, is_due}
 use Rattle.wasm_exec.specs.Courses.{Course}
 use Rattle.wasm_exec.specs.Recordings.{after}

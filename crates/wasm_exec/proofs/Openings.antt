@@ -1,15 +1,15 @@
 -- What follows from an opening state: the imports are met by declared host functions.
 use Rattle.std.proofs.Common.{◌≡◌, ℕ, zero, suc, List, [], ◌∷◌, ◌++◌, map, slice_get, Option, Some, None, Result, Ok, Err, refl, subst}
 use Rattle.std.proofs.lemmas.Option.{same_Some}
-use Rattle.wasm_form.specs.declared.types.FuncType.{FuncType}
-use Rattle.wasm_form.specs.declared.module.Import.{Import}
-use Rattle.wasm_form.specs.declared.module.ImportDesc.{ImportDesc}
-use Rattle.wasm_form.specs.declared.module.ImportDesc.TheVariants as imported
-use Rattle.wasm_form.specs.declared.module.Module.{Module}
-use Rattle.spec_runtime.specs.Names.{HostName, HostNames, HostMatch, Unknown, Fits, OtherType, host_match}
-use Rattle.spec_execution.specs.Instances.{hosts_in, named_host, imported_hosts, module_hosts}
-use Rattle.spec_execution.specs.OneModule.{ModuleState, import_matched, import_met, imports_met, opened_after, module_opening}
-use Rattle.spec_execution.specs.declared.fault.SingleFault.{SingleFault}
+use Rattle.spec_hosts.specs.wasm_form.declared.types.FuncType.{FuncType}
+use Rattle.spec_hosts.specs.wasm_form.declared.module.Import.{Import}
+use Rattle.spec_hosts.specs.wasm_form.declared.module.ImportDesc.{ImportDesc}
+use Rattle.spec_hosts.specs.wasm_form.declared.module.ImportDesc.TheVariants as imported
+use Rattle.spec_hosts.specs.wasm_form.declared.module.Module.{Module}
+use Rattle.spec_hosts.specs.spec_runtime.Names.{HostName, HostNames, HostMatch, Unknown, Fits, OtherType, host_match}
+use Rattle.spec_loading.specs.spec_execution.Instances.{hosts_in, named_host, imported_hosts, module_hosts}
+use Rattle.spec_loading.specs.spec_execution.OneModule.{ModuleState, import_matched, import_met, imports_met, opened_after, module_opening}
+use Rattle.spec_loading.specs.spec_execution.declared.fault.SingleFault.{SingleFault}
 use Rattle.wasm_single.specs.Starts.{opened}
 use Rattle.wasm_single.proofs.Imports.{both_met}
 use Rattle.wasm_exec.specs.Driving.{AreDeclared}

@@ -1,13 +1,13 @@
 -- A driven run after further steps, and at its end.
-use Rattle.std.proofs.Common.{◌≡◌, ℕ, ◌<◌, ◌≤◌, true, false, true≢false, refl, [], ◌++◌, append-nil, Option, Some, None, Result, Ok, Err, IfOk, is_some, sym, ap, ◌∙◌, subst, arith}
+use Rattle.std.proofs.Common.{◌≡◌, ℕ, ◌<◌, ◌≤◌, true, false, true≢false, refl, [], ◌++◌, append-nil, Option, Some, None, Result, Ok, Err, IfOk, OnOk, is_some, sym, ap, ◌∙◌, subst, arith}
 use Rattle.std.specs.Prelude.{◌&&◌}
-use Rattle.wasm_form.specs.declared.memory.Memory.{Memory}
-use Rattle.wasm_runtime.specs.declared.Asked.{Asked}
-use Rattle.wasm_form.specs.declared.runtime.Trap.{Trap}
-use Rattle.spec_runs.specs.Systems.{Status, Moving, Waits, Returned, Exited, Trapped}
-use Rattle.spec_runtime.specs.Names.{HostName}
-use Rattle.spec_runtime.specs.Hosts.{HostCall}
-use Rattle.spec_runtime.specs.Recorded.{Recorded, waits}
+use Rattle.spec_hosts.specs.wasm_form.declared.memory.Memory.{Memory}
+use Rattle.spec_hosts.specs.wasm_form.declared.runtime.Asked.{Asked}
+use Rattle.spec_hosts.specs.wasm_form.declared.runtime.Trap.{Trap}
+use Rattle.spec_hosts.specs.spec_runs.Systems.{Status, Moving, Waits, Returned, Exited, Trapped}
+use Rattle.spec_hosts.specs.spec_runtime.Names.{HostName}
+use Rattle.spec_hosts.specs.spec_runtime.Hosts.{HostCall}
+use Rattle.spec_hosts.specs.spec_runtime.Recorded.{Recorded, waits}
 use Rattle.spec_hosts.specs.Devices.{Devices, KeepsFronts}
 use Rattle.spec_hosts.specs.Hosted.{Embedder, Hosted, BreaksOff}
 use Rattle.spec_hosts.specs.Ends.{are_many, taken_of, taken_by, Makes, AreHosted, IsCutShort}
@@ -18,7 +18,8 @@ use Rattle.spec_hosts.proofs.Fronts.{breaks_none, run_fronts, cut_fronts}
 use Rattle.wasm_exec.specs.declared.driver.Driver.{Driver}
 use Rattle.wasm_exec.specs.Courses.{Course, Origin, course_of}
 use Rattle.wasm_exec.specs.Recordings.{reached, status_at, memory_at}
-use Rattle.wasm_exec.specs.Driving.{Progress, IsAskedOf, event_reached, IsRunning, KeepsCalls, Grows, StepGives, HasEnded, IsDriven, IsPrepared, CourseGives, Proceeds, ran_of, progress_of, Drives, Prepared, GoesAlong, Steps}
+use Rattle.wasm_exec.specs.Programs.{recorded_of}
+use Rattle.wasm_exec.specs.Driving.{Progress, IsAskedOf, event_reached, IsRunning, KeepsCalls, Grows, StepGives, HasEnded, IsDriven, IsPrepared, CourseGives, Proceeds, ran_of, progress_of, Drives, Prepared, GoesAlong, Steps, EndsSo, Comes}
 use Rattle.wasm_exec.proofs.Answering.{asked_call_of, taken_all, none_left}
 use Rattle.wasm_exec.proofs.Readiness.{ready_still}
 use Rattle.wasm_exec.proofs.Stepping.{no_event}
@@ -135,3 +136,9 @@ module _ (o : Origin) (old : Driver) {embedder : Embedder} {begun now : Devices}
       → IfOk r (λ end. StepGives (course_of o) embedder.names end (progress_of old) (progress_of new))
   steps_so prepared new (Ok end) steps = (steps o embedder.names (prepared.0, prepared.1.ready)).1
   steps_so prepared new (Err why) steps = tt
+
+  -- the end, or want of memory there
+  pub comes_last : Drives embedder o old begun now → (most : ℕ) → (recorded_of old.program).steps ≡ most → (new : Driver) (r : Result RunEnd Memory) → IfOk r (λ end. EndsSo end old)
+      → OnOk r (recorded_of new.program ≡ recorded_of old.program) → Comes (course_of o) embedder most r (recorded_of new.program) begun now
+  comes_last drives most all new (Ok end) ended same = rw same (finished drives.1 most all end (ended o embedder.names (drives.0, drives.1.running)))
+  comes_last drives most all new (Err why) ended same = cut_here drives.1 most (omega arith)

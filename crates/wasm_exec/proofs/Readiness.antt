@@ -1,11 +1,11 @@
 -- A run that doesn't wait may make a step.
 use Rattle.std.proofs.Common.{◌≡◌, Bool, true, false, true≢false, refl, sym, ap, ◌∙◌, le_refl}
 use Rattle.std.specs.Prelude.{◌&&◌, not}
-use Rattle.wasm_form.specs.declared.runtime.Trap.{Trap}
-use Rattle.spec_runs.specs.Systems.{Status, Moving, Waits, Returned, Exited, Trapped}
-use Rattle.spec_runtime.specs.Names.{HostNames}
-use Rattle.spec_runtime.specs.Hosts.{HostCall}
-use Rattle.spec_runtime.specs.Recorded.{Recorded, has_ended, waits, waits_unanswered}
+use Rattle.spec_hosts.specs.wasm_form.declared.runtime.Trap.{Trap}
+use Rattle.spec_hosts.specs.spec_runs.Systems.{Status, Moving, Waits, Returned, Exited, Trapped}
+use Rattle.spec_hosts.specs.spec_runtime.Names.{HostNames}
+use Rattle.spec_hosts.specs.spec_runtime.Hosts.{HostCall}
+use Rattle.spec_hosts.specs.spec_runtime.Recorded.{Recorded, has_ended, waits, waits_unanswered}
 use Rattle.spec_hosts.specs.Ends.{goes_on}
 use Rattle.spec_hosts.specs.declared.ran.RunEnd.TheVariants as end
 use Rattle.wasm_exec.specs.Courses.{Course}

@@ -5,22 +5,22 @@ use Rattle.std.specs.List.{All, list_any, flat_map}
 use Rattle.std.specs.Cmp.Lexicographic.{pointwise}
 use Rattle.std.proofs.lemmas.Bool.{and_from}
 use Rattle.std.proofs.lemmas.List.Elements.{All-nil, All-cons, All-head, All-tail, All-append}
-use Rattle.wasm_form.specs.declared.types.ValType.{ValType}
-use Rattle.wasm_form.specs.declared.types.ValType.TheVariants.{I32}
-use Rattle.wasm_form.specs.declared.types.FuncType.{FuncType}
-use Rattle.wasm_form.specs.declared.module.Import.{Import}
-use Rattle.wasm_form.specs.declared.module.Module.{Module}
-use Rattle.spec_binary.specs.Exports.{relocations_name, constructors_name}
-use Rattle.spec_binary.specs.SameTypes.{same_type, same_function_type}
-use Rattle.spec_runtime.specs.Names.{HostName, HostMatch, Unknown, Fits, OtherType, host_match, host_typed}
-use Rattle.spec_linking.specs.declared.fault.Kind.TheVariants as kind
-use Rattle.spec_linking.specs.declared.fault.LinkFault.TheVariants.{OwnMemory, IllTyped}
-use Rattle.spec_linking.specs.Sets.{Member}
-use Rattle.spec_linking.specs.Definitions.{Definition, LoaderFunction, HeapBase, HeapEnd, MemberFunction, MemberData, HostFunction, WeakSymbol, Undefined, env_name}
-use Rattle.spec_linking.specs.Imports.{ImportUse, SlotCell, EnvFunction, ModuleFunction, use_of}
-use Rattle.spec_linking.specs.LinkedSets.{LinkedSet, definition, is_declared, host_named, where_declared, host_defined, host_as, host_of_import, hosts_from, is_same_name, first_names, hosts_of}
-use Rattle.spec_linking.specs.Links.{has_first_type, covers, where_fits, is_host_type, unless, ◌or_else◌, first_fault, function_fault, match_fault, fault_as, import_fault, tls_fault, loader_call_fault, member_fault, members_fault, duplicate_fault, fault_without, set_entry, limit_fault, Links}
-use Rattle.spec_linking.proofs.LinkedFacts.{or_none, holds_so}
+use Rattle.spec_hosts.specs.wasm_form.declared.types.ValType.{ValType}
+use Rattle.spec_hosts.specs.wasm_form.declared.types.ValType.TheVariants.{I32}
+use Rattle.spec_hosts.specs.wasm_form.declared.types.FuncType.{FuncType}
+use Rattle.spec_hosts.specs.wasm_form.declared.module.Import.{Import}
+use Rattle.spec_hosts.specs.wasm_form.declared.module.Module.{Module}
+use Rattle.spec_hosts.specs.spec_binary.Exports.{relocations_name, constructors_name}
+use Rattle.spec_hosts.specs.spec_binary.SameTypes.{same_type, same_function_type}
+use Rattle.spec_hosts.specs.spec_runtime.Names.{HostName, HostMatch, Unknown, Fits, OtherType, host_match, host_typed}
+use Rattle.spec_loading.specs.spec_linking.declared.fault.Kind.TheVariants as kind
+use Rattle.spec_loading.specs.spec_linking.declared.fault.LinkFault.TheVariants.{OwnMemory, IllTyped}
+use Rattle.spec_loading.specs.spec_linking.Sets.{Member}
+use Rattle.spec_loading.specs.spec_linking.Definitions.{Definition, LoaderFunction, HeapBase, HeapEnd, MemberFunction, MemberData, HostFunction, WeakSymbol, Undefined, env_name}
+use Rattle.spec_loading.specs.spec_linking.Imports.{ImportUse, SlotCell, EnvFunction, ModuleFunction, use_of}
+use Rattle.spec_loading.specs.spec_linking.LinkedSets.{LinkedSet, definition, is_declared, host_named, where_declared, host_defined, host_as, host_of_import, hosts_from, is_same_name, first_names, hosts_of}
+use Rattle.spec_loading.specs.spec_linking.Links.{has_first_type, covers, where_fits, is_host_type, unless, ◌or_else◌, first_fault, function_fault, match_fault, fault_as, import_fault, tls_fault, loader_call_fault, member_fault, members_fault, duplicate_fault, fault_without, set_entry, limit_fault, Links}
+use Rattle.spec_loading.proofs.of_spec_linking.LinkedFacts.{or_none, holds_so}
 
 -- ---- types that are the same
 

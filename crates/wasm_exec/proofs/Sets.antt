@@ -1,18 +1,18 @@
 -- The run of a loaded set, seen as a run of a course.
 use Rattle.std.proofs.Common.{◌≡◌, ℕ, ◌≤◌, List, [], map, slice_get, Option, Some, Result, Ok, Err, IfOk, OnOk, OnErr, ◌++◌, ◌∷◌, true, false, ◌⊎◌, inl, inr, refl, sym, ap, ◌∙◌, subst}
-use Rattle.wasm_form.specs.declared.memory.Memory.{Memory}
-use Rattle.wasm_form.specs.declared.runtime.Trap.{Trap}
-use Rattle.wasm_runtime.specs.declared.Answer.{Answer}
-use Rattle.spec_runs.specs.Systems.{Status, Moving, Ran}
-use Rattle.spec_runtime.specs.Memories.{MemoryInstance}
-use Rattle.spec_runtime.specs.Names.{HostName, HostNames, Fits, host_match}
-use Rattle.spec_runtime.specs.Recorded.{Recorded, has_ended, waits}
-use Rattle.spec_runtime.specs.Recorded as recorded
-use Rattle.spec_runtime.specs.Hosts.{HostCall, hosts}
-use Rattle.spec_linking.specs.LinkedSets.{LinkedSet, hosts_of, set_hosts}
+use Rattle.spec_hosts.specs.wasm_form.declared.memory.Memory.{Memory}
+use Rattle.spec_hosts.specs.wasm_form.declared.runtime.Trap.{Trap}
+use Rattle.spec_hosts.specs.wasm_form.declared.runtime.Answer.{Answer}
+use Rattle.spec_hosts.specs.spec_runs.Systems.{Status, Moving, Ran}
+use Rattle.spec_hosts.specs.spec_runtime.Memories.{MemoryInstance}
+use Rattle.spec_hosts.specs.spec_runtime.Names.{HostName, HostNames, Fits, host_match}
+use Rattle.spec_hosts.specs.spec_runtime.Recorded.{Recorded, has_ended, waits}
+use Rattle.spec_hosts.specs.spec_runtime.Recorded as recorded
+use Rattle.spec_hosts.specs.spec_runtime.Hosts.{HostCall, hosts}
+use Rattle.spec_loading.specs.spec_linking.LinkedSets.{LinkedSet, hosts_of, set_hosts}
 use Rattle.spec_loading.specs.LoadedSet.{SetState, set_system, set_opening}
-use Rattle.host_table.specs.Names.{host_name_of}
-use Rattle.host_table.specs.declared.host.HostName as code
+use Rattle.dyl_link.specs.host_table.Names.{host_name_of}
+use Rattle.dyl_link.specs.host_table.declared.host.HostName as code
 use Rattle.wasm_machine.specs.declared.event.Event.{Event}
 use Rattle.wasm_machine.specs.declared.event.Event.TheVariants as event
 use Rattle.dyl_frames.specs.Steps.{TellsStatus}

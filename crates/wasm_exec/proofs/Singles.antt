@@ -1,19 +1,19 @@
 -- The run of one module, seen as a run of a course.
 use Rattle.std.proofs.Common.{◌≡◌, ℕ, suc, ◌≤◌, List, [], map, slice_get, Option, Result, Ok, Err, IfOk, OnOk, OnErr, ◌++◌, ◌∷◌, true, false, ◌⊎◌, inl, inr, refl, sym, ap, ◌∙◌, subst}
-use Rattle.wasm_form.specs.declared.memory.Memory.{Memory}
-use Rattle.wasm_form.specs.declared.module.Module.{Module}
-use Rattle.wasm_form.specs.declared.runtime.Trap.{Trap}
-use Rattle.wasm_runtime.specs.declared.Answer.{Answer}
-use Rattle.spec_runs.specs.Systems.{Status, Moving, Waits, Returned, Exited, Trapped, Ran}
-use Rattle.spec_runtime.specs.Hosts.{HostCall, hosts}
-use Rattle.spec_runtime.specs.Memories.{MemoryInstance}
-use Rattle.spec_runtime.specs.Names.{HostName}
-use Rattle.spec_runtime.specs.Recorded.{Recorded, has_ended, waits}
-use Rattle.spec_runtime.specs.Recorded as recorded
-use Rattle.spec_execution.specs.Instances.{module_hosts, imported_hosts}
-use Rattle.spec_execution.specs.OneModule.{ModuleState, module_system, module_too_deep}
-use Rattle.host_table.specs.Names.{host_name_of}
-use Rattle.host_table.specs.declared.host.HostName as code
+use Rattle.spec_hosts.specs.wasm_form.declared.memory.Memory.{Memory}
+use Rattle.spec_hosts.specs.wasm_form.declared.module.Module.{Module}
+use Rattle.spec_hosts.specs.wasm_form.declared.runtime.Trap.{Trap}
+use Rattle.spec_hosts.specs.wasm_form.declared.runtime.Answer.{Answer}
+use Rattle.spec_hosts.specs.spec_runs.Systems.{Status, Moving, Waits, Returned, Exited, Trapped, Ran}
+use Rattle.spec_hosts.specs.spec_runtime.Hosts.{HostCall, hosts}
+use Rattle.spec_hosts.specs.spec_runtime.Memories.{MemoryInstance}
+use Rattle.spec_hosts.specs.spec_runtime.Names.{HostName}
+use Rattle.spec_hosts.specs.spec_runtime.Recorded.{Recorded, has_ended, waits}
+use Rattle.spec_hosts.specs.spec_runtime.Recorded as recorded
+use Rattle.spec_loading.specs.spec_execution.Instances.{module_hosts, imported_hosts}
+use Rattle.spec_loading.specs.spec_execution.OneModule.{ModuleState, module_system, module_too_deep}
+use Rattle.dyl_link.specs.host_table.Names.{host_name_of}
+use Rattle.dyl_link.specs.host_table.declared.host.HostName as code
 use Rattle.wasm_machine.specs.declared.event.Event.{Event}
 use Rattle.wasm_machine.specs.declared.event.Event.TheVariants as event
 use Rattle.wasm_single.specs.Starts.{opened}

@@ -1,14 +1,14 @@
 -- What comes of a step, by what is told of it.
 use Rattle.std.proofs.Common.{◌≡◌, ℕ, suc, ◌<◌, ◌≤◌, true, false, true≢false, List, [], ◌++◌, append-nil, Option, Some, None, ◌⊎◌, inl, inr, IfSome, IsTrue, refl, sym, ap, ◌∙◌, subst, le_refl, arith}
-use Rattle.wasm_form.specs.declared.runtime.LoaderCall.{LoaderCall}
-use Rattle.wasm_form.specs.declared.runtime.Trap.{Trap}
-use Rattle.wasm_runtime.specs.declared.Answer.{Answer}
-use Rattle.wasm_runtime.specs.declared.Asked.{Asked}
-use Rattle.spec_runs.specs.Systems.{Status, Moving, Waits, Returned, Exited, Trapped, event_at}
-use Rattle.spec_runtime.specs.Memories.{MemoryInstance}
-use Rattle.spec_runtime.specs.Names.{HostName, HostNames, has_integers}
-use Rattle.spec_runtime.specs.Hosts.{HostCall, numbers_fit}
-use Rattle.spec_runtime.specs.Recorded.{Recorded, has_ended, waits}
+use Rattle.spec_hosts.specs.wasm_form.declared.runtime.LoaderCall.{LoaderCall}
+use Rattle.spec_hosts.specs.wasm_form.declared.runtime.Trap.{Trap}
+use Rattle.spec_hosts.specs.wasm_form.declared.runtime.Answer.{Answer}
+use Rattle.spec_hosts.specs.wasm_form.declared.runtime.Asked.{Asked}
+use Rattle.spec_hosts.specs.spec_runs.Systems.{Status, Moving, Waits, Returned, Exited, Trapped, event_at}
+use Rattle.spec_hosts.specs.spec_runtime.Memories.{MemoryInstance}
+use Rattle.spec_hosts.specs.spec_runtime.Names.{HostName, HostNames, has_integers}
+use Rattle.spec_hosts.specs.spec_runtime.Hosts.{HostCall, numbers_fit}
+use Rattle.spec_hosts.specs.spec_runtime.Recorded.{Recorded, has_ended, waits}
 use Rattle.spec_hosts.specs.Ends.{taken_of, is_due, EndsAs}
 use Rattle.spec_hosts.specs.declared.ran.RunEnd.{RunEnd}
 use Rattle.spec_hosts.specs.declared.ran.RunEnd.TheVariants as end

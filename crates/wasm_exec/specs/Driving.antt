@@ -1,15 +1,15 @@
 -- A run that is driven: what is kept of it between its steps.
 use Rattle.std.specs.Prelude.{◌≡◌, ◌<◌, ℕ, List, [], ◌++◌, map, sum, Option, Some, None, true, false, Result, Ok, Err, OnOk, IsTrue}
-use Rattle.wasm_form.specs.declared.memory.Memory.{Memory}
-use Rattle.wasm_form.specs.declared.runtime.Trap.{Trap}
-use Rattle.wasm_runtime.specs.declared.Answer.{Answer}
-use Rattle.wasm_runtime.specs.declared.Asked.{Asked}
-use Rattle.spec_runs.specs.Systems.{Status, Moving, Waits}
-use Rattle.spec_runs.specs.Systems as systems
-use Rattle.spec_runtime.specs.Memories.{MemoryInstance}
-use Rattle.spec_runtime.specs.Names.{HostName, HostNames, host_match, Fits, has_integers}
-use Rattle.spec_runtime.specs.Hosts.{HostCall, numbers_fit}
-use Rattle.spec_runtime.specs.Recorded.{Recorded, waits}
+use Rattle.spec_hosts.specs.wasm_form.declared.memory.Memory.{Memory}
+use Rattle.spec_hosts.specs.wasm_form.declared.runtime.Trap.{Trap}
+use Rattle.spec_hosts.specs.wasm_form.declared.runtime.Answer.{Answer}
+use Rattle.spec_hosts.specs.wasm_form.declared.runtime.Asked.{Asked}
+use Rattle.spec_hosts.specs.spec_runs.Systems.{Status, Moving, Waits}
+use Rattle.spec_hosts.specs.spec_runs.Systems as systems
+use Rattle.spec_hosts.specs.spec_runtime.Memories.{MemoryInstance}
+use Rattle.spec_hosts.specs.spec_runtime.Names.{HostName, HostNames, host_match, Fits, has_integers}
+use Rattle.spec_hosts.specs.spec_runtime.Hosts.{HostCall, numbers_fit}
+use Rattle.spec_hosts.specs.spec_runtime.Recorded.{Recorded, waits}
 use Rattle.spec_hosts.specs.Devices.{Devices}
 use Rattle.spec_hosts.specs.Hosted.{Embedder, Hosted, BreaksOff}
 use Rattle.spec_hosts.specs.Ends.{bytes_written, are_many, taken_of, is_due, RunsTo, AreHosted, IsRunOf, IsCutShort}
@@ -199,6 +199,16 @@ IsServed embedder result old new before now =
 abbrev pub IsDrivenTo : Embedder → ℕ → Result Ran Memory → Driver → Devices → Devices → Type 0
 IsDrivenTo embedder most result d begun now =
     (o : Origin) → Drives embedder o d begun begun → CourseGives (course_of o) embedder most result begun now
+
+-- what comes of the run once its steps are made, as the end tells
+abbrev pub Comes : Course → Embedder → ℕ → Result RunEnd Memory → Recorded → Devices → Devices → Type 0
+Comes C embedder most (Ok end) x begun now = CourseGives C embedder most (Ok (ran_of end x)) begun now
+Comes C embedder most (Err why) x begun now = CourseGives C embedder most (Err why) begun now
+
+-- The same of the driver that has made the steps.
+abbrev pub IsDrivenOn : Embedder → ℕ → Result RunEnd Memory → Driver → Driver → Devices → Devices → Type 0
+IsDrivenOn embedder most result old new begun now =
+    (o : Origin) → Drives embedder o old begun begun → Comes (course_of o) embedder most result (recorded_of new.program) begun now
 
 -- a driver that goes on from another, with what was done to the devices since the run began
 abbrev pub LeadsTo : Embedder → Driver → Driver → Devices → Devices → Type 0

@@ -1,13 +1,13 @@
 -- What came of running a module, or a linked set.
 use Rattle.std.specs.Prelude.{◌≡◌, ◌⊎◌, ℕ, List, Result, Ok, Err, IsTrue}
-use Rattle.wasm_form.specs.declared.memory.Memory.{Memory}
-use Rattle.wasm_form.specs.declared.module.Module.{Module}
-use Rattle.wasm_form.specs.declared.types.FuncType.{FuncType}
-use Rattle.spec_runtime.specs.Names.{HostNames, host_match, Fits, has_integers}
-use Rattle.spec_execution.specs.declared.fault.SingleFault.{SingleFault}
-use Rattle.spec_execution.specs.declared.fault.SingleFault.TheVariants as fault
-use Rattle.spec_execution.specs.OneModule.{ModuleState, module_opening, module_system, module_too_deep}
-use Rattle.spec_linking.specs.LinkedSets.{LinkedSet}
+use Rattle.spec_hosts.specs.wasm_form.declared.memory.Memory.{Memory}
+use Rattle.spec_hosts.specs.wasm_form.declared.module.Module.{Module}
+use Rattle.spec_hosts.specs.wasm_form.declared.types.FuncType.{FuncType}
+use Rattle.spec_hosts.specs.spec_runtime.Names.{HostNames, host_match, Fits, has_integers}
+use Rattle.spec_loading.specs.spec_execution.declared.fault.SingleFault.{SingleFault}
+use Rattle.spec_loading.specs.spec_execution.declared.fault.SingleFault.TheVariants as fault
+use Rattle.spec_loading.specs.spec_execution.OneModule.{ModuleState, module_opening, module_system, module_too_deep}
+use Rattle.spec_loading.specs.spec_linking.LinkedSets.{LinkedSet}
 use Rattle.spec_loading.specs.Loading.{loaded_too_deep}
 use Rattle.spec_loading.specs.LoadedSet.{set_loading, set_system, set_opening}
 use Rattle.dyl_link.specs.Kept.{Kept, IsLinked}

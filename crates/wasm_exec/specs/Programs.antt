@@ -1,6 +1,6 @@
 -- A program that is run, as contracts see it.
 use Rattle.std.specs.Prelude.{◌≡◌, Ok}
-use Rattle.spec_runtime.specs.Recorded.{Recorded}
+use Rattle.spec_hosts.specs.spec_runtime.Recorded.{Recorded}
 use Rattle.wasm_single.specs.Starts.{opened}
 use Rattle.wasm_single.specs.Singles as single
 use Rattle.dyl_link.specs.Kept.{IsLinked}

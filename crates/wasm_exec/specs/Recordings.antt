@@ -1,12 +1,12 @@
 -- A run as it is kept by its steps and its recorded answers, and what comes of each call that is made of it.
 use Rattle.std.specs.Prelude.{◌≡◌, ◌≤◌, ◌<◌, ◌⊎◌, ℕ, suc, List, [], ◌∷◌, ◌++◌, Option, None, Bool, true, false, IsTrue, IfSome}
-use Rattle.spec_runs.specs.Systems.{Status, Moving, Ran, run}
-use Rattle.wasm_form.specs.declared.runtime.Trap.{Trap}
-use Rattle.wasm_runtime.specs.declared.Answer.{Answer}
-use Rattle.spec_runtime.specs.Memories.{MemoryInstance}
-use Rattle.spec_runtime.specs.Names.{HostName, has_integers}
-use Rattle.spec_runtime.specs.Hosts.{HostCall, hosts, numbers_fit}
-use Rattle.spec_runtime.specs.Recorded.{Recorded, Stands, has_ended, waits, waits_unanswered, FitsWait}
+use Rattle.spec_hosts.specs.spec_runs.Systems.{Status, Moving, Ran, run}
+use Rattle.spec_hosts.specs.wasm_form.declared.runtime.Trap.{Trap}
+use Rattle.spec_hosts.specs.wasm_form.declared.runtime.Answer.{Answer}
+use Rattle.spec_hosts.specs.spec_runtime.Memories.{MemoryInstance}
+use Rattle.spec_hosts.specs.spec_runtime.Names.{HostName, has_integers}
+use Rattle.spec_hosts.specs.spec_runtime.Hosts.{HostCall, hosts, numbers_fit}
+use Rattle.spec_hosts.specs.spec_runtime.Recorded.{Recorded, Stands, has_ended, waits, waits_unanswered, FitsWait}
 use Rattle.wasm_machine.specs.declared.event.Event.{Event}
 use Rattle.wasm_machine.specs.declared.event.Event.TheVariants as event
 pub use Rattle.dyl_frames.specs.Steps.{TellsStatus}

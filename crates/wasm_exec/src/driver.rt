@@ -1,6 +1,6 @@
 // A run that is driven by its host.
 ghost use Rattle.std.specs.Prelude.{◌≡◌, ◌<◌, ◌≤◌, ◌+◌, ◌&&◌, map, sum, length, slice_get, Some, None, false, is_some, nat_lt, OnOk, IfOk};
-ghost use Rattle.spec_runtime.specs.Names.{HostNames};
+ghost use Rattle.spec_hosts.specs.spec_runtime.Names.{HostNames};
 ghost use Rattle.spec_hosts.specs.Devices.{Devices, devices};
 ghost use Rattle.spec_hosts.specs.Ends.{bytes_written, are_many};
 ghost use Rattle.host_calls.specs.Embedders.{names_of, embedder};
@@ -10,17 +10,16 @@ ghost use Rattle.wasm_exec.specs.Driving.{IsBoundTo, Runs, MayStep, Drives, Goes
 
 use crate::events::{asked_by, end_by};
 use crate::program::Program;
-use dyl_outside::{Ambient, Sink, Source};
+use dyl_link::host_table::HostName;
 use host_calls::Hosts;
-use host_table::HostName;
 use run_limits::{are_many, bytes_written, may_step};
+use spec_hosts::dyl_outside::{Ambient, Sink, Source};
+use spec_hosts::wasm_form::{List, Memory};
 use spec_hosts::{Ran, RunEnd};
 use std::alloc::Global;
-use wasm_form::Memory;
 use wasm_machine::{Answer, Asked};
 
 /// A run with the host call that it waits for, and how many bytes the answers so far have written.
-#[derive(Drop)]
 pub(crate) struct Driver<'m> {
     pub program: Program<'m>,
     pub asked: Option<Asked>,
@@ -159,11 +158,24 @@ impl<'m> Driver<'m> {
     pub fn finish(self, end: RunEnd) -> Ran
         ensures { result ≡ ran_of end (recorded_of self.entry.program) }
     {
+        let steps = self.program.steps();
         Ran {
             end,
-            steps: self.program.steps(),
-            answers: self.program.into_answers(),
+            steps,
+            answers: self.into_answers(),
         }
+    }
+
+    /// The answers themselves.
+    pub fn into_answers(self) -> List<Answer>
+        ensures { result ≡ (recorded_of self.entry.program).answers }
+    {
+        let Driver {
+            program,
+            asked: _asked,
+            written: _written,
+        } = self;
+        program.into_answers()
     }
 }
 

@@ -5,20 +5,20 @@ ghost use Rattle.host_calls.specs.Embedders.{names_of, embedder_of, embedder};
 ghost use Rattle.wasm_exec.specs.Executed.{HaveIntegers, IsLinkedOver, Executes, ExecutesKept};
 ghost use Rattle.wasm_exec.specs.Courses.{Origin};
 ghost use Rattle.wasm_exec.specs.Programs.{recorded_of};
-ghost use Rattle.wasm_exec.specs.Driving.{IsBegun, IsDrivenTo, no_steps, Opens, IsRunFrom};
+ghost use Rattle.wasm_exec.specs.Driving.{IsBegun, IsDrivenTo, IsDrivenOn, no_steps, Opens, IsRunFrom};
 
 use crate::driver::Driver;
 use crate::program::Program;
 use dyl_link::Linked;
-use dyl_outside::{Ambient, Sink, Source};
+use dyl_link::host_table::{HostNames, HostTable};
+use dyl_link::wasm_check::Checked;
 use dyl_store::Store;
 use host_calls::Hosts;
-use host_table::{HostNames, HostTable};
 use host_wasi::{Wasi, declare};
-use spec_hosts::{Ran, names_have_their_types};
+use spec_hosts::dyl_outside::{Ambient, Sink, Source};
+use spec_hosts::wasm_form::{List, Memory, Text};
+use spec_hosts::{Ran, RunEnd, names_have_their_types};
 use std::alloc::Global;
-use wasm_check::Checked;
-use wasm_form::{List, Memory, Text};
 use wasm_single::{Single, SingleFault};
 
 /// The names of WASI, and then those of a table: the host functions that a program may import. Each has integers alone.
@@ -50,7 +50,14 @@ pub fn execute<I: Source, O: Sink, E: Sink, A: Ambient>(
     ensures fronts { KeepsFronts (devices (I.seen input.old) (O.seen output.old) (E.seen errors.old) (A.seen ambient.old)) (devices (I.seen input.new) (O.seen output.new) (E.seen errors.new) (A.seen ambient.new)) }
 {
     let names = host_names(alloc, table)?;
-    let single = Single::load(alloc, checked, &names)?;
+    let single = match Single::load(alloc, checked, &names) {
+        Ok(single) => single,
+        Err(fault) => {
+            drop(names);
+            return Err(fault);
+        }
+    };
+    drop(names);
     let program = Program::Module(single);
     match run_program(
         alloc, program, args, most, table, input, output, errors, ambient,
@@ -80,11 +87,23 @@ pub fn execute_set<I: Source, O: Sink, E: Sink, A: Ambient>(
     ensures executes { ExecutesKept linked.now (embedder_of args table.now) most result (devices (I.seen input.old) (O.seen output.old) (E.seen errors.old) (A.seen ambient.old)) (devices (I.seen input.new) (O.seen output.new) (E.seen errors.new) (A.seen ambient.new)) }
     ensures fronts { KeepsFronts (devices (I.seen input.old) (O.seen output.old) (E.seen errors.old) (A.seen ambient.old)) (devices (I.seen input.new) (O.seen output.new) (E.seen errors.new) (A.seen ambient.new)) }
 {
-    let store = Store::load(alloc, linked)?;
-    let program = Program::Set(store);
-    run_program(
-        alloc, program, args, most, table, input, output, errors, ambient,
-    )
+    match Store::load(alloc, linked) {
+        Ok(store) => run_program(
+            alloc,
+            Program::Set(store),
+            args,
+            most,
+            table,
+            input,
+            output,
+            errors,
+            ambient,
+        ),
+        Err(memory) => {
+            drop(args);
+            Err(memory)
+        }
+    }
 }
 
 /// Runs what was opened.
@@ -104,9 +123,18 @@ fn run_program<I: Source, O: Sink, E: Sink, A: Ambient>(
     requires opened { (o : Origin) × Opens o (names_of table.now) program }
     ensures { IsRunFrom (embedder_of args table.now) most result program.entry (devices (I.seen input.old) (O.seen output.old) (E.seen errors.old) (A.seen ambient.old)) (devices (I.seen input.new) (O.seen output.new) (E.seen errors.new) (A.seen ambient.new)) }
 {
-    let hosts = Hosts::bind(alloc, Wasi::new(args), table, program.hosts())?;
-    let driver = Driver::new(program);
-    drive(alloc, driver, most, &hosts, input, output, errors, ambient)
+    match Hosts::bind(alloc, Wasi::new(args), table, program.hosts()) {
+        Ok(hosts) => {
+            let driver = Driver::new(program);
+            let told = drive(alloc, driver, most, &hosts, input, output, errors, ambient);
+            drop(hosts);
+            told
+        }
+        Err(memory) => {
+            drop(program.into_answers());
+            Err(memory)
+        }
+    }
 }
 
 /// Makes the steps of a run, and answers its host calls, until it ends or a limit is due.
@@ -126,11 +154,44 @@ fn drive<I: Source, O: Sink, E: Sink, A: Ambient>(
     ensures { IsDrivenTo (embedder hosts.now) most result driver.entry (devices (I.seen input.old) (O.seen output.old) (E.seen errors.old) (A.seen ambient.old)) (devices (I.seen input.new) (O.seen output.new) (E.seen errors.new) (A.seen ambient.new)) }
 {
     let mut driver = driver;
-    while driver.program.steps() < most {
-        if let Some(end) = driver.proceed(alloc, most, hosts, input, output, errors, ambient)? {
-            return Ok(driver.finish(end));
+    match drive_on(
+        alloc,
+        &mut driver,
+        most,
+        hosts,
+        input,
+        output,
+        errors,
+        ambient,
+    ) {
+        Ok(end) => Ok(driver.finish(end)),
+        Err(memory) => {
+            drop(driver.into_answers());
+            Err(memory)
         }
     }
-    let end = driver.last(alloc)?;
-    Ok(driver.finish(end))
+}
+
+/// The same over what a caller owns. The end, once it has come.
+fn drive_on<I: Source, O: Sink, E: Sink, A: Ambient>(
+    alloc: Global,
+    driver: &mut Driver,
+    most: u64,
+    hosts: &Hosts,
+    input: &mut I,
+    output: &mut O,
+    errors: &mut E,
+    ambient: &mut A,
+) -> Result<RunEnd, Memory>
+    requires most { most < 18446744073709551615 }
+    requires few { (recorded_of driver.old.program).steps ≤ most }
+    requires driven { IsBegun hosts.now driver.old (devices (I.seen input.old) (O.seen output.old) (E.seen errors.old) (A.seen ambient.old)) }
+    ensures { IsDrivenOn (embedder hosts.now) most result driver.old driver.new (devices (I.seen input.old) (O.seen output.old) (E.seen errors.old) (A.seen ambient.old)) (devices (I.seen input.new) (O.seen output.new) (E.seen errors.new) (A.seen ambient.new)) }
+{
+    while driver.program.steps() < most {
+        if let Some(end) = driver.proceed(alloc, most, hosts, input, output, errors, ambient)? {
+            return Ok(end);
+        }
+    }
+    driver.last(alloc)
 }

@@ -1,21 +1,20 @@
 // What is run.
 ghost use Rattle.std.specs.Prelude.{◌≡◌, ◌<◌, ◌≤◌, false, true, map, slice_get, IfOk, OnOk, OnErr};
-ghost use Rattle.spec_runtime.specs.Recorded as recorded;
-ghost use Rattle.host_table.specs.Names.{host_name_of};
+ghost use Rattle.spec_hosts.specs.spec_runtime.Recorded as recorded;
+ghost use Rattle.dyl_link.specs.host_table.Names.{host_name_of};
 ghost use Rattle.wasm_exec.specs.Courses.{Origin, course_of};
 ghost use Rattle.wasm_exec.specs.Recordings.{status_at, memory_at, IsAt, is_waiting, RunStepped, ArgumentsFit, Advances, Awaits, with_answer};
 ghost use Rattle.wasm_exec.specs.Programs.{recorded_of, IsOf, Keeps};
 
+use dyl_link::host_table::HostName;
 use dyl_store::Store;
-use host_table::HostName;
+use spec_hosts::wasm_form::{List, Memory};
 use std::alloc::Global;
-use wasm_form::{List, Memory};
 use wasm_machine::{Answer, Event};
 use wasm_single::Single;
 use wasm_space::Space;
 
 /// A program that is run: one module, or a loaded set.
-#[derive(Drop)]
 pub(crate) enum Program<'m> {
     Module(Single<'m>),
     Set(Store<'m>),

@@ -5,7 +5,7 @@ use Rattle.wasm_form.specs.declared.module.ImportDesc.{ImportDesc}
 use Rattle.wasm_form.specs.declared.module.ImportDesc.TheVariants as imported
 use Rattle.wasm_form.specs.declared.module.Import.{Import}
 use Rattle.wasm_form.specs.declared.module.Module.{Module}
-use Rattle.spec_binary.specs.IndexSpaces.{imports_of, functions_in, globals_in, tables_in}
+use Rattle.spec_safety.specs.spec_binary.IndexSpaces.{imports_of, functions_in, globals_in, tables_in}
 use Rattle.spec_safety.specs.Laws.{is_function_import, imports_functions}
 use Rattle.std.proofs.lemmas.Bool.{and_parts}
 

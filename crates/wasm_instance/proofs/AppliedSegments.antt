@@ -16,16 +16,16 @@ use Rattle.wasm_form.specs.declared.module.Data.{Data}
 use Rattle.wasm_form.specs.declared.module.Module.{Module}
 use Rattle.wasm_form.specs.declared.runtime.Ref.{Ref}
 use Rattle.wasm_form.specs.declared.runtime.Trap.TheVariants as trap
-use Rattle.spec_binary.specs.IndexSpaces.{table_space, memory_space}
-use Rattle.spec_validation.specs.Faults.{is_constant, elem_fits, elem_mode_fits, items_fit, has_functions, data_mode_fits, data_fits}
-use Rattle.spec_runtime.specs.Memories.{MemoryInstance, initialized}
-use Rattle.spec_runtime.specs.Tables.{TableInstance, entries_initialized}
-use Rattle.spec_execution.specs.Activations.{Effect}
-use Rattle.spec_execution.specs.Instances.{ModuleParts, module_view, constant_offset}
-use Rattle.spec_execution.specs.Segments.{Performed, all_performed, items_count, elem_applied, data_applied, elem_effects, data_effects, all_effects}
-use Rattle.spec_execution.specs.declared.fault.SingleFault.{SingleFault}
-use Rattle.spec_execution.specs.declared.fault.SingleFault.TheVariants.{SegmentTrap, Memory}
-use Rattle.spec_execution.proofs.Segments.{performed_rest, performed_trapped}
+use Rattle.spec_safety.specs.spec_binary.IndexSpaces.{table_space, memory_space}
+use Rattle.spec_safety.specs.spec_validation.Faults.{is_constant, elem_fits, elem_mode_fits, items_fit, has_functions, data_mode_fits, data_fits}
+use Rattle.spec_safety.specs.spec_runtime.Memories.{MemoryInstance, initialized}
+use Rattle.spec_safety.specs.spec_runtime.Tables.{TableInstance, entries_initialized}
+use Rattle.spec_safety.specs.spec_execution.Activations.{Effect}
+use Rattle.spec_safety.specs.spec_execution.Instances.{ModuleParts, module_view, constant_offset}
+use Rattle.spec_safety.specs.spec_execution.Segments.{Performed, all_performed, items_count, elem_applied, data_applied, elem_effects, data_effects, all_effects}
+use Rattle.spec_safety.specs.spec_execution.declared.fault.SingleFault.{SingleFault}
+use Rattle.spec_safety.specs.spec_execution.declared.fault.SingleFault.TheVariants.{SegmentTrap, Memory}
+use Rattle.spec_safety.proofs.of_spec_execution.Segments.{performed_rest, performed_trapped}
 use Rattle.spec_safety.specs.Laws.{imports_functions}
 use Rattle.wasm_instance.specs.Opening.{Applies, ElementsApply, BytesApply, Moves}
 use Rattle.wasm_instance.proofs.Alone.{no_tables}

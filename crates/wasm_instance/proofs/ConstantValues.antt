@@ -10,18 +10,18 @@ use Rattle.wasm_form.specs.declared.instr.Instr.{Instr, out-Instr}
 use Rattle.wasm_form.specs.declared.instr.Instr.TheOpen as Open
 use Rattle.wasm_form.specs.declared.instr.Expr.{Expr}
 use Rattle.wasm_form.specs.declared.module.Module.{Module}
-use Rattle.wasm_opcode.specs.declared.index.IndexForm.{IndexForm}
-use Rattle.wasm_opcode.specs.declared.index.IndexForm.TheVariants as forms
-use Rattle.wasm_opcode.specs.Index.{index_form}
-use Rattle.wasm_runtime.specs.declared.Value.TheVariants as values
-use Rattle.spec_binary.specs.Options.{◌>>=◌}
-use Rattle.spec_binary.specs.SameTypes.{same_type}
-use Rattle.spec_binary.specs.Indices.{function_type}
-use Rattle.spec_binary.specs.IndexSpaces.{function_space}
-use Rattle.spec_validation.specs.Faults.{constant_type, is_of_type, is_function}
-use Rattle.spec_validation.specs.Faults as valid
-use Rattle.spec_runtime.specs.Constants.{index_constant, instruction_constant, constant_in, constant_of, no_globals, numbered_globals, number_in}
-use Rattle.spec_execution.specs.Instances.{function_named, module_target, constant_value, constant_offset}
+use Rattle.wasm_form.specs.declared.index.IndexForm.{IndexForm}
+use Rattle.wasm_form.specs.declared.index.IndexForm.TheVariants as forms
+use Rattle.wasm_form.specs.Index.{index_form}
+use Rattle.wasm_form.specs.declared.runtime.Value.TheVariants as values
+use Rattle.spec_safety.specs.spec_binary.Options.{◌>>=◌}
+use Rattle.spec_safety.specs.spec_binary.SameTypes.{same_type}
+use Rattle.spec_safety.specs.spec_binary.Indices.{function_type}
+use Rattle.spec_safety.specs.spec_binary.IndexSpaces.{function_space}
+use Rattle.spec_safety.specs.spec_validation.Faults.{constant_type, is_of_type, is_function}
+use Rattle.spec_safety.specs.spec_validation.Faults as valid
+use Rattle.spec_safety.specs.spec_runtime.Constants.{index_constant, instruction_constant, constant_in, constant_of, no_globals, numbered_globals, number_in}
+use Rattle.spec_safety.specs.spec_execution.Instances.{function_named, module_target, constant_value, constant_offset}
 use Rattle.wasm_check.specs.declared.value.Constant.{Constant}
 use Rattle.wasm_check.specs.declared.value.Constant.TheVariants as constant
 use Rattle.wasm_check.specs.Constants.{StandsFor, AreOfTypes}

@@ -8,20 +8,20 @@ use Rattle.wasm_form.specs.declared.types.FuncType.{FuncType}
 use Rattle.wasm_form.specs.declared.module.Group.{Group}
 use Rattle.wasm_form.specs.declared.module.Code.{Code}
 use Rattle.wasm_form.specs.declared.module.Module.{Module}
-use Rattle.spec_binary.specs.Options.{◌>>=◌}
-use Rattle.spec_binary.specs.Indices.{declared_locals, Function, function_with, function_at}
-use Rattle.spec_binary.specs.IndexSpaces.{imports_of, functions_in, function_space, imported_count}
-use Rattle.spec_binary.specs.WellFormed.{IsWellFormed}
-use Rattle.spec_validation.specs.Faults.{body_height, is_type, fault}
-use Rattle.spec_execution.specs.Instances.{module_height, module_view}
-use Rattle.spec_execution.specs.Limits.{room_with, room_of}
+use Rattle.spec_safety.specs.spec_binary.Options.{◌>>=◌}
+use Rattle.spec_safety.specs.spec_binary.Indices.{declared_locals, Function, function_with, function_at}
+use Rattle.spec_safety.specs.spec_binary.IndexSpaces.{imports_of, functions_in, function_space, imported_count}
+use Rattle.spec_safety.specs.spec_binary.WellFormed.{IsWellFormed}
+use Rattle.spec_safety.specs.spec_validation.Faults.{body_height, is_type, fault}
+use Rattle.spec_safety.specs.spec_execution.Instances.{module_height, module_view}
+use Rattle.spec_safety.specs.spec_execution.Limits.{room_with, room_of}
 use Rattle.wasm_check.specs.Heights.{height_of}
-use Rattle.spec_binary.specs.Saturated.{saturated}
+use Rattle.spec_safety.specs.spec_binary.Saturated.{saturated}
 use Rattle.wasm_instance.specs.Rooms.{room_in, HaveRooms}
 use Rattle.wasm_instance.proofs.Lists.{all_at}
 use Rattle.wasm_instance.proofs.FunctionTypes.{IsOwn, is_own}
-use Rattle.spec_binary.proofs.Lists.{slice_get-append-left, slice_get-append-last}
-use Rattle.spec_validation.proofs.Parts.{parts_fit}
+use Rattle.spec_safety.proofs.of_spec_binary.Lists.{slice_get-append-left, slice_get-append-last}
+use Rattle.spec_safety.proofs.of_spec_validation.Parts.{parts_fit}
 
 pub have_more : (m : Module) (rooms more : List ℕ) (n : ℕ) → length rooms ≡ n → HaveRooms m n rooms → more ≡ rooms ++ room_in m n ∷ [] → HaveRooms m (n + 1) more
 have_more m rooms more n count have e =

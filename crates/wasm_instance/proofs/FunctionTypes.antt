@@ -14,13 +14,13 @@ use Rattle.wasm_form.specs.declared.module.Module.{Module}
 use Rattle.wasm_form.specs.declared.runtime.Ref.{Ref}
 use Rattle.wasm_form.specs.declared.runtime.LoaderCall.{LoaderCall}
 use Rattle.wasm_form.specs.declared.runtime.Ref.TheVariants.{Host, Loader, Stub}
-use Rattle.spec_binary.specs.Options.{◌>>=◌}
-use Rattle.spec_binary.specs.IndexSpaces.{imports_of, functions_in, function_space, imported_count}
-use Rattle.spec_validation.specs.Faults.{fault, is_type, import_fits, desc_fits}
-use Rattle.spec_binary.specs.Indices.{function_type, function_at}
-use Rattle.spec_validation.proofs.Parts.{parts_fit, function_types}
-use Rattle.spec_execution.specs.Instances.{function_named, module_target, hosts_in, named_host, imported_hosts, module_hosts, host_type, module_view}
-use Rattle.spec_execution.specs.Views.{type_of}
+use Rattle.spec_safety.specs.spec_binary.Options.{◌>>=◌}
+use Rattle.spec_safety.specs.spec_binary.IndexSpaces.{imports_of, functions_in, function_space, imported_count}
+use Rattle.spec_safety.specs.spec_validation.Faults.{fault, is_type, import_fits, desc_fits}
+use Rattle.spec_safety.specs.spec_binary.Indices.{function_type, function_at}
+use Rattle.spec_safety.proofs.of_spec_validation.Parts.{parts_fit, function_types}
+use Rattle.spec_safety.specs.spec_execution.Instances.{function_named, module_target, hosts_in, named_host, imported_hosts, module_hosts, host_type, module_view}
+use Rattle.spec_safety.specs.spec_execution.Views.{type_of}
 use Rattle.wasm_instance.specs.Imports.{function_after}
 use Rattle.wasm_instance.proofs.Lists.{all_at}
 

@@ -7,16 +7,16 @@ use Rattle.std.proofs.lemmas.List.{with_items_is}
 use Rattle.std.proofs.lemmas.List.{length-map}
 use Rattle.wasm_form.specs.declared.module.Module.{Module}
 use Rattle.wasm_form.specs.declared.runtime.Ref.{Ref}
-use Rattle.wasm_runtime.specs.declared.Value.{Value}
-use Rattle.spec_runtime.specs.Memories.{MemoryInstance}
-use Rattle.spec_runtime.specs.Tables.{TableInstance}
-use Rattle.spec_execution.specs.Activations.{Effect}
-use Rattle.spec_execution.specs.Instances.{ModuleParts, module_view, constant_offset}
-use Rattle.spec_execution.specs.Segments.{Performed, all_performed, elem_effects, data_effects, all_effects}
-use Rattle.spec_execution.specs.OneModule.{opened_memory, opened_parts, segments_performed}
-use Rattle.spec_execution.specs.declared.fault.SingleFault.{SingleFault}
-use Rattle.spec_execution.specs.declared.fault.SingleFault.TheVariants.{SegmentTrap, Memory}
-use Rattle.spec_execution.proofs.Segments.{performed_rest, performed_trapped}
+use Rattle.wasm_form.specs.declared.runtime.Value.{Value}
+use Rattle.spec_safety.specs.spec_runtime.Memories.{MemoryInstance}
+use Rattle.spec_safety.specs.spec_runtime.Tables.{TableInstance}
+use Rattle.spec_safety.specs.spec_execution.Activations.{Effect}
+use Rattle.spec_safety.specs.spec_execution.Instances.{ModuleParts, module_view, constant_offset}
+use Rattle.spec_safety.specs.spec_execution.Segments.{Performed, all_performed, elem_effects, data_effects, all_effects}
+use Rattle.spec_safety.specs.spec_execution.OneModule.{opened_memory, opened_parts, segments_performed}
+use Rattle.spec_safety.specs.spec_execution.declared.fault.SingleFault.{SingleFault}
+use Rattle.spec_safety.specs.spec_execution.declared.fault.SingleFault.TheVariants.{SegmentTrap, Memory}
+use Rattle.spec_safety.proofs.of_spec_execution.Segments.{performed_rest, performed_trapped}
 use Rattle.wasm_instance.specs.Kept.{HasAll}
 use Rattle.wasm_instance.specs.States.{InstanceState}
 use Rattle.wasm_instance.specs.Opening.{Applies, ElementsApply, BytesApply, Opens}

@@ -8,8 +8,8 @@ use Rattle.wasm_form.specs.declared.module.Module.{Module}
 use Rattle.wasm_form.specs.declared.runtime.Ref.{Ref}
 use Rattle.wasm_form.specs.declared.runtime.Trap.{Trap}
 use Rattle.wasm_form.specs.declared.runtime.Trap.TheVariants.{TableBounds}
-use Rattle.spec_runtime.specs.Tables.{TableInstance}
-use Rattle.spec_execution.specs.Instances.{ModuleParts, module_view}
+use Rattle.spec_safety.specs.spec_runtime.Tables.{TableInstance}
+use Rattle.spec_safety.specs.spec_execution.Instances.{ModuleParts, module_view}
 use Rattle.wasm_space.specs.Access.{ChangesOrTraps, GrowsOrStays}
 use Rattle.wasm_view.specs.Tables.{ChangesTable, GrowsTable}
 

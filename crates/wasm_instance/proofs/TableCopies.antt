@@ -5,8 +5,8 @@ use Rattle.std.proofs.lemmas.List.{set-get_or, get_or_append_left, get_or-append
 use Rattle.std.proofs.lemmas.Option.{slice_get-get_or}
 use Rattle.wasm_form.specs.declared.runtime.Trap.{Trap}
 use Rattle.wasm_form.specs.declared.runtime.Trap.TheVariants.{TableBounds}
-use Rattle.spec_binary.specs.Options.{◌>>=◌}
-use Rattle.spec_runtime.specs.Tables.{TableInstance, entries_copied_from}
+use Rattle.spec_safety.specs.spec_binary.Options.{◌>>=◌}
+use Rattle.spec_safety.specs.spec_runtime.Tables.{TableInstance, entries_copied_from}
 use Rattle.wasm_space.specs.Access.{ChangesOrTraps}
 use Rattle.wasm_instance.specs.Copies.{copied_between}
 

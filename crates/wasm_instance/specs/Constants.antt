@@ -2,11 +2,11 @@
 use Rattle.std.specs.Prelude.{ℕ, Some, None, Bool, is_some}
 use Rattle.wasm_form.specs.declared.instr.Expr.{Expr}
 use Rattle.wasm_form.specs.declared.module.Module.{Module}
-use Rattle.wasm_runtime.specs.declared.Value.{Value}
-use Rattle.wasm_runtime.specs.declared.Value.TheVariants.{Num, Func}
+use Rattle.wasm_form.specs.declared.runtime.Value.{Value}
+use Rattle.wasm_form.specs.declared.runtime.Value.TheVariants.{Num, Func}
 use Rattle.wasm_check.specs.declared.value.Constant.{Constant}
 use Rattle.wasm_check.specs.declared.value.Constant.TheVariants as constant
-use Rattle.spec_validation.specs.Faults.{constant_type}
+use Rattle.spec_safety.specs.spec_validation.Faults.{constant_type}
 use Rattle.wasm_instance.specs.Imports.{function_after}
 
 -- a constant as a value, where so many functions are imported

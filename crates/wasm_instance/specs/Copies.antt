@@ -1,7 +1,7 @@
 -- Copies between the tables of a unit.
 use Rattle.std.specs.Prelude.{ℕ, List, Option, Some, slice_get, slice_set}
-use Rattle.spec_binary.specs.Options.{◌>>=◌}
-use Rattle.spec_runtime.specs.Tables.{TableInstance, entries_copied_from}
+use Rattle.spec_safety.specs.spec_binary.Options.{◌>>=◌}
+use Rattle.spec_safety.specs.spec_runtime.Tables.{TableInstance, entries_copied_from}
 
 -- the tables after so many entries of one were copied into another, or within itself; none where they pass an end
 abbrev pub copied_between : List TableInstance → ℕ → ℕ → ℕ → ℕ → ℕ → Option (List TableInstance)

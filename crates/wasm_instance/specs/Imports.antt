@@ -3,7 +3,7 @@ use Rattle.std.specs.Prelude.{◌≡◌, ℕ, nat_lt, if◌then◌else◌}
 use Rattle.wasm_form.specs.declared.module.Module.{Module}
 use Rattle.wasm_form.specs.declared.runtime.Ref.{Ref}
 use Rattle.wasm_form.specs.declared.runtime.Ref.TheVariants.{Own, Host}
-use Rattle.spec_binary.specs.IndexSpaces.{imported_count}
+use Rattle.spec_safety.specs.spec_binary.IndexSpaces.{imported_count}
 use Rattle.spec_safety.specs.Laws.{IsAlone}
 
 -- a valid module that imports functions alone, and just so many

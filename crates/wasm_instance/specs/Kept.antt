@@ -1,8 +1,8 @@
 -- What is kept of an instance.
 use Rattle.std.specs.Prelude.{◌≡◌, length, map}
 use Rattle.wasm_form.specs.declared.module.Module.{Module}
-use Rattle.spec_binary.specs.IndexSpaces.{functions_in, imports_of}
-use Rattle.spec_execution.specs.Instances.{ModuleParts}
+use Rattle.spec_safety.specs.spec_binary.IndexSpaces.{functions_in, imports_of}
+use Rattle.spec_safety.specs.spec_execution.Instances.{ModuleParts}
 use Rattle.wasm_instance.specs.declared.opening.Parts.{Parts}
 use Rattle.wasm_instance.specs.declared.instance.Instance.TheInside.{Inside}
 use Rattle.wasm_instance.specs.Imports.{ImportsFunctions}

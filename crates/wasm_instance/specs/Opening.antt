@@ -3,15 +3,15 @@ use Rattle.std.specs.Prelude.{◌≡◌, ℕ, List, [], Option, Some, MatchOptio
 use Rattle.wasm_form.specs.declared.module.Module.{Module}
 use Rattle.wasm_form.specs.declared.runtime.Ref.{Ref}
 use Rattle.wasm_form.specs.declared.runtime.Trap.{Trap}
-use Rattle.wasm_runtime.specs.declared.Value.{Value}
-use Rattle.spec_runtime.specs.Memories.{MemoryInstance}
-use Rattle.spec_runtime.specs.Tables.{TableInstance}
-use Rattle.spec_execution.specs.Activations.{Effect}
-use Rattle.spec_execution.specs.Instances.{ModuleParts, module_view}
-use Rattle.spec_execution.specs.Segments.{Performed, goes_on, all_performed}
-use Rattle.spec_execution.specs.OneModule.{segments_performed}
-use Rattle.spec_execution.specs.declared.fault.SingleFault.{SingleFault}
-use Rattle.spec_execution.specs.declared.fault.SingleFault.TheVariants.{SegmentTrap, Memory}
+use Rattle.wasm_form.specs.declared.runtime.Value.{Value}
+use Rattle.spec_safety.specs.spec_runtime.Memories.{MemoryInstance}
+use Rattle.spec_safety.specs.spec_runtime.Tables.{TableInstance}
+use Rattle.spec_safety.specs.spec_execution.Activations.{Effect}
+use Rattle.spec_safety.specs.spec_execution.Instances.{ModuleParts, module_view}
+use Rattle.spec_safety.specs.spec_execution.Segments.{Performed, goes_on, all_performed}
+use Rattle.spec_safety.specs.spec_execution.OneModule.{segments_performed}
+use Rattle.spec_safety.specs.spec_execution.declared.fault.SingleFault.{SingleFault}
+use Rattle.spec_safety.specs.spec_execution.declared.fault.SingleFault.TheVariants.{SegmentTrap, Memory}
 use Rattle.wasm_instance.specs.States.{InstanceState}
 
 -- Effects come to these units and this memory, unless memory was wanting: all were carried out, or a trap ended them.

@@ -1,10 +1,10 @@
 -- The rooms of a module's functions, as they are kept.
 use Rattle.std.specs.Prelude.{◌≡◌, ℕ, ◌+◌, ◌<◌, List, slice_get, Some}
 use Rattle.wasm_form.specs.declared.module.Module.{Module}
-use Rattle.spec_execution.specs.Limits.{room_of}
-use Rattle.spec_binary.specs.Saturated.{saturated}
-use Rattle.spec_binary.specs.IndexSpaces.{imported_count}
-use Rattle.spec_execution.specs.Instances.{module_view}
+use Rattle.spec_safety.specs.spec_execution.Limits.{room_of}
+use Rattle.spec_safety.specs.spec_binary.Saturated.{saturated}
+use Rattle.spec_safety.specs.spec_binary.IndexSpaces.{imported_count}
+use Rattle.spec_safety.specs.spec_execution.Instances.{module_view}
 
 -- the room of a function that the module defines, by its place among those
 abbrev pub room_in : Module → ℕ → ℕ

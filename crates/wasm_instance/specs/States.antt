@@ -1,7 +1,7 @@
 -- An instance, as contracts see it.
 use Rattle.wasm_form.specs.declared.module.Module.{Module}
-use Rattle.spec_runtime.specs.Memories.{MemoryInstance}
-use Rattle.spec_execution.specs.Instances.{ModuleParts, module_view}
+use Rattle.spec_safety.specs.spec_runtime.Memories.{MemoryInstance}
+use Rattle.spec_safety.specs.spec_execution.Instances.{ModuleParts, module_view}
 use Rattle.wasm_view.specs.Seen.{Seen}
 
 -- a module, what changes of it in a run, and its memory

@@ -1,16 +1,16 @@
 // Active segments are applied as code would do it (section 4.5.4).
 ghost use Rattle.std.specs.Prelude.{◌≡◌, ◌<◌, length, map, IsTrue};
-ghost use Rattle.spec_binary.specs.WellFormed.{IsShort, IsFormedItems};
-ghost use Rattle.spec_validation.specs.Faults.{elem_fits, data_fits};
-ghost use Rattle.spec_runtime.specs.Memories.{initialized};
-ghost use Rattle.spec_runtime.specs.Tables.{entries_initialized};
-ghost use Rattle.spec_execution.specs.Instances.{constant_offset};
-ghost use Rattle.spec_execution.specs.Segments.{items_count, elem_effects, data_effects, all_effects};
+ghost use Rattle.spec_safety.specs.spec_binary.WellFormed.{IsShort, IsFormedItems};
+ghost use Rattle.spec_safety.specs.spec_validation.Faults.{elem_fits, data_fits};
+ghost use Rattle.spec_safety.specs.spec_runtime.Memories.{initialized};
+ghost use Rattle.spec_safety.specs.spec_runtime.Tables.{entries_initialized};
+ghost use Rattle.spec_safety.specs.spec_execution.Instances.{constant_offset};
+ghost use Rattle.spec_safety.specs.spec_execution.Segments.{items_count, elem_effects, data_effects, all_effects};
 ghost use Rattle.spec_safety.specs.Laws.{IsAlone};
 ghost use Rattle.wasm_instance.specs.Opening.{ElementsApply, BytesApply, Moves};
 
 use crate::constants::offset;
-use spec_execution::SingleFault;
+use spec_safety::spec_execution::SingleFault;
 use std::alloc::Global;
 use wasm_form::{Data, DataMode, Elem, ElemItems, ElemMode, Module, Ref};
 use wasm_space::{Slots, Space};

@@ -1,8 +1,8 @@
 // The values of constant expressions (section 3.3.10).
 ghost use Rattle.std.specs.Prelude.{◌≡◌, IsTrue, IfOk, Some, map};
 ghost use Rattle.wasm_form.specs.declared.types.ValType.TheVariants.{I32, FuncRef};
-ghost use Rattle.spec_validation.specs.Faults.{is_constant, global_fits};
-ghost use Rattle.spec_execution.specs.Instances.{constant_value, constant_offset, constant_reference, global_value};
+ghost use Rattle.spec_safety.specs.spec_validation.Faults.{is_constant, global_fits};
+ghost use Rattle.spec_safety.specs.spec_execution.Instances.{constant_value, constant_offset, constant_reference, global_value};
 ghost use Rattle.spec_safety.specs.Laws.{IsAlone};
 ghost use Rattle.wasm_instance.specs.Imports.{ImportsFunctions};
 ghost use Rattle.wasm_instance.specs.Constants.{value_of, is_typed};
@@ -10,8 +10,7 @@ ghost use Rattle.wasm_instance.specs.Constants.{value_of, is_typed};
 use crate::imports::named;
 use std::alloc::Global;
 use wasm_check::{Constant, constant};
-use wasm_form::{Expr, GlobalDef, Memory, Module, Ref};
-use wasm_runtime::Value;
+use wasm_form::{Expr, GlobalDef, Memory, Module, Ref, Value};
 
 fn valued(imported: u32, c: Constant) -> Value
     ensures { result ≡ value_of imported c }

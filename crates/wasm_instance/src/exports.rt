@@ -1,8 +1,8 @@
 // What a module exports.
 ghost use Rattle.std.specs.Prelude.{◌≡◌, length};
-ghost use Rattle.spec_binary.specs.IndexSpaces.{functions_in, imports_of};
-ghost use Rattle.spec_binary.specs.Indices.{is_own};
-ghost use Rattle.spec_binary.specs.Exports.{own_function};
+ghost use Rattle.spec_safety.specs.spec_binary.IndexSpaces.{functions_in, imports_of};
+ghost use Rattle.spec_safety.specs.spec_binary.Indices.{is_own};
+ghost use Rattle.spec_safety.specs.spec_binary.Exports.{own_function};
 ghost use Rattle.wasm_instance.specs.Exports.{named_function};
 
 use wasm_form::{ExportDesc, Import, ImportDesc, Module};

@@ -1,6 +1,6 @@
 // The functions that a module imports; their numbers come first.
 ghost use Rattle.std.specs.Prelude.{◌≡◌, ◌++◌, IfOk, OnOk};
-ghost use Rattle.spec_binary.specs.IndexSpaces.{functions_in, imports_of};
+ghost use Rattle.spec_safety.specs.spec_binary.IndexSpaces.{functions_in, imports_of};
 ghost use Rattle.wasm_instance.specs.Imports.{function_after};
 
 use std::alloc::Global;

@@ -1,8 +1,7 @@
 // The instance of a module.
 use std::marker::Model;
 use wasm_check::Checked;
-use wasm_form::Ref;
-use wasm_runtime::Value;
+use wasm_form::{Ref, Value};
 use wasm_space::{Slots, Space};
 
 /// A module that imports functions alone, with what changes of it in a run. Contracts see it as an `InstanceState`.

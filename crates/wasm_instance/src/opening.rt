@@ -1,6 +1,6 @@
 // The opening state of a module (section 4.5.4).
 ghost use Rattle.std.specs.Prelude.{◌≡◌, IsTrue, IfOk};
-ghost use Rattle.spec_execution.specs.OneModule.{opened_memory, opened_parts, segments_performed};
+ghost use Rattle.spec_safety.specs.spec_execution.OneModule.{opened_memory, opened_parts, segments_performed};
 ghost use Rattle.spec_safety.specs.Laws.{IsAlone, imports_functions};
 ghost use Rattle.wasm_instance.specs.Imports.{ImportsFunctions};
 ghost use Rattle.wasm_instance.specs.Opening.{Applies, Opens};
@@ -14,11 +14,10 @@ use crate::rooms::rooms_of;
 use crate::segments::{datas_of, elems_of};
 use crate::space::space_of;
 use crate::tables::tables_of;
-use spec_execution::SingleFault;
+use spec_safety::spec_execution::SingleFault;
 use std::alloc::Global;
 use wasm_check::Checked;
-use wasm_form::{Memory, Module, Ref};
-use wasm_runtime::Value;
+use wasm_form::{Memory, Module, Ref, Value};
 use wasm_space::{Slots, Space};
 
 // What changes of a module in a run.
@@ -75,17 +74,22 @@ impl<'m> Instance<'m> {
         let imported = host_types.len() as u32;
         let rooms = rooms_of(alloc, checked)?;
         let mut parts = parts_of(alloc, m, imported)?;
-        apply(alloc, m, &mut parts)?;
-        Ok(Instance {
-            checked,
-            imported,
-            host_types,
-            rooms,
-            globals: parts.globals,
-            tables: parts.tables,
-            elems: parts.elems,
-            datas: parts.datas,
-            memory: parts.memory,
-        })
+        match apply(alloc, m, &mut parts) {
+            Ok(()) => Ok(Instance {
+                checked,
+                imported,
+                host_types,
+                rooms,
+                globals: parts.globals,
+                tables: parts.tables,
+                elems: parts.elems,
+                datas: parts.datas,
+                memory: parts.memory,
+            }),
+            Err(fault) => {
+                drop(parts);
+                Err(fault)
+            }
+        }
     }
 }

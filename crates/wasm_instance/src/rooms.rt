@@ -1,7 +1,7 @@
 // The rooms of the functions that a module defines: parameters, locals and the greatest height of the stack together.
 ghost use Rattle.std.specs.Prelude.{◌≡◌, ◌<◌, length, IfOk};
-ghost use Rattle.spec_binary.specs.Indices.{declared_locals};
-ghost use Rattle.spec_binary.specs.Saturated.{saturated};
+ghost use Rattle.spec_safety.specs.spec_binary.Indices.{declared_locals};
+ghost use Rattle.spec_safety.specs.spec_binary.Saturated.{saturated};
 ghost use Rattle.wasm_instance.specs.Rooms.{room_in, HaveRooms};
 
 use std::alloc::Global;

@@ -2,9 +2,9 @@
 ghost use Rattle.std.specs.Prelude.{◌≡◌, IsTrue, IfOk, map, Some};
 ghost use Rattle.std.specs.List.{list_all};
 ghost use Rattle.wasm_form.specs.declared.types.ValType.TheVariants.{FuncRef};
-ghost use Rattle.spec_validation.specs.Faults.{is_constant, is_function, items_fit, elem_fits};
-ghost use Rattle.spec_execution.specs.Instances.{constant_reference, module_target, segment_items};
-ghost use Rattle.spec_execution.specs.Segments.{opened_items};
+ghost use Rattle.spec_safety.specs.spec_validation.Faults.{is_constant, is_function, items_fit, elem_fits};
+ghost use Rattle.spec_safety.specs.spec_execution.Instances.{constant_reference, module_target, segment_items};
+ghost use Rattle.spec_safety.specs.spec_execution.Segments.{opened_items};
 ghost use Rattle.wasm_instance.specs.Imports.{ImportsFunctions};
 
 use crate::constants::reference;

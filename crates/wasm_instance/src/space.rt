@@ -1,8 +1,8 @@
 // The memory that a module begins with.
 ghost use Rattle.std.specs.Prelude.{◌≡◌, IsTrue, IfOk};
 ghost use Rattle.std.specs.List.{list_all};
-ghost use Rattle.spec_validation.specs.Faults.{memory_bounded};
-ghost use Rattle.spec_execution.specs.OneModule.{opened_memory};
+ghost use Rattle.spec_safety.specs.spec_validation.Faults.{memory_bounded};
+ghost use Rattle.spec_safety.specs.spec_execution.OneModule.{opened_memory};
 
 use std::alloc::Global;
 use wasm_form::{Limits, Memory};

@@ -1,8 +1,8 @@
 // The tables that a module begins with (section 4.5.3), before its segments are applied, and copies between them.
 ghost use Rattle.std.specs.Prelude.{◌≡◌, ◌<◌, IsTrue, IfOk, length, map};
 ghost use Rattle.std.specs.List.{list_all};
-ghost use Rattle.spec_validation.specs.Faults.{table_bounded};
-ghost use Rattle.spec_execution.specs.OneModule.{opened_table};
+ghost use Rattle.spec_safety.specs.spec_validation.Faults.{table_bounded};
+ghost use Rattle.spec_safety.specs.spec_execution.OneModule.{opened_table};
 ghost use Rattle.wasm_space.specs.Access.{ChangesOrTraps};
 ghost use Rattle.wasm_instance.specs.Copies.{copied_between};
 

@@ -3,13 +3,12 @@ use crate::imports::named;
 use crate::instance::Instance;
 use crate::tables::copy_between;
 use std::alloc::Global;
-use wasm_form::{Code, FuncType, Memory, Ref, Trap};
-use wasm_runtime::Value;
+use wasm_form::{Code, FuncType, Memory, Ref, Trap, Value};
 use wasm_space::{Slots, Space};
 use wasm_view::View;
 
 impl<'m> View<'m> for Instance<'m> {
-    ghost use Rattle.spec_execution.specs.Instances.{ModuleParts};
+    ghost use Rattle.spec_safety.specs.spec_execution.Instances.{ModuleParts};
     ghost use Rattle.wasm_instance.specs.States.{seen_of};
 
     ghost Units = { ModuleParts };

@@ -19,8 +19,8 @@ ghost use Rattle.spec_binary.specs.Number.{Begins, IsShortest, Appends};
 ghost use Rattle.spec_binary.specs.Name.{SpellsName};
 
 use crate::unsigned::{put_u32, read_u32};
+use spec_binary::wasm_form::Memory;
 use std::alloc::Global;
-use wasm_form::Memory;
 
 /// Reads a name (section 5.2.4) that begins at a place: where its bytes start, and the place after them, which is
 /// the place after the name. None where no spelling of a name begins there: no number stands there, or fewer bytes

@@ -28,8 +28,8 @@ ghost use Rattle.std.specs.Prelude.{
 };
 ghost use Rattle.spec_binary.specs.Number.{IsSigned, SpellsSigned, Begins, IsShortest, Appends};
 
+use spec_binary::wasm_form::Memory;
 use std::alloc::{AllocError, Global};
-use wasm_form::Memory;
 
 /// Reads a signed number of 32 bits (`s32`, section 5.2.2) that begins at a place: its value, and the place after it.
 /// None where no spelling of such a number begins there.

@@ -19,8 +19,8 @@ ghost use Rattle.std.specs.Prelude.{
 };
 ghost use Rattle.spec_binary.specs.Number.{SpellsUnsigned, Begins, IsShortest, Appends};
 
+use spec_binary::wasm_form::Memory;
 use std::alloc::{AllocError, Global};
-use wasm_form::Memory;
 
 /// Reads an unsigned number of 32 bits (`u32`, section 5.2.2) that begins at a place: its value, and the place after
 /// it. None where no spelling of such a number begins there.

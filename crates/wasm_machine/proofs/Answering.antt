@@ -3,14 +3,14 @@ use Rattle.std.proofs.Common.{arith, ◌≡◌, ℕ, ◌+◌, ◌≤◌, ◌<◌
 use Rattle.std.specs.Prelude.{IsTrue, is_err, reverse, nat_le}
 use Rattle.std.proofs.lemmas.Bool.{false≢true, and_parts, leb-true}
 use Rattle.std.proofs.lemmas.List.{take_all, drop_more, map_more, length-map, length-take, length-reverse, reverse-append}
-use Rattle.wasm_runtime.specs.declared.Value.TheVariants.{Num}
-use Rattle.wasm_runtime.specs.declared.Write.{Write}
+use Rattle.wasm_form.specs.declared.runtime.Value.TheVariants.{Num}
+use Rattle.wasm_form.specs.declared.runtime.Write.{Write}
 use Rattle.wasm_form.specs.declared.runtime.Trap.{Trap}
 use Rattle.wasm_form.specs.declared.runtime.Trap.TheVariants.{MemoryBounds}
 use Rattle.wasm_space.specs.Access.{ChangesOrTraps}
-use Rattle.spec_runtime.specs.Memories.{MemoryInstance, overwritten, written}
-use Rattle.spec_runtime.specs.Hosts.{writes_fit, all_written}
-use Rattle.spec_execution.specs.Activations.{with_values, pushed}
+use Rattle.spec_safety.specs.spec_runtime.Memories.{MemoryInstance, overwritten, written}
+use Rattle.spec_safety.specs.spec_runtime.Hosts.{writes_fit, all_written}
+use Rattle.spec_safety.specs.spec_execution.Activations.{with_values, pushed}
 use Rattle.wasm_step.specs.Tops.{Top, with_act}
 use Rattle.wasm_step.specs.Primitives.{HasSpare}
 

@@ -3,22 +3,22 @@ use Rattle.std.proofs.Common.{arith, ◌≡◌, ℕ, ◌+◌, ◌≤◌, ◌<◌
 use Rattle.std.specs.Prelude.{reverse, is_some, IfSome, if◌then◌else◌, slice_get, unwrap_or}
 use Rattle.std.specs.List.{All}
 use Rattle.std.proofs.lemmas.List.Elements.{All-nil, All-cons, All-head, All-tail}
-use Rattle.spec_runs.specs.Systems.{only_if}
+use Rattle.spec_safety.specs.spec_runs.Systems.{only_if}
 use Rattle.wasm_form.specs.declared.types.ValType.{ValType}
 use Rattle.wasm_form.specs.declared.types.ValType.TheVariants.{I32}
 use Rattle.wasm_form.specs.declared.types.FuncType.{FuncType}
 use Rattle.wasm_form.specs.declared.runtime.LoaderCall.{LoaderCall}
 use Rattle.wasm_form.specs.declared.runtime.LoaderCall.TheVariants.{Dlopen, Dlsym, Dlclose, Dlerror}
 use Rattle.wasm_form.specs.declared.runtime.Ref.TheVariants.{Host, Loader}
-use Rattle.wasm_runtime.specs.declared.Value.{Value}
-use Rattle.wasm_runtime.specs.declared.Value.TheVariants.{Num, Func}
-use Rattle.spec_runtime.specs.Memories.{MemoryInstance}
-use Rattle.spec_execution.specs.Values.{take_values, number_of, numbers_of}
-use Rattle.spec_execution.specs.Activations.{Activation, with_values}
-use Rattle.spec_execution.specs.Views.{View, type_of, loader_type}
-use Rattle.spec_execution.specs.Ranges.{AllInRange, IsActivationInRange, IsFrameInRange}
-use Rattle.spec_execution.specs.Limits.{activations}
-use Rattle.spec_execution.specs.Runs.{Frame, Active, Next, Asks, Loads, call, calling}
+use Rattle.wasm_form.specs.declared.runtime.Value.{Value}
+use Rattle.wasm_form.specs.declared.runtime.Value.TheVariants.{Num, Func}
+use Rattle.spec_safety.specs.spec_runtime.Memories.{MemoryInstance}
+use Rattle.spec_safety.specs.spec_execution.Values.{take_values, number_of, numbers_of}
+use Rattle.spec_safety.specs.spec_execution.Activations.{Activation, with_values}
+use Rattle.spec_safety.specs.spec_execution.Views.{View, type_of, loader_type}
+use Rattle.spec_safety.specs.spec_execution.Ranges.{AllInRange, IsActivationInRange, IsFrameInRange}
+use Rattle.spec_safety.specs.spec_execution.Limits.{activations}
+use Rattle.spec_safety.specs.spec_execution.Runs.{Frame, Active, Next, Asks, Loads, call, calling}
 use Rattle.wasm_step.specs.Tops.{Top, with_act}
 use Rattle.wasm_step.specs.Primitives.{Widened, HasSpare, with_rest}
 use Rattle.wasm_machine.specs.Stacks.{CallStack, frames_at, IsTopOf, under_of, is_live, joined, IsJoined}

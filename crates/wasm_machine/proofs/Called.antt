@@ -8,16 +8,16 @@ use Rattle.wasm_form.specs.declared.types.FuncType.{FuncType}
 use Rattle.wasm_form.specs.declared.module.Code.{Code}
 use Rattle.wasm_form.specs.declared.runtime.Ref.{Ref}
 use Rattle.wasm_form.specs.declared.runtime.Ref.TheVariants.{Own}
-use Rattle.wasm_runtime.specs.declared.Value.{Value}
-use Rattle.spec_binary.specs.Options.{◌>>=◌}
-use Rattle.spec_binary.specs.Indices.{Function, declared_locals}
-use Rattle.spec_runtime.specs.Memories.{MemoryInstance}
-use Rattle.spec_execution.specs.Values.{take_values}
-use Rattle.spec_execution.specs.Activations.{Activation}
-use Rattle.spec_execution.specs.Views.{View, type_of}
-use Rattle.spec_execution.specs.Runs.{Frame, Active, Next, Goes, Caller, entered, call}
-use Rattle.spec_execution.specs.Ranges.{IsWhole, Exists}
-use Rattle.spec_execution.specs.Limits.{most_activations, most_values, room_of, rooms_of, activations, is_deep}
+use Rattle.wasm_form.specs.declared.runtime.Value.{Value}
+use Rattle.spec_safety.specs.spec_binary.Options.{◌>>=◌}
+use Rattle.spec_safety.specs.spec_binary.Indices.{Function, declared_locals}
+use Rattle.spec_safety.specs.spec_runtime.Memories.{MemoryInstance}
+use Rattle.spec_safety.specs.spec_execution.Values.{take_values}
+use Rattle.spec_safety.specs.spec_execution.Activations.{Activation}
+use Rattle.spec_safety.specs.spec_execution.Views.{View, type_of}
+use Rattle.spec_safety.specs.spec_execution.Runs.{Frame, Active, Next, Goes, Caller, entered, call}
+use Rattle.spec_safety.specs.spec_execution.Ranges.{IsWhole, Exists}
+use Rattle.spec_safety.specs.spec_execution.Limits.{most_activations, most_values, room_of, rooms_of, activations, is_deep}
 use Rattle.wasm_step.specs.Primitives.{begun}
 use Rattle.wasm_machine.specs.Stacks.{CallStack, total}
 use Rattle.wasm_step.specs.Moves.{Changes}

@@ -7,14 +7,14 @@ use Rattle.wasm_form.specs.declared.instr.Instr.{Instr, out-Instr}
 use Rattle.wasm_form.specs.declared.instr.Instr.TheOpen as Open
 use Rattle.wasm_form.specs.declared.instr.Expr.{Expr}
 use Rattle.wasm_form.specs.declared.runtime.Ref.{Ref}
-use Rattle.wasm_opcode.specs.declared.index.IndexForm.{IndexForm}
-use Rattle.wasm_opcode.specs.declared.index.IndexForm.TheVariants as index
-use Rattle.wasm_opcode.specs.Index.{index_form}
-use Rattle.spec_runtime.specs.Memories.{MemoryInstance}
-use Rattle.spec_execution.specs.Activations.{Activation, Calls, index_move, instr_move}
-use Rattle.spec_execution.specs.Views.{View, Counts}
-use Rattle.spec_execution.specs.Ranges.{index_in_range, in_range, AreInRange, IsWhole}
-use Rattle.spec_execution.specs.Runs.{Frame, Active, carried_out}
+use Rattle.wasm_form.specs.declared.index.IndexForm.{IndexForm}
+use Rattle.wasm_form.specs.declared.index.IndexForm.TheVariants as index
+use Rattle.wasm_form.specs.Index.{index_form}
+use Rattle.spec_safety.specs.spec_runtime.Memories.{MemoryInstance}
+use Rattle.spec_safety.specs.spec_execution.Activations.{Activation, Calls, index_move, instr_move}
+use Rattle.spec_safety.specs.spec_execution.Views.{View, Counts}
+use Rattle.spec_safety.specs.spec_execution.Ranges.{index_in_range, in_range, AreInRange, IsWhole}
+use Rattle.spec_safety.specs.spec_execution.Runs.{Frame, Active, carried_out}
 use Rattle.wasm_step.specs.Primitives.{first_of, with_rest}
 use Rattle.wasm_step.specs.Named.{named_here, is_call, is_call_form}
 use Rattle.wasm_machine.specs.Machines.{indirect, next_of, calls_outside, calls_outside_here, call_is_outside, names_outside, some_outside}

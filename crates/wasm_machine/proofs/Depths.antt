@@ -3,11 +3,11 @@ use Rattle.std.proofs.Common.{arith, ◌≡◌, ℕ, ◌+◌, ◌≤◌, List, [
 use Rattle.std.specs.Prelude.{◌||◌, nat_lt}
 use Rattle.std.proofs.lemmas.Bool.{le-ltb}
 use Rattle.std.proofs.lemmas.List.{length-map}
-use Rattle.wasm_runtime.specs.declared.Value.{Value}
-use Rattle.spec_execution.specs.Activations.{Activation}
-use Rattle.spec_execution.specs.Views.{View}
-use Rattle.spec_execution.specs.Limits.{most_activations, most_values, room_of, activations, rooms_of, is_deep}
-use Rattle.spec_execution.specs.Runs.{Frame, Active, Marked, given}
+use Rattle.wasm_form.specs.declared.runtime.Value.{Value}
+use Rattle.spec_safety.specs.spec_execution.Activations.{Activation}
+use Rattle.spec_safety.specs.spec_execution.Views.{View}
+use Rattle.spec_safety.specs.spec_execution.Limits.{most_activations, most_values, room_of, activations, rooms_of, is_deep}
+use Rattle.spec_safety.specs.spec_execution.Runs.{Frame, Active, Marked, given}
 use Rattle.wasm_machine.specs.Stacks.{CallStack, total, IsBounded}
 use Rattle.wasm_machine.specs.Machines.{RoomsAre}
 

@@ -5,10 +5,10 @@ use Rattle.std.proofs.lemmas.Bool.{and_parts}
 use Rattle.wasm_form.specs.declared.instr.Instr.{Instr, out-Instr}
 use Rattle.wasm_form.specs.declared.instr.Instr.TheOpen as Open
 use Rattle.wasm_form.specs.declared.instr.Expr.{Expr}
-use Rattle.spec_runtime.specs.Memories.{MemoryInstance}
-use Rattle.spec_execution.specs.Views.{Counts, View}
-use Rattle.spec_execution.specs.Runs.{Frame, Active, Marked}
-use Rattle.spec_execution.specs.Ranges.{block_in_range, in_range_here, in_range, or_true, AllInRange}
+use Rattle.spec_safety.specs.spec_runtime.Memories.{MemoryInstance}
+use Rattle.spec_safety.specs.spec_execution.Views.{Counts, View}
+use Rattle.spec_safety.specs.spec_execution.Runs.{Frame, Active, Marked}
+use Rattle.spec_safety.specs.spec_execution.Ranges.{block_in_range, in_range_here, in_range, or_true, AllInRange}
 use Rattle.spec_safety.proofs.Levels.{inside_else, with_inside, all_in_range, in_range_level}
 use Rattle.spec_safety.proofs.StepsInRange.{IsNextInRange, step_in as code_in}
 use Rattle.wasm_step.specs.Named.{named_here}

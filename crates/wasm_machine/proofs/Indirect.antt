@@ -4,9 +4,9 @@ use Rattle.std.specs.Option.{ok_or}
 use Rattle.std.proofs.lemmas.Option.{slice_get_within, get_or_from_slice_get}
 use Rattle.wasm_form.specs.declared.runtime.Ref.{Ref}
 use Rattle.wasm_form.specs.declared.runtime.Trap.{Trap}
-use Rattle.spec_runtime.specs.Tables.{TableInstance, entry_at}
-use Rattle.spec_execution.specs.Views.{View}
-use Rattle.spec_execution.specs.Ranges.{HoldsAll, Exists, AllExist, ReferenceExists}
+use Rattle.spec_safety.specs.spec_runtime.Tables.{TableInstance, entry_at}
+use Rattle.spec_safety.specs.spec_execution.Views.{View}
+use Rattle.spec_safety.specs.spec_execution.Ranges.{HoldsAll, Exists, AllExist, ReferenceExists}
 
 pub entry_there : (o : Option (Option Ref)) (t : Trap) (r : Option Ref) → ok_or o t ≡ Ok r → o ≡ Some r
 entry_there None t r e = absurd cc

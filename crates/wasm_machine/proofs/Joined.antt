@@ -3,10 +3,10 @@ use Rattle.std.proofs.Common.{arith, ◌≡◌, ℕ, ◌+◌, ◌≤◌, List, [
 use Rattle.std.specs.Prelude.{reverse}
 use Rattle.std.proofs.lemmas.List.{reverse-append}
 use Rattle.wasm_form.specs.declared.module.Code.{Code}
-use Rattle.spec_execution.specs.Activations.{Activation, with_values}
-use Rattle.spec_execution.specs.Views.{View}
-use Rattle.spec_execution.specs.Runs.{Active}
-use Rattle.spec_execution.specs.Limits.{most_activations, most_values, room_of, activations}
+use Rattle.spec_safety.specs.spec_execution.Activations.{Activation, with_values}
+use Rattle.spec_safety.specs.spec_execution.Views.{View}
+use Rattle.spec_safety.specs.spec_execution.Runs.{Active}
+use Rattle.spec_safety.specs.spec_execution.Limits.{most_activations, most_values, room_of, activations}
 use Rattle.wasm_step.specs.Tops.{Top, with_act}
 use Rattle.wasm_step.specs.Primitives.{with_rest, begun, Opened, Started}
 use Rattle.wasm_machine.specs.Stacks.{rooms_at, total, most_blocks, is_live, under_of, joined, IsJoined}

@@ -6,16 +6,16 @@ use Rattle.std.proofs.Math.Bool.{or-true}
 use Rattle.std.proofs.lemmas.List.Elements.{All-head}
 use Rattle.wasm_form.specs.declared.instr.Instr.{Instr, out-Instr}
 use Rattle.wasm_form.specs.declared.runtime.Ref.{Ref}
-use Rattle.wasm_runtime.specs.declared.Value.TheVariants.{Func}
-use Rattle.spec_runtime.specs.Memories.{MemoryInstance}
-use Rattle.spec_binary.specs.Options.{◌>>=◌}
-use Rattle.spec_execution.specs.Activations.{instr_move, Activation, Move, On, Calls, CallsEntry, Refers, Does, Leaves, Fails, Stuck, pushed}
-use Rattle.spec_execution.specs.Views.{View, Effected, performed}
-use Rattle.spec_execution.specs.Views as effects
-use Rattle.spec_execution.specs.Runs.{Frame, Active, Next, Goes, Asks, Loads, effected_with, carried_out}
-use Rattle.spec_execution.specs.Runs as runs
-use Rattle.spec_execution.specs.Limits.{room_of}
-use Rattle.spec_execution.specs.Ranges.{AreInRange, IsActivationInRange, IsFrameInRange, AllInRange}
+use Rattle.wasm_form.specs.declared.runtime.Value.TheVariants.{Func}
+use Rattle.spec_safety.specs.spec_runtime.Memories.{MemoryInstance}
+use Rattle.spec_safety.specs.spec_binary.Options.{◌>>=◌}
+use Rattle.spec_safety.specs.spec_execution.Activations.{instr_move, Activation, Move, On, Calls, CallsEntry, Refers, Does, Leaves, Fails, Stuck, pushed}
+use Rattle.spec_safety.specs.spec_execution.Views.{View, Effected, performed}
+use Rattle.spec_safety.specs.spec_execution.Views as effects
+use Rattle.spec_safety.specs.spec_execution.Runs.{Frame, Active, Next, Goes, Asks, Loads, effected_with, carried_out}
+use Rattle.spec_safety.specs.spec_execution.Runs as runs
+use Rattle.spec_safety.specs.spec_execution.Limits.{room_of}
+use Rattle.spec_safety.specs.spec_execution.Ranges.{AreInRange, IsActivationInRange, IsFrameInRange, AllInRange}
 use Rattle.wasm_view.specs.Seen.{Seen}
 use Rattle.wasm_step.specs.Tops.{Top, with_act, height_of}
 use Rattle.wasm_step.specs.Primitives.{first_of, with_rest}

@@ -6,18 +6,18 @@ use Rattle.wasm_form.specs.declared.types.FuncType.{FuncType}
 use Rattle.wasm_form.specs.declared.runtime.Ref.{Ref}
 use Rattle.wasm_form.specs.declared.runtime.Ref.TheVariants.{Own, Loader, Host, Stub}
 use Rattle.wasm_form.specs.declared.runtime.Trap.TheVariants as trap
-use Rattle.wasm_runtime.specs.declared.Value.{Value}
-use Rattle.spec_runs.specs.Systems.{only_if}
-use Rattle.spec_binary.proofs.Options.{map_then, map_either}
-use Rattle.spec_binary.specs.SameTypes.{same_function_type}
-use Rattle.spec_runtime.specs.Memories.{MemoryInstance}
-use Rattle.spec_runtime.specs.Tables.{entry_at}
-use Rattle.spec_execution.specs.Values.{take_values}
-use Rattle.spec_execution.specs.Activations.{Activation, Move, On, Calls, CallsEntry, Refers, Does, Leaves, Fails, Stuck}
-use Rattle.spec_execution.specs.Views.{View, type_of, loader_type, Effected, performed}
-use Rattle.spec_execution.specs.Views as effects
-use Rattle.spec_execution.specs.Limits.{most_activations, most_values, activations, rooms_of, is_deep}
-use Rattle.spec_execution.specs.Runs.{Frame, Active, Marked, Next, Traps, Caller, call_own, call_host, call_loader, call, calling, call_entry, left_with, effected_with, carried_out}
+use Rattle.wasm_form.specs.declared.runtime.Value.{Value}
+use Rattle.spec_safety.specs.spec_runs.Systems.{only_if}
+use Rattle.spec_safety.proofs.of_spec_binary.Options.{map_then, map_either}
+use Rattle.spec_safety.specs.spec_binary.SameTypes.{same_function_type}
+use Rattle.spec_safety.specs.spec_runtime.Memories.{MemoryInstance}
+use Rattle.spec_safety.specs.spec_runtime.Tables.{entry_at}
+use Rattle.spec_safety.specs.spec_execution.Values.{take_values}
+use Rattle.spec_safety.specs.spec_execution.Activations.{Activation, Move, On, Calls, CallsEntry, Refers, Does, Leaves, Fails, Stuck}
+use Rattle.spec_safety.specs.spec_execution.Views.{View, type_of, loader_type, Effected, performed}
+use Rattle.spec_safety.specs.spec_execution.Views as effects
+use Rattle.spec_safety.specs.spec_execution.Limits.{most_activations, most_values, activations, rooms_of, is_deep}
+use Rattle.spec_safety.specs.spec_execution.Runs.{Frame, Active, Marked, Next, Traps, Caller, call_own, call_host, call_loader, call, calling, call_entry, left_with, effected_with, carried_out}
 use Rattle.wasm_machine.specs.Marks.{marked_stack, marked_next}
 
 -- ---- calls and moves

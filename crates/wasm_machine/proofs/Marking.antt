@@ -2,7 +2,7 @@
 use Rattle.std.proofs.Common.{◌≡◌, ℕ, List, [], ◌∷◌, ◌++◌, refl, ap, sym, ◌∙◌, Option, Some, None, Result, Ok, Err, Bool, true, false}
 use Rattle.std.specs.Prelude.{reverse, IfSome, IfNone, OnOk, is_err, if◌then◌else◌}
 use Rattle.std.proofs.lemmas.Bool.{true≢false}
-use Rattle.spec_execution.specs.Runs.{Active}
+use Rattle.spec_safety.specs.spec_execution.Runs.{Active}
 use Rattle.wasm_step.specs.Tops.{Top}
 use Rattle.wasm_step.specs.Primitives.{Parked, Widened, HasSpare, resumed}
 use Rattle.wasm_machine.specs.Stacks.{frames_at, is_live, joined, IsJoined, latest}

@@ -3,9 +3,9 @@ use Rattle.std.proofs.Common.{arith, ◌≡◌, ℕ, ◌+◌, ◌≤◌, List, [
 use Rattle.std.specs.Prelude.{reverse, if◌then◌else◌}
 use Rattle.std.proofs.lemmas.Bool.{le-ltb, lt-ltb}
 use Rattle.std.proofs.lemmas.List.{reverse-append, length-take}
-use Rattle.wasm_runtime.specs.declared.Value.{Value}
-use Rattle.spec_execution.specs.Activations.{Activation}
-use Rattle.spec_execution.specs.Runs.{Active, Marked}
+use Rattle.wasm_form.specs.declared.runtime.Value.{Value}
+use Rattle.spec_safety.specs.spec_execution.Activations.{Activation}
+use Rattle.spec_safety.specs.spec_execution.Runs.{Active, Marked}
 use Rattle.wasm_step.specs.Tops.{Top, with_act, below_count, height_of, levels_at, activation_at, IsLaidOut}
 use Rattle.wasm_step.specs.Primitives.{IsIdle, Parked, Widened, HasSpare, resumed}
 use Rattle.wasm_machine.specs.Stacks.{CallStack, frames_at, rooms_at, most_blocks, LiesWell, LieWell, IsTopOf, is_live, IsBounded, IsJoined}

@@ -5,16 +5,16 @@ use Rattle.std.proofs.lemmas.Bool.{false≢true, and_parts}
 use Rattle.std.proofs.lemmas.List.Elements.{All-cons, All-head, All-tail}
 use Rattle.wasm_form.specs.declared.types.ValType.{ValType}
 use Rattle.wasm_form.specs.declared.types.FuncType.{FuncType}
-use Rattle.wasm_runtime.specs.declared.Value.{Value}
-use Rattle.wasm_runtime.specs.declared.Value.TheVariants.{Num}
-use Rattle.wasm_runtime.specs.declared.Write.{Write}
-use Rattle.wasm_runtime.specs.declared.Answer.TheVariants.{Reply}
-use Rattle.spec_runtime.specs.Memories.{MemoryInstance}
-use Rattle.spec_runtime.specs.Hosts.{number_fits, numbers_fit, writes_fit, fits_results}
-use Rattle.spec_execution.specs.Views.{View}
-use Rattle.spec_execution.specs.Ranges.{AllInRange, ValueExists, IsFrameInRange}
-use Rattle.spec_execution.specs.Limits.{activations}
-use Rattle.spec_execution.specs.Runs.{Frame, Active, Marked, given}
+use Rattle.wasm_form.specs.declared.runtime.Value.{Value}
+use Rattle.wasm_form.specs.declared.runtime.Value.TheVariants.{Num}
+use Rattle.wasm_form.specs.declared.runtime.Write.{Write}
+use Rattle.wasm_form.specs.declared.runtime.Answer.TheVariants.{Reply}
+use Rattle.spec_safety.specs.spec_runtime.Memories.{MemoryInstance}
+use Rattle.spec_safety.specs.spec_runtime.Hosts.{number_fits, numbers_fit, writes_fit, fits_results}
+use Rattle.spec_safety.specs.spec_execution.Views.{View}
+use Rattle.spec_safety.specs.spec_execution.Ranges.{AllInRange, ValueExists, IsFrameInRange}
+use Rattle.spec_safety.specs.spec_execution.Limits.{activations}
+use Rattle.spec_safety.specs.spec_execution.Runs.{Frame, Active, Marked, given}
 use Rattle.wasm_machine.specs.Stacks.{CallStack}
 use Rattle.wasm_machine.specs.Machines.{MachineState, IsAsked, IsOver, FitsAnswer, IsExpecting, Received, Marks, IsMarked, Unmarks, waits_under}
 use Rattle.wasm_machine.specs.declared.machine.Standing.{Standing}

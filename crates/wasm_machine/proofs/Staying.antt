@@ -6,23 +6,23 @@ use Rattle.wasm_form.specs.declared.instr.Instr.{Instr}
 use Rattle.wasm_form.specs.declared.instr.Instr.TheOpen as Open
 use Rattle.wasm_form.specs.declared.instr.Expr.{Expr}
 use Rattle.wasm_form.specs.declared.runtime.Ref.{Ref}
-use Rattle.wasm_opcode.specs.declared.plain.Operator.{Operator}
-use Rattle.wasm_opcode.specs.declared.plain.Operator.TheVariants.{Test, Compare, Unary, Binary, Convert}
-use Rattle.wasm_opcode.specs.declared.plain.PlainForm.{PlainForm}
-use Rattle.wasm_opcode.specs.declared.plain.PlainForm.TheVariants as plain
-use Rattle.wasm_opcode.specs.declared.index.IndexForm.{IndexForm}
-use Rattle.wasm_opcode.specs.declared.index.IndexForm.TheVariants as index
-use Rattle.wasm_opcode.specs.declared.access.MemoryAccess.{MemoryAccess}
-use Rattle.wasm_opcode.specs.declared.second.SecondForm.{SecondForm}
-use Rattle.wasm_opcode.specs.declared.second.SecondForm.TheVariants as second
-use Rattle.wasm_opcode.specs.Plain.{plain_form}
-use Rattle.wasm_opcode.specs.Index.{index_form}
-use Rattle.wasm_opcode.specs.Access.{memory_access}
-use Rattle.wasm_opcode.specs.Second.{second_form}
-use Rattle.wasm_runtime.specs.declared.Value.{Value}
-use Rattle.wasm_runtime.specs.declared.Value.TheVariants.{Num, Func}
-use Rattle.spec_runtime.specs.Numerics.{Outcome, Whole, Traps, unary_of, binary_of, compare_of, convert_of}
-use Rattle.spec_execution.specs.Activations.{Level, Activation, Effect, GlobalSet, TableGet, TableSet, TableGrow, TableFill, TableCopy, TableInit, MemoryInit, MemoryCopy, MemoryFill, Load, Store, MemoryGrow, Move, On, Calls, CallsEntry, Refers, Does, Leaves, Fails, Stuck, with_values, pushed, with_top, with_number, with_i32, with_reference, with_three, on_some, outcome_move, unary_move, binary_move, compare_move, convert_move, operator_move, expanded, else_of, block_move, loop_move, if_move, landed, to_end, branched, branch_move, branch_if_move, picked, select_move, one_if, is_null, plain_move, local_got, local_set, index_move, access_move, second_move, block_with, instr_move}
+use Rattle.wasm_form.specs.declared.plain.Operator.{Operator}
+use Rattle.wasm_form.specs.declared.plain.Operator.TheVariants.{Test, Compare, Unary, Binary, Convert}
+use Rattle.wasm_form.specs.declared.plain.PlainForm.{PlainForm}
+use Rattle.wasm_form.specs.declared.plain.PlainForm.TheVariants as plain
+use Rattle.wasm_form.specs.declared.index.IndexForm.{IndexForm}
+use Rattle.wasm_form.specs.declared.index.IndexForm.TheVariants as index
+use Rattle.wasm_form.specs.declared.access.MemoryAccess.{MemoryAccess}
+use Rattle.wasm_form.specs.declared.second.SecondForm.{SecondForm}
+use Rattle.wasm_form.specs.declared.second.SecondForm.TheVariants as second
+use Rattle.wasm_form.specs.Plain.{plain_form}
+use Rattle.wasm_form.specs.Index.{index_form}
+use Rattle.wasm_form.specs.Access.{memory_access}
+use Rattle.wasm_form.specs.Second.{second_form}
+use Rattle.wasm_form.specs.declared.runtime.Value.{Value}
+use Rattle.wasm_form.specs.declared.runtime.Value.TheVariants.{Num, Func}
+use Rattle.spec_safety.specs.spec_runtime.Numerics.{Outcome, Whole, Traps, unary_of, binary_of, compare_of, convert_of}
+use Rattle.spec_safety.specs.spec_execution.Activations.{Level, Activation, Effect, GlobalSet, TableGet, TableSet, TableGrow, TableFill, TableCopy, TableInit, MemoryInit, MemoryCopy, MemoryFill, Load, Store, MemoryGrow, Move, On, Calls, CallsEntry, Refers, Does, Leaves, Fails, Stuck, with_values, pushed, with_top, with_number, with_i32, with_reference, with_three, on_some, outcome_move, unary_move, binary_move, compare_move, convert_move, operator_move, expanded, else_of, block_move, loop_move, if_move, landed, to_end, branched, branch_move, branch_if_move, picked, select_move, one_if, is_null, plain_move, local_got, local_set, index_move, access_move, second_move, block_with, instr_move}
 use Rattle.wasm_step.specs.Named.{is_call, is_call_form}
 
 -- it goes on in an activation of this unit and function, or it ends there

@@ -4,10 +4,10 @@ use Rattle.std.specs.Prelude.{IfSome}
 use Rattle.std.proofs.lemmas.List.Elements.{All-nil}
 use Rattle.wasm_form.specs.declared.runtime.Ref.{Ref}
 use Rattle.wasm_form.specs.declared.runtime.Trap.{Trap}
-use Rattle.spec_runtime.specs.Memories.{MemoryInstance}
-use Rattle.spec_execution.specs.Views.{View}
-use Rattle.spec_execution.specs.Ranges.{AllInRange, IsFrameInRange}
-use Rattle.spec_execution.specs.Runs.{is_running, Frame, Next, Goes, Asks, Loads, Ends, Traps, call}
+use Rattle.spec_safety.specs.spec_runtime.Memories.{MemoryInstance}
+use Rattle.spec_safety.specs.spec_execution.Views.{View}
+use Rattle.spec_safety.specs.spec_execution.Ranges.{AllInRange, IsFrameInRange}
+use Rattle.spec_safety.specs.spec_execution.Runs.{is_running, Frame, Next, Goes, Asks, Loads, Ends, Traps, call}
 use Rattle.wasm_step.specs.Tops.{Top}
 use Rattle.wasm_machine.specs.Stacks.{CallStack, empty_stack, IsJoined, under_of, is_live, joined, IsBounded}
 use Rattle.wasm_step.specs.Moves.{Changes, AreSame}

@@ -6,25 +6,25 @@ use Rattle.wasm_form.specs.declared.instr.Instr.TheOpen as Open
 use Rattle.wasm_form.specs.declared.instr.Expr.{Expr}
 use Rattle.wasm_form.specs.declared.runtime.Ref.{Ref}
 use Rattle.wasm_form.specs.declared.runtime.Ref.TheVariants as ref
-use Rattle.wasm_opcode.specs.declared.index.IndexForm.{IndexForm}
-use Rattle.wasm_opcode.specs.declared.index.IndexForm.TheVariants.{Call}
-use Rattle.wasm_opcode.specs.Index.{index_form}
-use Rattle.wasm_runtime.specs.declared.Value.{Value}
-use Rattle.wasm_runtime.specs.declared.Value.TheVariants.{Num}
-use Rattle.wasm_runtime.specs.declared.Answer.{Answer}
-use Rattle.wasm_runtime.specs.declared.Answer.TheVariants.{Reply, Exit}
-use Rattle.spec_binary.specs.Options.{◌>>=◌}
-use Rattle.spec_binary.specs.SameTypes.{same_function_type}
-use Rattle.spec_runtime.specs.Numerics.{W32}
-use Rattle.spec_runtime.specs.Memories.{MemoryInstance}
-use Rattle.spec_runtime.specs.Tables.{entry_at}
-use Rattle.spec_runtime.specs.Hosts.{fits_results, all_written}
-use Rattle.spec_execution.specs.Values.{low}
-use Rattle.spec_execution.specs.Activations.{Activation, Move, Calls, CallsEntry, with_values, with_i32, move}
-use Rattle.spec_execution.specs.Views.{View, type_of}
-use Rattle.spec_execution.specs.Runs.{is_running, Frame, Active, Marked, Next, Goes, Asks, Loads, Ends, Traps, call, calling, carried_out, given}
-use Rattle.spec_execution.specs.Limits.{room_of, activations, is_deep}
-use Rattle.spec_execution.specs.Ranges.{AllInRange}
+use Rattle.wasm_form.specs.declared.index.IndexForm.{IndexForm}
+use Rattle.wasm_form.specs.declared.index.IndexForm.TheVariants.{Call}
+use Rattle.wasm_form.specs.Index.{index_form}
+use Rattle.wasm_form.specs.declared.runtime.Value.{Value}
+use Rattle.wasm_form.specs.declared.runtime.Value.TheVariants.{Num}
+use Rattle.wasm_form.specs.declared.runtime.Answer.{Answer}
+use Rattle.wasm_form.specs.declared.runtime.Answer.TheVariants.{Reply, Exit}
+use Rattle.spec_safety.specs.spec_binary.Options.{◌>>=◌}
+use Rattle.spec_safety.specs.spec_binary.SameTypes.{same_function_type}
+use Rattle.spec_safety.specs.spec_runtime.Numerics.{W32}
+use Rattle.spec_safety.specs.spec_runtime.Memories.{MemoryInstance}
+use Rattle.spec_safety.specs.spec_runtime.Tables.{entry_at}
+use Rattle.spec_safety.specs.spec_runtime.Hosts.{fits_results, all_written}
+use Rattle.spec_safety.specs.spec_execution.Values.{low}
+use Rattle.spec_safety.specs.spec_execution.Activations.{Activation, Move, Calls, CallsEntry, with_values, with_i32, move}
+use Rattle.spec_safety.specs.spec_execution.Views.{View, type_of}
+use Rattle.spec_safety.specs.spec_execution.Runs.{is_running, Frame, Active, Marked, Next, Goes, Asks, Loads, Ends, Traps, call, calling, carried_out, given}
+use Rattle.spec_safety.specs.spec_execution.Limits.{room_of, activations, is_deep}
+use Rattle.spec_safety.specs.spec_execution.Ranges.{AllInRange}
 use Rattle.wasm_step.specs.Tops.{height_of}
 use Rattle.wasm_step.specs.Primitives.{number_on, with_rest}
 use Rattle.wasm_view.specs.Seen.{Seen}

@@ -1,7 +1,7 @@
 -- The call stack of a machine, where each mark stands for something of a run.
 use Rattle.std.specs.Prelude.{◌≡◌, ◌≢◌, ℕ, zero, suc, List, [], ◌∷◌, true}
-use Rattle.spec_execution.specs.Views.{View}
-use Rattle.spec_execution.specs.Runs.{Frame, Active, Marked, Next, Goes, Asks, Loads, Ends, Traps}
+use Rattle.spec_safety.specs.spec_execution.Views.{View}
+use Rattle.spec_safety.specs.spec_execution.Runs.{Frame, Active, Marked, Next, Goes, Asks, Loads, Ends, Traps}
 
 -- the call stack of the run, by what the mark of each number stands for
 abbrev pub marked_stack : {Mark : Type 0} → (ℕ → Mark) → List (Frame ℕ) → List (Frame Mark)

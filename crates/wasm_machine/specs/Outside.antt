@@ -3,14 +3,14 @@ use Rattle.std.specs.Prelude.{◌≡◌, ◌<◌, ◌≤◌, ℕ, List, ◌∷�
 use Rattle.wasm_form.specs.declared.instr.Instr.{Instr}
 use Rattle.wasm_form.specs.declared.instr.Instr.TheOpen as Open
 use Rattle.wasm_form.specs.declared.instr.Expr.{Expr}
-use Rattle.wasm_opcode.specs.declared.index.IndexForm.{IndexForm}
-use Rattle.wasm_opcode.specs.declared.index.IndexForm.TheVariants.{Call}
-use Rattle.wasm_opcode.specs.Index.{index_form}
-use Rattle.spec_runtime.specs.Memories.{MemoryInstance}
-use Rattle.spec_execution.specs.Activations.{Activation}
-use Rattle.spec_execution.specs.Views.{View}
-use Rattle.spec_execution.specs.Ranges.{Exists}
-use Rattle.spec_execution.specs.Runs.{Frame, Active, call, calling}
+use Rattle.wasm_form.specs.declared.index.IndexForm.{IndexForm}
+use Rattle.wasm_form.specs.declared.index.IndexForm.TheVariants.{Call}
+use Rattle.wasm_form.specs.Index.{index_form}
+use Rattle.spec_safety.specs.spec_runtime.Memories.{MemoryInstance}
+use Rattle.spec_safety.specs.spec_execution.Activations.{Activation}
+use Rattle.spec_safety.specs.spec_execution.Views.{View}
+use Rattle.spec_safety.specs.spec_execution.Ranges.{Exists}
+use Rattle.spec_safety.specs.spec_execution.Runs.{Frame, Active, call, calling}
 use Rattle.wasm_machine.specs.Machines.{next_of, past_call, is_outside}
 use Rattle.wasm_machine.specs.declared.calls.OutsideCall.{OutsideCall}
 use Rattle.wasm_machine.specs.declared.calls.Callee.{Callee}

@@ -1,8 +1,8 @@
 -- The call stack, over the flat lists: the places of what lies under the topmost activation, the latest last.
 use Rattle.std.specs.Prelude.{◌≡◌, ◌≤◌, ℕ, ◌+◌, List, [], ◌∷◌, length, take, reverse, nat_lt, Option, Some, None, Bool, true, false, if◌then◌else◌}
-use Rattle.wasm_runtime.specs.declared.Value.{Value}
-use Rattle.spec_execution.specs.Limits.{most_activations, most_values}
-use Rattle.spec_execution.specs.Runs.{Frame, Active, Marked}
+use Rattle.wasm_form.specs.declared.runtime.Value.{Value}
+use Rattle.spec_safety.specs.spec_execution.Limits.{most_activations, most_values}
+use Rattle.spec_safety.specs.spec_execution.Runs.{Frame, Active, Marked}
 use Rattle.wasm_step.specs.declared.current.Label.{Label}
 use Rattle.wasm_step.specs.declared.current.Place.{Place}
 use Rattle.wasm_machine.specs.declared.callers.Caller.{Caller}

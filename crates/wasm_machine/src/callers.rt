@@ -1,6 +1,6 @@
 // What lies under the topmost activation.
 ghost use Rattle.std.specs.Prelude.{◌≡◌, ◌≤◌, ◌+◌, ◌++◌, ◌∷◌, [], ℕ, length, reverse, true, false, OnOk, OnErr, IfSome, IfNone, slice_get, Some};
-ghost use Rattle.spec_execution.specs.Limits.{most_activations, most_values};
+ghost use Rattle.spec_safety.specs.spec_execution.Limits.{most_activations, most_values};
 ghost use Rattle.wasm_machine.specs.Stacks.{rooms_at, total, latest};
 
 use std::alloc::Global;

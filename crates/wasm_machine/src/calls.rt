@@ -1,10 +1,10 @@
 // Calls and returns (section 4.4.10), and one step of the code on top.
 ghost use Rattle.std.specs.Prelude.{◌≡◌, ◌≢◌, ◌<◌, ◌≤◌, [], drop, length, true, false, Some};
-ghost use Rattle.spec_execution.specs.Ranges.{IsWhole, HoldsAll, AllInRange, AreInRange, Exists};
-ghost use Rattle.spec_execution.specs.Views.{type_of as type_seen};
+ghost use Rattle.spec_safety.specs.spec_execution.Ranges.{IsWhole, HoldsAll, AllInRange, AreInRange, Exists};
+ghost use Rattle.spec_safety.specs.spec_execution.Views.{type_of as type_seen};
 ghost use Rattle.wasm_form.specs.declared.instr.Instr.{out-Instr};
-ghost use Rattle.spec_binary.specs.Indices.{nullary};
-ghost use Rattle.spec_binary.specs.SameTypes.{same_function_type};
+ghost use Rattle.spec_safety.specs.spec_binary.Indices.{nullary};
+ghost use Rattle.spec_safety.specs.spec_binary.SameTypes.{same_function_type};
 ghost use Rattle.wasm_machine.specs.Outside.{callee_of, IsOutsideCall};
 ghost use Rattle.wasm_machine.specs.Stacks.{joined, under_of, is_live, IsJoined};
 ghost use Rattle.wasm_machine.specs.Machines.{Leads, Advances, next_in, carried_in, called_from, called_over, direct, indirect, Finished, RoomsAre, is_outside, names_outside, entry_is_outside, calls_outside};

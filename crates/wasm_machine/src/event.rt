@@ -1,6 +1,5 @@
 // What a step comes to.
-use wasm_form::{LoaderCall, Trap};
-use wasm_runtime::Asked;
+use wasm_form::{Asked, LoaderCall, Trap};
 
 /// What a step came to.
 ///

@@ -8,6 +8,6 @@ mod machine;
 
 pub use event::Event;
 pub use machine::{Machine, StackTop, Standing};
-pub use wasm_runtime::{Answer, Asked, Value, Write};
+pub use wasm_form::{Answer, Asked, Value, Write};
 pub use wasm_step::Done;
 pub use wasm_view::View;

@@ -1,10 +1,10 @@
 // The machine.
 ghost use Rattle.std.specs.Prelude.{◌≡◌, ◌≢◌, ◌≤◌, ◌<◌, ◌^◌, [], ◌∷◌, ◌++◌, length, map, reverse, take, drop, is_some, true, slice_get, unwrap_or, All, IfOk, OnOk, OnErr, Some, IsTrue};
-ghost use Rattle.spec_binary.specs.Indices.{nullary};
-ghost use Rattle.spec_runtime.specs.Hosts.{writes_fit, all_written};
-ghost use Rattle.spec_execution.specs.Values.{take_values, numbers_of};
-ghost use Rattle.spec_execution.specs.Activations.{with_values};
-ghost use Rattle.spec_execution.specs.Views.{type_of as type_seen};
+ghost use Rattle.spec_safety.specs.spec_binary.Indices.{nullary};
+ghost use Rattle.spec_safety.specs.spec_runtime.Hosts.{writes_fit, all_written};
+ghost use Rattle.spec_safety.specs.spec_execution.Values.{take_values, numbers_of};
+ghost use Rattle.spec_safety.specs.spec_execution.Activations.{with_values};
+ghost use Rattle.spec_safety.specs.spec_execution.Views.{type_of as type_seen};
 ghost use Rattle.wasm_step.specs.Tops.{with_act};
 ghost use Rattle.wasm_step.specs.Primitives.{HasSpare, IsIdle, Widened, with_rest};
 ghost use Rattle.wasm_machine.specs.Stacks.{empty_stack};
@@ -17,8 +17,7 @@ use crate::calls::{advance, begin_own, outside_call};
 use crate::event::Event;
 use std::alloc::Global;
 use std::marker::Model;
-use wasm_form::{List, Memory, Ref, Trap, ValType};
-use wasm_runtime::{Answer, Asked, Value, Write};
+use wasm_form::{Answer, Asked, List, Memory, Ref, Trap, ValType, Value, Write};
 use wasm_step::{Current, Done};
 use wasm_view::View;
 

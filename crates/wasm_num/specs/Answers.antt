@@ -1,6 +1,6 @@
 -- How the functions of this crate answer, and what an operand must be.
 use Rattle.std.specs.Prelude.{ℕ, ◌<◌, ◌^◌, Result, Ok, Err, ⊤}
-use Rattle.wasm_form.specs.declared.runtime.Trap.{Trap}
+use Rattle.spec_runtime.specs.wasm_form.declared.runtime.Trap.{Trap}
 use Rattle.spec_runtime.specs.Numerics.{Outcome, Whole, Traps, Width, bits, Compare, Eqz}
 
 -- a number, or the trap

@@ -21,9 +21,10 @@ ghost use Rattle.spec_runtime.specs.Numerics.{
 };
 ghost use Rattle.wasm_num.specs.Answers.{answer, FitsWidth, SecondFits};
 
-use wasm_form::Trap;
+use spec_runtime::wasm_form::Trap;
 
 /// Counts zeros or ones: clz, ctz and popcnt.
+#[inline(always)]
 pub fn unary(op: u8, a: u64) -> u64
     requires operator { IsSome (unary_of op) }
     requires operand { IfSome (unary_of op) (λ o. FitsWidth o.0 a) }
@@ -56,6 +57,7 @@ pub fn binary(op: u8, a: u64, b: u64) -> Result<u64, Trap>
 }
 
 /// Compares two numbers, or one with 0: eqz doesn't look at the second operand.
+#[inline(always)]
 pub fn compare(op: u8, a: u64, b: u64) -> bool
     requires operator { IsSome (compare_of op) }
     requires first { IfSome (compare_of op) (λ o. FitsWidth o.0 a) }
@@ -72,6 +74,7 @@ pub fn compare(op: u8, a: u64, b: u64) -> bool
 }
 
 /// Converts a number: wrap_i64, extend_i32_s and extend_i32_u, and the extensions of a number's low bits.
+#[inline(always)]
 pub fn convert(op: u8, a: u64) -> u64
     requires operator { IsSome (convert_of op) }
     requires operand { IfSome (convert_of op) (λ o. FitsWidth (converts_from o) a) }

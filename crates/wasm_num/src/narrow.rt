@@ -18,7 +18,7 @@ ghost use Rattle.spec_runtime.specs.Numerics.{
 };
 ghost use Rattle.wasm_num.specs.Answers.{answer};
 
-use wasm_form::Trap;
+use spec_runtime::wasm_form::Trap;
 
 #[tactic(auto, using(crate::proofs::Counts::counts))]
 pub fn unary(op: u8, a: u32) -> u32
@@ -31,6 +31,7 @@ pub fn unary(op: u8, a: u32) -> u32
     }
 }
 
+#[inline(always)]
 pub fn binary(op: u8, a: u32, b: u32) -> Result<u32, Trap>
     ensures { result ≡ answer (binary_outcome W32 (binary_at op) a b) }
 {
@@ -53,6 +54,7 @@ pub fn binary(op: u8, a: u32, b: u32) -> Result<u32, Trap>
     }
 }
 
+#[inline(always)]
 pub fn compare(op: u8, a: u32, b: u32) -> bool
     ensures { result ≡ compare_result W32 (compare_at op) a b }
 {

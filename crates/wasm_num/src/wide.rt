@@ -19,7 +19,7 @@ ghost use Rattle.spec_runtime.specs.Numerics.{
 };
 ghost use Rattle.wasm_num.specs.Answers.{answer};
 
-use wasm_form::Trap;
+use spec_runtime::wasm_form::Trap;
 
 #[tactic(auto, using(crate::proofs::Counts::counts))]
 pub fn unary(op: u8, a: u64) -> u64
@@ -32,6 +32,7 @@ pub fn unary(op: u8, a: u64) -> u64
     }
 }
 
+#[inline(always)]
 pub fn binary(op: u8, a: u64, b: u64) -> Result<u64, Trap>
     ensures { result ≡ answer (binary_outcome W64 (binary_at op) a b) }
 {
@@ -54,6 +55,7 @@ pub fn binary(op: u8, a: u64, b: u64) -> Result<u64, Trap>
     }
 }
 
+#[inline(always)]
 pub fn compare(op: u8, a: u64, b: u64) -> bool
     ensures { result ≡ compare_result W64 (compare_at op) a b }
 {

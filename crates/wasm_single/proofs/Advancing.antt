@@ -3,9 +3,9 @@ use Rattle.std.proofs.Common.{◌≡◌, ◌≢◌, ◌⊎◌, ℕ, suc, ◌<◌
 use Rattle.std.specs.Borrow.{Bor}
 use Rattle.std.proofs.lemmas.Bool.{false≢true, cases_lt}
 use Rattle.wasm_form.specs.declared.module.Module.{Module}
-use Rattle.spec_runs.specs.Systems.{Moving, Ran}
-use Rattle.spec_runtime.specs.Hosts.{hosts}
-use Rattle.spec_execution.specs.OneModule.{module_too_deep, ModuleState, module_step, module_run}
+use Rattle.spec_safety.specs.spec_runs.Systems.{Moving, Ran}
+use Rattle.spec_safety.specs.spec_runtime.Hosts.{hosts}
+use Rattle.spec_safety.specs.spec_execution.OneModule.{module_too_deep, ModuleState, module_step, module_run}
 use Rattle.wasm_machine.specs.declared.machine.Standing.TheVariants as standing
 use Rattle.wasm_single.specs.declared.bare_run.Core.{Core}
 use Rattle.wasm_single.specs.declared.bare_run.Phase.TheVariants as phase

@@ -15,30 +15,30 @@ use Rattle.wasm_form.specs.declared.runtime.Ref.{Ref}
 use Rattle.wasm_form.specs.declared.runtime.Ref.TheVariants.{Own, Loader, Host, Stub}
 use Rattle.wasm_form.specs.declared.runtime.Trap.{Trap}
 use Rattle.wasm_form.specs.declared.runtime.Trap.TheVariants as trap
-use Rattle.wasm_runtime.specs.declared.Asked.{Asked}
-use Rattle.wasm_runtime.specs.declared.Value.{Value}
-use Rattle.wasm_runtime.specs.declared.Value.TheVariants.{Num, Func}
-use Rattle.spec_runs.specs.Systems.{only_if, Status, Moving, Waits, Returned, Exited, Trapped}
-use Rattle.spec_binary.specs.Options.{◌>>=◌}
-use Rattle.spec_binary.specs.SameTypes.{same_function_type}
-use Rattle.spec_runtime.specs.Memories.{MemoryInstance}
-use Rattle.spec_runtime.specs.Names.{HostName, is_integer, has_integers}
-use Rattle.spec_runtime.specs.Tables.{entry_at}
-use Rattle.spec_runtime.specs.Hosts.{HostCall, number_fits, numbers_fit}
-use Rattle.spec_execution.specs.Values.{is_number, of_kind, take_values, number_of, numbers_of}
-use Rattle.spec_execution.specs.Activations.{Activation, Move, On, Calls, CallsEntry, Refers, Does, Leaves, Fails, Stuck, move}
-use Rattle.spec_execution.specs.Views.{View, type_of, loader_type, Effected, performed}
-use Rattle.spec_execution.specs.Views as effects
-use Rattle.spec_execution.specs.Runs.{Frame, Active, Marked, Next, Goes, Asks, Loads, Ends, Traps, Caller, arguments, call_own, call_host, call_loader, call, calling, call_entry, left_with, effected_with, carried_out, stands, became}
-use Rattle.spec_execution.specs.Instances.{ModuleParts, module_hosts, host_type, module_view}
-use Rattle.spec_execution.specs.OneModule.{Starting, ModuleState, start_next, module_next, module_step}
+use Rattle.wasm_form.specs.declared.runtime.Asked.{Asked}
+use Rattle.wasm_form.specs.declared.runtime.Value.{Value}
+use Rattle.wasm_form.specs.declared.runtime.Value.TheVariants.{Num, Func}
+use Rattle.spec_safety.specs.spec_runs.Systems.{only_if, Status, Moving, Waits, Returned, Exited, Trapped}
+use Rattle.spec_safety.specs.spec_binary.Options.{◌>>=◌}
+use Rattle.spec_safety.specs.spec_binary.SameTypes.{same_function_type}
+use Rattle.spec_safety.specs.spec_runtime.Memories.{MemoryInstance}
+use Rattle.spec_safety.specs.spec_runtime.Names.{HostName, is_integer, has_integers}
+use Rattle.spec_safety.specs.spec_runtime.Tables.{entry_at}
+use Rattle.spec_safety.specs.spec_runtime.Hosts.{HostCall, number_fits, numbers_fit}
+use Rattle.spec_safety.specs.spec_execution.Values.{is_number, of_kind, take_values, number_of, numbers_of}
+use Rattle.spec_safety.specs.spec_execution.Activations.{Activation, Move, On, Calls, CallsEntry, Refers, Does, Leaves, Fails, Stuck, move}
+use Rattle.spec_safety.specs.spec_execution.Views.{View, type_of, loader_type, Effected, performed}
+use Rattle.spec_safety.specs.spec_execution.Views as effects
+use Rattle.spec_safety.specs.spec_execution.Runs.{Frame, Active, Marked, Next, Goes, Asks, Loads, Ends, Traps, Caller, arguments, call_own, call_host, call_loader, call, calling, call_entry, left_with, effected_with, carried_out, stands, became}
+use Rattle.spec_safety.specs.spec_execution.Instances.{ModuleParts, module_hosts, host_type, module_view}
+use Rattle.spec_safety.specs.spec_execution.OneModule.{Starting, ModuleState, start_next, module_next, module_step}
 use Rattle.wasm_machine.specs.declared.event.Event.{Event}
 use Rattle.wasm_machine.specs.declared.event.Event.TheVariants as event
 use Rattle.wasm_single.specs.declared.bare_run.Core.{Core}
 use Rattle.wasm_single.specs.Cores.{TellsStatus, Steps}
 use Rattle.wasm_single.specs.Singles.{ArgumentsFit}
 use Rattle.wasm_single.specs.Steps.{AreNumbers}
-use Rattle.spec_binary.proofs.Options.{each_found, each, either_way}
+use Rattle.spec_safety.proofs.of_spec_binary.Options.{each_found, each, either_way}
 use Rattle.wasm_single.proofs.Functions.{went_on}
 
 -- ---- numbers by their types

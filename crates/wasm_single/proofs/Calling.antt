@@ -7,17 +7,17 @@ use Rattle.std.proofs.lemmas.Option.{same_Some}
 use Rattle.wasm_form.specs.declared.module.Module.{Module}
 use Rattle.wasm_form.specs.declared.runtime.Ref.{Ref}
 use Rattle.wasm_form.specs.declared.runtime.Ref.TheVariants.{Own, Host}
-use Rattle.wasm_runtime.specs.declared.Value.{Value}
-use Rattle.spec_runs.specs.Systems.{Moving}
-use Rattle.spec_binary.specs.Options.{◌>>=◌}
-use Rattle.spec_binary.specs.Indices.{nullary, function_type}
-use Rattle.spec_runtime.specs.Memories.{MemoryInstance}
-use Rattle.spec_execution.specs.Views.{View, type_of}
-use Rattle.spec_execution.specs.Ranges.{IsWhole}
-use Rattle.spec_execution.specs.Runs.{Frame, Active, Marked, Next, Goes, Asks, Loads, Ends, Traps, call}
-use Rattle.spec_execution.specs.Instances.{ModuleParts, function_named, module_target, module_view}
-use Rattle.spec_binary.specs.IndexSpaces.{imported_count}
-use Rattle.spec_execution.specs.OneModule.{Starting, ModuleState, module_next}
+use Rattle.wasm_form.specs.declared.runtime.Value.{Value}
+use Rattle.spec_safety.specs.spec_runs.Systems.{Moving}
+use Rattle.spec_safety.specs.spec_binary.Options.{◌>>=◌}
+use Rattle.spec_safety.specs.spec_binary.Indices.{nullary, function_type}
+use Rattle.spec_safety.specs.spec_runtime.Memories.{MemoryInstance}
+use Rattle.spec_safety.specs.spec_execution.Views.{View, type_of}
+use Rattle.spec_safety.specs.spec_execution.Ranges.{IsWhole}
+use Rattle.spec_safety.specs.spec_execution.Runs.{Frame, Active, Marked, Next, Goes, Asks, Loads, Ends, Traps, call}
+use Rattle.spec_safety.specs.spec_execution.Instances.{ModuleParts, function_named, module_target, module_view}
+use Rattle.spec_safety.specs.spec_binary.IndexSpaces.{imported_count}
+use Rattle.spec_safety.specs.spec_execution.OneModule.{Starting, ModuleState, module_next}
 use Rattle.wasm_step.specs.Moves.{Changes, AreSame}
 use Rattle.wasm_machine.specs.Machines.{MachineState, IsOver, IsClear, IsStart, Told}
 use Rattle.wasm_machine.specs.declared.machine.Standing.{Standing}

@@ -3,14 +3,14 @@ use Rattle.std.proofs.Common.{◌≡◌, ◌≢◌, inl, inr, ℕ, List, [], ◌
 use Rattle.std.specs.Prelude.{IfSome, IsTrue}
 use Rattle.std.specs.Option.{option_map}
 use Rattle.wasm_form.specs.declared.module.Module.{Module}
-use Rattle.wasm_runtime.specs.declared.Answer.{Answer}
-use Rattle.spec_runtime.specs.Memories.{MemoryInstance}
-use Rattle.spec_runtime.specs.Names.{HostName}
-use Rattle.spec_runtime.specs.Hosts.{fits_results}
-use Rattle.spec_execution.specs.Views.{View}
-use Rattle.spec_execution.specs.Runs.{is_running, Frame, Active, Marked, Next, Goes, Asks, Loads, Ends, Traps}
-use Rattle.spec_execution.specs.Instances.{ModuleParts, module_view, module_hosts, host_type}
-use Rattle.spec_execution.specs.OneModule.{Starting, ModuleState, module_next}
+use Rattle.wasm_form.specs.declared.runtime.Answer.{Answer}
+use Rattle.spec_safety.specs.spec_runtime.Memories.{MemoryInstance}
+use Rattle.spec_safety.specs.spec_runtime.Names.{HostName}
+use Rattle.spec_safety.specs.spec_runtime.Hosts.{fits_results}
+use Rattle.spec_safety.specs.spec_execution.Views.{View}
+use Rattle.spec_safety.specs.spec_execution.Runs.{is_running, Frame, Active, Marked, Next, Goes, Asks, Loads, Ends, Traps}
+use Rattle.spec_safety.specs.spec_execution.Instances.{ModuleParts, module_view, module_hosts, host_type}
+use Rattle.spec_safety.specs.spec_execution.OneModule.{Starting, ModuleState, module_next}
 use Rattle.wasm_step.specs.Moves.{Changes, AreSame}
 use Rattle.wasm_step.specs.declared.done.Done.{Done}
 use Rattle.wasm_step.specs.declared.done.Done.TheVariants as done

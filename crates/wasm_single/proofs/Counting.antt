@@ -2,9 +2,9 @@
 use Rattle.std.proofs.Common.{◌≡◌, ◌≢◌, ◌⊎◌, Some, None, false, refl, sym, ◌∙◌, inl, inr, subst}
 use Rattle.wasm_form.specs.declared.module.Module.{Module}
 use Rattle.wasm_form.specs.declared.runtime.Trap.{Trap}
-use Rattle.spec_runs.specs.Systems.{Status, Moving, Waits, Returned, Exited, Trapped}
-use Rattle.spec_runtime.specs.Hosts.{HostCall}
-use Rattle.spec_execution.specs.OneModule.{ModuleState}
+use Rattle.spec_safety.specs.spec_runs.Systems.{Status, Moving, Waits, Returned, Exited, Trapped}
+use Rattle.spec_safety.specs.spec_runtime.Hosts.{HostCall}
+use Rattle.spec_safety.specs.spec_execution.OneModule.{ModuleState}
 use Rattle.wasm_step.specs.declared.done.Done.{Done}
 use Rattle.wasm_step.specs.declared.done.Done.TheVariants as done
 use Rattle.wasm_machine.specs.declared.event.Event.{Event}

@@ -3,14 +3,14 @@ use Rattle.std.proofs.Common.{◌≡◌, ◌<◌, ◌≤◌, ℕ, Bool, true, fa
 use Rattle.std.specs.Prelude.{nat_lt, not, IfSome}
 use Rattle.std.proofs.lemmas.Bool.{and_parts, ltb-true, ltb-false, not-true}
 use Rattle.wasm_form.specs.declared.module.Module.{Module}
-use Rattle.spec_binary.specs.Options.{◌>>=◌}
-use Rattle.spec_binary.specs.IndexSpaces.{function_space, imported_count}
-use Rattle.spec_binary.specs.Indices.{nullary_at, function_type, is_own}
-use Rattle.spec_binary.proofs.OneType.{nullary_there}
-use Rattle.spec_binary.specs.Exports.{exported_function, exported_as, own_function, start_name}
-use Rattle.spec_validation.specs.Faults.{fault, start_fits}
-use Rattle.spec_execution.specs.OneModule.{module_entry}
-use Rattle.spec_validation.proofs.Parts.{parts_fit}
+use Rattle.spec_safety.specs.spec_binary.Options.{◌>>=◌}
+use Rattle.spec_safety.specs.spec_binary.IndexSpaces.{function_space, imported_count}
+use Rattle.spec_safety.specs.spec_binary.Indices.{nullary_at, function_type, is_own}
+use Rattle.spec_safety.proofs.of_spec_binary.OneType.{nullary_there}
+use Rattle.spec_safety.specs.spec_binary.Exports.{exported_function, exported_as, own_function, start_name}
+use Rattle.spec_safety.specs.spec_validation.Faults.{fault, start_fits}
+use Rattle.spec_safety.specs.spec_execution.OneModule.{module_entry}
+use Rattle.spec_safety.proofs.of_spec_validation.Parts.{parts_fit}
 use Rattle.wasm_single.specs.Cores.{IsStartable}
 
 -- ---- exports

@@ -12,14 +12,14 @@ use Rattle.wasm_form.specs.declared.module.Code.{Code}
 use Rattle.wasm_form.specs.declared.module.Module.{Module}
 use Rattle.wasm_form.specs.declared.runtime.Ref.{Ref}
 use Rattle.wasm_form.specs.declared.runtime.Ref.TheVariants.{Own, Host}
-use Rattle.spec_binary.specs.Options.{◌>>=◌}
-use Rattle.spec_binary.specs.IndexSpaces.{functions_in, imports_of, function_space, imported_count}
-use Rattle.spec_binary.specs.Indices.{function_type}
-use Rattle.spec_binary.proofs.Lists.{slice_get-append-left}
-use Rattle.spec_runtime.specs.Names.{HostName}
-use Rattle.spec_execution.specs.Views.{type_of}
-use Rattle.spec_execution.specs.Ranges.{IsWhole, Exists}
-use Rattle.spec_execution.specs.Instances.{function_named, module_target, hosts_in, named_host, imported_hosts, module_hosts, host_type, module_view}
+use Rattle.spec_safety.specs.spec_binary.Options.{◌>>=◌}
+use Rattle.spec_safety.specs.spec_binary.IndexSpaces.{functions_in, imports_of, function_space, imported_count}
+use Rattle.spec_safety.specs.spec_binary.Indices.{function_type}
+use Rattle.spec_safety.proofs.of_spec_binary.Lists.{slice_get-append-left}
+use Rattle.spec_safety.specs.spec_runtime.Names.{HostName}
+use Rattle.spec_safety.specs.spec_execution.Views.{type_of}
+use Rattle.spec_safety.specs.spec_execution.Ranges.{IsWhole, Exists}
+use Rattle.spec_safety.specs.spec_execution.Instances.{function_named, module_target, hosts_in, named_host, imported_hosts, module_hosts, host_type, module_view}
 
 -- a look-up that went on had a value
 pub went_on : {A B : Type 0} (o : Option A) (f : A → Option B) (b : B) → (o >>= f) ≡ Some b → (a : A) × (o ≡ Some a) × (f a ≡ Some b)

@@ -8,11 +8,11 @@ use Rattle.wasm_form.specs.declared.module.Import.{Import}
 use Rattle.wasm_form.specs.declared.module.ImportDesc.{ImportDesc}
 use Rattle.wasm_form.specs.declared.module.ImportDesc.TheVariants as imported
 use Rattle.wasm_form.specs.declared.module.Module.{Module}
-use Rattle.spec_binary.specs.IndexSpaces.{functions_in, imports_of}
-use Rattle.spec_runtime.specs.Names.{HostNames}
-use Rattle.spec_execution.specs.Instances.{hosts_in, named_host, imported_hosts}
-use Rattle.spec_execution.specs.OneModule.{import_met, met_then, imports_met}
-use Rattle.spec_execution.specs.declared.fault.SingleFault.{SingleFault}
+use Rattle.spec_safety.specs.spec_binary.IndexSpaces.{functions_in, imports_of}
+use Rattle.spec_safety.specs.spec_runtime.Names.{HostNames}
+use Rattle.spec_safety.specs.spec_execution.Instances.{hosts_in, named_host, imported_hosts}
+use Rattle.spec_safety.specs.spec_execution.OneModule.{import_met, met_then, imports_met}
+use Rattle.spec_safety.specs.spec_execution.declared.fault.SingleFault.{SingleFault}
 use Rattle.spec_safety.specs.Laws.{is_function_import}
 
 pub both_met : (a b : Result (Unit {0}) SingleFault) → met_then a b ≡ Ok tt → (a ≡ Ok tt) × (b ≡ Ok tt)

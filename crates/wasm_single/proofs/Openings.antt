@@ -7,19 +7,19 @@ use Rattle.std.proofs.lemmas.List.{length-map}
 use Rattle.std.proofs.lemmas.List.Elements.{All-nil}
 use Rattle.wasm_form.specs.declared.module.Import.{Import}
 use Rattle.wasm_form.specs.declared.module.Module.{Module}
-use Rattle.wasm_runtime.specs.declared.Answer.{Answer}
-use Rattle.spec_binary.specs.WellFormed.{IsWellFormed}
-use Rattle.spec_validation.specs.Faults.{fault}
-use Rattle.spec_runtime.specs.Names.{HostNames}
-use Rattle.spec_execution.specs.Ranges.{IsFrameInRange}
-use Rattle.spec_execution.specs.Instances.{module_view, imported_hosts}
-use Rattle.spec_binary.specs.IndexSpaces.{imported_count}
-use Rattle.spec_execution.specs.OneModule.{ModuleState, imports_met, module_entry, segments_performed, opened_state, opened_with, opened_after, module_run}
+use Rattle.wasm_form.specs.declared.runtime.Answer.{Answer}
+use Rattle.spec_safety.specs.spec_binary.WellFormed.{IsWellFormed}
+use Rattle.spec_safety.specs.spec_validation.Faults.{fault}
+use Rattle.spec_safety.specs.spec_runtime.Names.{HostNames}
+use Rattle.spec_safety.specs.spec_execution.Ranges.{IsFrameInRange}
+use Rattle.spec_safety.specs.spec_execution.Instances.{module_view, imported_hosts}
+use Rattle.spec_safety.specs.spec_binary.IndexSpaces.{imported_count}
+use Rattle.spec_safety.specs.spec_execution.OneModule.{ModuleState, imports_met, module_entry, segments_performed, opened_state, opened_with, opened_after, module_run}
 use Rattle.spec_safety.specs.Laws.{IsAlone, CheckedIsInRange, OpenedHolds}
 use Rattle.host_table.specs.Names.{host_name_of}
 use Rattle.host_table.specs.declared.host.HostName.{HostName}
 use Rattle.wasm_instance.specs.States.{InstanceState}
-use Rattle.spec_execution.specs.Segments.{goes_on}
+use Rattle.spec_safety.specs.spec_execution.Segments.{goes_on}
 use Rattle.wasm_machine.specs.Stacks.{empty_stack}
 use Rattle.wasm_machine.specs.declared.machine.Standing.TheVariants.{Moving}
 use Rattle.wasm_single.specs.declared.bare_run.Core.{Core}

@@ -2,11 +2,11 @@
 use Rattle.std.proofs.Common.{◌≡◌, List, [], ◌∷◌, ◌++◌, Vec, true, IsTrue, refl, sym, subst}
 use Rattle.std.specs.declared.alloc.Global.{Global}
 use Rattle.wasm_form.specs.declared.runtime.Trap.{Trap}
-use Rattle.wasm_runtime.specs.declared.Answer.{Answer}
-use Rattle.spec_runs.specs.Systems.{Status, Moving, Waits, Returned, Exited, Trapped, Ran}
-use Rattle.spec_runtime.specs.Memories.{MemoryInstance}
-use Rattle.spec_runtime.specs.Hosts.{HostCall, hosts, answer_fits}
-use Rattle.spec_execution.specs.OneModule.{ModuleState}
+use Rattle.wasm_form.specs.declared.runtime.Answer.{Answer}
+use Rattle.spec_safety.specs.spec_runs.Systems.{Status, Moving, Waits, Returned, Exited, Trapped, Ran}
+use Rattle.spec_safety.specs.spec_runtime.Memories.{MemoryInstance}
+use Rattle.spec_safety.specs.spec_runtime.Hosts.{HostCall, hosts, answer_fits}
+use Rattle.spec_safety.specs.spec_execution.OneModule.{ModuleState}
 use Rattle.wasm_single.specs.declared.single.Single.TheInside.{Inside}
 use Rattle.wasm_single.specs.Singles.{SingleRun, Stands, FitsWait, Awaits}
 use Rattle.wasm_single.specs.Kept.{run_of, IsSingle}

@@ -1,12 +1,12 @@
 -- Where the run of one module stands, after one step more and after one answer more.
 use Rattle.std.proofs.Common.{◌≡◌, ℕ, suc, ◌-◌, [], ◌∷◌, ◌++◌, length, slice_get, Some, true, false, IsTrue, refl, subst}
-use Rattle.wasm_runtime.specs.declared.Answer.{Answer}
-use Rattle.spec_runs.specs.Systems.{Moving, Waits, Ran}
-use Rattle.spec_runtime.specs.Hosts.{HostCall, hosts, answer_fits}
-use Rattle.spec_runtime.specs.Recorded as recorded
-use Rattle.spec_runtime.proofs.Recorded as recording
-use Rattle.spec_execution.specs.Runs.{taken}
-use Rattle.spec_execution.specs.OneModule.{ModuleState, module_system, module_step}
+use Rattle.wasm_form.specs.declared.runtime.Answer.{Answer}
+use Rattle.spec_safety.specs.spec_runs.Systems.{Moving, Waits, Ran}
+use Rattle.spec_safety.specs.spec_runtime.Hosts.{HostCall, hosts, answer_fits}
+use Rattle.spec_safety.specs.spec_runtime.Recorded as recorded
+use Rattle.spec_safety.proofs.of_spec_runtime.Recorded as recording
+use Rattle.spec_safety.specs.spec_execution.Runs.{taken}
+use Rattle.spec_safety.specs.spec_execution.OneModule.{ModuleState, module_system, module_step}
 use Rattle.wasm_single.specs.Singles.{SingleRun, recorded_of, Stands, IsAfter}
 
 -- so many steps lead to one place

@@ -2,10 +2,10 @@
 use Rattle.std.proofs.Common.{◌≡◌, ℕ, List, [], ◌∷◌, true}
 use Rattle.std.specs.Option.{option_map}
 use Rattle.wasm_form.specs.declared.module.Module.{Module}
-use Rattle.spec_execution.specs.Activations.{move}
-use Rattle.spec_execution.specs.Runs.{is_running, Frame, Active, Marked, Next}
-use Rattle.spec_execution.specs.Instances.{module_view}
-use Rattle.spec_execution.specs.OneModule.{Starting, ModuleState, module_next}
+use Rattle.spec_safety.specs.spec_execution.Activations.{move}
+use Rattle.spec_safety.specs.spec_execution.Runs.{is_running, Frame, Active, Marked, Next}
+use Rattle.spec_safety.specs.spec_execution.Instances.{module_view}
+use Rattle.spec_safety.specs.spec_execution.OneModule.{Starting, ModuleState, module_next}
 use Rattle.wasm_machine.specs.Machines.{next_of}
 use Rattle.wasm_machine.specs.Marks.{marked_next}
 use Rattle.wasm_machine.proofs.Marked.{marked_move}

@@ -4,15 +4,15 @@ use Rattle.std.specs.Borrow.{Bor}
 use Rattle.std.proofs.lemmas.Option.{same_Some}
 use Rattle.wasm_form.specs.declared.module.Module.{Module}
 use Rattle.wasm_form.specs.declared.runtime.Trap.{Trap}
-use Rattle.wasm_runtime.specs.declared.Value.{Value}
-use Rattle.wasm_runtime.specs.declared.Value.TheVariants.{Num}
-use Rattle.wasm_runtime.specs.declared.Answer.{Answer}
-use Rattle.wasm_runtime.specs.declared.Answer.TheVariants as answer
-use Rattle.spec_runs.specs.Systems.{Status, Moving, Waits, Returned, Exited, Trapped, Ran}
-use Rattle.spec_runtime.specs.Hosts.{HostName, HostCall, hosts, fits_results, all_written, answer_fits}
-use Rattle.spec_execution.specs.Runs.{Frame, returned, taken}
-use Rattle.spec_execution.specs.Instances.{imported_hosts, module_hosts}
-use Rattle.spec_execution.specs.OneModule.{module_too_deep, Starting, ModuleState, module_step}
+use Rattle.wasm_form.specs.declared.runtime.Value.{Value}
+use Rattle.wasm_form.specs.declared.runtime.Value.TheVariants.{Num}
+use Rattle.wasm_form.specs.declared.runtime.Answer.{Answer}
+use Rattle.wasm_form.specs.declared.runtime.Answer.TheVariants as answer
+use Rattle.spec_safety.specs.spec_runs.Systems.{Status, Moving, Waits, Returned, Exited, Trapped, Ran}
+use Rattle.spec_safety.specs.spec_runtime.Hosts.{HostName, HostCall, hosts, fits_results, all_written, answer_fits}
+use Rattle.spec_safety.specs.spec_execution.Runs.{Frame, returned, taken}
+use Rattle.spec_safety.specs.spec_execution.Instances.{imported_hosts, module_hosts}
+use Rattle.spec_safety.specs.spec_execution.OneModule.{module_too_deep, Starting, ModuleState, module_step}
 use Rattle.host_table.specs.Names.{host_name_of}
 use Rattle.wasm_machine.specs.declared.machine.Standing.{Standing}
 use Rattle.wasm_machine.specs.declared.machine.Standing.TheVariants as standing

@@ -2,12 +2,12 @@
 use Rattle.std.proofs.Common.{◌≡◌, ◌≢◌, ◌<◌, ℕ, List, Some, None, Ok, Err, Result, refl, sym, ap, ◌∙◌, subst, true, false}
 use Rattle.std.specs.Result.{OnOk}
 use Rattle.wasm_form.specs.declared.runtime.Trap.{Trap}
-use Rattle.spec_runs.specs.Systems.{Status, Moving, Waits, Returned, Exited, Trapped, Ran}
-use Rattle.spec_runtime.specs.Hosts.{HostCall, hosts}
-use Rattle.spec_runtime.specs.Memories.{MemoryInstance}
-use Rattle.spec_execution.specs.Runs.{is_running, Frame}
-use Rattle.spec_execution.specs.Instances.{ModuleParts}
-use Rattle.spec_execution.specs.OneModule.{Starting, ModuleState}
+use Rattle.spec_safety.specs.spec_runs.Systems.{Status, Moving, Waits, Returned, Exited, Trapped, Ran}
+use Rattle.spec_safety.specs.spec_runtime.Hosts.{HostCall, hosts}
+use Rattle.spec_safety.specs.spec_runtime.Memories.{MemoryInstance}
+use Rattle.spec_safety.specs.spec_execution.Runs.{is_running, Frame}
+use Rattle.spec_safety.specs.spec_execution.Instances.{ModuleParts}
+use Rattle.spec_safety.specs.spec_execution.OneModule.{Starting, ModuleState}
 use Rattle.wasm_machine.specs.declared.machine.Standing.{Standing}
 use Rattle.wasm_machine.specs.declared.machine.Standing.TheVariants as standing
 use Rattle.wasm_single.specs.declared.bare_run.Core.{Core}

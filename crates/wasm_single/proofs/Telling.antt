@@ -6,17 +6,17 @@ use Rattle.std.proofs.lemmas.Option.{same_Some}
 use Rattle.wasm_form.specs.declared.types.FuncType.{FuncType}
 use Rattle.wasm_form.specs.declared.runtime.Trap.{Trap}
 use Rattle.wasm_form.specs.declared.module.Module.{Module}
-use Rattle.wasm_runtime.specs.declared.Asked.{Asked}
-use Rattle.spec_runs.specs.Systems.{Status, Moving, Waits, Returned, Trapped}
-use Rattle.spec_binary.specs.Options.{◌>>=◌}
-use Rattle.spec_runtime.specs.Names.{HostName}
-use Rattle.spec_runtime.specs.Hosts.{HostCall}
-use Rattle.spec_runtime.specs.Memories.{MemoryInstance}
-use Rattle.spec_execution.specs.Views.{View}
-use Rattle.spec_execution.specs.Limits.{passes_limit, is_deep}
-use Rattle.spec_execution.specs.Runs.{Frame, Next, Goes, Asks, Loads, Ends, Traps, became, stands}
-use Rattle.spec_execution.specs.Instances.{ModuleParts, module_view, module_hosts, host_type}
-use Rattle.spec_execution.specs.OneModule.{module_too_deep, Starting, ModuleState, module_next, module_step}
+use Rattle.wasm_form.specs.declared.runtime.Asked.{Asked}
+use Rattle.spec_safety.specs.spec_runs.Systems.{Status, Moving, Waits, Returned, Trapped}
+use Rattle.spec_safety.specs.spec_binary.Options.{◌>>=◌}
+use Rattle.spec_safety.specs.spec_runtime.Names.{HostName}
+use Rattle.spec_safety.specs.spec_runtime.Hosts.{HostCall}
+use Rattle.spec_safety.specs.spec_runtime.Memories.{MemoryInstance}
+use Rattle.spec_safety.specs.spec_execution.Views.{View}
+use Rattle.spec_safety.specs.spec_execution.Limits.{passes_limit, is_deep}
+use Rattle.spec_safety.specs.spec_execution.Runs.{Frame, Next, Goes, Asks, Loads, Ends, Traps, became, stands}
+use Rattle.spec_safety.specs.spec_execution.Instances.{ModuleParts, module_view, module_hosts, host_type}
+use Rattle.spec_safety.specs.spec_execution.OneModule.{module_too_deep, Starting, ModuleState, module_next, module_step}
 use Rattle.wasm_step.specs.Moves.{Changes}
 use Rattle.wasm_machine.specs.Machines.{MachineState, LeavesCode, IsAsked, Told, StandsAt}
 use Rattle.wasm_machine.specs.declared.machine.Standing.{Standing}

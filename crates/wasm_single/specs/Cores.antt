@@ -1,16 +1,16 @@
 -- A module in its run: its instance, the machine, and what is still to be called.
 use Rattle.std.specs.Prelude.{◌≡◌, ◌≢◌, ◌≤◌, ℕ, List, [], ◌∷◌, Some, None, Bool, true, false, IfSome, IsTrue}
-use Rattle.spec_runs.specs.Systems.{Status, Moving, Waits, Returned, Exited, Trapped}
+use Rattle.spec_safety.specs.spec_runs.Systems.{Status, Moving, Waits, Returned, Exited, Trapped}
 use Rattle.wasm_form.specs.declared.module.Module.{Module}
 use Rattle.wasm_form.specs.declared.runtime.Trap.{Trap}
-use Rattle.wasm_runtime.specs.declared.Answer.{Answer}
-use Rattle.spec_binary.specs.Indices.{nullary, function_type}
-use Rattle.spec_runtime.specs.Memories.{MemoryInstance}
-use Rattle.spec_runtime.specs.Hosts.{HostCall, fits_results}
-use Rattle.spec_binary.specs.IndexSpaces.{imported_count}
-use Rattle.spec_execution.specs.Instances.{function_named, module_view, module_hosts}
-use Rattle.spec_execution.specs.Runs.{is_running, Frame, Marked, call}
-use Rattle.spec_execution.specs.OneModule.{Starting, ModuleState, module_step, module_too_deep}
+use Rattle.wasm_form.specs.declared.runtime.Answer.{Answer}
+use Rattle.spec_safety.specs.spec_binary.Indices.{nullary, function_type}
+use Rattle.spec_safety.specs.spec_runtime.Memories.{MemoryInstance}
+use Rattle.spec_safety.specs.spec_runtime.Hosts.{HostCall, fits_results}
+use Rattle.spec_safety.specs.spec_binary.IndexSpaces.{imported_count}
+use Rattle.spec_safety.specs.spec_execution.Instances.{function_named, module_view, module_hosts}
+use Rattle.spec_safety.specs.spec_execution.Runs.{is_running, Frame, Marked, call}
+use Rattle.spec_safety.specs.spec_execution.OneModule.{Starting, ModuleState, module_step, module_too_deep}
 use Rattle.wasm_step.specs.declared.done.Done.{Done}
 use Rattle.wasm_step.specs.declared.done.Done.TheVariants as done
 use Rattle.wasm_machine.specs.Machines.{MachineState, IsOver, Told}

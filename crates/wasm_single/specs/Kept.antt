@@ -1,9 +1,9 @@
 -- What is kept of a run.
 use Rattle.std.specs.Prelude.{◌≡◌, false, map}
-use Rattle.spec_runs.specs.Systems.{Ran}
-use Rattle.spec_runtime.specs.Hosts.{hosts}
-use Rattle.spec_execution.specs.Instances.{imported_hosts}
-use Rattle.spec_execution.specs.OneModule.{ModuleState}
+use Rattle.spec_safety.specs.spec_runs.Systems.{Ran}
+use Rattle.spec_safety.specs.spec_runtime.Hosts.{hosts}
+use Rattle.spec_safety.specs.spec_execution.Instances.{imported_hosts}
+use Rattle.spec_safety.specs.spec_execution.OneModule.{ModuleState}
 use Rattle.host_table.specs.Names.{host_name_of}
 use Rattle.wasm_single.specs.declared.single.Single.TheInside.{Inside}
 use Rattle.wasm_single.specs.Cores.{IsCore, IsState}

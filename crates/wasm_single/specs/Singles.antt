@@ -1,18 +1,18 @@
 -- The run of one module, as contracts see it.
 use Rattle.std.specs.Prelude.{◌≡◌, ◌≤◌, ◌<◌, ◌⊎◌, ℕ, suc, List, [], None, Bool, true, false, Result, Ok, Err, IsTrue, IfSome}
-use Rattle.spec_runs.specs.Systems.{Moving, Ran}
+use Rattle.spec_safety.specs.spec_runs.Systems.{Moving, Ran}
 use Rattle.wasm_form.specs.declared.module.Module.{Module}
-use Rattle.wasm_runtime.specs.declared.Answer.{Answer}
-use Rattle.spec_runtime.specs.Names.{HostNames, has_integers}
-use Rattle.spec_runtime.specs.Hosts.{hosts, numbers_fit}
-pub use Rattle.spec_runtime.specs.Recorded.{AreLeft, has_ended, waits, FitsWait}
-use Rattle.spec_runtime.specs.Recorded.{Recorded, waits_unanswered}
-use Rattle.spec_runtime.specs.Recorded as recorded
-use Rattle.spec_execution.specs.Instances.{module_hosts}
-use Rattle.spec_execution.specs.OneModule.{ModuleState, module_opening, module_system, module_step, module_too_deep, module_run}
+use Rattle.wasm_form.specs.declared.runtime.Answer.{Answer}
+use Rattle.spec_safety.specs.spec_runtime.Names.{HostNames, has_integers}
+use Rattle.spec_safety.specs.spec_runtime.Hosts.{hosts, numbers_fit}
+pub use Rattle.spec_safety.specs.spec_runtime.Recorded.{AreLeft, has_ended, waits, FitsWait}
+use Rattle.spec_safety.specs.spec_runtime.Recorded.{Recorded, waits_unanswered}
+use Rattle.spec_safety.specs.spec_runtime.Recorded as recorded
+use Rattle.spec_safety.specs.spec_execution.Instances.{module_hosts}
+use Rattle.spec_safety.specs.spec_execution.OneModule.{ModuleState, module_opening, module_system, module_step, module_too_deep, module_run}
 use Rattle.wasm_machine.specs.declared.event.Event.{Event}
 use Rattle.wasm_machine.specs.declared.event.Event.TheVariants as event
-use Rattle.spec_execution.specs.declared.fault.SingleFault.{SingleFault}
+use Rattle.spec_safety.specs.spec_execution.declared.fault.SingleFault.{SingleFault}
 use Rattle.wasm_single.specs.Starts.{IsTold, opened}
 use Rattle.wasm_single.specs.Cores.{TellsStatus}
 

@@ -6,13 +6,13 @@ use Rattle.wasm_form.specs.declared.module.Import.{Import}
 use Rattle.wasm_form.specs.declared.module.ImportDesc.{ImportDesc}
 use Rattle.wasm_form.specs.declared.module.ImportDesc.TheVariants as imported
 use Rattle.wasm_form.specs.declared.module.Module.{Module}
-use Rattle.spec_runtime.specs.Names.{HostNames}
-use Rattle.spec_execution.specs.Instances.{hosts_in, named_host, imported_hosts}
-use Rattle.spec_execution.specs.OneModule.{ModuleState, import_met, imports_met, opened_after}
+use Rattle.spec_safety.specs.spec_runtime.Names.{HostNames}
+use Rattle.spec_safety.specs.spec_execution.Instances.{hosts_in, named_host, imported_hosts}
+use Rattle.spec_safety.specs.spec_execution.OneModule.{ModuleState, import_met, imports_met, opened_after}
 use Rattle.host_table.specs.Names.{host_name_of}
 use Rattle.host_table.specs.declared.host.HostName.{HostName}
-use Rattle.spec_execution.specs.declared.fault.SingleFault.{SingleFault}
-use Rattle.spec_execution.specs.declared.fault.SingleFault.TheVariants as fault
+use Rattle.spec_safety.specs.spec_execution.declared.fault.SingleFault.{SingleFault}
+use Rattle.spec_safety.specs.spec_execution.declared.fault.SingleFault.TheVariants as fault
 
 -- the type of an imported function
 abbrev pub type_imported : Module → ImportDesc → Option FuncType

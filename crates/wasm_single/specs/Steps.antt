@@ -1,7 +1,7 @@
 -- What a step changes of a run.
 use Rattle.std.specs.Prelude.{◌≡◌, ◌⊎◌, ℕ, suc, ◌^◌, ◌<◌, Some, Bool, true, false}
 use Rattle.std.specs.List.{All}
-use Rattle.spec_execution.specs.OneModule.{ModuleState, module_step, module_too_deep}
+use Rattle.spec_safety.specs.spec_execution.OneModule.{ModuleState, module_step, module_too_deep}
 use Rattle.wasm_machine.specs.declared.machine.Standing.{Standing}
 use Rattle.wasm_machine.specs.declared.machine.Standing.TheVariants as standing
 use Rattle.wasm_machine.specs.declared.event.Event.{Event}

@@ -1,8 +1,8 @@
 // The run of a module without what is counted and recorded of it.
 ghost use Rattle.std.specs.Prelude.{◌≡◌, ◌≢◌, IfOk, OnOk, Some};
-ghost use Rattle.spec_execution.specs.Instances.{module_view};
-ghost use Rattle.spec_execution.specs.OneModule.{ModuleState};
-ghost use Rattle.spec_execution.specs.Runs.{taken};
+ghost use Rattle.spec_safety.specs.spec_execution.Instances.{module_view};
+ghost use Rattle.spec_safety.specs.spec_execution.OneModule.{ModuleState};
+ghost use Rattle.spec_safety.specs.spec_execution.Runs.{taken};
 ghost use Rattle.wasm_machine.specs.Machines.{IsClear, IsOver};
 ghost use Rattle.wasm_single.specs.Cores.{IsCore, IsState, IsStartable, Steps, QuickSteps, Calls, MayTake, is_begun, is_mark};
 

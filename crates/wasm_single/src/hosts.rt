@@ -4,7 +4,7 @@ ghost use Rattle.std.specs.Option.{option_copied};
 ghost use Rattle.wasm_single.specs.Starts.{type_imported, TellsCause, unknown_import, other_import, Meets, MeetsOne};
 
 use host_table::{HostMatch, HostName, HostNames};
-use spec_execution::SingleFault;
+use spec_safety::spec_execution::SingleFault;
 use std::alloc::Global;
 use wasm_form::{FuncType, Import, ImportDesc, Memory, Module, Text};
 

@@ -7,5 +7,5 @@ mod load;
 mod single;
 
 pub use single::Single;
-pub use spec_execution::SingleFault;
+pub use spec_safety::spec_execution::SingleFault;
 pub use wasm_machine::{Answer, Asked, Event};

@@ -1,15 +1,15 @@
 // The opening of a run (section 4.5.4).
 ghost use Rattle.std.specs.Prelude.{◌≡◌};
-ghost use Rattle.spec_binary.specs.Indices.{is_nullary};
-ghost use Rattle.spec_execution.specs.OneModule.{module_entry};
+ghost use Rattle.spec_safety.specs.spec_binary.Indices.{is_nullary};
+ghost use Rattle.spec_safety.specs.spec_execution.OneModule.{module_entry};
 ghost use Rattle.wasm_single.specs.Singles.{Loads};
 
 use crate::bare_run::{Core, Phase};
 use crate::hosts::hosts_of;
 use crate::single::Single;
 use host_table::HostNames;
-use spec_execution::SingleFault;
 use spec_safety::checked_code_is_in_range;
+use spec_safety::spec_execution::SingleFault;
 use std::alloc::Global;
 use wasm_check::Checked;
 use wasm_form::FuncType;
@@ -30,9 +30,16 @@ impl<'m> Single<'m> {
         let m = checked.module();
         let hosts = hosts_of(alloc, m, names, m.imports.items())?;
         let Some(entry) = entry_of(checked) else {
+            drop(hosts);
             return Err(SingleFault::NoEntry);
         };
-        let instance = Instance::open(alloc, checked)?;
+        let instance = match Instance::open(alloc, checked) {
+            Ok(instance) => instance,
+            Err(fault) => {
+                drop(hosts);
+                return Err(fault);
+            }
+        };
         let core = Core {
             checked,
             instance,

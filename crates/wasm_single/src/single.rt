@@ -1,9 +1,9 @@
 // The run of one module.
 ghost use Rattle.std.specs.Prelude.{◌≡◌, ◌≢◌, ◌<◌, ◌^◌, ◌++◌, [], ◌∷◌, map, All, Bool, true, false, IfOk, OnOk, OnErr, Err};
-ghost use Rattle.spec_runs.specs.Systems.{Ran};
-ghost use Rattle.spec_runtime.specs.Hosts.{hosts};
-ghost use Rattle.spec_execution.specs.Instances.{imported_hosts};
-ghost use Rattle.spec_execution.specs.OneModule.{ModuleState};
+ghost use Rattle.spec_safety.specs.spec_runs.Systems.{Ran};
+ghost use Rattle.spec_safety.specs.spec_runtime.Hosts.{hosts};
+ghost use Rattle.spec_safety.specs.spec_execution.Instances.{imported_hosts};
+ghost use Rattle.spec_safety.specs.spec_execution.OneModule.{ModuleState};
 ghost use Rattle.host_table.specs.Names.{host_name_of};
 ghost use Rattle.wasm_single.specs.Cores.{IsCore, IsState, IsCodeNext};
 ghost use Rattle.wasm_single.specs.Singles.{Stands, has_ended, is_waiting, RunStepped, ArgumentsFit, Advances, Awaits};
@@ -225,6 +225,8 @@ impl<'m> Single<'m> {
     pub fn into_answers(self) -> List<Answer>
         ensures { result ≡ self.entry.answers }
     {
+        drop(self.core);
+        drop(self.hosts);
         List::of(self.answers)
     }
 

@@ -2,8 +2,8 @@
 use Rattle.std.proofs.Common.{◌≡◌, refl, ap, sym, subst, ℕ, zero, suc, ◌+◌, ◌/◌, ◌≤◌, List, ◌++◌, length, take, drop, arith, Ok, Option, Some, None, nat_le, if◌then◌else◌}
 use Rattle.std.proofs.lemmas.Bool.{le-leb}
 use Rattle.std.proofs.lemmas.List.{length-take-le, length-drop}
-use Rattle.wasm_form.specs.declared.runtime.Trap.{Trap}
-use Rattle.spec_binary.specs.Options.{◌>>=◌}
+use Rattle.spec_runtime.specs.wasm_form.declared.runtime.Trap.{Trap}
+use Rattle.spec_runtime.specs.spec_binary.Options.{◌>>=◌}
 use Rattle.spec_runtime.specs.Memories.{MemoryInstance, overwritten, written, little}
 use Rattle.spec_runtime.specs.Tables.{TableInstance, entries_overwritten, entries_written}
 use Rattle.wasm_space.specs.Access.{ChangesOrTraps}

@@ -3,7 +3,7 @@ use Rattle.std.proofs.Common.{◌≡◌, refl, ◌∙◌, sym, subst, ℕ, ◌+�
 use Rattle.std.proofs.lemmas.Bool.{le-leb}
 use Rattle.std.proofs.lemmas.List.{take_all}
 use Rattle.std.proofs.Math.Seq.{take-nil}
-use Rattle.wasm_form.specs.declared.runtime.Ref.{Ref}
+use Rattle.spec_runtime.specs.wasm_form.declared.runtime.Ref.{Ref}
 use Rattle.spec_runtime.specs.Memories.{MemoryInstance, zeros, new_memory, pages, grown}
 use Rattle.spec_runtime.specs.Tables.{nulls, new_table}
 use Rattle.wasm_space.specs.Access.{GrowsOrStays}

@@ -5,9 +5,9 @@ ghost use Rattle.spec_runtime.specs.Memories.{page_size, new_memory, loaded, sto
 ghost use Rattle.wasm_space.specs.Access.{IsAccessLength, ChangesOrTraps, GrowsOrStays};
 
 use crate::little::{read_little, write_little};
+use spec_runtime::wasm_form::{Memory, Trap};
 use std::alloc::Global;
 use std::marker::Model;
-use wasm_form::{Memory, Trap};
 
 /// The bytes of a page (section 4.2.8).
 const PAGE: usize = 65_536;
@@ -76,6 +76,7 @@ impl Space {
 
     /// The number in `len` bytes at `base + offset`, the lowest byte first, added without wrapping; `MemoryBounds`
     /// where they pass the end (section 4.4.7, t.load).
+    #[inline(always)]
     pub fn load(&self, base: u32, offset: u32, len: u8) -> Result<u64, Trap>
         requires { IsAccessLength len }
         ensures value { result ≡ ok_or (loaded self.now base offset len) Trap.MemoryBounds }
@@ -91,6 +92,7 @@ impl Space {
 
     /// Writes the lowest `len` bytes of a number at `base + offset`; `MemoryBounds` where they pass the end, and
     /// nothing is written (section 4.4.7, t.store).
+    #[inline(always)]
     pub fn store(&mut self, base: u32, offset: u32, len: u8, value: u64) -> Result<(), Trap>
         requires { IsAccessLength len }
         ensures { ChangesOrTraps Trap.MemoryBounds self.old (stored self.old base offset len value) result self.new }

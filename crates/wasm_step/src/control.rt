@@ -1,10 +1,10 @@
 // Instructions without an index that stay in their activation, branches, blocks and locals (sections 4.4.1, 4.4.2, 4.4.4, 4.4.5
 // and 4.4.8).
 ghost use Rattle.std.specs.Prelude.{◌≡◌, ◌∷◌, ℕ, slice_get, unwrap_or, Some, None, IfSome, IfNone};
-ghost use Rattle.wasm_opcode.specs.Plain.{plain_form as plain_form_of};
+ghost use Rattle.wasm_form.specs.Plain.{plain_form as plain_form_of};
 ghost use Rattle.spec_execution.specs.Activations.{with_values, pushed, with_top, with_i32, with_reference, on_some, to_end, branch_move, branch_if_move, select_move, is_null, one_if, plain_move, local_got, local_set, entered_block, On};
 ghost use Rattle.spec_execution.specs.Values.{low};
-ghost use Rattle.spec_runtime.specs.Numerics.{W32};
+ghost use Rattle.spec_execution.specs.spec_runtime.Numerics.{W32};
 ghost use Rattle.wasm_step.specs.Tops.{with_act};
 ghost use Rattle.wasm_step.specs.Primitives.{either_of, landed_on, number_on};
 ghost use Rattle.wasm_step.specs.Moves.{Took};
@@ -12,11 +12,10 @@ ghost use Rattle.wasm_step.specs.Moves.{Took};
 use crate::current::Current;
 use crate::done::Done;
 use crate::operators::operate;
-use wasm_form::{Instr, Trap};
-use wasm_opcode::{PlainForm, plain_form};
-use wasm_runtime::Value;
+use wasm_form::{Instr, PlainForm, Trap, Value, plain_form};
 
 /// Takes the low 32 bits of the topmost value, if it is a number.
+#[inline(always)]
 pub(crate) fn pop_i32(top: &mut Current) -> Option<u32>
     ensures some { IfSome result (λ n. (m : ℕ) × (n ≡ low W32 m) × (top.old.act.values ≡ Value.Num m ∷ top.new.act.values)) }
     ensures none { IfNone result (number_on top.old.act.values ≡ None) }
@@ -28,6 +27,7 @@ pub(crate) fn pop_i32(top: &mut Current) -> Option<u32>
 }
 
 /// Puts a value on top.
+#[inline(always)]
 pub(crate) fn give(top: &mut Current, v: Value) -> Done
     ensures took { Took result (On (pushed top.old.act v)) top.old top.new }
     ensures rest { top.new ≡ with_act top.old top.new.act }
@@ -39,6 +39,7 @@ pub(crate) fn give(top: &mut Current, v: Value) -> Done
     }
 }
 
+#[inline(always)]
 fn drop_one(top: &mut Current) -> Done
     ensures took { Took result (with_top top.old.act.values (λ v vs. On (with_values top.old.act vs))) top.old top.new }
     ensures rest { top.new ≡ with_act top.old top.new.act }
@@ -50,6 +51,7 @@ fn drop_one(top: &mut Current) -> Done
 }
 
 /// The first of two values where the number on top isn't 0, else the second.
+#[inline(always)]
 pub(crate) fn select(top: &mut Current) -> Done
     ensures took { Took result (select_move top.old.act) top.old top.new }
     ensures rest { top.new ≡ with_act top.old top.new.act }
@@ -94,6 +96,7 @@ fn give_back(top: &mut Current) -> Done
 }
 
 /// An instruction without operands.
+#[inline(always)]
 pub(crate) fn plain(top: &mut Current, op: u8) -> Done
     ensures took { Took result (plain_move op (plain_form_of op) top.old.act) top.old top.new }
     ensures rest { top.new ≡ with_act top.old top.new.act }
@@ -113,6 +116,7 @@ pub(crate) fn plain(top: &mut Current, op: u8) -> Done
 // ---- branches
 
 /// Goes to where a branch to the innermost block, or to the body, leads, with the values that stand there.
+#[inline(always)]
 fn land(top: &mut Current)
     ensures { top.new ≡ with_act top.old (landed_on top.old.act top.old.act.levels) }
 {
@@ -151,6 +155,7 @@ pub(crate) fn branch(top: &mut Current, k: u32) -> Done
 }
 
 /// Branches where the number on top isn't 0.
+#[inline(always)]
 pub(crate) fn branch_if(top: &mut Current, k: u32) -> Done
     ensures took { Took result (with_i32 top.old.act.values (λ c vs. branch_if_move (with_values top.old.act vs) k c)) top.old top.new }
     ensures rest { top.new ≡ with_act top.old top.new.act }
@@ -182,6 +187,7 @@ pub(crate) fn branch_by(top: &mut Current, blocks: &[u32], last: u32) -> Done
 // ---- blocks
 
 /// Opens a block of a type with so many parameters and results.
+#[inline(always)]
 pub(crate) fn block<'m>(
     top: &mut Current<'m>,
     params: usize,
@@ -202,6 +208,7 @@ pub(crate) fn block<'m>(
 }
 
 /// Opens a loop of a type with so many parameters.
+#[inline(always)]
 pub(crate) fn again<'m>(top: &mut Current<'m>, params: usize, body: &'m [Instr]) -> Done
     ensures took { Took result (on_some (entered_block top.old.act params params (Some body.now) body.now)) top.old top.new }
     ensures rest { top.new ≡ with_act top.old top.new.act }
@@ -217,6 +224,7 @@ pub(crate) fn again<'m>(top: &mut Current<'m>, params: usize, body: &'m [Instr])
 }
 
 /// Opens the first of two blocks where the number on top isn't 0, else the second.
+#[inline(always)]
 pub(crate) fn either<'m>(
     top: &mut Current<'m>,
     params: usize,
@@ -235,6 +243,7 @@ pub(crate) fn either<'m>(
 
 // ---- locals
 
+#[inline(always)]
 pub(crate) fn local_get(top: &mut Current, k: u32) -> Done
     ensures took { Took result (local_got top.old.act (slice_get top.old.act.locals k)) top.old top.new }
     ensures rest { top.new ≡ with_act top.old top.new.act }
@@ -245,6 +254,7 @@ pub(crate) fn local_get(top: &mut Current, k: u32) -> Done
     }
 }
 
+#[inline(always)]
 pub(crate) fn local_set_to(top: &mut Current, k: u32) -> Done
     ensures took { Took result (with_top top.old.act.values (λ v vs. local_set top.old.act k v vs (slice_get top.old.act.locals k))) top.old top.new }
     ensures rest { top.new ≡ with_act top.old top.new.act }
@@ -259,6 +269,7 @@ pub(crate) fn local_set_to(top: &mut Current, k: u32) -> Done
     }
 }
 
+#[inline(always)]
 pub(crate) fn local_tee(top: &mut Current, k: u32) -> Done
     ensures took { Took result (with_top top.old.act.values (λ v vs. local_set top.old.act k v (v ∷ vs) (slice_get top.old.act.locals k))) top.old top.new }
     ensures rest { top.new ≡ with_act top.old top.new.act }

@@ -1,6 +1,6 @@
 // The topmost activation over two flat lists, of values and of open blocks, that all activations share.
 ghost use Rattle.std.specs.Prelude.{◌≡◌, ◌≢◌, ◌≤◌, ◌<◌, ◌+◌, ℕ, List, [], ◌∷◌, length, take, drop, reverse, Some, None, true, false, option_map, slice_get, slice_set, is_some, nat_lt, if◌then◌else◌, IfSome, IfNone, IfOk, OnOk};
-ghost use Rattle.spec_binary.specs.Indices.{declared_locals};
+ghost use Rattle.spec_execution.specs.spec_binary.Indices.{declared_locals};
 ghost use Rattle.spec_execution.specs.Values.{take_values, numbers_of};
 ghost use Rattle.spec_execution.specs.Activations.{with_values, pushed};
 ghost use Rattle.wasm_step.specs.Tops.{with_act, IsTooHigh, IsTooNested, HasRoom, IsLaidOut};
@@ -9,8 +9,7 @@ ghost use Rattle.wasm_step.specs.Primitives.{number_on, reference_on, with_rest,
 use crate::room::{number, of_kind, push_zeros, slide};
 use std::alloc::Global;
 use std::marker::Model;
-use wasm_form::{Code, Instr, Memory, Ref, ValType};
-use wasm_runtime::Value;
+use wasm_form::{Code, Instr, Memory, Ref, ValType, Value};
 
 /// How many blocks may be open in one activation: those of a body, and one more.
 const MOST_BLOCKS: usize = 1001;
@@ -77,6 +76,7 @@ impl<'m> Current<'m> {
         }
     }
 
+    #[inline(always)]
     pub fn unit(&self) -> u32
         ensures { result ≡ self.now.act.unit }
     {
@@ -84,6 +84,7 @@ impl<'m> Current<'m> {
     }
 
     /// How many results its function has.
+    #[inline(always)]
     pub fn results(&self) -> usize
         ensures { result ≡ self.now.act.results }
     {
@@ -100,6 +101,7 @@ impl<'m> Current<'m> {
     // ---- values
 
     /// How many values stand above the innermost block.
+    #[inline(always)]
     pub fn height(&self) -> usize
         ensures { result ≡ length self.now.act.values }
     {
@@ -107,6 +109,7 @@ impl<'m> Current<'m> {
     }
 
     /// Puts a value on top, where there is room for it.
+    #[inline(always)]
     pub fn push(&mut self, v: Value) -> bool
         ensures pushed { result ≡ true → self.new ≡ with_act self.old (pushed self.old.act v) }
         ensures same { result ≡ false → self.new ≡ self.old }
@@ -120,6 +123,7 @@ impl<'m> Current<'m> {
     }
 
     /// Takes the topmost value above the innermost block.
+    #[inline(always)]
     pub fn pop(&mut self) -> Option<Value>
         ensures some { IfSome result (λ v. self.old ≡ with_act self.new (pushed self.new.act v)) }
         ensures none { IfNone result (self.old.act.values ≡ []) }
@@ -132,6 +136,7 @@ impl<'m> Current<'m> {
     }
 
     /// The topmost value above the innermost block.
+    #[inline(always)]
     pub fn value(&self) -> Option<Value>
         ensures { result ≡ slice_get self.now.act.values 0 }
     {
@@ -142,6 +147,7 @@ impl<'m> Current<'m> {
     }
 
     /// Puts a value in place of the topmost one.
+    #[inline(always)]
     pub fn set_top(&mut self, v: Value)
         requires { 0 < length self.old.act.values }
         ensures { self.new ≡ with_act self.old (with_values self.old.act (v ∷ drop 1 self.old.act.values)) }
@@ -151,6 +157,7 @@ impl<'m> Current<'m> {
     }
 
     /// The topmost value, if it is a number.
+    #[inline(always)]
     pub fn number(&self) -> Option<u64>
         ensures { result ≡ number_on self.now.act.values }
     {
@@ -161,6 +168,7 @@ impl<'m> Current<'m> {
     }
 
     /// Takes the topmost value, if it is a number.
+    #[inline(always)]
     pub fn pop_number(&mut self) -> Option<u64>
         ensures some { IfSome result (λ n. self.old ≡ with_act self.new (pushed self.new.act (Value.Num n))) }
         ensures none { IfNone result (number_on self.old.act.values ≡ None) }
@@ -187,6 +195,7 @@ impl<'m> Current<'m> {
     }
 
     /// Keeps the topmost `n` of the values above the innermost block.
+    #[inline(always)]
     pub fn keep(&mut self, n: usize)
         requires { n ≤ length self.old.act.values }
         ensures { self.new ≡ with_act self.old (with_values self.old.act (take n self.old.act.values)) }
@@ -197,6 +206,7 @@ impl<'m> Current<'m> {
     // ---- locals
 
     /// A local, if there is one of that number.
+    #[inline(always)]
     pub fn local(&self, k: u32) -> Option<Value>
         ensures { result ≡ slice_get self.now.act.locals k }
     {
@@ -209,6 +219,7 @@ impl<'m> Current<'m> {
     }
 
     /// Sets a local, if there is one of that number.
+    #[inline(always)]
     pub fn set_local(&mut self, k: u32, v: Value) -> bool
         ensures there { result ≡ is_some (slice_get self.old.act.locals k) }
         ensures set { result ≡ true → self.new ≡ with_act self.old (with_locals self.old.act (slice_set self.old.act.locals k v)) }
@@ -226,6 +237,7 @@ impl<'m> Current<'m> {
     // ---- instructions
 
     /// The instruction that comes next.
+    #[inline(always)]
     pub fn peek(&self) -> Option<&'m Instr>
         ensures { option_map (λ i. i.now) result ≡ first_of self.now.act.rest }
     {
@@ -233,6 +245,7 @@ impl<'m> Current<'m> {
     }
 
     /// Goes past the next instruction.
+    #[inline(always)]
     pub fn advance(&mut self)
         requires { 0 < length self.old.act.rest }
         ensures { self.new ≡ with_act self.old (with_rest self.old.act (drop 1 self.old.act.rest)) }
@@ -241,6 +254,7 @@ impl<'m> Current<'m> {
     }
 
     /// Goes on at other instructions.
+    #[inline(always)]
     pub fn set_rest(&mut self, rest: &'m [Instr])
         ensures { self.new ≡ with_act self.old (with_rest self.old.act rest.now) }
     {
@@ -250,6 +264,7 @@ impl<'m> Current<'m> {
     // ---- blocks
 
     /// Opens a block with `n` values off the top, where there is room for it.
+    #[inline(always)]
     pub fn enter(
         &mut self,
         n: usize,
@@ -278,6 +293,7 @@ impl<'m> Current<'m> {
     }
 
     /// Leaves the innermost block at its end, if one is open.
+    #[inline(always)]
     pub fn leave(&mut self) -> bool
         ensures next { (if result then Some self.new.act else None) ≡ closed self.old.act self.old.act.levels }
         ensures rest { self.new ≡ with_act self.old self.new.act }
@@ -297,6 +313,7 @@ impl<'m> Current<'m> {
     }
 
     /// Whether a block is open.
+    #[inline(always)]
     pub fn is_open(&self) -> bool
         ensures { result ≡ is_some (first_level self.now.act.levels) }
     {
@@ -304,6 +321,7 @@ impl<'m> Current<'m> {
     }
 
     /// How many values a branch to the innermost block takes along, or else one to the body.
+    #[inline(always)]
     pub fn arity(&self) -> usize
         ensures { result ≡ arity_of self.now.act self.now.act.levels }
     {
@@ -314,6 +332,7 @@ impl<'m> Current<'m> {
     }
 
     /// The instructions of the innermost block, if that is a loop.
+    #[inline(always)]
     pub fn again(&self) -> Option<&'m [Instr]>
         ensures { option_map (λ b. b.now) result ≡ again_of self.now.act.levels }
     {
@@ -324,6 +343,7 @@ impl<'m> Current<'m> {
     }
 
     /// Makes the body done, with the topmost `n` values as its results.
+    #[inline(always)]
     pub fn end_body(&mut self, n: usize)
         requires { n ≤ length self.old.act.values }
         ensures { self.new ≡ with_act self.old (body_done self.old.act n) }
@@ -499,6 +519,7 @@ impl<'m> Current<'m> {
     }
 
     /// Whether an activation is on top.
+    #[inline(always)]
     pub fn is_live(&self) -> bool
         ensures { result ≡ nat_lt 0 self.now.nesting }
     {
@@ -526,6 +547,7 @@ fn idle_place<'m>(values: usize, labels: usize) -> Place<'m>
 }
 
 /// The latest label beyond the first `outer`.
+#[inline(always)]
 fn innermost<'m>(labels: &[Label<'m>], outer: usize) -> Option<Label<'m>>
     ensures { result ≡ first_label (reverse (drop outer labels.now)) }
 {

@@ -1,8 +1,8 @@
 // One instruction that doesn't call.
 ghost use Rattle.std.specs.Prelude.{◌≡◌, Some, None, false, IsTrue, IsSome, IfSome, length};
 ghost use Rattle.wasm_form.specs.declared.instr.Instr.{out-Instr};
-ghost use Rattle.wasm_opcode.specs.Index.{index_form as index_form_of};
-ghost use Rattle.wasm_opcode.specs.Second.{second_form as second_form_of};
+ghost use Rattle.wasm_form.specs.Index.{index_form as index_form_of};
+ghost use Rattle.wasm_form.specs.Second.{second_form as second_form_of};
 ghost use Rattle.spec_execution.specs.Activations.{expanded, else_of, index_move, second_move, instr_move};
 ghost use Rattle.spec_execution.specs.Ranges.{IsWhole, HoldsAll, index_in_range, second_in_range, block_in_range};
 ghost use Rattle.wasm_step.specs.Tops.{with_act};
@@ -21,12 +21,11 @@ use crate::store::{
     table_set, table_size,
 };
 use std::alloc::Global;
-use wasm_form::{BlockType, Expr, Instr};
-use wasm_opcode::{IndexForm, SecondForm, index_form, second_form};
-use wasm_runtime::Value;
+use wasm_form::{BlockType, Expr, IndexForm, Instr, SecondForm, Value, index_form, second_form};
 use wasm_view::View;
 
 /// How many parameters and results a block has.
+#[inline(always)]
 fn sizes<'m, V: View<'m>>(view: &V, unit: u32, ty: BlockType) -> (usize, usize)
     requires named { IsTrue (block_in_range ((V.seen view.now).fixed.counts unit) ty) }
     requires whole { IsWhole (V.seen view.now).fixed }
@@ -44,6 +43,7 @@ fn sizes<'m, V: View<'m>>(view: &V, unit: u32, ty: BlockType) -> (usize, usize)
 }
 
 /// The instructions of `else`; without it there are none.
+#[inline(always)]
 fn else_items<'m>(other: &'m Option<Expr>) -> &'m [Instr]
     ensures { result.now ≡ else_of other.now }
 {
@@ -54,6 +54,7 @@ fn else_items<'m>(other: &'m Option<Expr>) -> &'m [Instr]
 }
 
 /// An instruction with one index that is no call.
+#[inline(always)]
 fn indexed<'m, V: View<'m>>(top: &mut Current<'m>, view: &mut V, op: u8, n: u32) -> Done
     requires named { IsTrue (index_in_range ((V.seen view.old).fixed.counts top.old.act.unit) n (index_form_of op)) }
     requires no_call { is_call_form (index_form_of op) ≡ false }
@@ -111,6 +112,7 @@ fn prefixed<'m, V: View<'m>>(
 }
 
 /// One instruction that is no call, past which the activation stands.
+#[inline(always)]
 pub fn instruction<'m, V: View<'m>>(
     top: &mut Current<'m>,
     alloc: Global,

@@ -1,8 +1,8 @@
 // Globals, references, tables, the memory and segments (sections 4.4.2 and 4.4.5 to 4.4.7).
 ghost use Rattle.std.specs.Prelude.{◌≡◌, ◌<◌, ◌≤◌, ◌*◌, ◌^◌, ◌%◌, Some, false, true, MatchResult};
-ghost use Rattle.wasm_opcode.specs.Access.{memory_access as access_of};
+ghost use Rattle.wasm_form.specs.Access.{memory_access as access_of};
 ghost use Rattle.spec_execution.specs.Activations.{GlobalGet, GlobalSet, TableGet, TableSet, TableSize, TableGrow, TableFill, TableCopy, TableInit, ElemDrop, Load, Store, MemorySize, MemoryGrow, MemoryCopy, MemoryFill, MemoryInit, DataDrop, Does, Refers, with_values, with_top, with_number, with_i32, with_reference, with_three, access_move};
-ghost use Rattle.spec_runtime.specs.Numerics.{W32};
+ghost use Rattle.spec_execution.specs.spec_runtime.Numerics.{W32};
 ghost use Rattle.spec_execution.specs.Values.{low};
 ghost use Rattle.spec_execution.specs.Views.{access_length, load_extended};
 ghost use Rattle.wasm_space.specs.Access.{IsAccessLength};
@@ -14,13 +14,12 @@ use crate::control::{give, pop_i32};
 use crate::current::Current;
 use crate::done::Done;
 use std::alloc::Global;
-use wasm_form::Trap;
+use wasm_form::{MemoryAccess, Trap, Value, memory_access};
 use wasm_num::convert;
-use wasm_opcode::{MemoryAccess, memory_access};
-use wasm_runtime::Value;
 use wasm_view::View;
 
 /// What becomes of a change that may trap.
+#[inline(always)]
 fn changed(answer: Result<(), Trap>) -> Done
     ensures { MatchResult answer (λ _. result ≡ Done.Goes) (λ why. result ≡ Done.Trapped why) }
 {
@@ -43,6 +42,7 @@ pub(crate) fn refer<'m, V: View<'m>>(top: &mut Current<'m>, view: &V, f: u32) ->
 }
 
 /// The value of a global.
+#[inline(always)]
 pub(crate) fn global_get<'m, V: View<'m>>(top: &mut Current<'m>, view: &V, g: u32) -> Done
     requires named { g < ((V.seen view.now).fixed.counts top.old.act.unit).globals }
     requires holds { HoldsAll (V.seen view.now).fixed (V.seen view.now).units }
@@ -53,6 +53,7 @@ pub(crate) fn global_get<'m, V: View<'m>>(top: &mut Current<'m>, view: &V, g: u3
 }
 
 /// Sets a global.
+#[inline(always)]
 pub(crate) fn global_set<'m, V: View<'m>>(top: &mut Current<'m>, view: &mut V, g: u32) -> Done
     requires named { g < ((V.seen view.old).fixed.counts top.old.act.unit).globals }
     requires holds { HoldsAll (V.seen view.old).fixed (V.seen view.old).units }
@@ -231,6 +232,7 @@ pub(crate) fn elem_drop<'m, V: View<'m>>(top: &mut Current<'m>, view: &mut V, e:
 // ---- the memory
 
 /// The low 32 bits of a number, as an address or an index.
+#[inline(always)]
 fn low_index(n: u64) -> u32
     ensures { result ≡ low W32 n }
 {
@@ -238,6 +240,7 @@ fn low_index(n: u64) -> u32
 }
 
 /// How many bytes are accessed.
+#[inline(always)]
 fn length_of(access: MemoryAccess) -> u8
     requires { access.exponent ≤ 3 }
     ensures length { result ≡ access_length access }
@@ -252,6 +255,7 @@ fn length_of(access: MemoryAccess) -> u8
 }
 
 /// The number that a load gives, of the one in the bytes that it accesses.
+#[inline(always)]
 fn extended(op: u8, n: u64, access: MemoryAccess) -> u64
     requires access { access_of op ≡ Some access }
     requires fits { n < 2 ^ (8 * access_length access) }
@@ -268,6 +272,7 @@ fn extended(op: u8, n: u64, access: MemoryAccess) -> u64
 }
 
 /// A number from the memory.
+#[inline(always)]
 pub(crate) fn load<'m, V: View<'m>>(
     top: &mut Current<'m>,
     view: &V,
@@ -293,6 +298,7 @@ pub(crate) fn load<'m, V: View<'m>>(
 }
 
 /// A number to the memory.
+#[inline(always)]
 pub(crate) fn store<'m, V: View<'m>>(
     top: &mut Current<'m>,
     view: &mut V,
@@ -316,6 +322,7 @@ pub(crate) fn store<'m, V: View<'m>>(
 }
 
 /// A load or a store.
+#[inline(always)]
 pub(crate) fn access<'m, V: View<'m>>(
     top: &mut Current<'m>,
     view: &mut V,

@@ -8,12 +8,12 @@ use Rattle.wasm_form.specs.declared.instr.Instr.TheOpen as Open
 use Rattle.wasm_form.specs.declared.instr.Instr.TheVariants.{rolls-Plain, rolls-Index, rolls-Block, rolls-Loop, rolls-If, rolls-BrTable, rolls-CallIndirect, rolls-Select, rolls-Access, rolls-MemorySize, rolls-MemoryGrow, rolls-I32Const, rolls-I64Const, rolls-F32Const, rolls-F64Const, rolls-RefNull, rolls-Prefixed}
 use Rattle.wasm_form.specs.declared.instr.Expr.{Expr}
 use Rattle.wasm_form.proofs.Levels.{with_inside}
-use Rattle.wasm_opcode.specs.Plain.{plain_form}
-use Rattle.wasm_opcode.specs.Index.{index_form}
-use Rattle.wasm_opcode.specs.Access.{memory_access}
-use Rattle.wasm_opcode.specs.Second.{second_form}
-use Rattle.spec_binary.specs.Options.{◌>>=◌}
-use Rattle.spec_binary.specs.SameTypes.{same_type}
+use Rattle.wasm_form.specs.Plain.{plain_form}
+use Rattle.wasm_form.specs.Index.{index_form}
+use Rattle.wasm_form.specs.Access.{memory_access}
+use Rattle.wasm_form.specs.Second.{second_form}
+use Rattle.spec_validation.specs.spec_binary.Options.{◌>>=◌}
+use Rattle.spec_validation.specs.spec_binary.SameTypes.{same_type}
 use Rattle.spec_validation.specs.Stacks.{Stack}
 use Rattle.spec_validation.specs.Context.{Context, Labels, from_to, Gives, given, plain_shape, index_shape, indirect_shape, select_shape, access_shape, second_shape, block_type}
 use Rattle.spec_validation.specs.Typing.{Meaning, typed_here, plainly, flat, tabled, nested, either_way, after, afters}

@@ -5,8 +5,8 @@ use Rattle.std.proofs.lemmas.Bool.{cases_lt}
 use Rattle.std.proofs.lemmas.List.{length-replicate, get_or-replicate, take_all}
 use Rattle.std.proofs.lemmas.Option.{slice_get-get_or, slice_get_past}
 use Rattle.wasm_form.specs.declared.module.Group.{Group}
-use Rattle.spec_binary.specs.Indices.{declared_locals}
-use Rattle.spec_binary.proofs.Lists.{slice_get-append-left, slice_get-append-right, slice_get-append-last}
+use Rattle.spec_validation.specs.spec_binary.Indices.{declared_locals}
+use Rattle.spec_validation.proofs.of_spec_binary.Lists.{slice_get-append-left, slice_get-append-right, slice_get-append-last}
 use Rattle.wasm_typing.specs.GroupEnds.{locals_before, end_of}
 
 slice_get-replicate : {A : Type 0} (n k : ℕ) (x : A) → k < n → slice_get (replicate n x) k ≡ Some x

@@ -6,7 +6,7 @@ use Rattle.wasm_form.specs.declared.types.FuncType.{FuncType}
 use Rattle.wasm_form.specs.declared.instr.BlockType.{BlockType}
 use Rattle.wasm_form.specs.declared.instr.Instr.{Instr, If}
 use Rattle.wasm_form.specs.declared.instr.Expr.{Expr}
-use Rattle.spec_binary.specs.Options.{◌>>=◌}
+use Rattle.spec_validation.specs.spec_binary.Options.{◌>>=◌}
 use Rattle.spec_validation.specs.Stacks.{Stack, put_on, take_off}
 use Rattle.spec_validation.specs.Context.{Context, block_type}
 use Rattle.spec_validation.specs.Typing.{after, afters, Meaning, Reach, around, inside, closes, either_way}

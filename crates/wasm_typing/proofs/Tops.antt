@@ -3,7 +3,7 @@ use Rattle.std.proofs.Common.{arith, ◌≡◌, ℕ, List, [], ◌∷◌, ◌++�
 use Rattle.std.specs.Prelude.{reverse, if◌then◌else◌}
 use Rattle.std.proofs.lemmas.List.{reverse-append, drop_all}
 use Rattle.wasm_form.specs.declared.types.ValType.{ValType}
-use Rattle.spec_binary.specs.Options.{◌>>=◌}
+use Rattle.spec_validation.specs.spec_binary.Options.{◌>>=◌}
 use Rattle.spec_validation.specs.Stacks.{Stack, begins, fits, take_off}
 use Rattle.wasm_typing.specs.States.{without}
 

@@ -1,8 +1,8 @@
 -- The context that the code of a body is checked in.
 use Rattle.std.specs.Prelude.{Bool, false, ◌++◌, slice_get, Option, Some, None}
 use Rattle.wasm_form.specs.declared.types.FuncType.{FuncType}
-use Rattle.spec_binary.specs.Options.{◌>>=◌}
-use Rattle.spec_binary.specs.Indices.{declared_locals}
+use Rattle.spec_validation.specs.spec_binary.Options.{◌>>=◌}
+use Rattle.spec_validation.specs.spec_binary.Indices.{declared_locals}
 use Rattle.spec_validation.specs.Context.{Context, from_to}
 use Rattle.wasm_typing.specs.declared.scope.Env.{Env}
 use Rattle.wasm_typing.specs.declared.scope.Signature.{Signature}

@@ -1,7 +1,7 @@
 -- Where the groups of declared locals end.
 use Rattle.std.specs.Prelude.{◌≡◌, ℕ, ◌+◌, ◌-◌, ◌^◌, ◌<◌, min, List, length, take, slice_get, Some}
 use Rattle.wasm_form.specs.declared.module.Group.{Group}
-use Rattle.spec_binary.specs.Indices.{declared_locals}
+use Rattle.spec_validation.specs.spec_binary.Indices.{declared_locals}
 
 -- how many locals the first k groups declare
 abbrev pub locals_before : List Group → ℕ → ℕ

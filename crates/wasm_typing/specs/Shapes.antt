@@ -1,10 +1,10 @@
 -- What the instructions of an opcode do.
 use Rattle.std.specs.Prelude.{ℕ, Option, Some}
-use Rattle.wasm_opcode.specs.Plain.{plain_form}
-use Rattle.wasm_opcode.specs.Index.{index_form}
-use Rattle.wasm_opcode.specs.Access.{memory_access}
-use Rattle.wasm_opcode.specs.Second.{second_form}
-use Rattle.spec_binary.specs.Options.{◌>>=◌}
+use Rattle.wasm_form.specs.Plain.{plain_form}
+use Rattle.wasm_form.specs.Index.{index_form}
+use Rattle.wasm_form.specs.Access.{memory_access}
+use Rattle.wasm_form.specs.Second.{second_form}
+use Rattle.spec_validation.specs.spec_binary.Options.{◌>>=◌}
 use Rattle.spec_validation.specs.Context.{Context, Labels, Shape, plain_shape, index_shape, access_shape, second_shape}
 
 abbrev pub plain_shape_of : Context → ℕ → Option Shape

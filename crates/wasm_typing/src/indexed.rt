@@ -11,8 +11,7 @@ use crate::effect::{effect, effect_if, effect_under, jump};
 use crate::fault::TypingFault;
 use crate::scope::Scope;
 use crate::stacks::Stacks;
-use wasm_form::ValType;
-use wasm_opcode::{IndexForm, index_form};
+use wasm_form::{IndexForm, ValType, index_form};
 
 /// An instruction with one index.
 pub fn indexed(scope: &Scope, at: &mut Stacks, op: u8, n: u32) -> Result<(), TypingFault>

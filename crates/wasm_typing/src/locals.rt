@@ -1,6 +1,6 @@
 // The locals that a body declares, by groups. They are never laid out one by one.
 ghost use Rattle.std.specs.Prelude.{◌≡◌, ◌<◌, ◌≤◌, ◌+◌, ◌^◌, List, length, slice_get, IfOk};
-ghost use Rattle.spec_binary.specs.Indices.{declared_locals};
+ghost use Rattle.spec_validation.specs.spec_binary.Indices.{declared_locals};
 ghost use Rattle.wasm_typing.specs.GroupEnds.{AreEnds, locals_before};
 
 use std::alloc::{AllocError, Global};

@@ -11,8 +11,7 @@ use crate::effect::{effect, effect_if, effect_under};
 use crate::fault::TypingFault;
 use crate::scope::Scope;
 use crate::stacks::{Stacks, same_type};
-use wasm_form::ValType;
-use wasm_opcode::{MemoryAccess, SecondForm, memory_access, second_form};
+use wasm_form::{MemoryAccess, SecondForm, ValType, memory_access, second_form};
 
 /// A place, another place or a value, and a number.
 const THREE_NUMBERS: &[ValType] = &[ValType::I32, ValType::I32, ValType::I32];

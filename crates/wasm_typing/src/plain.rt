@@ -1,7 +1,7 @@
 // Instructions without operands, and constants.
 ghost use Rattle.std.specs.Prelude.{◌≡◌, [], ◌∷◌, Some};
 ghost use Rattle.wasm_form.specs.declared.types.ValType.TheVariants.{FuncRef};
-ghost use Rattle.spec_binary.specs.SameTypes.{same_type as same};
+ghost use Rattle.spec_validation.specs.spec_binary.SameTypes.{same_type as same};
 ghost use Rattle.spec_validation.specs.Context.{from_to, given, Gives, plain_shape, operator_type, select_shape};
 ghost use Rattle.spec_validation.specs.Typing.{shaped, shape_after};
 ghost use Rattle.wasm_typing.specs.Answers.{Leaves};
@@ -13,8 +13,7 @@ use crate::effect::{choose, drop_one, effect, effect_if, jump};
 use crate::fault::TypingFault;
 use crate::scope::Scope;
 use crate::stacks::{Stacks, same_type};
-use wasm_form::ValType;
-use wasm_opcode::{Operator, PlainForm, plain_form};
+use wasm_form::{Operator, PlainForm, ValType, plain_form};
 
 /// An instruction without operands.
 pub fn plain(scope: &Scope, at: &mut Stacks, op: u8) -> Result<(), TypingFault>

@@ -1,6 +1,6 @@
 // The stacks of all open blocks, as one list of entries.
 ghost use Rattle.std.specs.Prelude.{◌≡◌, ◌<◌, ℕ, List, [], length, reverse, slice_get, OnOk, Some, option_map};
-ghost use Rattle.spec_binary.specs.SameTypes.{same_type as same};
+ghost use Rattle.spec_validation.specs.spec_binary.SameTypes.{same_type as same};
 ghost use Rattle.spec_validation.specs.Stacks.{begins, fits as fits_entry, has as has_types, take_off, put_on, ends_with as holds_exactly, unreachable, pop as popped, holding};
 ghost use Rattle.wasm_typing.specs.Answers.{Obtains, Leaves};
 ghost use Rattle.wasm_typing.specs.States.{TypingState, with_stack, without, pushed, noted, entered, restarted, left, labels_of, entry_taken, entries_left};

@@ -1,8 +1,8 @@
 -- What a machine sees of its view.
 use Rattle.std.specs.Prelude.{ℕ, List, Option}
 use Rattle.wasm_form.specs.declared.runtime.Ref.{Ref}
-use Rattle.spec_runtime.specs.Memories.{MemoryInstance}
-use Rattle.spec_runtime.specs.Tables.{TableInstance}
+use Rattle.spec_execution.specs.spec_runtime.Memories.{MemoryInstance}
+use Rattle.spec_execution.specs.spec_runtime.Tables.{TableInstance}
 use Rattle.spec_execution.specs.Views.{View}
 
 -- what is fixed, and what steps change: the units and the memory that they share

@@ -3,7 +3,7 @@ use Rattle.std.specs.Prelude.{◌≡◌, ℕ, Option, MatchOption, Result, Ok, E
 use Rattle.wasm_form.specs.declared.Memory.{Memory}
 use Rattle.wasm_form.specs.declared.runtime.Trap.{Trap}
 use Rattle.wasm_form.specs.declared.runtime.Trap.TheVariants.{TableBounds}
-use Rattle.spec_runtime.specs.Tables.{TableInstance}
+use Rattle.spec_execution.specs.spec_runtime.Tables.{TableInstance}
 use Rattle.spec_execution.specs.Views.{View, not_grown}
 
 -- the table becomes the one that is wanted, or there is none: then the call traps, and nothing changes

@@ -1,8 +1,8 @@
 // What a machine is given: code that is fixed, and a store that its steps change (WebAssembly Core 2.0, section 4.2).
 ghost use Rattle.std.specs.Prelude.{◌≡◌, ◌<◌, ℕ, Some, IfSome, IsSome, length, min};
-ghost use Rattle.spec_runtime.specs.Memories.{stored, copied, filled, written, initialized, pages, grown};
-ghost use Rattle.spec_runtime.specs.Tables.{entry_set, entries_filled, entries_copied_from, entries_initialized, entries_grown};
-ghost use Rattle.spec_binary.specs.Indices.{declared_locals};
+ghost use Rattle.spec_execution.specs.spec_runtime.Memories.{stored, copied, filled, written, initialized, pages, grown};
+ghost use Rattle.spec_execution.specs.spec_runtime.Tables.{entry_set, entries_filled, entries_copied_from, entries_initialized, entries_grown};
+ghost use Rattle.spec_execution.specs.spec_binary.Indices.{declared_locals};
 ghost use Rattle.spec_execution.specs.Views.{type_of};
 ghost use Rattle.spec_execution.specs.Limits.{room_of};
 ghost use Rattle.wasm_space.specs.Access.{IsAccessLength, ChangesOrTraps, GrowsOrStays};
@@ -10,8 +10,7 @@ ghost use Rattle.wasm_view.specs.Seen.{Seen, table_in, elem_in};
 ghost use Rattle.wasm_view.specs.Tables.{ChangesTable, GrowsTable};
 
 use std::alloc::Global;
-use wasm_form::{Code, FuncType, Memory, Ref, Trap};
-use wasm_runtime::Value;
+use wasm_form::{Code, FuncType, Memory, Ref, Trap, Value};
 use wasm_space::{Slots, Space};
 
 /// The functions, types, globals, tables and segments of the units of a run, each by a number of its unit, and the memory

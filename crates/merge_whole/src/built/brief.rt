@@ -1,14 +1,14 @@
 // Whether the merged module of a linked set can be written, whatever is declared.
 ghost use Rattle.std.specs.Prelude.{◌≡◌, ◌+◌, ◌∷◌, [], ◌≤◌, map, IfOk, OnOk};
-ghost use Rattle.host_table.specs.Names.{host_name_of};
+ghost use Rattle.dyl_link.specs.host_table.Names.{host_name_of};
 ghost use Rattle.merge_module.specs.Laws.{hosts_bulk, names_bulk};
 ghost use Rattle.merge_whole.specs.Counts.{members_of};
 ghost use Rattle.merge_whole.specs.Brief.{KeptIsBrief};
 
 use crate::built::counts::end_of;
 use dyl_link::Linked;
-use dyl_search::Member;
-use host_table::HostName;
+use dyl_link::dyl_search::Member;
+use dyl_link::host_table::HostName;
 use wasm_form::Memory;
 
 // The most that host functions may take, and the most bytes that members' names may have.

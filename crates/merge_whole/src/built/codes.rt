@@ -1,6 +1,6 @@
 // The bodies of the merged module.
 ghost use Rattle.std.specs.Prelude.{◌≡◌, ◌++◌, ◌<◌, ◌^◌, map, Some, IfOk, OnOk};
-ghost use Rattle.spec_linking.specs.LinkedSets.{LinkedSet};
+ghost use Rattle.spec_loading.specs.spec_linking.LinkedSets.{LinkedSet};
 ghost use Rattle.dyl_link.specs.Kept.{IsLinked};
 ghost use Rattle.merge_match.specs.Joined.{renumbered_code};
 ghost use Rattle.merge_start.specs.Words.{Starts};
@@ -17,7 +17,7 @@ use crate::built::copies::copied_code;
 use crate::built::counts::end_of;
 use crate::built::stubs::{imported_types, put_traps};
 use dyl_link::Linked;
-use dyl_search::Member;
+use dyl_link::dyl_search::Member;
 use merge_dl::{DlNumbers, find_functions, length_function, loader_functions};
 use merge_index::Numbers;
 use merge_start::{Part, StartNumbers, entry_function, open_functions, phase_functions};

@@ -1,9 +1,9 @@
 // The values of constant expressions of a member, and constants with these values.
 ghost use Rattle.std.specs.Prelude.{◌≡◌, IfOk};
 ghost use Rattle.wasm_form.specs.declared.instr.Instr.{out-Instr};
-ghost use Rattle.wasm_runtime.specs.declared.Value.TheVariants as values;
-ghost use Rattle.spec_runtime.specs.Constants.{index_constant, instruction_constant};
-ghost use Rattle.spec_execution.specs.Values.{zero_of};
+ghost use Rattle.wasm_form.specs.declared.runtime.Value.TheVariants as values;
+ghost use Rattle.spec_loading.specs.spec_runtime.Constants.{index_constant, instruction_constant};
+ghost use Rattle.spec_loading.specs.spec_execution.Values.{zero_of};
 ghost use Rattle.dyl_link.specs.Kept.{function_in};
 ghost use Rattle.merge_match.specs.Renumbering as renumbering;
 ghost use Rattle.merge_index.specs.Kept.{numbers_in};
@@ -13,9 +13,7 @@ ghost use Rattle.merge_whole.specs.GlobalDefs.{function_value, base_value, const
 
 use dyl_link::Linked;
 use merge_index::Numbers;
-use wasm_form::{Expr, Instr, Memory, Ref, ValType};
-use wasm_opcode::{IndexForm, index_form};
-use wasm_runtime::Value;
+use wasm_form::{Expr, IndexForm, Instr, Memory, Ref, ValType, Value, index_form};
 
 fn function_value(found: Option<Ref>) -> Option<Value>
     ensures { result ≡ function_value found }

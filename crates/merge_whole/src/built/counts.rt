@@ -1,9 +1,9 @@
 // How much there is of a linked set.
 ghost use Rattle.std.specs.Prelude.{◌≡◌, ◌+◌, length, IfOk};
-ghost use Rattle.spec_binary.specs.IndexSpaces.{imports_of, tables_in, table_space};
+ghost use Rattle.spec_reading.specs.spec_binary.IndexSpaces.{imports_of, tables_in, table_space};
 ghost use Rattle.merge_whole.specs.Counts.{members_of, size_in, total};
 
-use dyl_search::Member;
+use dyl_link::dyl_search::Member;
 use wasm_form::{Import, ImportDesc, Memory, Module};
 
 // What members define, one kind of it.

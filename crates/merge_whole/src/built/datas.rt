@@ -1,13 +1,13 @@
 // The data segments of the merged module.
 ghost use Rattle.std.specs.Prelude.{◌≡◌, ◌++◌, map, IfOk, OnOk};
-ghost use Rattle.spec_linking.specs.LinkedSets.{LinkedSet};
+ghost use Rattle.spec_loading.specs.spec_linking.LinkedSets.{LinkedSet};
 ghost use Rattle.spec_loading.specs.Texts.{error_texts};
 ghost use Rattle.dyl_link.specs.Kept.{IsLinked};
 ghost use Rattle.merge_module.specs.MergedModule.{number_expr, passive_data, merged_datas};
 ghost use Rattle.merge_whole.specs.Built.{joined, datas_of, texts_at, datas_in};
 
 use dyl_link::Linked;
-use dyl_search::Member;
+use dyl_link::dyl_search::Member;
 use merge_pieces::passive_data;
 use spec_loading::error_texts;
 use std::alloc::Global;

@@ -1,6 +1,6 @@
 // The element segments.
 ghost use Rattle.std.specs.Prelude.{◌≡◌, ◌++◌, map, IfOk, OnOk};
-ghost use Rattle.spec_linking.specs.LinkedSets.{LinkedSet};
+ghost use Rattle.spec_loading.specs.spec_linking.LinkedSets.{LinkedSet};
 ghost use Rattle.spec_loading.specs.Members.{from_members};
 ghost use Rattle.dyl_link.specs.Kept.{IsLinked};
 ghost use Rattle.merge_match.specs.Renumbering.{expr};
@@ -13,7 +13,7 @@ ghost use Rattle.merge_whole.specs.Elements.{passive_elems, fresh_by, fresh_elem
 
 use crate::built::counts::end_of;
 use dyl_link::Linked;
-use dyl_search::Member;
+use dyl_link::dyl_search::Member;
 use merge_index::Numbers;
 use std::alloc::Global;
 use wasm_form::{

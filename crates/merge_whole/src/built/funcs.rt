@@ -1,6 +1,6 @@
 // The functions of the merged module, by the numbers of their types.
 ghost use Rattle.std.specs.Prelude.{◌≡◌, ◌++◌, ◌∷◌, [], map, IfOk, OnOk};
-ghost use Rattle.spec_linking.specs.LinkedSets.{LinkedSet};
+ghost use Rattle.spec_loading.specs.spec_linking.LinkedSets.{LinkedSet};
 ghost use Rattle.dyl_link.specs.Kept.{IsLinked};
 ghost use Rattle.merge_index.specs.Kept.{numbers_in};
 ghost use Rattle.merge_module.specs.MergedModule.{merged_funcs};
@@ -10,7 +10,7 @@ use crate::built::counts::end_of;
 use crate::built::imports::nullary_number;
 use crate::built::stubs::{imported_types, put_stub_types};
 use dyl_link::Linked;
-use dyl_search::Member;
+use dyl_link::dyl_search::Member;
 use merge_index::Numbers;
 use std::alloc::Global;
 use wasm_form::{List, Memory};

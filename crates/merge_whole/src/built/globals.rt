@@ -1,8 +1,8 @@
 // The globals.
 ghost use Rattle.std.specs.Prelude.{◌≡◌, ◌+◌, ◌<◌, ◌++◌, ◌∷◌, [], true, cond, length, map, slice_get, unwrap_or, IfOk, OnOk};
-ghost use Rattle.spec_binary.specs.IndexSpaces.{globals_in};
-ghost use Rattle.spec_linking.specs.LinkedSets.{LinkedSet};
-ghost use Rattle.spec_linking.specs.Slots.{cell_of_import, first_cells};
+ghost use Rattle.spec_reading.specs.spec_binary.IndexSpaces.{globals_in};
+ghost use Rattle.spec_loading.specs.spec_linking.LinkedSets.{LinkedSet};
+ghost use Rattle.spec_loading.specs.spec_linking.Slots.{cell_of_import, first_cells};
 ghost use Rattle.dyl_link.specs.Kept.{IsLinked, cell_in};
 ghost use Rattle.merge_index.specs.Numbering.{numbers_of, starts_of};
 ghost use Rattle.merge_index.specs.Globals.{cell_named, cells_in, with_cells};
@@ -16,15 +16,16 @@ ghost use Rattle.merge_whole.specs.GlobalDefs.{value_by, own_by, cells_by, globa
 use crate::built::constants::{constant, constant_instr, zero_of};
 use crate::built::counts::end_of;
 use crate::built::elems::number_expr;
-use dyl_imports::{Use, use_of};
 use dyl_link::Linked;
-use dyl_search::Member;
+use dyl_link::dyl_imports::{Use, use_of};
+use dyl_link::dyl_search::Member;
 use indexmap::IndexSet;
 use merge_index::Numbers;
 use merge_start::bases_from;
 use std::alloc::Global;
-use wasm_form::{Expr, GlobalDef, GlobalType, Import, ImportDesc, List, Memory, Module, ValType};
-use wasm_runtime::Value;
+use wasm_form::{
+    Expr, GlobalDef, GlobalType, Import, ImportDesc, List, Memory, Module, ValType, Value,
+};
 
 // An i32 that begins with this number, and may be set or may not.
 fn number_global(alloc: Global, may_be_set: bool, k: u32) -> Result<GlobalDef, Memory>

@@ -1,7 +1,7 @@
 // The imports of the merged module.
 ghost use Rattle.std.specs.Prelude.{◌≡◌, ◌++◌, ◌+◌, length, map, IfOk, OnOk};
-ghost use Rattle.host_table.specs.Names.{host_name_of};
-ghost use Rattle.spec_linking.specs.LinkedSets.{LinkedSet};
+ghost use Rattle.dyl_link.specs.host_table.Names.{host_name_of};
+ghost use Rattle.spec_loading.specs.spec_linking.LinkedSets.{LinkedSet};
 ghost use Rattle.dyl_link.specs.Kept.{IsLinked};
 ghost use Rattle.merge_module.specs.MergedModule.{host_imports, merged_imports};
 ghost use Rattle.merge_whole.specs.Built.{joined, types_of, generated_in, nullary_in, import_of, imports_in};
@@ -9,8 +9,8 @@ ghost use Rattle.merge_whole.specs.Built.{joined, types_of, generated_in, nullar
 use crate::built::copies::copied_text;
 use crate::built::counts::end_of;
 use dyl_link::Linked;
-use dyl_search::Member;
-use host_table::HostName;
+use dyl_link::dyl_search::Member;
+use dyl_link::host_table::HostName;
 use std::alloc::Global;
 use wasm_form::{Import, ImportDesc, List, Memory};
 

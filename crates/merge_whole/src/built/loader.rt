@@ -1,6 +1,6 @@
 // The numbers that the functions of the loader name.
 ghost use Rattle.std.specs.Prelude.{◌≡◌, IfOk};
-ghost use Rattle.spec_linking.specs.LinkedSets.{LinkedSet};
+ghost use Rattle.spec_loading.specs.spec_linking.LinkedSets.{LinkedSet};
 ghost use Rattle.dyl_link.specs.Kept.{IsLinked};
 ghost use Rattle.merge_index.specs.Numbering as numbering;
 ghost use Rattle.merge_index.specs.Numbering.{starts_of};

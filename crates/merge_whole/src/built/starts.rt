@@ -4,7 +4,7 @@ ghost use Rattle.std.specs.List.{range_with_len};
 ghost use Rattle.spec_loading.specs.declared.task.Phase.TheVariants as phases;
 ghost use Rattle.spec_loading.specs.Phases.{phase_function};
 ghost use Rattle.spec_loading.specs.Members.{from_members};
-ghost use Rattle.spec_linking.specs.LinkedSets.{LinkedSet};
+ghost use Rattle.spec_loading.specs.spec_linking.LinkedSets.{LinkedSet};
 ghost use Rattle.dyl_link.specs.Kept.{IsLinked};
 ghost use Rattle.merge_index.specs.Kept.{numbers_in};
 ghost use Rattle.merge_index.specs.Numbering.{first_phase, numbers_of, starts_of};
@@ -13,7 +13,7 @@ ghost use Rattle.merge_whole.specs.Counts.{members_of, tables_by, calls_by, star
 
 use crate::built::counts::{Space, end_of, table_count, total};
 use dyl_link::Linked;
-use dyl_search::Member;
+use dyl_link::dyl_search::Member;
 use merge_index::Numbers;
 use merge_start::StartNumbers;
 use std::alloc::Global;

@@ -1,6 +1,6 @@
 // What stands for imports that nothing defines.
 ghost use Rattle.std.specs.Prelude.{◌≡◌, ◌++◌, ◌∷◌, [], ◌<◌, Some, IfOk, OnOk, if◌then◌else◌};
-ghost use Rattle.spec_binary.specs.IndexSpaces.{functions_in, imports_of};
+ghost use Rattle.spec_reading.specs.spec_binary.IndexSpaces.{functions_in, imports_of};
 ghost use Rattle.dyl_link.specs.Kept.{function_in};
 ghost use Rattle.merge_index.specs.Kept.{numbers_in};
 ghost use Rattle.merge_index.specs.Numbering as numbering;

@@ -1,12 +1,12 @@
 // The tables and the memory of the merged module.
 ghost use Rattle.std.specs.Prelude.{◌≡◌, ◌++◌, ◌∷◌, [], IfOk, OnOk};
-ghost use Rattle.spec_linking.specs.LinkedSets.{LinkedSet};
+ghost use Rattle.spec_loading.specs.spec_linking.LinkedSets.{LinkedSet};
 ghost use Rattle.dyl_link.specs.Kept.{IsLinked};
 ghost use Rattle.merge_module.specs.MergedModule.{merged_tables, shared_memory_type};
 ghost use Rattle.merge_whole.specs.Built.{joined, tables_of, shared_table_in, tables_in, memory_in};
 
 use dyl_link::Linked;
-use dyl_search::Member;
+use dyl_link::dyl_search::Member;
 use merge_pieces::memory_type;
 use std::alloc::Global;
 use wasm_form::{Limits, List, Memory, TableType, ValType};

@@ -1,16 +1,16 @@
 // The types of the merged module.
 ghost use Rattle.std.specs.Prelude.{◌≡◌, ◌++◌, ◌∷◌, [], map, IfOk, OnOk};
-ghost use Rattle.spec_binary.specs.Indices.{nullary};
-ghost use Rattle.host_table.specs.Names.{host_name_of};
-ghost use Rattle.spec_linking.specs.LinkedSets.{LinkedSet};
+ghost use Rattle.spec_reading.specs.spec_binary.Indices.{nullary};
+ghost use Rattle.dyl_link.specs.host_table.Names.{host_name_of};
+ghost use Rattle.spec_loading.specs.spec_linking.LinkedSets.{LinkedSet};
 ghost use Rattle.dyl_link.specs.Kept.{IsLinked};
 ghost use Rattle.merge_module.specs.MergedModule.{merged_types};
 ghost use Rattle.merge_whole.specs.Built.{joined, types_of, host_type, generated_in, types_in};
 
 use crate::built::copies::copied_type;
 use dyl_link::Linked;
-use dyl_search::Member;
-use host_table::HostName;
+use dyl_link::dyl_search::Member;
+use dyl_link::host_table::HostName;
 use merge_dl::loader_types;
 use std::alloc::Global;
 use wasm_form::{FuncType, List, Memory};

@@ -1,7 +1,7 @@
 use Rattle.std.proofs.Common.{refl}
 use Rattle.spec_hosts.specs.Devices.{devices}
 use Rattle.host_calls.specs.Embedders.{names_of, embedder_of}
-use Rattle.host_table.specs.Table.{functions_of}
+use Rattle.dyl_link.specs.host_table.Table.{functions_of}
 use Rattle.dyl_commands.specs.Runs.{Does}
 use Rattle.dyl_commands.specs.Served.{Serves}
 use Rattle.dyl_commands.proofs.Writing.{can_write}

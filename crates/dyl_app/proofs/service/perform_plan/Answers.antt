@@ -1,6 +1,6 @@
 use Rattle.std.proofs.Common.{Ok}
 use Rattle.host_calls.specs.Embedders.{names_of}
-use Rattle.dyl_search.specs.Gathers.{options_of}
+use Rattle.dyl_link.specs.dyl_search.Gathers.{options_of}
 use Rattle.dyl_link.specs.Kept as links
 use Rattle.dyl_front.specs.declared.order.Order.TheVariants.{Plan}
 use Rattle.dyl_commands.proofs.Telling.{done_silent, told_serves, told_plans}

@@ -1,5 +1,5 @@
 use Rattle.std.proofs.Common.{Ok, Err}
-use Rattle.spec_execution.specs.declared.fault.SingleFault.TheVariants as single
+use Rattle.spec_loading.specs.spec_execution.declared.fault.SingleFault.TheVariants as single
 use Rattle.host_calls.specs.Embedders.{embedder_of}
 use Rattle.dyl_commands.proofs.Executing.{with_arguments}
 use Rattle.dyl_commands.proofs.exec.exec_module.Goals as goal

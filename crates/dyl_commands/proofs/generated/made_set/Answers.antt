@@ -1,6 +1,6 @@
 use Rattle.std.proofs.Common.{refl}
 use Rattle.host_calls.specs.Embedders.{names_of}
-use Rattle.host_table.specs.Table.{functions_of}
+use Rattle.dyl_link.specs.host_table.Table.{functions_of}
 use Rattle.dyl_commands.proofs.Generating.{made_from}
 use Rattle.dyl_commands.proofs.Writing.{can_write}
 use Rattle.dyl_commands.proofs.generated.made_set.Goals as goal

@@ -1,5 +1,5 @@
 use Rattle.std.proofs.Common.{Err, sym, ap, ◌∙◌}
-use Rattle.spec_validation.specs.Faults as validation
+use Rattle.spec_loading.specs.spec_validation.Faults as validation
 use Rattle.dyl_commands.proofs.Generating.{merges_to, merged_to, never_big}
 use Rattle.dyl_commands.proofs.generated.merged_module.Goals as goal
 

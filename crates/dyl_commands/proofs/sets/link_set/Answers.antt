@@ -1,4 +1,4 @@
-use Rattle.dyl_search.specs.Gathers.{set_of}
+use Rattle.dyl_link.specs.dyl_search.Gathers.{set_of}
 use Rattle.dyl_link.specs.Kept as links
 use Rattle.host_calls.specs.Embedders.{names_of}
 use Rattle.dyl_commands.proofs.Linking.{links_to, links_not}

@@ -1,5 +1,5 @@
 use Rattle.std.proofs.Common.{Err, ap}
-use Rattle.dyl_search.specs.Gathers.{options_of, set_of}
+use Rattle.dyl_link.specs.dyl_search.Gathers.{options_of, set_of}
 use Rattle.dyl_link.specs.Kept as links
 use Rattle.host_calls.specs.Embedders.{names_of}
 use Rattle.dyl_commands.proofs.Linking.{got, not_got}

@@ -1,5 +1,5 @@
 use Rattle.std.proofs.Common.{◌≡◌, ◌++◌, drop, map}
-use Rattle.dyl_search.specs.Gathers.{member_of, set_of}
+use Rattle.dyl_link.specs.dyl_search.Gathers.{member_of, set_of}
 use Rattle.dyl_link.specs.Kept.{function_in, cell_in}
 use Rattle.dyl_front.specs.Listing.{bind_lines}
 use Rattle.dyl_front.proofs.binds.put_binds.Given as goal

@@ -1,5 +1,5 @@
 use Rattle.std.proofs.Common.{◌≡◌, ◌++◌, drop, map}
-use Rattle.dyl_search.specs.Gathers.{member_of, set_of}
+use Rattle.dyl_link.specs.dyl_search.Gathers.{member_of, set_of}
 use Rattle.dyl_front.specs.Listing.{module_lines}
 use Rattle.dyl_front.proofs.list.put_modules.Given as goal
 

@@ -1,7 +1,7 @@
 use Rattle.std.proofs.Common.{◌≡◌, ◌∙◌, ◌<◌, [], None, ap, sym, length, unwrap_or, arith}
 use Rattle.std.specs.List.{position_from}
 use Rattle.std.specs.Option.{option_map}
-use Rattle.wasm_form.specs.declared.module.Export.{Export}
+use Rattle.spec_merging.specs.wasm_form.declared.module.Export.{Export}
 use Rattle.dyl_front.specs.Listing.{is_name_of}
 use Rattle.dyl_front.specs.KeptListing.{name_placed}
 use Rattle.dyl_front.proofs.FirstNames.{find_placed}

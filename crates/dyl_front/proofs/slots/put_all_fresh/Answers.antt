@@ -1,7 +1,7 @@
 use Rattle.std.proofs.Common.{rules, ◌≡◌, ◌∙◌, ◌++◌, ◌+◌, ap, map, drop, Some, slice_get}
-use Rattle.wasm_form.specs.declared.runtime.Ref.TheVariants.{Own}
-use Rattle.spec_binary.specs.Options.{◌>>=◌}
-use Rattle.dyl_search.specs.Gathers.{set_of}
+use Rattle.spec_merging.specs.wasm_form.declared.runtime.Ref.TheVariants.{Own}
+use Rattle.spec_hosts.specs.spec_binary.Options.{◌>>=◌}
+use Rattle.dyl_link.specs.dyl_search.Gathers.{set_of}
 use Rattle.dyl_link.specs.Kept.{slot_in}
 use Rattle.dyl_front.specs.Listing.{slot_lines}
 use Rattle.dyl_front.specs.KeptListing.{fresh_of_members}

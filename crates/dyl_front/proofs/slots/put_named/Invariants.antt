@@ -1,6 +1,6 @@
 use Rattle.std.proofs.Common.{◌≡◌, ◌++◌, drop, map}
-use Rattle.wasm_form.specs.declared.runtime.Ref.TheVariants.{Own}
-use Rattle.dyl_search.specs.Gathers.{set_of}
+use Rattle.spec_merging.specs.wasm_form.declared.runtime.Ref.TheVariants.{Own}
+use Rattle.dyl_link.specs.dyl_search.Gathers.{set_of}
 use Rattle.dyl_link.specs.Kept.{slot_in}
 use Rattle.dyl_front.specs.Listing.{slot_lines}
 use Rattle.dyl_front.proofs.slots.put_named.Given as goal

@@ -1,5 +1,5 @@
 use Rattle.std.proofs.Common.{◌≡◌, ◌++◌, drop}
-use Rattle.dyl_search.specs.Gathers.{set_of}
+use Rattle.dyl_link.specs.dyl_search.Gathers.{set_of}
 use Rattle.dyl_link.specs.Kept.{slot_in}
 use Rattle.dyl_front.specs.Listing.{slot_lines}
 use Rattle.dyl_front.proofs.slots.put_slots.Given as goal

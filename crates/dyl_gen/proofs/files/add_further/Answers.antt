@@ -1,6 +1,6 @@
 use Rattle.std.proofs.Common.{◌∙◌, ap, List, ℕ}
 use Rattle.std.specs.FinMap.{insert}
-use Rattle.spec_binary.proofs.Joined.{on_ok}
+use Rattle.spec_reading.proofs.of_spec_binary.Joined.{on_ok}
 use Rattle.dyl_outside.specs.MemFiles.{MemFilesState}
 use Rattle.dyl_gen.specs.Generated.{further_name}
 use Rattle.dyl_gen.proofs.files.add_further.Goals as goal

@@ -1,6 +1,6 @@
 use Rattle.std.proofs.Common.{◌≤◌, subst, sym}
 use Rattle.wasm_form.specs.declared.module.Module.{Module}
-use Rattle.spec_binary.specs.WellFormed.{IsWellFormed}
+use Rattle.spec_reading.specs.spec_binary.WellFormed.{IsWellFormed}
 use Rattle.wasm_encode.specs.Weight.{weight}
 use Rattle.dyl_section.specs.declared.record.Dylink.{Dylink}
 use Rattle.dyl_section.specs.Written.{IsWritable, IsWritten}

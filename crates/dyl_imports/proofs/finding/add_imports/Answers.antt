@@ -1,6 +1,6 @@
 use Rattle.std.proofs.Common.{◌≡◌, ◌<◌, length, get_or, arith, ap}
 use Rattle.std.specs.List.{flat_map}
-use Rattle.spec_linking.specs.LinkedSets.{host_of_import}
+use Rattle.spec_loading.specs.spec_linking.LinkedSets.{host_of_import}
 use Rattle.dyl_imports.specs.Hosts.{with_hosts}
 use Rattle.dyl_imports.proofs.Steps.{more_imports}
 use Rattle.dyl_imports.proofs.finding.add_imports.Goals as goal

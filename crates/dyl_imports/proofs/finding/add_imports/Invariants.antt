@@ -1,6 +1,6 @@
 use Rattle.std.proofs.Common.{◌≡◌, drop}
 use Rattle.std.specs.List.{flat_map}
-use Rattle.spec_linking.specs.LinkedSets.{LinkedSet, host_of_import}
+use Rattle.spec_loading.specs.spec_linking.LinkedSets.{LinkedSet, host_of_import}
 use Rattle.dyl_imports.specs.Hosts.{with_hosts}
 use Rattle.dyl_imports.specs.Kept.{IsKnownOf}
 use Rattle.dyl_imports.proofs.finding.add_imports.Given as goal

@@ -1,5 +1,5 @@
 use Rattle.std.proofs.Common.{◌≡◌, ◌+◌, ◌≤◌, drop, length}
-use Rattle.spec_binary.specs.IndexSpaces.{imports_of, functions_in}
+use Rattle.spec_loading.specs.spec_binary.IndexSpaces.{imports_of, functions_in}
 use Rattle.dyl_imports.proofs.functions.imported_functions.Given as goal
 
 abbrev pub invariant-loop-import : goal.invariant-loop-import

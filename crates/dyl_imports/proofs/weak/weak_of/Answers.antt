@@ -1,6 +1,6 @@
 use Rattle.std.proofs.Common.{◌≡◌, ◌∙◌, ◌<◌, ◌+◌, ◌∷◌, [], length, get_or, map, arith, ap, length-append}
 use Rattle.std.specs.List.{list_any}
-use Rattle.spec_linking.specs.Definitions.{is_weak_note}
+use Rattle.spec_loading.specs.spec_linking.Definitions.{is_weak_note}
 use Rattle.dyl_section.specs.Recorded.{import_note}
 use Rattle.dyl_imports.proofs.Steps.{weak_step}
 use Rattle.dyl_imports.proofs.weak.weak_of.Goals as goal

@@ -1,8 +1,8 @@
 use Rattle.std.proofs.Common.{rules, ◌≡◌, ◌∙◌, ◌<◌, ◌+◌, ◌++◌, ◌∷◌, [], List, ℕ, length, get_or, take, drop, ap, ap₂, sym, subst, arith}
 use Rattle.std.proofs.lemmas.List.{length-map}
 use Rattle.wasm_form.specs.declared.module.Export.{Export}
-use Rattle.spec_linking.specs.Links.{◌or_else◌, first_fault, duplicate_of, duplicates_from}
-use Rattle.dyl_search.specs.Gathers.{member_of}
+use Rattle.spec_loading.specs.spec_linking.Links.{◌or_else◌, first_fault, duplicate_of, duplicates_from}
+use Rattle.dyl_slots.specs.dyl_search.Gathers.{member_of}
 use Rattle.dyl_link.specs.Answers.{Tells}
 use Rattle.dyl_link.specs.Duplicates.{duplicate_by}
 use Rattle.dyl_link.proofs.OneMore.{member_here, duplicates_step}

@@ -1,10 +1,10 @@
 use Rattle.std.proofs.Common.{◌≡◌, drop, map}
 use Rattle.std.specs.List.{range_with_len}
-use Rattle.spec_linking.specs.Sets.{ClosedSet}
-use Rattle.spec_linking.specs.Gathering.{IsSet}
-use Rattle.spec_linking.specs.Links.{duplicates_from}
-use Rattle.dyl_search.specs.Gathers.{member_of}
-use Rattle.dyl_scope.specs.Scopes.{AreOf}
+use Rattle.spec_loading.specs.spec_linking.Sets.{ClosedSet}
+use Rattle.spec_loading.specs.spec_linking.Gathering.{IsSet}
+use Rattle.spec_loading.specs.spec_linking.Links.{duplicates_from}
+use Rattle.dyl_slots.specs.dyl_search.Gathers.{member_of}
+use Rattle.dyl_slots.specs.dyl_scope.Scopes.{AreOf}
 use Rattle.dyl_link.proofs.duplicates.duplicates.Given as goal
 
 abbrev pub invariant-loop-m : goal.invariant-loop-m

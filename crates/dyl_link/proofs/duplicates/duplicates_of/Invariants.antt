@@ -1,7 +1,7 @@
 use Rattle.std.proofs.Common.{◌≡◌, drop}
-use Rattle.spec_linking.specs.Sets.{ClosedSet}
-use Rattle.spec_linking.specs.Links.{first_fault}
-use Rattle.dyl_scope.specs.Scopes.{AreOf}
+use Rattle.spec_loading.specs.spec_linking.Sets.{ClosedSet}
+use Rattle.spec_loading.specs.spec_linking.Links.{first_fault}
+use Rattle.dyl_slots.specs.dyl_scope.Scopes.{AreOf}
 use Rattle.dyl_link.specs.Duplicates.{duplicate_by}
 use Rattle.dyl_link.proofs.duplicates.duplicates_of.Given as goal
 

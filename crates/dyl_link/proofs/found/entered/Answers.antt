@@ -1,5 +1,5 @@
 use Rattle.std.proofs.Common.{rules, ◌∙◌, ap, sym, subst}
-use Rattle.spec_linking.specs.Plans as plans
+use Rattle.spec_loading.specs.spec_linking.Plans as plans
 use Rattle.dyl_link.specs.Answers.{Tells}
 use Rattle.dyl_link.proofs.Findings.{before_limits}
 use Rattle.dyl_link.proofs.Sound.{is_sound, after_entry, same_entry}

@@ -1,7 +1,7 @@
 use Rattle.std.proofs.Common.{◌≡◌, drop}
-use Rattle.spec_linking.specs.LinkedSets.{LinkedSet}
-use Rattle.spec_linking.specs.Links.{first_fault, import_fault}
-use Rattle.dyl_imports.specs.Kept.{AreImportsOf}
+use Rattle.spec_loading.specs.spec_linking.LinkedSets.{LinkedSet}
+use Rattle.spec_loading.specs.spec_linking.Links.{first_fault, import_fault}
+use Rattle.dyl_slots.specs.dyl_imports.Kept.{AreImportsOf}
 use Rattle.dyl_link.proofs.imports.import_faults.Given as goal
 
 abbrev pub invariant-loop-i : goal.invariant-loop-i

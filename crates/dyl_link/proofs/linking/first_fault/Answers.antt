@@ -1,5 +1,5 @@
 use Rattle.std.proofs.Common.{ap, sym, map}
-use Rattle.dyl_search.specs.Gathers.{member_of, set_of}
+use Rattle.dyl_slots.specs.dyl_search.Gathers.{member_of, set_of}
 use Rattle.dyl_link.proofs.linking.first_fault.Goals as goal
 
 pub found_of-requires-clause-symbols : goal.found_of-requires-clause-symbols

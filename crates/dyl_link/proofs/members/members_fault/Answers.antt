@@ -1,6 +1,6 @@
 use Rattle.std.proofs.Common.{rules, ◌≡◌, ◌∙◌, ◌<◌, ◌+◌, None, length, get_or, drop, ap, sym, subst, arith}
-use Rattle.spec_linking.specs.Links.{◌or_else◌, member_fault, members_fault}
-use Rattle.dyl_search.specs.Gathers.{member_of}
+use Rattle.spec_loading.specs.spec_linking.Links.{◌or_else◌, member_fault, members_fault}
+use Rattle.dyl_slots.specs.dyl_search.Gathers.{member_of}
 use Rattle.dyl_link.specs.Answers.{Tells}
 use Rattle.dyl_link.proofs.OneMore.{members_step}
 use Rattle.dyl_link.proofs.members.members_fault.Goals as goal

@@ -1,5 +1,5 @@
 use Rattle.std.proofs.Common.{◌≡◌, drop}
-use Rattle.spec_binary.specs.Exports.{exported_as}
+use Rattle.spec_loading.specs.spec_binary.Exports.{exported_as}
 use Rattle.dyl_link.proofs.own.exported_as.Given as goal
 
 abbrev pub invariant-loop-e : goal.invariant-loop-e

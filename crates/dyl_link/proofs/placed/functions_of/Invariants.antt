@@ -1,7 +1,7 @@
 use Rattle.std.proofs.Common.{◌≡◌, length, None}
-use Rattle.spec_linking.specs.LinkedSets.{LinkedSet}
-use Rattle.spec_linking.specs.Links.{members_fault}
-use Rattle.dyl_imports.specs.Kept.{AreImportsOf}
+use Rattle.spec_loading.specs.spec_linking.LinkedSets.{LinkedSet}
+use Rattle.spec_loading.specs.spec_linking.Links.{members_fault}
+use Rattle.dyl_slots.specs.dyl_imports.Kept.{AreImportsOf}
 use Rattle.dyl_slots.specs.Given.{AllAt}
 use Rattle.dyl_link.specs.Steps.{AreNamed}
 use Rattle.dyl_link.proofs.placed.functions_of.Given as goal

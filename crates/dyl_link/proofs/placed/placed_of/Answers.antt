@@ -1,8 +1,8 @@
 use Rattle.std.proofs.Common.{rules, ◌∙◌, ◌≤◌, ap, sym, subst, arith}
-use Rattle.spec_linking.specs.declared.fault.LinkFault.TheVariants as faults
-use Rattle.spec_linking.specs.Plans.{limit}
-use Rattle.spec_linking.specs.Slots.{table_entries}
-use Rattle.spec_linking.specs.Links.{◌or_else◌}
+use Rattle.spec_loading.specs.spec_linking.declared.fault.LinkFault.TheVariants as faults
+use Rattle.spec_loading.specs.spec_linking.Plans.{limit}
+use Rattle.spec_loading.specs.spec_linking.Slots.{table_entries}
+use Rattle.spec_loading.specs.spec_linking.Links.{◌or_else◌}
 use Rattle.dyl_link.specs.Answers.{Tells}
 use Rattle.dyl_link.proofs.Sound.{is_placed, limits_from}
 use Rattle.dyl_link.proofs.placed.placed_of.Goals as goal

@@ -1,7 +1,7 @@
 use Rattle.std.proofs.Common.{◌∙◌, ap, map, sym, subst, All}
-use Rattle.spec_linking.specs.Plans.{regions_of}
-use Rattle.dyl_search.specs.Gathers.{member_of}
-use Rattle.dyl_plan.specs.Regions.{HasAligns}
+use Rattle.spec_loading.specs.spec_linking.Plans.{regions_of}
+use Rattle.dyl_slots.specs.dyl_search.Gathers.{member_of}
+use Rattle.dyl_slots.specs.dyl_plan.Regions.{HasAligns}
 use Rattle.dyl_link.proofs.Aligns.{aligned}
 use Rattle.dyl_link.proofs.placing.plan_of.Goals as goal
 

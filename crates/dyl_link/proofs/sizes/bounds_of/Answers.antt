@@ -1,6 +1,6 @@
 use Rattle.std.proofs.Common.{◌≡◌, ◌∙◌, ◌<◌, length, get_or, map, ap, arith}
-use Rattle.spec_linking.specs.Plans.{limits_in}
-use Rattle.dyl_search.specs.Gathers.{member_of}
+use Rattle.spec_loading.specs.spec_linking.Plans.{limits_in}
+use Rattle.dyl_slots.specs.dyl_search.Gathers.{member_of}
 use Rattle.dyl_link.specs.Bounds.{limits_as, all_limits}
 use Rattle.dyl_link.proofs.Greatest.{bounds_step}
 use Rattle.dyl_link.proofs.sizes.bounds_of.Goals as goal

@@ -1,7 +1,7 @@
 use Rattle.std.proofs.Common.{◌≡◌, ◌++◌, drop, map}
-use Rattle.spec_linking.specs.Plans.{regions_of}
-use Rattle.dyl_search.specs.Gathers.{member_of}
-use Rattle.dyl_plan.specs.Regions.{region_of}
+use Rattle.spec_loading.specs.spec_linking.Plans.{regions_of}
+use Rattle.dyl_slots.specs.dyl_search.Gathers.{member_of}
+use Rattle.dyl_slots.specs.dyl_plan.Regions.{region_of}
 use Rattle.dyl_link.proofs.sizes.regions_of.Given as goal
 
 abbrev pub invariant-loop-member : goal.invariant-loop-member

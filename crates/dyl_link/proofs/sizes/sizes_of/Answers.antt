@@ -1,6 +1,6 @@
 use Rattle.std.proofs.Common.{◌≡◌, ◌∙◌, ◌≤◌, ◌+◌, ◌*◌, ◌/◌, ap, map, arith}
-use Rattle.spec_linking.specs.Plans.{limits_in, memory_limits, table_limits, least_of, maxima}
-use Rattle.dyl_search.specs.Gathers.{member_of}
+use Rattle.spec_loading.specs.spec_linking.Plans.{limits_in, memory_limits, table_limits, least_of, maxima}
+use Rattle.dyl_slots.specs.dyl_search.Gathers.{member_of}
 use Rattle.dyl_link.specs.Bounds.{all_limits}
 use Rattle.dyl_link.proofs.Greatest.{bounds_from, least_within}
 use Rattle.dyl_link.proofs.sizes.sizes_of.Goals as goal

@@ -1,8 +1,8 @@
 use Rattle.std.proofs.Common.{◌<◌, ◌^◌, sym, subst, length}
 use Rattle.std.specs.Prelude.{IsTrue}
 use Rattle.std.specs.List.{list_all}
-use Rattle.spec_validation.specs.Faults.{global_fits}
-use Rattle.spec_validation.proofs.Parts.{parts_fit}
+use Rattle.spec_linking.specs.spec_validation.Faults.{global_fits}
+use Rattle.spec_linking.proofs.of_spec_validation.Parts.{parts_fit}
 use Rattle.dyl_scope.proofs.maker.tell.Goals as goal
 
 pub definitions_of-requires-clause-fit : goal.definitions_of-requires-clause-fit

@@ -2,7 +2,7 @@ use Rattle.std.proofs.Common.{arith, get_or}
 use Rattle.std.proofs.lemmas.List.{nil_from_length}
 use Rattle.dyl_section.specs.Reading.{seen}
 use Rattle.dyl_section.proofs.Loop.{loop_begins, loop_ends, loop_goes_on, loop_fails}
-use Rattle.spec_binary.proofs.Lists.{first_and_others}
+use Rattle.spec_reading.proofs.of_spec_binary.Lists.{first_and_others}
 use Rattle.dyl_section.proofs.read.subsections_of.Goals as goal
 
 pub loop-rest-init : goal.loop-rest-init

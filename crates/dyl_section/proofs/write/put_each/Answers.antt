@@ -1,4 +1,4 @@
-use Rattle.spec_binary.proofs.Joined.{each_started, each_next}
+use Rattle.spec_reading.proofs.of_spec_binary.Joined.{each_started, each_next}
 use Rattle.dyl_section.proofs.Shortest.{spelled_at}
 use Rattle.dyl_section.proofs.write.put_each.Goals as goal
 

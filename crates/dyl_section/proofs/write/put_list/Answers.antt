@@ -1,6 +1,6 @@
 use Rattle.std.proofs.Common.{◌≢◌, length, eqb-true, ◌∙◌, sym}
 use Rattle.std.proofs.lemmas.Bool.{eqb-false}
-use Rattle.spec_binary.proofs.Joined.{on_ok}
+use Rattle.spec_reading.proofs.of_spec_binary.Joined.{on_ok}
 use Rattle.dyl_section.proofs.Subsections.{nothing_added, list_added, list_short, list_spelled}
 use Rattle.dyl_section.proofs.write.put_list.Goals as goal
 

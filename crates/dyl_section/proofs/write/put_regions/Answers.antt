@@ -1,4 +1,4 @@
-use Rattle.spec_binary.proofs.Joined.{on_ok}
+use Rattle.spec_reading.proofs.of_spec_binary.Joined.{on_ok}
 use Rattle.dyl_section.proofs.Subsections.{regions_short, regions_added}
 use Rattle.dyl_section.proofs.write.put_regions.Goals as goal
 

@@ -1,6 +1,6 @@
 use Rattle.std.proofs.Common.{◌<◌, ◌^◌, length, arith}
 use Rattle.dyl_section.proofs.Shortest.{vec_length, vec_each}
-use Rattle.spec_binary.proofs.Joined.{on_ok, vec_written}
+use Rattle.spec_reading.proofs.of_spec_binary.Joined.{on_ok, vec_written}
 use Rattle.dyl_section.proofs.write.put_vec.Goals as goal
 
 pub overflow_cast-items : goal.overflow_cast-items

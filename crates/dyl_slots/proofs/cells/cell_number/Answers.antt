@@ -1,8 +1,8 @@
 use Rattle.std.proofs.Common.{◌∙◌, sym, ap}
 use Rattle.wasm_form.specs.declared.runtime.Ref.TheVariants.{Own, Loader}
-use Rattle.spec_linking.specs.Slots.{cell_number}
-use Rattle.dyl_scope.specs.Scopes.{meaning_of}
-use Rattle.dyl_names.specs.declared.def.Def.{Def}
+use Rattle.spec_loading.specs.spec_linking.Slots.{cell_number}
+use Rattle.dyl_imports.specs.dyl_scope.Scopes.{meaning_of}
+use Rattle.dyl_imports.specs.dyl_names.declared.def.Def.{Def}
 use Rattle.dyl_slots.proofs.cells.cell_number.Goals as goal
 
 pub returns-in-Loader : goal.returns-in-Loader

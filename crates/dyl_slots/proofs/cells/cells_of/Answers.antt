@@ -3,11 +3,11 @@ use Rattle.std.proofs.lemmas.Grind.{common_steps}
 use Rattle.std.specs.Option.{option_map}
 use Rattle.std.proofs.lemmas.Option.{slice_get_read, slice_get-map}
 use Rattle.wasm_form.specs.declared.module.Module.{Module}
-use Rattle.spec_binary.specs.Options.{◌>>=◌}
-use Rattle.spec_linking.specs.Sets.{Member}
-use Rattle.spec_linking.specs.LinkedSets.{wasm_of}
-use Rattle.dyl_search.specs.declared.set.Member as code
-use Rattle.dyl_search.specs.Gathers.{member_of}
+use Rattle.spec_loading.specs.spec_binary.Options.{◌>>=◌}
+use Rattle.spec_loading.specs.spec_linking.Sets.{Member}
+use Rattle.spec_loading.specs.spec_linking.LinkedSets.{wasm_of}
+use Rattle.dyl_imports.specs.dyl_search.declared.set.Member as code
+use Rattle.dyl_imports.specs.dyl_search.Gathers.{member_of}
 use Rattle.dyl_slots.specs.Given.{AllAt}
 use Rattle.dyl_slots.specs.Found.{IsCellsOf, initial_values}
 use Rattle.dyl_slots.proofs.AllMembers.{all_at_more}

@@ -1,6 +1,6 @@
 use Rattle.std.proofs.Common.{◌≡◌, length, map}
-use Rattle.spec_linking.specs.LinkedSets.{LinkedSet}
-use Rattle.dyl_search.specs.Gathers.{member_of}
+use Rattle.spec_loading.specs.spec_linking.LinkedSets.{LinkedSet}
+use Rattle.dyl_imports.specs.dyl_search.Gathers.{member_of}
 use Rattle.dyl_slots.specs.Given.{AllAt}
 use Rattle.dyl_slots.specs.Found.{IsKnownOf, IsCellsOf}
 use Rattle.dyl_slots.proofs.cells.cells_of.Given as goal

@@ -1,7 +1,7 @@
 use Rattle.std.proofs.Common.{◌∙◌, ℕ, Option, Some, ap}
 use Rattle.wasm_form.specs.declared.runtime.Ref.TheVariants.{Host}
-use Rattle.spec_binary.specs.Options.{◌>>=◌}
-use Rattle.spec_linking.specs.Slots.{slot_of}
+use Rattle.spec_loading.specs.spec_binary.Options.{◌>>=◌}
+use Rattle.spec_loading.specs.spec_linking.Slots.{slot_of}
 use Rattle.dyl_slots.proofs.cells.host_slot.Goals as goal
 
 pub returns-in-Some : goal.returns-in-Some

@@ -1,5 +1,5 @@
 use Rattle.std.proofs.Common.{◌≡◌, ◌++◌, drop}
-use Rattle.spec_linking.specs.LinkedSets.{LinkedSet}
+use Rattle.spec_loading.specs.spec_linking.LinkedSets.{LinkedSet}
 use Rattle.dyl_slots.specs.Found.{IsKnownOf, initial_values}
 use Rattle.dyl_slots.proofs.cells.member_cells.Given as goal
 

@@ -1,5 +1,5 @@
 use Rattle.std.proofs.Common.{◌≡◌, [], drop}
-use Rattle.spec_linking.specs.Slots.{functions_with}
+use Rattle.spec_loading.specs.spec_linking.Slots.{functions_with}
 use Rattle.dyl_slots.proofs.defined.defined_functions.Given as goal
 
 abbrev pub invariant-loop-e : goal.invariant-loop-e

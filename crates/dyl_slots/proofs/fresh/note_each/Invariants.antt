@@ -1,7 +1,7 @@
 use Rattle.std.proofs.Common.{◌≡◌, ℕ, ◌+◌, ◌<◌, length, drop, None}
 use Rattle.std.specs.Prelude.{slice_index_or, nat_eq}
 use Rattle.std.specs.List.{position_from}
-use Rattle.spec_linking.specs.Definitions.{or_other}
+use Rattle.spec_loading.specs.spec_linking.Definitions.{or_other}
 use Rattle.dyl_slots.proofs.fresh.note_each.Given as goal
 
 abbrev pub invariant-loop-n : goal.invariant-loop-n

@@ -1,6 +1,6 @@
 use Rattle.std.proofs.Common.{◌≡◌, ℕ, ◌<◌, length, drop, None}
 use Rattle.std.specs.Prelude.{slice_index_or, if◌then◌else◌}
-use Rattle.spec_linking.specs.Orders.{is_among}
+use Rattle.spec_loading.specs.spec_linking.Orders.{is_among}
 use Rattle.dyl_slots.specs.Fresh.{either_slot}
 use Rattle.dyl_slots.proofs.fresh.set_each.Given as goal
 

@@ -1,7 +1,7 @@
 use Rattle.std.proofs.Common.{◌≡◌, ℕ, ◌+◌, ◌∙◌, length, nat_eq, sym, ap, ap₂, subst, arith}
 use Rattle.std.specs.List.{position_from}
 use Rattle.wasm_form.specs.declared.runtime.LoaderCall.{LoaderCall}
-use Rattle.spec_linking.specs.Slots.{same_call}
+use Rattle.spec_loading.specs.spec_linking.Slots.{same_call}
 use Rattle.dyl_slots.specs.Fresh.{slot_at}
 use Rattle.dyl_slots.specs.Found.{loader_slot_in}
 use Rattle.dyl_slots.specs.Given.{IsSegmentedOf, AllAt, fresh_sum}

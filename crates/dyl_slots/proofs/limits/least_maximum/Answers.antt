@@ -2,8 +2,8 @@ use Rattle.std.proofs.Common.{◌<◌, ◌+◌, ◌∙◌, List, length, drop, m
 use Rattle.std.specs.List.{flat_map}
 use Rattle.wasm_form.specs.declared.module.Import.{Import}
 use Rattle.wasm_form.specs.declared.module.Module.{Module}
-use Rattle.spec_linking.specs.Plans.{least_of, maxima, table_limits, limits_in}
-use Rattle.dyl_search.specs.Gathers.{member_of}
+use Rattle.spec_loading.specs.spec_linking.Plans.{least_of, maxima, table_limits, limits_in}
+use Rattle.dyl_imports.specs.dyl_search.Gathers.{member_of}
 use Rattle.dyl_slots.proofs.Maxima.{next_member}
 use Rattle.dyl_slots.proofs.limits.least_maximum.Goals as goal
 

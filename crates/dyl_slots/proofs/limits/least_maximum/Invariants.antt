@@ -1,6 +1,6 @@
 use Rattle.std.proofs.Common.{◌≡◌, drop, map}
-use Rattle.spec_linking.specs.Plans.{least_of, maxima, table_limits, limits_in}
-use Rattle.dyl_search.specs.Gathers.{member_of}
+use Rattle.spec_loading.specs.spec_linking.Plans.{least_of, maxima, table_limits, limits_in}
+use Rattle.dyl_imports.specs.dyl_search.Gathers.{member_of}
 use Rattle.dyl_slots.proofs.limits.least_maximum.Given as goal
 
 abbrev pub invariant-loop-member : goal.invariant-loop-member

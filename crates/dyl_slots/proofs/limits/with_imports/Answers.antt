@@ -1,6 +1,6 @@
 use Rattle.std.proofs.Common.{◌<◌, ◌+◌, ◌∙◌, length, drop, ap, arith}
 use Rattle.std.specs.List.{flat_map}
-use Rattle.spec_linking.specs.Plans.{least_of, maxima, table_limits}
+use Rattle.spec_loading.specs.spec_linking.Plans.{least_of, maxima, table_limits}
 use Rattle.dyl_slots.proofs.Maxima.{next_import}
 use Rattle.dyl_slots.proofs.limits.with_imports.Goals as goal
 

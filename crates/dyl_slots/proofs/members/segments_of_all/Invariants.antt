@@ -1,6 +1,6 @@
 use Rattle.std.proofs.Common.{◌≡◌, length}
 use Rattle.std.specs.List.{All}
-use Rattle.spec_linking.specs.LinkedSets.{LinkedSet}
+use Rattle.spec_loading.specs.spec_linking.LinkedSets.{LinkedSet}
 use Rattle.dyl_slots.specs.Given.{IsGiven, IsSegmentedOf, AllAt, HasFew}
 use Rattle.dyl_slots.proofs.members.segments_of_all.Given as goal
 

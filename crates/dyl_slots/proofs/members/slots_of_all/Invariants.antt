@@ -1,6 +1,6 @@
 use Rattle.std.proofs.Common.{◌≡◌, ◌+◌, length, drop}
-use Rattle.spec_linking.specs.LinkedSets.{LinkedSet}
-use Rattle.spec_linking.specs.Slots.{linked_plan}
+use Rattle.spec_loading.specs.spec_linking.LinkedSets.{LinkedSet}
+use Rattle.spec_loading.specs.spec_linking.Slots.{linked_plan}
 use Rattle.spec_loading.specs.LoadedSet.{first_slot}
 use Rattle.dyl_slots.specs.Given.{IsSegmentedOf, IsSlotsOf, AllAt, fresh_sum}
 use Rattle.dyl_slots.proofs.members.slots_of_all.Given as goal

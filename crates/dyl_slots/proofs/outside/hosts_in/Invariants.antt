@@ -1,5 +1,5 @@
 use Rattle.std.proofs.Common.{◌≡◌, drop}
-use Rattle.spec_linking.specs.Orders.{with_numbers}
+use Rattle.spec_loading.specs.spec_linking.Orders.{with_numbers}
 use Rattle.dyl_slots.specs.Outside.{host_numbers, hosts_in}
 use Rattle.dyl_slots.proofs.outside.hosts_in.Given as goal
 

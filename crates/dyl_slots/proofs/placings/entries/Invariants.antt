@@ -1,5 +1,5 @@
 use Rattle.std.proofs.Common.{◌≡◌, ◌++◌, map, drop, slice_get}
-use Rattle.spec_runtime.specs.Constants.{constant_entry, numbered_globals}
+use Rattle.spec_loading.specs.spec_runtime.Constants.{constant_entry, numbered_globals}
 use Rattle.dyl_slots.proofs.placings.entries.Given as goal
 
 abbrev pub invariant-loop-e : goal.invariant-loop-e

@@ -1,8 +1,8 @@
 use Rattle.std.proofs.Common.{◌≡◌, ◌<◌, ◌^◌, true, Option, Some, None, subst, arith}
 use Rattle.wasm_form.specs.declared.types.ValType.{ValType}
 use Rattle.wasm_form.specs.declared.types.ValType.TheVariants.{I32}
-use Rattle.spec_validation.specs.Faults.{constant_type, is_of_type}
-use Rattle.wasm_check.specs.Constants.{IsOfType}
+use Rattle.spec_loading.specs.spec_validation.Faults.{constant_type, is_of_type}
+use Rattle.dyl_imports.specs.wasm_check.Constants.{IsOfType}
 use Rattle.dyl_slots.proofs.Globals.{one_type}
 use Rattle.dyl_slots.proofs.placings.offset.Goals as goal
 

@@ -1,5 +1,5 @@
 use Rattle.std.proofs.Common.{◌≡◌, ◌++◌, map, drop, slice_get}
-use Rattle.spec_runtime.specs.Constants.{numbered_globals}
+use Rattle.spec_loading.specs.spec_runtime.Constants.{numbered_globals}
 use Rattle.dyl_slots.specs.Placings.{placed_all}
 use Rattle.dyl_slots.specs.Regions.{placing_value}
 use Rattle.dyl_slots.proofs.placings.placings_of.Given as goal

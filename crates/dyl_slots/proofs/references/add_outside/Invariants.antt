@@ -1,7 +1,7 @@
 use Rattle.std.proofs.Common.{◌≡◌, ◌++◌, drop}
 use Rattle.std.specs.List.{filter_map}
-use Rattle.spec_linking.specs.LinkedSets.{LinkedSet}
-use Rattle.spec_linking.specs.Slots.{outside_of_import}
+use Rattle.spec_loading.specs.spec_linking.LinkedSets.{LinkedSet}
+use Rattle.spec_loading.specs.spec_linking.Slots.{outside_of_import}
 use Rattle.dyl_imports.specs.Kept.{AreImportsOf}
 use Rattle.dyl_slots.proofs.references.add_outside.Given as goal
 

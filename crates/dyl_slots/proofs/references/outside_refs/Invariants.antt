@@ -1,7 +1,7 @@
 use Rattle.std.proofs.Common.{◌≡◌, ◌++◌, drop, map}
-use Rattle.spec_linking.specs.LinkedSets.{LinkedSet}
-use Rattle.spec_linking.specs.Slots.{outside_from, outside_refs}
-use Rattle.dyl_search.specs.Gathers.{member_of}
+use Rattle.spec_loading.specs.spec_linking.LinkedSets.{LinkedSet}
+use Rattle.spec_loading.specs.spec_linking.Slots.{outside_from, outside_refs}
+use Rattle.dyl_imports.specs.dyl_search.Gathers.{member_of}
 use Rattle.dyl_imports.specs.Kept.{AreImportsOf}
 use Rattle.dyl_slots.proofs.references.outside_refs.Given as goal
 

@@ -1,6 +1,6 @@
 use Rattle.std.proofs.Common.{◌∙◌, ◌+◌, ap, arith, take, map}
 use Rattle.std.proofs.lemmas.List.{take_all}
-use Rattle.spec_linking.specs.Slots.{all_applied, applied}
+use Rattle.spec_loading.specs.spec_linking.Slots.{all_applied, applied}
 use Rattle.dyl_slots.specs.Regions.{placing_value}
 use Rattle.dyl_slots.proofs.Applied.{placings_more}
 use Rattle.dyl_slots.proofs.regions.apply_all.Goals as goal

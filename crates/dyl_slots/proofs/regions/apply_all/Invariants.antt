@@ -1,7 +1,7 @@
 use Rattle.std.proofs.Common.{ℕ, take, map}
 use Rattle.wasm_form.specs.declared.runtime.Ref.{Ref}
 use Rattle.std.specs.Prelude.{Option}
-use Rattle.spec_linking.specs.Slots.{all_applied}
+use Rattle.spec_loading.specs.spec_linking.Slots.{all_applied}
 use Rattle.dyl_slots.specs.Regions.{IsRegion, placing_value}
 use Rattle.dyl_slots.proofs.regions.apply_all.Given as goal
 

@@ -1,6 +1,6 @@
 use Rattle.std.proofs.Common.{◌≡◌, ℕ, ◌+◌, ◌<◌, length, drop, None}
 use Rattle.std.specs.Prelude.{slice_index_or}
-use Rattle.spec_linking.specs.Definitions.{or_other}
+use Rattle.spec_loading.specs.spec_linking.Definitions.{or_other}
 use Rattle.dyl_slots.specs.Regions.{first_left}
 use Rattle.dyl_slots.proofs.regions.note_all.Given as goal
 

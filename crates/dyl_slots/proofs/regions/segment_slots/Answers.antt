@@ -1,8 +1,8 @@
 use Rattle.std.proofs.Common.{◌≡◌, ◌∙◌, ◌<◌, ℕ, ap, sym, arith, length, get_or, None, map, Option}
 use Rattle.wasm_form.specs.declared.runtime.Ref.{Ref}
 use Rattle.wasm_form.specs.declared.runtime.Ref.TheVariants.{Own}
-use Rattle.spec_linking.specs.Slots.{all_applied, index_of, nowhere}
-use Rattle.spec_linking.specs.Definitions.{or_other}
+use Rattle.spec_loading.specs.spec_linking.Slots.{all_applied, index_of, nowhere}
+use Rattle.spec_loading.specs.spec_linking.Definitions.{or_other}
 use Rattle.dyl_slots.specs.Regions.{placing_value, IsRegion, first_left}
 use Rattle.dyl_slots.proofs.Applied.{index_in_region, whole}
 use Rattle.dyl_slots.proofs.regions.segment_slots.Goals as goal

@@ -2,8 +2,8 @@ use Rattle.std.proofs.Common.{◌≡◌, ◌∙◌, length, ap, arith}
 use Rattle.std.specs.Prelude.{is_none}
 use Rattle.std.specs.List.{filter}
 use Rattle.wasm_form.specs.declared.module.Module.{Module}
-use Rattle.spec_binary.specs.IndexSpaces.{function_space}
-use Rattle.spec_linking.specs.Slots.{defined_functions}
+use Rattle.spec_loading.specs.spec_binary.IndexSpaces.{function_space}
+use Rattle.spec_loading.specs.spec_linking.Slots.{defined_functions}
 use Rattle.dyl_slots.specs.Fresh.{slot_at}
 use Rattle.dyl_slots.proofs.DefinedNumbers.{defined_few, filter_few}
 use Rattle.dyl_slots.proofs.Segments.{segmented_is}

@@ -3,12 +3,12 @@ use Rattle.std.specs.Prelude.{IsTrue}
 use Rattle.std.specs.List.{list_all}
 use Rattle.wasm_form.specs.declared.module.Module.{Module}
 use Rattle.wasm_form.specs.declared.runtime.Ref.TheVariants.{Own}
-use Rattle.spec_validation.specs.Faults.{fault, elem_fits}
-use Rattle.spec_validation.proofs.Parts.{parts_fit}
-use Rattle.spec_runtime.specs.Constants.{numbered_globals}
-use Rattle.spec_linking.specs.Slots as slots
-use Rattle.spec_linking.specs.Slots.{all_applied, nowhere, index_of, segment_slot}
-use Rattle.wasm_check.specs.Constants.{AreOfTypes}
+use Rattle.spec_loading.specs.spec_validation.Faults.{fault, elem_fits}
+use Rattle.spec_loading.proofs.of_spec_validation.Parts.{parts_fit}
+use Rattle.spec_loading.specs.spec_runtime.Constants.{numbered_globals}
+use Rattle.spec_loading.specs.spec_linking.Slots as slots
+use Rattle.spec_loading.specs.spec_linking.Slots.{all_applied, nowhere, index_of, segment_slot}
+use Rattle.dyl_imports.specs.wasm_check.Constants.{AreOfTypes}
 use Rattle.dyl_slots.specs.Regions.{placing_value}
 use Rattle.dyl_slots.specs.Placings.{base_numbers, placings_by}
 use Rattle.dyl_slots.proofs.Segments.{numbers_length, are_words, shared_same, segment_is, if_ok_more}

@@ -1,7 +1,7 @@
 use Rattle.std.proofs.Common.{rules, ◌≡◌, ◌∙◌, None, max, ap, subst}
-use Rattle.spec_linking.specs.declared.fault.LinkFault.TheVariants as faults
-use Rattle.spec_linking.specs.Plans.{Plan, limit}
-use Rattle.spec_linking.specs.Slots.{linked_plan, table_entries}
+use Rattle.spec_loading.specs.spec_linking.declared.fault.LinkFault.TheVariants as faults
+use Rattle.spec_loading.specs.spec_linking.Plans.{Plan, limit}
+use Rattle.spec_loading.specs.spec_linking.Slots.{linked_plan, table_entries}
 use Rattle.dyl_slots.specs.Limits.{TellsLimit}
 use Rattle.dyl_slots.specs.Wanted.{IsWanted, wanted_end}
 use Rattle.dyl_slots.proofs.AllMembers.{as_many_bases}

@@ -1,9 +1,9 @@
 use Rattle.std.proofs.Common.{◌+◌, ◌++◌, ◌∙◌, List, map, sym, ap, ap₂}
 use Rattle.wasm_form.specs.declared.runtime.Ref.TheVariants.{Loader, Host}
-use Rattle.spec_linking.specs.Sets.{Member}
-use Rattle.spec_linking.specs.Plans.{Plan, least_of, maxima, table_limits, limits_in}
-use Rattle.spec_linking.specs.Slots.{outside_refs}
-use Rattle.dyl_search.specs.Gathers.{member_of}
+use Rattle.spec_loading.specs.spec_linking.Sets.{Member}
+use Rattle.spec_loading.specs.spec_linking.Plans.{Plan, least_of, maxima, table_limits, limits_in}
+use Rattle.spec_loading.specs.spec_linking.Slots.{outside_refs}
+use Rattle.dyl_imports.specs.dyl_search.Gathers.{member_of}
 use Rattle.dyl_slots.specs.Wanted.{AreSlots}
 use Rattle.dyl_slots.proofs.OutsidePlaces.{outside_same}
 use Rattle.dyl_slots.proofs.tables.tables_with.Goals as goal

@@ -1,7 +1,7 @@
 use Rattle.std.proofs.Common.{◌≡◌, List, get_or, ap, ◌∙◌}
 use Rattle.spec_loading.specs.Phases.{phase_function}
-use Rattle.dyl_search.specs.declared.set.Member.{Member}
-use Rattle.dyl_search.specs.declared.set.ClosedSet.{ClosedSet}
+use Rattle.dyl_link.specs.dyl_search.declared.set.Member.{Member}
+use Rattle.dyl_link.specs.dyl_search.declared.set.ClosedSet.{ClosedSet}
 use Rattle.dyl_frames.specs.Tasks.{phase_value}
 use Rattle.dyl_store.proofs.Called.{function_there, one_called, one_nullary, none_called}
 use Rattle.dyl_store.proofs.callees.callee.Goals as goal

@@ -1,8 +1,8 @@
 use Rattle.std.proofs.Common.{◌≡◌, ℕ, List, length, sym, ap, ap₂, ◌∙◌, arith, ◌++◌, ◌∷◌, []}
 use Rattle.std.specs.List.{slice_get}
-use Rattle.wasm_runtime.specs.declared.Value.{Value}
-use Rattle.wasm_runtime.specs.declared.Value.TheVariants.{Num}
-use Rattle.spec_linking.specs.Plans.{Plan}
+use Rattle.wasm_form.specs.declared.runtime.Value.{Value}
+use Rattle.wasm_form.specs.declared.runtime.Value.TheVariants.{Num}
+use Rattle.spec_loading.specs.spec_linking.Plans.{Plan}
 use Rattle.merge_start.proofs.Linked.{bases_long, table_bases_long}
 use Rattle.dyl_store.proofs.Beginning.{adds_bases}
 use Rattle.dyl_store.proofs.contents.put_bases.Goals as goal

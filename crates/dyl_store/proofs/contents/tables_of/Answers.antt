@@ -1,8 +1,8 @@
 use Rattle.std.proofs.Common.{◌≡◌, ◌<◌, List, length, ap, ◌∙◌, arith, rules, [], ◌∷◌, ◌++◌}
-use Rattle.spec_runtime.specs.Tables.{TableInstance}
+use Rattle.spec_loading.specs.spec_runtime.Tables.{TableInstance}
 use Rattle.spec_loading.specs.Members.{opening_table}
-use Rattle.dyl_search.specs.declared.set.Member.{Member}
-use Rattle.dyl_search.specs.declared.set.ClosedSet.{ClosedSet}
+use Rattle.dyl_link.specs.dyl_search.declared.set.Member.{Member}
+use Rattle.dyl_link.specs.dyl_search.declared.set.ClosedSet.{ClosedSet}
 use Rattle.dyl_store.specs.Opening.{tables_of}
 use Rattle.dyl_store.proofs.Beginning.{begins_more, begins_all}
 use Rattle.dyl_store.proofs.contents.tables_of.Goals as goal

@@ -1,7 +1,7 @@
 use Rattle.std.proofs.Common.{◌≡◌, ◌<◌, ℕ, length, refl, sym, ap, subst, ◌∙◌}
 use Rattle.std.specs.List.{All}
 use Rattle.spec_loading.specs.LoadedSet.{set_loading}
-use Rattle.dyl_search.specs.declared.set.ClosedSet.{ClosedSet}
+use Rattle.dyl_link.specs.dyl_search.declared.set.ClosedSet.{ClosedSet}
 use Rattle.dyl_frames.specs.declared.task.Task.{Task}
 use Rattle.dyl_store.proofs.Opened.{whole_over, holds_over, some_members, startup_opens, core_at}
 use Rattle.dyl_store.proofs.opening.core_of.Goals as goal

@@ -1,5 +1,5 @@
 use Rattle.std.proofs.Common.{ap₂, ◌∙◌}
-use Rattle.spec_runtime.specs.Memories.{new_memory}
+use Rattle.spec_loading.specs.spec_runtime.Memories.{new_memory}
 use Rattle.dyl_store.proofs.Opened.{pages_fit, texts_lie, memory_is}
 use Rattle.dyl_store.proofs.opening.memory_of.Goals as goal
 

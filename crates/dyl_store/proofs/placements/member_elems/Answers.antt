@@ -1,7 +1,7 @@
 use Rattle.std.proofs.Common.{All, List, ap, subst, sym, ◌∙◌}
 use Rattle.wasm_form.specs.declared.module.Module.{Module}
 use Rattle.wasm_form.specs.declared.module.Elem.{Elem}
-use Rattle.spec_validation.specs.Faults.{fault}
+use Rattle.spec_loading.specs.spec_validation.Faults.{fault}
 use Rattle.merge_start.specs.Listed.{HasElemOffset}
 use Rattle.merge_start.proofs.Valid.{elem_offsets}
 use Rattle.dyl_store.proofs.placements.member_elems.Goals as goal

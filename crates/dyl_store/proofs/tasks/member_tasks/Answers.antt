@@ -1,5 +1,5 @@
 use Rattle.std.proofs.Common.{◌<◌, length, sym, subst}
-use Rattle.dyl_scope.specs.Scopes.{Scopes, AreOf}
+use Rattle.dyl_link.specs.dyl_scope.Scopes.{Scopes, AreOf}
 use Rattle.dyl_store.proofs.Opened.{names_count, open_tasks, open_members}
 use Rattle.dyl_store.proofs.tasks.member_tasks.Goals as goal
 

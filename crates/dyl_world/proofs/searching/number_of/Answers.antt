@@ -1,8 +1,8 @@
 use Rattle.std.proofs.Common.{◌∙◌, sym, ap}
-use Rattle.wasm_form.specs.declared.runtime.Ref.TheVariants.{Own}
-use Rattle.spec_linking.specs.Slots.{cell_number}
-use Rattle.dyl_scope.specs.Scopes.{meaning_of}
-use Rattle.dyl_names.specs.declared.def.Def.{Def}
+use Rattle.spec_loading.specs.wasm_form.declared.runtime.Ref.TheVariants.{Own}
+use Rattle.spec_loading.specs.spec_linking.Slots.{cell_number}
+use Rattle.dyl_link.specs.dyl_scope.Scopes.{meaning_of}
+use Rattle.dyl_link.specs.dyl_names.declared.def.Def.{Def}
 use Rattle.dyl_world.proofs.searching.number_of.Goals as goal
 
 pub returns-in-Function : goal.returns-in-Function

@@ -1,5 +1,5 @@
 use Rattle.std.proofs.Common.{◌∙◌, sym, ap, subst}
-use Rattle.spec_linking.specs.Slots.{cell_number}
+use Rattle.spec_loading.specs.spec_linking.Slots.{cell_number}
 use Rattle.dyl_world.specs.Found.{IsFound}
 use Rattle.dyl_world.proofs.Found.{found_searched}
 use Rattle.dyl_world.proofs.searching.search.Goals as goal

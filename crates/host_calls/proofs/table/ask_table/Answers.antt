@@ -1,7 +1,7 @@
 -- The reply fits the type of the entry, which is that of the call.
 use Rattle.std.proofs.Common.{◌≡◌, ◌*◌, length, IsTrue, sym, subst, slice_get}
 use Rattle.std.proofs.lemmas.Result.{IfOk-weaker}
-use Rattle.spec_runtime.specs.Hosts.{fits_results}
+use Rattle.spec_hosts.specs.spec_runtime.Hosts.{fits_results}
 use Rattle.host_calls.proofs.Replies.{entry_fits}
 use Rattle.host_calls.proofs.table.ask_table.Goals as goal
 

@@ -1,5 +1,5 @@
 use Rattle.std.proofs.Common.{ap, ◌∙◌}
-use Rattle.spec_runtime.specs.Names.{with_rest}
+use Rattle.spec_hosts.specs.spec_runtime.Names.{with_rest}
 use Rattle.spec_hosts.specs.Calls.{wasi_name}
 use Rattle.host_wasi.specs.declared.calls.TheConstants.{CALLS}
 use Rattle.host_wasi.specs.declared.calls.Call.TheVariants.{ArgsSizesGet}

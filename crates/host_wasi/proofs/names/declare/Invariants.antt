@@ -1,6 +1,6 @@
 -- The calls before this one are declared.
 use Rattle.std.proofs.Common.{◌≡◌, map, drop}
-use Rattle.spec_runtime.specs.Names.{with_names}
+use Rattle.spec_hosts.specs.spec_runtime.Names.{with_names}
 use Rattle.spec_hosts.specs.Calls.{all_calls, host_name_of}
 use Rattle.host_wasi.specs.Wants.{meant}
 use Rattle.host_wasi.proofs.names.declare.Given as goal

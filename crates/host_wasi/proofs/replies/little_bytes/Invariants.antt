@@ -1,6 +1,6 @@
 -- The bytes so far, and then those of the rest.
 use Rattle.std.proofs.Common.{◌≡◌, ◌++◌, ◌-◌}
-use Rattle.spec_runtime.specs.Memories.{little}
+use Rattle.spec_hosts.specs.spec_runtime.Memories.{little}
 use Rattle.host_wasi.proofs.replies.little_bytes.Given as goal
 
 abbrev pub invariant-loop : goal.invariant-loop

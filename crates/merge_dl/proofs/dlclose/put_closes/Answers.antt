@@ -1,6 +1,6 @@
 use Rattle.std.proofs.Common.{◌<◌, ◌≤◌, length, map, refl, arith}
 use Rattle.std.proofs.lemmas.List.{length-map}
-use Rattle.dyl_search.specs.Gathers.{member_of}
+use Rattle.dyl_link.specs.dyl_search.Gathers.{member_of}
 use Rattle.merge_dl.specs.Words.{close_code, closes_code}
 use Rattle.merge_dl.specs.Listed.{starts_in}
 use Rattle.merge_dl.proofs.Making.{put_next, put_last}

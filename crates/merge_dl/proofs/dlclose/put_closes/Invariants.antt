@@ -1,5 +1,5 @@
 use Rattle.std.proofs.Common.{◌≡◌, ◌++◌, drop, map}
-use Rattle.dyl_search.specs.Gathers.{member_of}
+use Rattle.dyl_link.specs.dyl_search.Gathers.{member_of}
 use Rattle.merge_dl.specs.Words.{closes_code}
 use Rattle.merge_dl.specs.Listed.{starts_in}
 use Rattle.merge_dl.proofs.dlclose.put_closes.Given as goal

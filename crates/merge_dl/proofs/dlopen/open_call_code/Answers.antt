@@ -1,6 +1,6 @@
 use Rattle.std.proofs.Common.{◌++◌, map, ap, ◌∙◌}
-use Rattle.dyl_search.specs.declared.set.ClosedSet.{ClosedSet}
-use Rattle.dyl_search.specs.Gathers.{member_of}
+use Rattle.dyl_link.specs.dyl_search.declared.set.ClosedSet.{ClosedSet}
+use Rattle.dyl_link.specs.dyl_search.Gathers.{member_of}
 use Rattle.merge_start.proofs.Linked.{members_are}
 use Rattle.merge_dl.specs.Listed.{starts_in, finders_in}
 use Rattle.merge_dl.proofs.Making.{open_made}

@@ -1,7 +1,7 @@
 use Rattle.std.proofs.Common.{◌<◌, ◌≤◌, length, map, refl, ap, ◌∙◌, arith}
 use Rattle.std.proofs.lemmas.List.{length-map}
-use Rattle.dyl_search.specs.declared.set.ClosedSet.{ClosedSet}
-use Rattle.dyl_search.specs.Gathers.{member_of}
+use Rattle.dyl_link.specs.dyl_search.declared.set.ClosedSet.{ClosedSet}
+use Rattle.dyl_link.specs.dyl_search.Gathers.{member_of}
 use Rattle.merge_start.proofs.Linked.{members_count}
 use Rattle.merge_dl.specs.Words.{handle_code, handles_code}
 use Rattle.merge_dl.specs.Listed.{starts_in, finders_in}

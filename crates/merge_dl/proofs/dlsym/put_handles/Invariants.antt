@@ -1,6 +1,6 @@
 use Rattle.std.proofs.Common.{◌≡◌, ◌++◌, drop, map}
-use Rattle.spec_linking.specs.LinkedSets.{LinkedSet}
-use Rattle.dyl_search.specs.Gathers.{member_of}
+use Rattle.spec_loading.specs.spec_linking.LinkedSets.{LinkedSet}
+use Rattle.dyl_link.specs.dyl_search.Gathers.{member_of}
 use Rattle.dyl_link.specs.Kept.{IsLinked}
 use Rattle.merge_dl.specs.Words.{handles_code}
 use Rattle.merge_dl.specs.Listed.{starts_in, finders_in}

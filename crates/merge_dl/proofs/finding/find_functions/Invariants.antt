@@ -1,7 +1,7 @@
 use Rattle.std.proofs.Common.{◌≡◌, ◌++◌, drop, map}
-use Rattle.spec_linking.specs.LinkedSets.{LinkedSet}
+use Rattle.spec_loading.specs.spec_linking.LinkedSets.{LinkedSet}
 use Rattle.spec_loading.specs.Members.{from_members}
-use Rattle.dyl_search.specs.Gathers.{member_of}
+use Rattle.dyl_link.specs.dyl_search.Gathers.{member_of}
 use Rattle.dyl_link.specs.Kept.{IsLinked}
 use Rattle.merge_dl.specs.Listed.{find_parts}
 use Rattle.merge_dl.proofs.finding.find_functions.Given as goal

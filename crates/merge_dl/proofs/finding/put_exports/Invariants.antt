@@ -1,6 +1,6 @@
 use Rattle.std.proofs.Common.{◌≡◌, ◌++◌, drop}
 use Rattle.std.specs.List.{flat_map}
-use Rattle.spec_linking.specs.LinkedSets.{LinkedSet}
+use Rattle.spec_loading.specs.spec_linking.LinkedSets.{LinkedSet}
 use Rattle.dyl_link.specs.Kept.{IsLinked}
 use Rattle.merge_dl.specs.Listed.{export_code}
 use Rattle.merge_dl.proofs.finding.put_exports.Given as goal

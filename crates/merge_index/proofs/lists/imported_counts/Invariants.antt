@@ -1,5 +1,5 @@
 use Rattle.std.proofs.Common.{◌≡◌, ◌++◌, drop, map}
-use Rattle.spec_binary.specs.IndexSpaces.{imported_count}
+use Rattle.spec_loading.specs.spec_binary.IndexSpaces.{imported_count}
 use Rattle.merge_index.specs.Lists.{module_of}
 use Rattle.merge_index.proofs.lists.imported_counts.Given as goal
 

@@ -1,9 +1,9 @@
 use Rattle.std.proofs.Common.{◌≡◌, List, length, Some, sym, ap, subst, ◌∙◌, arith}
 use Rattle.std.specs.List.{slice_get}
 use Rattle.wasm_form.specs.declared.module.Module.{Module}
-use Rattle.spec_linking.specs.Plans.{Plan}
-use Rattle.dyl_search.specs.declared.set.Member.{Member}
-use Rattle.dyl_search.specs.declared.set.ClosedSet.{ClosedSet}
+use Rattle.spec_loading.specs.spec_linking.Plans.{Plan}
+use Rattle.dyl_link.specs.dyl_search.declared.set.Member.{Member}
+use Rattle.dyl_link.specs.dyl_search.declared.set.ClosedSet.{ClosedSet}
 use Rattle.merge_start.specs.Listed.{AreBases, bases_from}
 use Rattle.merge_start.proofs.Linked.{bases_long, table_bases_long, bases_are, at_index}
 use Rattle.merge_start.proofs.bases.bases_of.Goals as goal

@@ -1,7 +1,7 @@
 use Rattle.std.proofs.Common.{◌≡◌, ◌<◌, ◌+◌, List, length, map, Some, sym, ap, subst, ◌∙◌, arith}
 use Rattle.std.specs.List.{slice_get}
-use Rattle.dyl_search.specs.declared.set.Member.{Member}
-use Rattle.dyl_search.specs.declared.set.ClosedSet.{ClosedSet}
+use Rattle.dyl_link.specs.dyl_search.declared.set.Member.{Member}
+use Rattle.dyl_link.specs.dyl_search.declared.set.ClosedSet.{ClosedSet}
 use Rattle.merge_start.specs.Listed.{IsAt, IsMadeOf, module_of, elems_total, spans_at, behind, phase_parts}
 use Rattle.merge_start.proofs.Linked.{members_count, wasm_at, at_index}
 use Rattle.merge_start.proofs.Made.{made_is, next_at, next_made}

@@ -1,5 +1,5 @@
 use Rattle.std.proofs.Common.{◌≡◌, ◌++◌, drop}
-use Rattle.spec_linking.specs.LinkedSets.{LinkedSet}
+use Rattle.spec_loading.specs.spec_linking.LinkedSets.{LinkedSet}
 use Rattle.spec_loading.specs.Members.{from_members}
 use Rattle.dyl_link.specs.Kept.{IsLinked}
 use Rattle.merge_match.specs.Renumbering.{Numbers}

@@ -1,5 +1,5 @@
 use Rattle.std.proofs.Common.{sym, ap, subst, ◌∙◌}
-use Rattle.dyl_search.specs.declared.set.ClosedSet.{ClosedSet}
+use Rattle.dyl_link.specs.dyl_search.declared.set.ClosedSet.{ClosedSet}
 use Rattle.merge_start.specs.Listed.{AreFew, nullary_part}
 use Rattle.merge_start.proofs.Linked.{startup_few, post_few, startup_is}
 use Rattle.merge_start.proofs.Tasks.{entry_is}

@@ -1,7 +1,7 @@
 use Rattle.std.proofs.Common.{◌≡◌, ◌<◌, List, [], ◌∷◌, length, ap, ◌∙◌, arith}
-use Rattle.spec_binary.proofs.Lists.{got}
-use Rattle.dyl_search.specs.declared.set.Member.{Member}
-use Rattle.dyl_search.specs.declared.set.ClosedSet.{ClosedSet}
+use Rattle.spec_loading.proofs.of_spec_binary.Lists.{got}
+use Rattle.dyl_link.specs.dyl_search.declared.set.Member.{Member}
+use Rattle.dyl_link.specs.dyl_search.declared.set.ClosedSet.{ClosedSet}
 use Rattle.merge_start.specs.declared.part.Part.{Part}
 use Rattle.merge_start.specs.Listed.{open_parts}
 use Rattle.merge_start.proofs.Made.{next_made}

@@ -1,9 +1,9 @@
 use Rattle.std.proofs.Common.{◌≡◌, List, length, Some, sym, ap, ap₂, ◌∙◌, arith}
 use Rattle.std.specs.List.{slice_get}
 use Rattle.wasm_form.specs.declared.module.Module.{Module}
-use Rattle.dyl_search.specs.declared.set.Member.{Member}
-use Rattle.dyl_search.specs.declared.set.ClosedSet.{ClosedSet}
-use Rattle.spec_validation.specs.Faults.{fault}
+use Rattle.dyl_link.specs.dyl_search.declared.set.Member.{Member}
+use Rattle.dyl_link.specs.dyl_search.declared.set.ClosedSet.{ClosedSet}
+use Rattle.spec_loading.specs.spec_validation.Faults.{fault}
 use Rattle.merge_start.specs.Listed.{module_of, placed_with, parts_of}
 use Rattle.merge_start.proofs.Linked.{wasm_at, at_index, one_module}
 use Rattle.merge_start.proofs.Valid.{elem_offsets, data_offsets}

@@ -1,5 +1,5 @@
 use Rattle.std.proofs.Common.{arith}
-use Rattle.spec_execution.specs.Segments.{data_effects}
+use Rattle.spec_loading.specs.spec_execution.Segments.{data_effects}
 use Rattle.merge_start.specs.Listed.{numbers_at, number_with}
 use Rattle.merge_start.proofs.Effects.{one_more}
 use Rattle.merge_start.proofs.segments.datas_code.Goals as goal

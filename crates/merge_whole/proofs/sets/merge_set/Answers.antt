@@ -1,8 +1,8 @@
 use Rattle.std.proofs.Common.{ℕ, Result, Ok, Err, IfOk, Vec, Global, refl, ap}
 use Rattle.wasm_form.specs.declared.module.Module.{Module}
-use Rattle.spec_binary.specs.Modules.{SpellsModule}
+use Rattle.spec_reading.specs.spec_binary.Modules.{SpellsModule}
 use Rattle.spec_merging.specs.declared.fault.MergeFault.{MergeFault}
-use Rattle.spec_linking.specs.LinkedSets.{LinkedSet}
+use Rattle.spec_loading.specs.spec_linking.LinkedSets.{LinkedSet}
 use Rattle.dyl_link.specs.Kept.{IsLinked}
 use Rattle.merge_module.specs.MergedModule.{merged_module}
 use Rattle.merge_whole.specs.Merges.{Merges}

@@ -3,7 +3,7 @@ use Rattle.std.specs.Prelude.{codes}
 use Rattle.std.specs.List.{list_all}
 use Rattle.wasm_form.specs.declared.module.Import.{Import}
 use Rattle.wasm_form.specs.declared.module.Module.{Module}
-use Rattle.spec_binary.specs.Exports.{own_function}
+use Rattle.spec_safety.specs.spec_binary.Exports.{own_function}
 use Rattle.spec_safety.specs.Laws.{IsAlone, is_function_import}
 use Rattle.test_units.proofs.Units.{is_unit}
 use Rattle.test_units.proofs.pair.unit_of.Goals as goal

@@ -1,5 +1,5 @@
 use Rattle.wasm_form.specs.declared.module.ExportDesc.TheVariants.{Func, Table, Space, Global}
-use Rattle.spec_binary.proofs.Joined.{on_ok}
+use Rattle.spec_reading.proofs.of_spec_binary.Joined.{on_ok}
 use Rattle.wasm_encode.proofs.Parts.{desc_written}
 use Rattle.wasm_encode.proofs.import.put_desc.Goals as goal
 

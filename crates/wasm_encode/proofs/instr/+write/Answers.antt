@@ -1,13 +1,13 @@
 use Rattle.std.proofs.Common.{rules, arith, SFits, w32, w64, subst, ap, sym, ◌∙◌}
 use Rattle.std.proofs.lemmas.Int.{to_z-of_z}
 use Rattle.wasm_form.specs.declared.instr.Instr.{If}
-use Rattle.spec_binary.specs.Number.{SpellsSigned, IsShortest, Appends}
+use Rattle.spec_reading.specs.spec_binary.Number.{SpellsSigned, IsShortest, Appends}
 use Rattle.std.specs.Prelude.{IsTrue}
-use Rattle.spec_binary.specs.Instructions.{SpellsInstr}
-use Rattle.spec_binary.specs.Trees.{every}
-use Rattle.spec_binary.specs.WellFormed.{has_form}
-use Rattle.spec_binary.specs.Joined.{IsByte, Joined}
-use Rattle.spec_binary.proofs.Joined.{on_ok, each_started, each_next, each_ended}
+use Rattle.spec_reading.specs.spec_binary.Instructions.{SpellsInstr}
+use Rattle.spec_reading.specs.spec_binary.Trees.{every}
+use Rattle.spec_reading.specs.spec_binary.WellFormed.{has_form}
+use Rattle.spec_reading.specs.spec_binary.Joined.{IsByte, Joined}
+use Rattle.spec_reading.proofs.of_spec_binary.Joined.{on_ok, each_started, each_next, each_ended}
 use Rattle.wasm_encode.proofs.Forms.{plain_formed, index_formed, access_formed, block_formed, loop_formed, if_formed, else_formed, labels_formed, select_formed, null_formed, prefixed_formed, one_formed}
 use Rattle.wasm_encode.proofs.Weights.{weight, weights, weight-Block, weight-Loop, weight-If-alone, weight-If-else, one_weight}
 use Rattle.wasm_encode.proofs.Instructions.{body_written, bodies_written, plain_written, index_written, access_written, block_written, loop_written, if_written, else_written, labels_written, indirect_written, select_written, size_written, grow_written, i32_written, i64_written, f32_written, f64_written, null_written, prefixed_written, instrs_written}

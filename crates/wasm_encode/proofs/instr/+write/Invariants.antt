@@ -1,7 +1,7 @@
 use Rattle.std.proofs.Common.{◌+◌, ◌*◌, take}
-use Rattle.spec_binary.specs.Number.{IsShortest, Appends}
-use Rattle.spec_binary.specs.Sequence.{SpellsEach}
-use Rattle.spec_binary.specs.Instructions.{SpellsInstr}
+use Rattle.spec_reading.specs.spec_binary.Number.{IsShortest, Appends}
+use Rattle.spec_reading.specs.spec_binary.Sequence.{SpellsEach}
+use Rattle.spec_reading.specs.spec_binary.Instructions.{SpellsInstr}
 use Rattle.wasm_form.specs.declared.instr.Instr.{If}
 use Rattle.wasm_encode.proofs.Weights.{weight, weights}
 use Rattle.wasm_encode.proofs.instr.+write.Given as goal

@@ -1,7 +1,7 @@
 use Rattle.std.proofs.Common.{rules, SFits, w64, subst, ◌∙◌}
 use Rattle.std.proofs.lemmas.Int.{to_z-of_z}
-use Rattle.spec_binary.specs.Number.{SpellsSigned, IsShortest, Appends}
-use Rattle.spec_binary.proofs.Joined.{on_ok}
+use Rattle.spec_reading.specs.spec_binary.Number.{SpellsSigned, IsShortest, Appends}
+use Rattle.spec_reading.proofs.of_spec_binary.Joined.{on_ok}
 use Rattle.wasm_encode.proofs.TypeForms.{val_type_written}
 use Rattle.wasm_encode.proofs.Instructions.{no_type_written, value_type_written, type_index_written}
 use Rattle.wasm_encode.proofs.instr.put_block_type.Goals as goal

@@ -1,7 +1,7 @@
 use Rattle.std.proofs.Common.{rules, SFits, w32, subst}
 use Rattle.std.proofs.lemmas.Int.{to_z-of_z}
-use Rattle.spec_binary.specs.Number.{SpellsSigned, IsShortest, Appends}
-use Rattle.spec_binary.proofs.Joined.{on_ok, appends_after}
+use Rattle.spec_reading.specs.spec_binary.Number.{SpellsSigned, IsShortest, Appends}
+use Rattle.spec_reading.proofs.of_spec_binary.Joined.{on_ok, appends_after}
 use Rattle.wasm_encode.proofs.instr.put_i32.Goals as goal
 
 pub returns : goal.returns

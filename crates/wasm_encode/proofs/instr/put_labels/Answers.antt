@@ -1,4 +1,4 @@
-use Rattle.spec_binary.proofs.Joined.{appends_after, appends_joined}
+use Rattle.spec_reading.proofs.of_spec_binary.Joined.{appends_after, appends_joined}
 use Rattle.wasm_encode.proofs.instr.put_labels.Goals as goal
 
 pub returns-clause-ok : goal.returns-clause-ok

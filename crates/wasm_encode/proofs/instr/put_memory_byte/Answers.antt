@@ -1,4 +1,4 @@
-use Rattle.spec_binary.proofs.Joined.{appends_after, appends_byte}
+use Rattle.spec_reading.proofs.of_spec_binary.Joined.{appends_after, appends_byte}
 use Rattle.wasm_encode.proofs.instr.put_memory_byte.Goals as goal
 
 pub returns : goal.returns

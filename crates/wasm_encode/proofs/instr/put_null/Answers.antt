@@ -1,4 +1,4 @@
-use Rattle.spec_binary.proofs.Joined.{on_ok, appends_after}
+use Rattle.spec_reading.proofs.of_spec_binary.Joined.{on_ok, appends_after}
 use Rattle.wasm_encode.proofs.instr.put_null.Goals as goal
 
 pub returns : goal.returns

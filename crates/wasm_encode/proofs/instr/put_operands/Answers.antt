@@ -1,5 +1,5 @@
 use Rattle.std.proofs.Common.{refl}
-use Rattle.spec_binary.proofs.Joined.{on_ok}
+use Rattle.spec_reading.proofs.of_spec_binary.Joined.{on_ok}
 use Rattle.wasm_encode.proofs.Operands.{no_number_form, one_number_form, no_number_written, one_number_written, two_numbers_written, number_and_zero_written, one_zero_written, two_zeros_written}
 use Rattle.wasm_encode.proofs.instr.put_operands.Goals as goal
 

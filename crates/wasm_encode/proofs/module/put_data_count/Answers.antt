@@ -1,4 +1,4 @@
-use Rattle.spec_binary.proofs.Joined.{on_ok}
+use Rattle.spec_reading.proofs.of_spec_binary.Joined.{on_ok}
 use Rattle.wasm_encode.proofs.Steps.{data_count_begun}
 use Rattle.wasm_encode.proofs.module.put_data_count.Goals as goal
 

@@ -1,4 +1,4 @@
-use Rattle.spec_binary.proofs.Joined.{if_ok}
+use Rattle.spec_reading.proofs.of_spec_binary.Joined.{if_ok}
 use Rattle.wasm_encode.proofs.Begun.{begun_header, customs_begun, placed_short}
 use Rattle.wasm_encode.proofs.SectionSteps.{customs_too_long}
 use Rattle.wasm_encode.proofs.module.put_first_customs.Goals as goal

@@ -1,7 +1,7 @@
 use Rattle.std.proofs.Common.{rules, ◌≡◌, ◌+◌, sym, subst, add-one}
 use Rattle.wasm_encode.specs.SectionSizes.{IsFirstTooLong}
 use Rattle.wasm_encode.specs.Written.{IsLongList}
-use Rattle.spec_binary.proofs.Joined.{if_ok}
+use Rattle.spec_reading.proofs.of_spec_binary.Joined.{if_ok}
 use Rattle.wasm_encode.proofs.Begun.{placed_short}
 use Rattle.wasm_encode.proofs.SectionSteps.{section_begun, listed_begun, customs_too_long_at}
 use Rattle.wasm_encode.proofs.module.put_listed.Goals as goal

@@ -1,4 +1,4 @@
-use Rattle.spec_binary.proofs.Joined.{each_next, each_started}
+use Rattle.spec_reading.proofs.of_spec_binary.Joined.{each_next, each_started}
 use Rattle.wasm_encode.proofs.part.put_each.Goals as goal
 
 pub loop-item-init : goal.loop-item-init

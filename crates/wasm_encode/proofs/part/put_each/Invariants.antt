@@ -1,6 +1,6 @@
 use Rattle.std.proofs.Common.{take}
-use Rattle.spec_binary.specs.Number.{IsShortest, Appends}
-use Rattle.spec_binary.specs.Sequence.{SpellsEach}
+use Rattle.spec_reading.specs.spec_binary.Number.{IsShortest, Appends}
+use Rattle.spec_reading.specs.spec_binary.Sequence.{SpellsEach}
 use Rattle.wasm_encode.proofs.part.put_each.Given as goal
 
 abbrev pub invariant-loop-item : goal.invariant-loop-item

@@ -1,4 +1,4 @@
-use Rattle.spec_binary.proofs.Joined.{on_ok, appends_joined}
+use Rattle.spec_reading.proofs.of_spec_binary.Joined.{on_ok, appends_joined}
 use Rattle.wasm_encode.proofs.part.put_two.Goals as goal
 
 pub returns : goal.returns

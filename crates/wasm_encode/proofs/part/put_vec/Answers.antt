@@ -1,4 +1,4 @@
-use Rattle.spec_binary.proofs.Joined.{on_ok, vec_written}
+use Rattle.spec_reading.proofs.of_spec_binary.Joined.{on_ok, vec_written}
 use Rattle.wasm_encode.proofs.part.put_vec.Goals as goal
 
 pub returns-clause-ok : goal.returns-clause-ok

@@ -1,5 +1,5 @@
 use Rattle.std.proofs.Common.{rules}
-use Rattle.spec_binary.proofs.Joined.{on_ok}
+use Rattle.spec_reading.proofs.of_spec_binary.Joined.{on_ok}
 use Rattle.wasm_encode.proofs.SectionForms.{list_added, long_part, long_whole}
 use Rattle.wasm_encode.proofs.section.put_list.Goals as goal
 

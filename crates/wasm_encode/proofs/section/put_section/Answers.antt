@@ -1,6 +1,6 @@
 use Rattle.std.proofs.Common.{refl, length, eqb-true, ◌∙◌, sym}
 use Rattle.wasm_encode.specs.Written.{nothing}
-use Rattle.spec_binary.proofs.Lists.{empty_list}
+use Rattle.spec_reading.proofs.of_spec_binary.Lists.{empty_list}
 use Rattle.wasm_encode.proofs.section.put_section.Goals as goal
 
 pub returns-then-is_empty-clause-ok : goal.returns-then-is_empty-clause-ok

@@ -1,4 +1,4 @@
-use Rattle.spec_binary.proofs.Joined.{on_ok}
+use Rattle.spec_reading.proofs.of_spec_binary.Joined.{on_ok}
 use Rattle.wasm_encode.proofs.Segments.{active_data_written, no_data_mode}
 use Rattle.wasm_encode.proofs.segment.put_data_mode.Goals as goal
 

@@ -1,5 +1,5 @@
 use Rattle.std.proofs.Common.{inl, inr}
-use Rattle.spec_binary.proofs.Joined.{on_ok}
+use Rattle.spec_reading.proofs.of_spec_binary.Joined.{on_ok}
 use Rattle.wasm_encode.proofs.Segments.{active_written, no_elem_mode}
 use Rattle.wasm_encode.proofs.segment.put_elem_mode.Goals as goal
 

@@ -1,4 +1,4 @@
-use Rattle.spec_binary.specs.Types.{constant, variable}
+use Rattle.spec_reading.specs.spec_binary.Types.{constant, variable}
 use Rattle.wasm_encode.proofs.types.mutability.Goals as goal
 
 pub returns-then-mutable : goal.returns-then-mutable

@@ -1,4 +1,4 @@
-use Rattle.spec_binary.specs.Types.{i32, i64, f32, f64, reference, func_ref, extern_ref}
+use Rattle.spec_reading.specs.spec_binary.Types.{i32, i64, f32, f64, reference, func_ref, extern_ref}
 use Rattle.wasm_encode.proofs.types.type_byte.Goals as goal
 
 pub returns-in-I32 : goal.returns-in-I32

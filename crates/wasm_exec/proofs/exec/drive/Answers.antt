@@ -1,47 +1,8 @@
--- What came of the run, at each of its ends.
-use Rattle.std.proofs.Common.{◌≡◌, arith}
-use Rattle.std.proofs.lemmas.Result.{err_from_is_err_and}
-use Rattle.wasm_exec.specs.Programs.{recorded_of}
-use Rattle.wasm_exec.proofs.Proceeding.{finished, cut_here}
+-- What came of the run, once its steps are made.
 use Rattle.wasm_exec.proofs.exec.drive.Goals as goal
 
-pub proceed-requires-clause-driven : goal.proceed-requires-clause-driven
-proceed-requires-clause-driven g c =
-    let begun = c.requires.driven in
-    (begun.0, _, begun.1, c.loop-driver.invariant.leads begun.0 begun.2)
+pub returns-in-Ok : goal.returns-in-Ok
+returns-in-Ok g c = λ o begun. rw c.finish.ensures (c.in-Ok.ensures o begun)
 
-pub returns-in_err-end : goal.returns-in_err-end
-returns-in_err-end g c = λ o begun.
-    let p = err_from_is_err_and c.from_residual.result c.from_residual.ensures.1 in
-    rw p.1 (c.in_err-end.ensures.proceeds o _ (c.loop-driver.invariant.leads o begun)).1
-
-pub returns-in-Some : goal.returns-in-Some
-returns-in-Some g c = λ o begun.
-    let run = (rw c.in-Some.is at (c.in_ok-end.ensures.proceeds o _ (c.loop-driver.invariant.leads o begun))).1 in
-    rw c.finish.ensures run
-
-pub loop-driver-preserved : goal.loop-driver-preserved
-loop-driver-preserved g c = record {
-  few = c.in_ok-end.ensures.few;
-  leads = λ o begun. rw c.in_default.is at (c.in_ok-end.ensures.proceeds o _ (c.loop-driver.invariant.leads o begun));
-}
-
-pub last-requires-clause-running : goal.last-requires-clause-running
-last-requires-clause-running g c =
-    let begun = c.requires.driven in
-    let drives = c.loop-driver.invariant.leads begun.0 begun.2 in
-    (_, begun.0, (drives.0, drives.1.running))
-
-pub returns-in_err-end-2 : goal.returns-in_err-end-2
-returns-in_err-end-2 g c = λ o begun.
-    let before = c.loop-driver.invariant in
-    let p = err_from_is_err_and c.from_residual-in_err-end-2.result c.from_residual-in_err-end-2.ensures.1 in
-    rw p.1 (cut_here (before.leads o begun).1 c.args.most before.few)
-
-pub returns : goal.returns
-returns g c = λ o begun.
-    let before = c.loop-driver.invariant in
-    let drives = before.leads o begun in
-    let x = recorded_of c.loop-driver.driver.program in
-    let all : x.steps ≡ c.args.most = omega arith in
-    rw (c.finish-2.ensures, c.in_ok-end-2.ensures.same) (finished drives.1 c.args.most all c.in_ok-end-2.end (c.in_ok-end-2.ensures.ended o _ (drives.0, drives.1.running)))
+pub returns-in-Err : goal.returns-in-Err
+returns-in-Err g c = c.in-Err.ensures

@@ -1,6 +1,5 @@
 -- The run begins at the opening state of the set.
 use Rattle.std.proofs.Common.{ap}
-use Rattle.std.proofs.lemmas.Result.{err_from_is_err_and}
 use Rattle.spec_hosts.proofs.Fronts.{fronts_itself}
 use Rattle.host_calls.specs.Embedders.{embedder_of}
 use Rattle.dyl_store.specs.Stores.{recorded_of}
@@ -14,29 +13,28 @@ pub load-requires : goal.load-requires
 load-requires g c = (c.requires.names.0, c.requires.names.1)
 
 pub run_program-requires-clause-fresh : goal.run_program-requires-clause-fresh
-run_program-requires-clause-fresh g c = ap recorded_of c.in_ok-store.ensures
+run_program-requires-clause-fresh g c = ap recorded_of c.in-Ok.ensures
 
 pub run_program-requires-clause-opened : goal.run_program-requires-clause-opened
 run_program-requires-clause-opened g c =
     let over = c.requires.names in
-    (OfSet over.0, set_opens c.args.linked.now _ c.requires.integers over c.in_ok-store.store c.in_ok-store.ensures over.0 over.1)
+    (OfSet over.0, set_opens c.args.linked.now _ c.requires.integers over c.in-Ok.store c.in-Ok.ensures over.0 over.1)
 
-pub returns-clause-executes : goal.returns-clause-executes
-returns-clause-executes g c = λ L of.
+pub returns-in-Ok-clause-executes : goal.returns-in-Ok-clause-executes
+returns-in-Ok-clause-executes g c = λ L of.
     let e = embedder_of c.args.args c.args.table.now in
-    set_executes L e c.args.most c.run_program.result _ _ (c.run_program.ensures (OfSet L) (set_opens c.args.linked.now e.names c.requires.integers c.requires.names c.in_ok-store.store c.in_ok-store.ensures L of))
+    set_executes L e c.args.most c.run_program.result _ _ (c.run_program.ensures (OfSet L) (set_opens c.args.linked.now e.names c.requires.integers c.requires.names c.in-Ok.store c.in-Ok.ensures L of))
 
-pub returns-clause-fronts : goal.returns-clause-fronts
-returns-clause-fronts g c =
+pub returns-in-Ok-clause-fronts : goal.returns-in-Ok-clause-fronts
+returns-in-Ok-clause-fronts g c =
     let over = c.requires.names in
     let e = embedder_of c.args.args c.args.table.now in
-    course_fronts (course_of (OfSet over.0)) e c.args.most c.run_program.result _ _ (c.run_program.ensures (OfSet over.0) (set_opens c.args.linked.now e.names c.requires.integers over c.in_ok-store.store c.in_ok-store.ensures over.0 over.1))
+    course_fronts (course_of (OfSet over.0)) e c.args.most c.run_program.result _ _ (c.run_program.ensures (OfSet over.0) (set_opens c.args.linked.now e.names c.requires.integers over c.in-Ok.store c.in-Ok.ensures over.0 over.1))
 
-pub returns-in_err-store-clause-executes : goal.returns-in_err-store-clause-executes
-returns-in_err-store-clause-executes g c = λ L of.
+pub returns-in-Err-clause-executes : goal.returns-in-Err-clause-executes
+returns-in-Err-clause-executes g c = λ L of.
     let e = embedder_of c.args.args c.args.table.now in
-    let p = err_from_is_err_and c.from_residual.result c.from_residual.ensures.1 in
-    rw p.1 (not_begun (course_of (OfSet L)) e _ c.args.most (set_begins c.args.linked.now e.names c.requires.integers c.requires.names L of))
+    not_begun (course_of (OfSet L)) e _ c.args.most (set_begins c.args.linked.now e.names c.requires.integers c.requires.names L of)
 
-pub returns-in_err-store-clause-fronts : goal.returns-in_err-store-clause-fronts
-returns-in_err-store-clause-fronts g c = fronts_itself _
+pub returns-in-Err-clause-fronts : goal.returns-in-Err-clause-fronts
+returns-in-Err-clause-fronts g c = fronts_itself _

@@ -1,4 +1,4 @@
-use Rattle.host_table.specs.Table.{functions_of}
+use Rattle.dyl_link.specs.host_table.Table.{functions_of}
 use Rattle.wasm_exec.proofs.Hosting.{at_result}
 use Rattle.wasm_exec.proofs.Integers.{have_integers}
 use Rattle.wasm_exec.proofs.exec.host_names.Goals as goal

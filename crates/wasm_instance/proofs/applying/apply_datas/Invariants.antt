@@ -1,10 +1,10 @@
 use Rattle.std.proofs.Common.{◌≡◌, List, length, map}
 use Rattle.std.specs.Prelude.{Option}
 use Rattle.wasm_form.specs.declared.runtime.Ref.{Ref}
-use Rattle.wasm_runtime.specs.declared.Value.{Value}
-use Rattle.spec_runtime.specs.Tables.{TableInstance}
-use Rattle.spec_execution.specs.Instances.{constant_offset}
-use Rattle.spec_execution.specs.Segments.{data_effects}
+use Rattle.wasm_form.specs.declared.runtime.Value.{Value}
+use Rattle.spec_safety.specs.spec_runtime.Tables.{TableInstance}
+use Rattle.spec_safety.specs.spec_execution.Instances.{constant_offset}
+use Rattle.spec_safety.specs.spec_execution.Segments.{data_effects}
 use Rattle.wasm_instance.proofs.AppliedSegments.{AreLeft}
 use Rattle.wasm_instance.proofs.applying.apply_datas.Given as goal
 

@@ -2,10 +2,10 @@ use Rattle.std.proofs.Common.{◌≡◌, ◌<◌, ◌≤◌, ℕ, ◌∙◌, ap,
 use Rattle.std.specs.Prelude.{Some, slice_get}
 use Rattle.std.proofs.lemmas.Option.{slice_get_read}
 use Rattle.wasm_form.specs.declared.module.Elem.{Elem}
-use Rattle.spec_validation.specs.Faults.{elem_fits}
-use Rattle.spec_validation.proofs.Parts.{parts_fit}
-use Rattle.spec_execution.specs.Instances.{ModuleParts, constant_offset}
-use Rattle.spec_execution.specs.Segments.{elem_effects}
+use Rattle.spec_safety.specs.spec_validation.Faults.{elem_fits}
+use Rattle.spec_safety.proofs.of_spec_validation.Parts.{parts_fit}
+use Rattle.spec_safety.specs.spec_execution.Instances.{ModuleParts, constant_offset}
+use Rattle.spec_safety.specs.spec_execution.Segments.{elem_effects}
 use Rattle.wasm_instance.proofs.Lists.{all_at}
 use Rattle.wasm_instance.proofs.AppliedSegments.{left_next, left_failed, none_left}
 use Rattle.wasm_instance.proofs.applying.apply_elems.Goals as goal

@@ -1,8 +1,8 @@
 use Rattle.std.proofs.Common.{◌≡◌, ℕ, List, length, map}
-use Rattle.wasm_runtime.specs.declared.Value.{Value}
-use Rattle.spec_runtime.specs.Memories.{MemoryInstance}
-use Rattle.spec_execution.specs.Instances.{constant_offset}
-use Rattle.spec_execution.specs.Segments.{elem_effects}
+use Rattle.wasm_form.specs.declared.runtime.Value.{Value}
+use Rattle.spec_safety.specs.spec_runtime.Memories.{MemoryInstance}
+use Rattle.spec_safety.specs.spec_execution.Instances.{constant_offset}
+use Rattle.spec_safety.specs.spec_execution.Segments.{elem_effects}
 use Rattle.wasm_instance.proofs.AppliedSegments.{AreLeft}
 use Rattle.wasm_instance.proofs.applying.apply_elems.Given as goal
 

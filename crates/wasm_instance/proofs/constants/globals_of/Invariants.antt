@@ -1,5 +1,5 @@
 use Rattle.std.proofs.Common.{◌≡◌, ◌++◌, drop, map}
-use Rattle.spec_execution.specs.Instances.{global_value}
+use Rattle.spec_safety.specs.spec_execution.Instances.{global_value}
 use Rattle.wasm_instance.proofs.constants.globals_of.Given as goal
 
 abbrev pub invariant-loop-g : goal.invariant-loop-g

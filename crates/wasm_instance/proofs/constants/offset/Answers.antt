@@ -1,8 +1,8 @@
 use Rattle.std.proofs.Common.{ℕ, ◌<◌, ◌^◌, Option, Some, [], subst, arith}
 use Rattle.wasm_form.specs.declared.types.ValType.TheVariants.{I32}
 use Rattle.wasm_form.specs.declared.runtime.Ref.{Ref}
-use Rattle.spec_validation.specs.Faults.{constant_type}
-use Rattle.spec_runtime.specs.Constants.{constant_of, numbered_globals}
+use Rattle.spec_safety.specs.spec_validation.Faults.{constant_type}
+use Rattle.spec_safety.specs.spec_runtime.Constants.{constant_of, numbered_globals}
 use Rattle.wasm_check.specs.declared.value.Constant.{Constant}
 use Rattle.wasm_check.specs.Constants.{StandsFor, IsOfType}
 use Rattle.wasm_instance.proofs.Alone.{number_of_globals}

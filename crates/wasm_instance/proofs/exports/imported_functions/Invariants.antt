@@ -1,5 +1,5 @@
 use Rattle.std.proofs.Common.{◌≡◌, ◌+◌, ◌≤◌, drop, length}
-use Rattle.spec_binary.specs.IndexSpaces.{functions_in, imports_of}
+use Rattle.spec_safety.specs.spec_binary.IndexSpaces.{functions_in, imports_of}
 use Rattle.wasm_instance.proofs.exports.imported_functions.Given as goal
 
 abbrev pub invariant-loop-import : goal.invariant-loop-import

@@ -1,5 +1,5 @@
 use Rattle.std.proofs.Common.{◌≡◌, ◌++◌, drop}
-use Rattle.spec_binary.specs.IndexSpaces.{imports_of, functions_in}
+use Rattle.spec_safety.specs.spec_binary.IndexSpaces.{imports_of, functions_in}
 use Rattle.wasm_instance.proofs.imports.host_types_of.Given as goal
 
 abbrev pub invariant-loop-import : goal.invariant-loop-import

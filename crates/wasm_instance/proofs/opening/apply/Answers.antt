@@ -1,6 +1,6 @@
 use Rattle.std.proofs.Common.{ap, refl, map, length}
 use Rattle.std.specs.Vec.{with_items}
-use Rattle.spec_execution.specs.OneModule.{segments_performed}
+use Rattle.spec_safety.specs.spec_execution.OneModule.{segments_performed}
 use Rattle.wasm_instance.specs.Kept.{parts_in}
 use Rattle.wasm_instance.proofs.OpeningState.{opened_counts, seen_count, whole, whole_count, whole_seen, applies_as, elements_failed, segments_applied}
 use Rattle.wasm_instance.proofs.opening.apply.Goals as goal

@@ -1,6 +1,6 @@
 use Rattle.std.proofs.Common.{◌≡◌, ◌+◌, ◌≤◌, drop, length}
-use Rattle.spec_binary.specs.Indices.{declared_locals}
-use Rattle.spec_binary.specs.Saturated.{saturated}
+use Rattle.spec_safety.specs.spec_binary.Indices.{declared_locals}
+use Rattle.spec_safety.specs.spec_binary.Saturated.{saturated}
 use Rattle.wasm_instance.proofs.rooms.locals_of.Given as goal
 
 abbrev pub invariant-loop-group : goal.invariant-loop-group

@@ -1,7 +1,7 @@
 use Rattle.std.proofs.Common.{◌<◌, length, arith}
-use Rattle.spec_validation.specs.Faults.{elem_fits}
+use Rattle.spec_safety.specs.spec_validation.Faults.{elem_fits}
 use Rattle.wasm_instance.proofs.Lists.{all_at}
-use Rattle.spec_validation.proofs.Parts.{parts_fit}
+use Rattle.spec_safety.proofs.of_spec_validation.Parts.{parts_fit}
 use Rattle.wasm_instance.proofs.segments.elems_of.Goals as goal
 
 pub opened-requires-clause-fits : goal.opened-requires-clause-fits

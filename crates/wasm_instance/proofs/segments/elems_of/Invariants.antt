@@ -1,6 +1,6 @@
 use Rattle.std.proofs.Common.{◌≡◌, ◌++◌, drop, map}
-use Rattle.spec_execution.specs.Instances.{segment_items}
-use Rattle.spec_execution.specs.Segments.{opened_items}
+use Rattle.spec_safety.specs.spec_execution.Instances.{segment_items}
+use Rattle.spec_safety.specs.spec_execution.Segments.{opened_items}
 use Rattle.wasm_instance.proofs.segments.elems_of.Given as goal
 
 abbrev pub invariant-loop-segment : goal.invariant-loop-segment

@@ -1,5 +1,5 @@
 use Rattle.std.proofs.Common.{◌≡◌, ◌++◌, drop, map}
-use Rattle.spec_execution.specs.Instances.{constant_reference}
+use Rattle.spec_safety.specs.spec_execution.Instances.{constant_reference}
 use Rattle.wasm_instance.proofs.segments.references.Given as goal
 
 abbrev pub invariant-loop-e : goal.invariant-loop-e

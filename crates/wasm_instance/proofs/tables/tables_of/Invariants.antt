@@ -1,5 +1,5 @@
 use Rattle.std.proofs.Common.{◌≡◌, ◌++◌, drop, map}
-use Rattle.spec_execution.specs.OneModule.{opened_table}
+use Rattle.spec_safety.specs.spec_execution.OneModule.{opened_table}
 use Rattle.wasm_instance.proofs.tables.tables_of.Given as goal
 
 abbrev pub invariant-loop-ty : goal.invariant-loop-ty

@@ -1,6 +1,6 @@
 use Rattle.std.proofs.Common.{refl, ◌≡◌, Some, None}
 use Rattle.wasm_form.specs.declared.instr.Instr.{out-Instr}
-use Rattle.spec_execution.specs.Ranges.{AreInRange}
+use Rattle.spec_safety.specs.spec_execution.Ranges.{AreInRange}
 use Rattle.wasm_step.specs.Primitives.{first_of}
 use Rattle.wasm_machine.specs.Outside.{callee_of}
 use Rattle.wasm_machine.specs.declared.calls.Callee.TheVariants as callee

@@ -1,6 +1,6 @@
 use Rattle.std.proofs.Common.{arith, refl, sym, [], ◌⊎◌, ◌+◌, ◌<◌, length, inl, inr}
 use Rattle.std.specs.Prelude.{reverse}
-use Rattle.spec_execution.specs.Limits.{most_activations, most_values}
+use Rattle.spec_safety.specs.spec_execution.Limits.{most_activations, most_values}
 use Rattle.wasm_machine.specs.Stacks.{joined, under_of, rooms_at, total}
 use Rattle.wasm_machine.proofs.Called.{called_deep, called_goes}
 use Rattle.wasm_machine.proofs.Joined.{RoomsAre_idle, frames_started, joined_started}

@@ -1,5 +1,5 @@
 use Rattle.std.proofs.Common.{refl, sym, ap, ◌≡◌, ◌∙◌, ◌%◌, Some, Ok}
-use Rattle.spec_runtime.specs.Tables.{entry_at}
+use Rattle.spec_safety.specs.spec_runtime.Tables.{entry_at}
 use Rattle.wasm_machine.proofs.Indirect.{entry_there, entry_exists}
 use Rattle.wasm_machine.proofs.calls.call_indirect.Goals as goal
 

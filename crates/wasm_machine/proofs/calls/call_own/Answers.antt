@@ -1,8 +1,8 @@
 use Rattle.std.proofs.Common.{arith, ◌≡◌, ◌∷◌, ◌⊎◌, ◌+◌, ◌<◌, length, drop, inl, inr, true}
 use Rattle.std.specs.Prelude.{reverse, is_some}
-use Rattle.spec_execution.specs.Values.{take_values}
-use Rattle.spec_execution.specs.Runs.{calling}
-use Rattle.spec_execution.specs.Limits.{most_activations, most_values}
+use Rattle.spec_safety.specs.spec_execution.Values.{take_values}
+use Rattle.spec_safety.specs.spec_execution.Runs.{calling}
+use Rattle.spec_safety.specs.spec_execution.Limits.{most_activations, most_values}
 use Rattle.wasm_step.specs.Tops.{with_act}
 use Rattle.wasm_machine.specs.Stacks.{joined, under_of, rooms_at, total}
 use Rattle.wasm_machine.specs.Machines.{past_call}

@@ -1,7 +1,7 @@
 use Rattle.std.proofs.Common.{◌≡◌, ◌++◌, take}
 use Rattle.std.specs.Prelude.{map, reverse}
-use Rattle.wasm_runtime.specs.declared.Value.TheVariants.{Num}
-use Rattle.spec_execution.specs.Activations.{with_values}
+use Rattle.wasm_form.specs.declared.runtime.Value.TheVariants.{Num}
+use Rattle.spec_safety.specs.spec_execution.Activations.{with_values}
 use Rattle.wasm_step.specs.Tops.{with_act}
 use Rattle.wasm_machine.proofs.machine.push_numbers.Given as goal
 

@@ -1,6 +1,6 @@
 use Rattle.std.proofs.Common.{◌≡◌, drop}
 use Rattle.std.specs.Prelude.{IsTrue}
-use Rattle.spec_runtime.specs.Hosts.{writes_fit, all_written}
+use Rattle.spec_safety.specs.spec_runtime.Hosts.{writes_fit, all_written}
 use Rattle.wasm_machine.proofs.machine.write_all.Given as goal
 
 -- the writes that are left fit, and lead to where all of them lead

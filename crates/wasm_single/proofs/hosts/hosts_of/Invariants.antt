@@ -1,6 +1,6 @@
 use Rattle.std.proofs.Common.{◌≡◌, ◌++◌, drop, map}
-use Rattle.spec_execution.specs.Instances.{imported_hosts}
-use Rattle.spec_execution.specs.OneModule.{imports_met}
+use Rattle.spec_safety.specs.spec_execution.Instances.{imported_hosts}
+use Rattle.spec_safety.specs.spec_execution.OneModule.{imports_met}
 use Rattle.host_table.specs.Names.{host_name_of}
 use Rattle.wasm_single.proofs.hosts.hosts_of.Given as goal
 

@@ -1,5 +1,5 @@
 use Rattle.std.proofs.Common.{sym, ◌∙◌}
-use Rattle.spec_binary.specs.Exports.{start_name}
+use Rattle.spec_safety.specs.spec_binary.Exports.{start_name}
 use Rattle.wasm_single.proofs.Entries.{own_is_function}
 use Rattle.wasm_single.proofs.load.entry_of.Goals as goal
 

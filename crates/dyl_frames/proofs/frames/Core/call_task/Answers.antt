@@ -1,5 +1,5 @@
 use Rattle.std.proofs.Common.{Option, Some, ap, ◌∙◌}
-use Rattle.wasm_form.specs.declared.runtime.Ref.{Ref}
+use Rattle.spec_loading.specs.wasm_form.declared.runtime.Ref.{Ref}
 use Rattle.dyl_frames.proofs.frames.Core.call_task.Goals as goal
 
 pub returns-then-not-is_behind-clause-stepped : goal.returns-then-not-is_behind-clause-stepped

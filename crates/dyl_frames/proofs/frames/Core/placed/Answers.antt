@@ -1,6 +1,6 @@
 use Rattle.std.proofs.Common.{refl, ap, subst}
 use Rattle.std.specs.Prelude.{Result}
-use Rattle.wasm_form.specs.declared.runtime.Trap.{Trap}
+use Rattle.spec_loading.specs.wasm_form.declared.runtime.Trap.{Trap}
 use Rattle.wasm_machine.specs.Machines.{MachineState}
 use Rattle.dyl_frames.specs.Tasks.{task_value}
 use Rattle.dyl_frames.specs.Cores.{raised_stages, PlacesFrom}

@@ -2,7 +2,7 @@
 use Rattle.std.proofs.Common.{◌≡◌, ◌∙◌, ◌++◌, ◌∷◌, [], None, map, length, ap, sym}
 use Rattle.std.specs.List.{position_from}
 use Rattle.std.proofs.lemmas.List.{length-map, map_push}
-use Rattle.spec_linking.specs.LinkedSets.{is_named}
+use Rattle.spec_loading.specs.spec_linking.LinkedSets.{is_named}
 use Rattle.host_table.specs.Names.{host_name_of}
 use Rattle.host_table.specs.Numbers.{number_of, with_number}
 use Rattle.host_table.proofs.Numbering.{numbered_more}

@@ -1,5 +1,5 @@
 use Rattle.std.proofs.Common.{◌≡◌, ◌∙◌, length, get_or, arith, ap, sym, slice_get}
-use Rattle.spec_validation.specs.Faults.{fault}
+use Rattle.spec_loading.specs.spec_validation.Faults.{fault}
 use Rattle.dyl_search.specs.Gathers.{member_of}
 use Rattle.dyl_imports.proofs.Steps.{member_here, listed_all}
 use Rattle.dyl_imports.proofs.imports.Imports.functions.Goals as goal

@@ -1,7 +1,7 @@
 use Rattle.std.proofs.Common.{◌≡◌, ◌++◌, drop, length}
-use Rattle.spec_binary.specs.IndexSpaces.{functions_in}
-use Rattle.spec_linking.specs.Imports.{importing}
-use Rattle.spec_linking.specs.LinkedSets.{LinkedSet}
+use Rattle.spec_loading.specs.spec_binary.IndexSpaces.{functions_in}
+use Rattle.spec_loading.specs.spec_linking.Imports.{importing}
+use Rattle.spec_loading.specs.spec_linking.LinkedSets.{LinkedSet}
 use Rattle.dyl_imports.specs.Refs.{imported_refs}
 use Rattle.dyl_imports.specs.Kept.{AreImportsOf}
 use Rattle.dyl_imports.proofs.imports.Imports.imported.Given as goal

@@ -1,7 +1,7 @@
 use Rattle.std.proofs.Common.{◌≡◌, drop}
 use Rattle.std.specs.List.{list_any}
-use Rattle.spec_linking.specs.Imports.{use_of}
-use Rattle.spec_linking.specs.LinkedSets.{LinkedSet}
+use Rattle.spec_loading.specs.spec_linking.Imports.{use_of}
+use Rattle.spec_loading.specs.spec_linking.LinkedSets.{LinkedSet}
 use Rattle.spec_loading.specs.Members.{loader_as}
 use Rattle.dyl_imports.specs.Kept.{AreImportsOf}
 use Rattle.dyl_imports.proofs.imports.Imports.one_names_loader.Given as goal

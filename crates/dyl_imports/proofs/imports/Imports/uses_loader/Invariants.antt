@@ -1,5 +1,5 @@
 use Rattle.std.proofs.Common.{◌≡◌, drop, map}
-use Rattle.spec_linking.specs.LinkedSets.{LinkedSet}
+use Rattle.spec_loading.specs.spec_linking.LinkedSets.{LinkedSet}
 use Rattle.spec_loading.specs.Members.{loader_from}
 use Rattle.dyl_search.specs.Gathers.{member_of}
 use Rattle.dyl_imports.specs.Kept.{AreImportsOf}

@@ -1,6 +1,6 @@
 use Rattle.std.proofs.Common.{◌≡◌, ◌∙◌, ap, ◌||◌, refl, string_bytes, rules}
 use Rattle.std.specs.String.{string_eq}
-use Rattle.spec_linking.specs.Definitions.{is_one_of}
+use Rattle.spec_loading.specs.spec_linking.Definitions.{is_one_of}
 use Rattle.std.specs.Str.{bytes_eq}
 use Rattle.dyl_imports.proofs.Noted.{one_more}
 use Rattle.dyl_imports.proofs.weak.WeakNames.add.Goals as goal

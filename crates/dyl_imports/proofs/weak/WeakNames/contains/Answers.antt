@@ -1,5 +1,5 @@
 use Rattle.std.proofs.Common.{◌∙◌, ap}
-use Rattle.spec_linking.specs.Definitions.{is_one_of}
+use Rattle.spec_loading.specs.spec_linking.Definitions.{is_one_of}
 use Rattle.dyl_imports.proofs.Noted.{among_texts}
 use Rattle.dyl_imports.proofs.weak.WeakNames.contains.Goals as goal
 

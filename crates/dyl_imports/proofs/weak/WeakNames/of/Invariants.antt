@@ -1,6 +1,6 @@
 use Rattle.std.proofs.Common.{◌≡◌, ◌||◌, ℕ, List, drop, map}
 use Rattle.std.specs.List.{list_any}
-use Rattle.spec_linking.specs.Definitions.{is_one_of, is_weak_note}
+use Rattle.spec_loading.specs.spec_linking.Definitions.{is_one_of, is_weak_note}
 use Rattle.dyl_section.specs.Recorded.{import_note}
 use Rattle.dyl_imports.proofs.weak.WeakNames.of.Given as goal
 

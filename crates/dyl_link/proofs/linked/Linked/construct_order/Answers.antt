@@ -1,7 +1,7 @@
 use Rattle.std.proofs.Common.{◌≡◌, ◌∙◌, ◌<◌, length, sym, ap, subst, arith}
-use Rattle.spec_linking.specs.Sets.{ClosedSet}
-use Rattle.dyl_search.specs.Gathers.{set_of}
-use Rattle.dyl_scope.specs.Scopes.{AreOf}
+use Rattle.spec_loading.specs.spec_linking.Sets.{ClosedSet}
+use Rattle.dyl_slots.specs.dyl_search.Gathers.{set_of}
+use Rattle.dyl_slots.specs.dyl_scope.Scopes.{AreOf}
 use Rattle.dyl_link.specs.Kept.{Kept}
 use Rattle.dyl_link.proofs.linked.Linked.construct_order.Goals as goal
 

@@ -1,5 +1,5 @@
 use Rattle.dyl_section.proofs.Shortest.{import_module, import_field, import_written}
-use Rattle.spec_binary.proofs.Joined.{on_ok}
+use Rattle.spec_reading.proofs.of_spec_binary.Joined.{on_ok}
 use Rattle.dyl_section.proofs.write.ImportInfoNote.put.Goals as goal
 
 pub put_name-requires : goal.put_name-requires

@@ -1,8 +1,8 @@
 use Rattle.std.proofs.Common.{◌≡◌, ℕ, Some, refl, sym, ap, subst, ◌∙◌}
 use Rattle.std.proofs.lemmas.Result.{IfOk-weaker}
 use Rattle.wasm_form.specs.declared.runtime.Ref.TheVariants.{Own}
-use Rattle.spec_binary.specs.Indices.{nullary}
-use Rattle.spec_execution.specs.Views.{type_of}
+use Rattle.spec_loading.specs.spec_binary.Indices.{nullary}
+use Rattle.spec_loading.specs.spec_execution.Views.{type_of}
 use Rattle.spec_loading.specs.LoadedSet.{set_loading}
 use Rattle.dyl_store.specs.Worlds.{kept_view}
 use Rattle.dyl_store.specs.declared.running.Running.{Running}

@@ -1,8 +1,8 @@
 use Rattle.dyl_store.proofs.Opened.{running_is}
 use Rattle.dyl_store.proofs.running.Running.open.Goals as goal
 
-pub returns-clause-running : goal.returns-clause-running
-returns-clause-running c = running_is _ c.requires c.in_ok-world.ensures c.in_ok-core.ensures.core c.in_ok-core.ensures.opened c.in_ok-placements.ensures
+pub returns-in-Ok-core_of-clause-running : goal.returns-in-Ok-core_of-clause-running
+returns-in-Ok-core_of-clause-running c = running_is _ c.requires c.in-Ok.ensures c.in-Ok-core_of.ensures.core c.in-Ok-core_of.ensures.opened c.in_ok-placements.ensures
 
-pub returns-clause-opened : goal.returns-clause-opened
-returns-clause-opened c = c.in_ok-core.ensures.opened
+pub returns-in-Ok-core_of-clause-opened : goal.returns-in-Ok-core_of-clause-opened
+returns-in-Ok-core_of-clause-opened c = c.in-Ok-core_of.ensures.opened

@@ -1,5 +1,5 @@
-use Rattle.spec_linking.specs.LinkedSets.{wasm_of}
-use Rattle.spec_binary.specs.Indices.{function_at}
+use Rattle.spec_loading.specs.spec_linking.LinkedSets.{wasm_of}
+use Rattle.spec_loading.specs.spec_binary.Indices.{function_at}
 use Rattle.dyl_store.specs.Worlds.{set_in}
 use Rattle.dyl_store.proofs.Members.{found_in, own_code, own_locals, own_body}
 use Rattle.dyl_store.proofs.view.WorldView.code.Goals as goal

@@ -1,4 +1,4 @@
-use Rattle.spec_linking.specs.LinkedSets.{wasm_of}
+use Rattle.spec_loading.specs.spec_linking.LinkedSets.{wasm_of}
 use Rattle.dyl_store.specs.Worlds.{set_in}
 use Rattle.dyl_store.proofs.Members.{counted_types}
 use Rattle.dyl_store.proofs.view.WorldView.declared.Goals as goal

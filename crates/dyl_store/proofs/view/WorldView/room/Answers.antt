@@ -1,7 +1,7 @@
 use Rattle.std.proofs.Common.{arith, refl, ap, sym, ◌∙◌}
-use Rattle.spec_binary.specs.Indices.{function_at}
-use Rattle.spec_binary.specs.Saturated.{saturated}
-use Rattle.spec_linking.specs.LinkedSets.{wasm_of}
+use Rattle.spec_loading.specs.spec_binary.Indices.{function_at}
+use Rattle.spec_loading.specs.spec_binary.Saturated.{saturated}
+use Rattle.spec_loading.specs.spec_linking.LinkedSets.{wasm_of}
 use Rattle.wasm_instance.proofs.FunctionRooms.{room_within, room_found}
 use Rattle.dyl_store.specs.Worlds.{set_in}
 use Rattle.dyl_store.proofs.Members.{found_in, own_code, room_is}

@@ -1,6 +1,6 @@
 use Rattle.std.proofs.Common.{ap, refl, List, Option}
 use Rattle.wasm_form.specs.declared.runtime.Ref.{Ref}
-use Rattle.spec_runtime.specs.Tables.{TableInstance, entries_initialized}
+use Rattle.spec_loading.specs.spec_runtime.Tables.{TableInstance, entries_initialized}
 use Rattle.dyl_store.specs.Worlds.{WorldState, kept_instances}
 use Rattle.dyl_store.specs.Units.{store_of}
 use Rattle.dyl_store.proofs.Changes.{table_changes_by}

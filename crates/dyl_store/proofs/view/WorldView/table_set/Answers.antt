@@ -1,5 +1,5 @@
 use Rattle.std.proofs.Common.{ap}
-use Rattle.spec_runtime.specs.Tables.{TableInstance, entry_set}
+use Rattle.spec_loading.specs.spec_runtime.Tables.{TableInstance, entry_set}
 use Rattle.dyl_store.specs.Worlds.{WorldState, kept_instances}
 use Rattle.dyl_store.specs.Units.{store_of}
 use Rattle.dyl_store.proofs.Changes.{table_changes}

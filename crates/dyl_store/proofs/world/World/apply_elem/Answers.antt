@@ -1,6 +1,6 @@
 use Rattle.std.proofs.Common.{refl, subst, sym, ◌<◌, length, map}
 use Rattle.std.specs.Prelude.{slice_set}
-use Rattle.spec_execution.specs.Segments.{all_performed, elem_applied}
+use Rattle.spec_loading.specs.spec_execution.Segments.{all_performed, elem_applied}
 use Rattle.dyl_frames.specs.Cores.{Places}
 use Rattle.dyl_store.specs.Worlds.{WorldState, kept_instances, kept_view}
 use Rattle.dyl_store.specs.Units.{store_of}

@@ -1,5 +1,5 @@
 use Rattle.std.proofs.Common.{length}
-use Rattle.spec_linking.specs.LinkedSets.{wasm_of}
+use Rattle.spec_loading.specs.spec_linking.LinkedSets.{wasm_of}
 use Rattle.spec_loading.specs.Addresses.{sum_before}
 use Rattle.dyl_store.specs.Worlds.{set_in}
 use Rattle.dyl_store.proofs.Members.{counted_datas, segment_at, first_data_kept}

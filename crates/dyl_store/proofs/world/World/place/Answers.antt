@@ -4,14 +4,14 @@ use Rattle.std.proofs.lemmas.List.{length-map}
 use Rattle.std.proofs.lemmas.Option.{same_Some}
 use Rattle.wasm_form.specs.declared.module.Module.{Module}
 use Rattle.wasm_form.specs.declared.runtime.Ref.{Ref}
-use Rattle.spec_linking.specs.Sets as sets
-use Rattle.spec_linking.specs.Slots.{member_number}
-use Rattle.spec_execution.specs.Views.{Counts}
-use Rattle.spec_execution.specs.Segments.{elem_effects, data_effects}
+use Rattle.spec_loading.specs.spec_linking.Sets as sets
+use Rattle.spec_loading.specs.spec_linking.Slots.{member_number}
+use Rattle.spec_loading.specs.spec_execution.Views.{Counts}
+use Rattle.spec_loading.specs.spec_execution.Segments.{elem_effects, data_effects}
 use Rattle.spec_loading.specs.Members.{set_view}
 use Rattle.spec_loading.specs.LoadedSet.{first_slot, own_functions}
-use Rattle.dyl_search.specs.declared.set.Member.{Member}
-use Rattle.dyl_search.specs.declared.set.ClosedSet.{ClosedSet}
+use Rattle.dyl_link.specs.dyl_search.declared.set.Member.{Member}
+use Rattle.dyl_link.specs.dyl_search.declared.set.ClosedSet.{ClosedSet}
 use Rattle.dyl_frames.specs.Cores.{Places}
 use Rattle.dyl_store.specs.Worlds.{kept_view}
 use Rattle.dyl_store.specs.Placements.{elem_offset, data_offset, slots_put}

@@ -1,7 +1,7 @@
 use Rattle.std.proofs.Common.{◌≡◌, ◌<◌, ◌≤◌, Some, length, refl, sym, subst, ◌∙◌, arith}
 use Rattle.std.specs.Prelude.{slice_get, Ok, Err}
 use Rattle.std.proofs.lemmas.Option.{slice_get_read}
-use Rattle.spec_execution.specs.Segments.{all_performed, data_effects}
+use Rattle.spec_loading.specs.spec_execution.Segments.{all_performed, data_effects}
 use Rattle.dyl_link.specs.Kept.{Kept}
 use Rattle.dyl_frames.specs.Cores.{Places}
 use Rattle.dyl_store.specs.Worlds.{kept_instances, kept_view}

@@ -1,6 +1,6 @@
 use Rattle.std.proofs.Common.{◌≡◌, ℕ, Option, map}
 use Rattle.wasm_form.specs.declared.instr.Expr.{Expr}
-use Rattle.spec_execution.specs.Segments.{data_effects}
+use Rattle.spec_loading.specs.spec_execution.Segments.{data_effects}
 use Rattle.dyl_store.specs.Worlds.{kept_view}
 use Rattle.dyl_store.specs.Placements.{data_offset}
 use Rattle.dyl_store.proofs.Placed.{AreLeft}

@@ -1,8 +1,8 @@
 use Rattle.std.proofs.Common.{◌≡◌, ◌<◌, ◌≤◌, Some, length, refl, sym, subst, ◌∙◌, arith}
 use Rattle.std.specs.Prelude.{slice_get, Ok, Err}
 use Rattle.std.proofs.lemmas.Option.{slice_get_read}
-use Rattle.spec_binary.proofs.Lists.{holds_at}
-use Rattle.spec_execution.specs.Segments.{all_performed, elem_effects}
+use Rattle.spec_loading.proofs.of_spec_binary.Lists.{holds_at}
+use Rattle.spec_loading.specs.spec_execution.Segments.{all_performed, elem_effects}
 use Rattle.dyl_link.specs.Kept.{Kept}
 use Rattle.dyl_frames.specs.Cores.{Places}
 use Rattle.dyl_store.specs.Worlds.{kept_instances, kept_view}

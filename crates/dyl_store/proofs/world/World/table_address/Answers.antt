@@ -1,5 +1,5 @@
 use Rattle.std.proofs.Common.{arith}
-use Rattle.spec_linking.specs.LinkedSets.{wasm_of}
+use Rattle.spec_loading.specs.spec_linking.LinkedSets.{wasm_of}
 use Rattle.dyl_store.specs.Worlds.{set_in, kept_instances}
 use Rattle.dyl_store.proofs.Members.{counted_tables, address_within, address_read, table_kept}
 use Rattle.dyl_store.proofs.world.World.table_address.Goals as goal

@@ -1,5 +1,5 @@
 use Rattle.std.proofs.Common.{◌≡◌, ◌+◌, drop, map}
-use Rattle.host_table.specs.Names.{host_name_of}
+use Rattle.dyl_link.specs.host_table.Names.{host_name_of}
 use Rattle.merge_module.specs.Laws.{hosts_bulk}
 use Rattle.merge_whole.proofs.built.brief.bulk.Given as goal
 

@@ -1,7 +1,7 @@
 use Rattle.std.proofs.Common.{◌≡◌, ◌≢◌, ℕ, refl, ◌∙◌}
 use Rattle.wasm_form.specs.declared.types.ValType.{ValType}
 use Rattle.wasm_form.specs.declared.types.ValType.TheVariants.{I32, I64, F32, F64, FuncRef, ExternRef}
-use Rattle.wasm_runtime.specs.declared.Value.TheVariants.{Num}
+use Rattle.wasm_form.specs.declared.runtime.Value.TheVariants.{Num}
 use Rattle.merge_match.specs.Renumbering.{Numbers}
 use Rattle.merge_start.specs.Words.{number}
 use Rattle.merge_module.specs.MergedModule.{constant_instr}

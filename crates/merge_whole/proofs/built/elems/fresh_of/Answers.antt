@@ -1,9 +1,9 @@
 use Rattle.std.proofs.Common.{List, [], length, Option, Some, sym, ap, ◌∙◌, arith}
 use Rattle.std.specs.Prelude.{ℕ, unwrap_or}
 use Rattle.std.proofs.lemmas.Option.{slice_get_past}
-use Rattle.spec_binary.specs.Options.{◌>>=◌}
-use Rattle.dyl_search.specs.declared.set.Member.{Member}
-use Rattle.dyl_search.specs.declared.set.ClosedSet.{ClosedSet}
+use Rattle.spec_reading.specs.spec_binary.Options.{◌>>=◌}
+use Rattle.dyl_link.specs.dyl_search.declared.set.Member.{Member}
+use Rattle.dyl_link.specs.dyl_search.declared.set.ClosedSet.{ClosedSet}
 use Rattle.dyl_link.specs.Kept.{KeptMember}
 use Rattle.merge_start.proofs.Linked.{members_count}
 use Rattle.merge_whole.proofs.built.elems.fresh_of.Goals as goal

@@ -1,7 +1,7 @@
 use Rattle.std.proofs.Common.{◌≡◌, List, length, map, true, ◌++◌, ap, ap₂, ◌∙◌, arith}
 use Rattle.wasm_form.specs.declared.module.GlobalDef.{GlobalDef}
-use Rattle.dyl_search.specs.declared.set.Member.{Member}
-use Rattle.dyl_search.specs.declared.set.ClosedSet.{ClosedSet}
+use Rattle.dyl_link.specs.dyl_search.declared.set.Member.{Member}
+use Rattle.dyl_link.specs.dyl_search.declared.set.ClosedSet.{ClosedSet}
 use Rattle.merge_index.specs.Kept.{numbers_in}
 use Rattle.merge_index.specs.Numbering.{starts_of}
 use Rattle.merge_module.specs.MergedModule.{number_global, merged_globals}

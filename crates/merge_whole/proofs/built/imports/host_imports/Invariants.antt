@@ -1,5 +1,5 @@
 use Rattle.std.proofs.Common.{◌≡◌, ◌++◌, drop, map}
-use Rattle.host_table.specs.Names.{host_name_of}
+use Rattle.dyl_link.specs.host_table.Names.{host_name_of}
 use Rattle.merge_module.specs.MergedModule.{host_imports}
 use Rattle.merge_whole.proofs.built.imports.host_imports.Given as goal
 

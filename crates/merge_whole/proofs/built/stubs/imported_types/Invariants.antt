@@ -1,5 +1,5 @@
 use Rattle.std.proofs.Common.{◌≡◌, ◌++◌, drop}
-use Rattle.spec_binary.specs.IndexSpaces.{functions_in, imports_of}
+use Rattle.spec_reading.specs.spec_binary.IndexSpaces.{functions_in, imports_of}
 use Rattle.merge_whole.proofs.built.stubs.imported_types.Given as goal
 
 abbrev pub invariant-loop-import : goal.invariant-loop-import

@@ -1,5 +1,5 @@
 use Rattle.std.proofs.Common.{◌≡◌, ◌++◌, drop, map}
-use Rattle.host_table.specs.Names.{host_name_of}
+use Rattle.dyl_link.specs.host_table.Names.{host_name_of}
 use Rattle.merge_whole.specs.Built.{host_type}
 use Rattle.merge_whole.proofs.built.types.put_hosts.Given as goal
 

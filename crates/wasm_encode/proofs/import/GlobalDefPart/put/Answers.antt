@@ -1,4 +1,4 @@
-use Rattle.spec_binary.proofs.Joined.{on_ok}
+use Rattle.spec_reading.proofs.of_spec_binary.Joined.{on_ok}
 use Rattle.wasm_encode.proofs.Parts.{global_written}
 use Rattle.wasm_encode.proofs.import.GlobalDefPart.put.Goals as goal
 

@@ -1,4 +1,4 @@
-use Rattle.spec_binary.proofs.Joined.{on_ok}
+use Rattle.spec_reading.proofs.of_spec_binary.Joined.{on_ok}
 use Rattle.wasm_encode.proofs.Parts.{import_function_written, import_table_written, import_memory_written, import_global_written}
 use Rattle.wasm_encode.proofs.import.ImportDescPart.put.Goals as goal
 

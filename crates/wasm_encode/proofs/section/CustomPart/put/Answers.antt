@@ -1,4 +1,4 @@
-use Rattle.spec_binary.proofs.Joined.{on_ok}
+use Rattle.spec_reading.proofs.of_spec_binary.Joined.{on_ok}
 use Rattle.wasm_encode.proofs.SectionForms.{custom_added, custom_too_long}
 use Rattle.wasm_encode.proofs.section.CustomPart.put.Goals as goal
 

@@ -1,9 +1,9 @@
 -- The host call that is answered is the one that the run waits for.
 use Rattle.std.proofs.Common.{◌≡◌, ◌+◌, ap, false}
 use Rattle.std.proofs.lemmas.Result.{on_ok_weaker, err_from_is_err_and}
-use Rattle.spec_runtime.specs.Memories.{MemoryInstance}
-use Rattle.spec_runtime.specs.Hosts.{HostCall}
-use Rattle.host_table.specs.Names.{host_name_of}
+use Rattle.spec_hosts.specs.spec_runtime.Memories.{MemoryInstance}
+use Rattle.spec_hosts.specs.spec_runtime.Hosts.{HostCall}
+use Rattle.dyl_link.specs.host_table.Names.{host_name_of}
 use Rattle.spec_hosts.specs.Ends.{are_many}
 use Rattle.spec_hosts.proofs.Fronts.{asked_broken}
 use Rattle.host_calls.specs.Embedders.{embedder, call_of}

@@ -1,5 +1,5 @@
 use Rattle.std.proofs.Common.{◌≡◌, true, rules, sym, ◌∙◌}
-use Rattle.spec_runtime.specs.Recorded.{has_ended}
+use Rattle.spec_hosts.specs.spec_runtime.Recorded.{has_ended}
 use Rattle.wasm_exec.specs.Courses.{Course, course_of}
 use Rattle.wasm_exec.specs.Recordings.{status_at}
 use Rattle.wasm_exec.specs.Programs.{recorded_of}

@@ -1,5 +1,5 @@
 use Rattle.std.proofs.Common.{◌≡◌}
-use Rattle.spec_runtime.specs.Recorded as recorded
+use Rattle.spec_hosts.specs.spec_runtime.Recorded as recorded
 use Rattle.wasm_exec.proofs.Singles as one
 use Rattle.wasm_exec.proofs.Sets as set
 use Rattle.wasm_exec.proofs.program.Program.has_ended.Goals as goal

@@ -1,6 +1,6 @@
 use Rattle.std.proofs.Common.{ap, refl, List, Option}
 use Rattle.wasm_form.specs.declared.runtime.Ref.{Ref}
-use Rattle.spec_runtime.specs.Tables.{TableInstance, entries_initialized}
+use Rattle.spec_safety.specs.spec_runtime.Tables.{TableInstance, entries_initialized}
 use Rattle.wasm_instance.specs.States.{InstanceState}
 use Rattle.wasm_instance.specs.Kept.{parts_of}
 use Rattle.wasm_instance.proofs.TableChanges.{table_changes_by}

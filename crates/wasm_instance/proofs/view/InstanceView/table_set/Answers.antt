@@ -1,5 +1,5 @@
 use Rattle.std.proofs.Common.{ap}
-use Rattle.spec_runtime.specs.Tables.{TableInstance, entry_set}
+use Rattle.spec_safety.specs.spec_runtime.Tables.{TableInstance, entry_set}
 use Rattle.wasm_instance.specs.States.{InstanceState}
 use Rattle.wasm_instance.specs.Kept.{parts_of}
 use Rattle.wasm_instance.proofs.TableChanges.{table_changes}

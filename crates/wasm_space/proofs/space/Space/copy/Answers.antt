@@ -1,5 +1,5 @@
 use Rattle.std.proofs.Common.{◌∙◌, ◌+◌, ◌≤◌, length, arith, subst, refl, Ok}
-use Rattle.wasm_form.specs.declared.runtime.Trap.TheVariants.{MemoryBounds}
+use Rattle.spec_runtime.specs.wasm_form.declared.runtime.Trap.TheVariants.{MemoryBounds}
 use Rattle.spec_runtime.specs.Memories.{MemoryInstance, copied, written}
 use Rattle.wasm_space.proofs.Changes.{memory_writes, initialized_all}
 use Rattle.wasm_space.specs.Access.{ChangesOrTraps}

@@ -1,5 +1,5 @@
 use Rattle.std.proofs.Common.{◌+◌, ◌≤◌, length, arith, refl}
-use Rattle.wasm_form.specs.declared.runtime.Trap.TheVariants.{MemoryBounds}
+use Rattle.spec_runtime.specs.wasm_form.declared.runtime.Trap.TheVariants.{MemoryBounds}
 use Rattle.spec_runtime.specs.Memories.{written}
 use Rattle.wasm_space.proofs.Changes.{memory_writes, written_all}
 use Rattle.wasm_space.proofs.Overwriting.{refilled}

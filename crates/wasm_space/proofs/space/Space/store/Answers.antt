@@ -1,6 +1,6 @@
 use Rattle.std.proofs.Common.{◌∙◌, ap, ◌+◌, ◌≤◌, length, arith}
 use Rattle.spec_runtime.specs.Memories.{little}
-use Rattle.wasm_form.specs.declared.runtime.Trap.TheVariants.{MemoryBounds}
+use Rattle.spec_runtime.specs.wasm_form.declared.runtime.Trap.TheVariants.{MemoryBounds}
 use Rattle.spec_runtime.specs.Memories.{written}
 use Rattle.wasm_space.proofs.Changes.{memory_writes, written_all, length-little}
 use Rattle.wasm_space.proofs.Overwriting.{refilled, part_length}

@@ -1,0 +1,213 @@
+// The adapters: files of the system in folders of the test's own, streams, and the real clock and random words.
+use super::answers::{fetches, takes};
+use super::readers::{BrokenReader, SlowReader, SlowWriter};
+use dyl_outside::{
+    Ambient, DiskFiles, FileFault, Files, HostAmbient, IoFault, Sink, StreamSink, StreamSource,
+};
+use std::alloc::{AllocError, Global};
+use std::fs;
+use std::io::ErrorKind;
+use std::test::Fail;
+
+const FOLDER: &str = "test_adapters_folder";
+
+const LARGE: &str = "test_adapters_folder/large";
+
+const SMALL: &str = "test_adapters_folder/small";
+
+/// A path and why no file is fetched there.
+const FETCHES: &[(&str, FileFault)] = &[
+    ("test_adapters_folder/missing", FileFault::Absent),
+    ("test_adapters_folder/missing/below", FileFault::Absent),
+    ("", FileFault::Absent),
+    (FOLDER, FileFault::Failed),
+    ("test_adapters_folder/", FileFault::Failed),
+    ("test_adapters_folder/small/below", FileFault::Failed),
+];
+
+/// Paths at which no file is stored.
+const STORES: &[&str] = &["test_adapters_folder/missing/below", FOLDER, ""];
+
+/// The bytes 0 to 250 over and over, 5,000,000 in all.
+fn long_bytes(alloc: Global) -> Result<Vec<u8>, AllocError> {
+    let mut bytes = Vec::new(alloc);
+    for i in 0..5_000_000u32 {
+        bytes.push((i % 251) as u8)?;
+    }
+    Ok(bytes)
+}
+
+/// Whether a long file and a short one are stored, and then fetched up to their length.
+fn keeps<F: Files>(alloc: Global, files: &mut F) -> Result<bool, AllocError> {
+    let bytes = long_bytes(alloc)?;
+    Ok(
+        files.store(alloc, LARGE, &bytes).is_ok()
+            && files.store(alloc, SMALL, b"abc").is_ok()
+            && fetches(alloc, files, LARGE, 5_000_000, Ok(&bytes))
+            && fetches(alloc, files, LARGE, 4_999_999, Err(FileFault::TooLong))
+            && fetches(alloc, files, SMALL, 3, Ok(b"abc")),
+    )
+}
+
+/// Whether the short file is stored again without bytes, and then fetched.
+fn empties<F: Files>(alloc: Global, files: &mut F) -> bool {
+    files.store(alloc, SMALL, b"").is_ok() && fetches(alloc, files, SMALL, 0, Ok(b""))
+}
+
+/// The first path of which something else than its fault is told when a file is fetched.
+fn first_fetched<F: Files>(alloc: Global, files: &mut F) -> Option<&'static str> {
+    for (path, fault) in FETCHES {
+        if !fetches(alloc, files, path, 9, Err(*fault)) {
+            return Some(*path);
+        }
+    }
+    None
+}
+
+/// The first path at which storing a file doesn't fail.
+fn first_stored<F: Files>(alloc: Global, files: &mut F) -> Option<&'static str> {
+    for path in STORES {
+        if files.store(alloc, path, b"x") != Err(IoFault::Failed) {
+            return Some(*path);
+        }
+    }
+    None
+}
+
+#[test]
+fn files_on_disk(rt: HostRuntime) -> Result<(), Fail> {
+    let alloc = rt.alloc();
+    let _ = fs::remove_dir_all(&rt, FOLDER);
+    fs::create_dir(&rt, FOLDER)?;
+    let mut files = DiskFiles::new(&rt);
+    assert!(rt; keeps(alloc, &mut files)?);
+    assert_eq!(rt; first_fetched(alloc, &mut files), None);
+    assert_eq!(rt; first_stored(alloc, &mut files), None);
+    assert!(rt; empties(alloc, &mut files));
+    fs::remove_dir_all(&rt, FOLDER)?;
+    Ok(())
+}
+
+#[test]
+fn source_over_a_slow_reader(rt: HostRuntime) {
+    let alloc = rt.alloc();
+    let mut source = StreamSource::new(SlowReader {
+        bytes: b"ab",
+        is_interrupted: false,
+    });
+    for want in ["a", "b", ""] {
+        assert!(rt; takes(alloc, &mut source, 5, Ok(want.as_bytes())), "{want}");
+    }
+}
+
+#[test]
+fn source_over_bytes(rt: HostRuntime) {
+    let alloc = rt.alloc();
+    let bytes: &[u8] = b"abcdef";
+    let mut source = StreamSource::new(bytes);
+    for want in ["abcd", "ef"] {
+        assert!(rt; takes(alloc, &mut source, 4, Ok(want.as_bytes())), "{want}");
+    }
+}
+
+#[test]
+fn source_over_a_broken_reader(rt: HostRuntime) {
+    let alloc = rt.alloc();
+    for (kind, fault) in [
+        (ErrorKind::BrokenPipe, IoFault::Failed),
+        (ErrorKind::OutOfMemory, IoFault::Memory),
+    ] {
+        let mut source = StreamSource::new(BrokenReader(kind));
+        assert!(rt; takes(alloc, &mut source, 5, Err(fault)), "{fault:?}");
+    }
+}
+
+/// The room of a writer and its error past it, the pieces that it takes, a piece that it doesn't take whole, the fault then, and
+/// what it holds.
+type Put = (
+    usize,
+    Option<ErrorKind>,
+    &'static [&'static str],
+    &'static str,
+    IoFault,
+    &'static str,
+);
+
+const PUTS: &[Put] = &[
+    (5, None, &["", "abc", "de"], "f", IoFault::Failed, "abcde"),
+    (
+        2,
+        Some(ErrorKind::StorageFull),
+        &[],
+        "abc",
+        IoFault::Failed,
+        "ab",
+    ),
+    (
+        2,
+        Some(ErrorKind::OutOfMemory),
+        &[],
+        "abc",
+        IoFault::Failed,
+        "ab",
+    ),
+    (
+        0,
+        Some(ErrorKind::OutOfMemory),
+        &[],
+        "abc",
+        IoFault::Memory,
+        "",
+    ),
+];
+
+/// Whether a sink takes all pieces.
+fn puts<S: Sink>(alloc: Global, sink: &mut S, pieces: &[&str]) -> bool {
+    for piece in pieces {
+        if sink.put(alloc, piece.as_bytes()).is_err() {
+            return false;
+        }
+    }
+    true
+}
+
+/// Whether a sink over a writer does what the row says.
+fn holds(alloc: Global, row: &Put) -> bool {
+    let (room, when_full, pieces, last, fault, held) = row;
+    let mut writer = SlowWriter::new(alloc, *room, *when_full);
+    let mut sink = StreamSink::new(&mut writer);
+    puts(alloc, &mut sink, pieces)
+        && sink.put(alloc, last.as_bytes()) == Err(*fault)
+        && writer.bytes.as_slice() == held.as_bytes()
+}
+
+#[test]
+fn sink_over_a_writer(rt: HostRuntime) {
+    for row in PUTS {
+        assert!(rt; holds(rt.alloc(), row), "{row:?}");
+    }
+}
+
+/// Whether a clock tells a time after the start of 2020.
+fn tells_time<A: Ambient>(alloc: Global, ambient: &mut A) -> Result<bool, IoFault> {
+    Ok(ambient.now(alloc)? > 1_577_836_800_000_000_000)
+}
+
+/// Whether 1,200 random words are other than the one before them.
+fn draws_words<A: Ambient>(alloc: Global, ambient: &mut A) -> Result<bool, IoFault> {
+    let first = ambient.word(alloc)?;
+    for _ in 0..1200 {
+        if ambient.word(alloc)? == first {
+            return Ok(false);
+        }
+    }
+    Ok(true)
+}
+
+#[test]
+fn real_clock_and_random_words(rt: HostRuntime) {
+    let alloc = rt.alloc();
+    let mut ambient = HostAmbient::new(&rt);
+    assert!(rt; tells_time(alloc, &mut ambient) == Ok(true));
+    assert!(rt; draws_words(alloc, &mut ambient) == Ok(true));
+}

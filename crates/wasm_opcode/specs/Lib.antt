@@ -1,5 +1,0 @@
-pub mod Ranges
-pub mod Plain
-pub mod Index
-pub mod Access
-pub mod Second
