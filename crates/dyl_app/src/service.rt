@@ -216,8 +216,11 @@ pub fn perform<F: Files, I: Source, O: Sink, E: Sink, A: Ambient>(
 /// - `gen N` generates the set of N members, merges it, runs it as loaded and as merged over nothing outside, and puts a summary of the two
 ///   runs to the output.
 /// - `run MAIN` gathers and links the set, and runs it as loaded.
-/// - `exec FILE` runs the module at the path FILE for at most 1,000,000,000 steps. Its calls of `wasi_snapshot_preview1` are answered
-///   over the input, the output, the errors, the clock and the random words, and others by the callbacks of the table.
+/// - `exec FILE` runs the module at the path FILE.
+///
+/// A run of `run` and `exec` makes at most 1,000,000,000 steps, or as many as `--steps` says. Its calls of `wasi_snapshot_preview1` are
+/// answered over the input, the output, the errors, the clock and the random words, and others by the callbacks of the table. The options of
+/// a set are `--dl`, `--path`, `--pages`, `--stack` and `--no-duplicates`.
 ///
 /// What is not done, and the end of a run that neither returned nor exited, is told by one line, which is put to the errors at the end.
 pub fn serve<F: Files, I: Source, O: Sink, E: Sink, A: Ambient>(

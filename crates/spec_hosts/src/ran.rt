@@ -1,7 +1,7 @@
 // How a run over a host ends.
 use spec_runtime::wasm_form::{Answer, List, Trap};
 
-/// How a run ended: by itself, by a limit, or because valid code had no step, which never comes.
+/// How a run ended: by itself, by a limit, or because code had no step, which by the standard never comes of valid code.
 #[derive(Clone, Copy, Debug, PartialEq, Eq)]
 pub enum RunEnd {
     Return,

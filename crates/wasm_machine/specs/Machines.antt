@@ -174,8 +174,8 @@ MayGrow [] = ⊥
 MayGrow (Marked tag ∷ frames) = ⊥
 MayGrow (Active a ∷ frames) = IsTrue (may_grow_at a.rest)
 
--- A step leads to an activation on top with more values than its room, or with more than 1,001 open blocks, which one of well typed code
--- never does.
+-- A step leads to an activation on top with more values than its room, or with more than 1,001 open blocks, which by the standard one of
+-- well typed code never does.
 abbrev pub LeadsPastRoom : {Units : Type 0} → View Units → Option (Next Units ℕ) → Type 0
 LeadsPastRoom V (Some (Goes us memory (Active a ∷ frames))) = (room_of V a.unit a.func < length a.locals + height_of a) ⊎ (most_blocks < length a.levels)
 LeadsPastRoom V _ = ⊥

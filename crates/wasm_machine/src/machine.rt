@@ -177,7 +177,7 @@ impl<'m> Machine<'m> {
     }
 
     /// Makes one step of the code on top, tells the mark on top, or answers the end again. Without memory `Memory`, from then on:
-    /// that is only where code calls or grows, or would pass the room that the view told, which valid code never does.
+    /// that is only where code calls or grows, or would pass the room that the view told, which by the standard valid code never does.
     pub fn step<V: View<'m>>(&mut self, alloc: Global, view: &mut V) -> Result<Event, Memory>
         requires over { IsOver (V.seen view.old).fixed (V.seen view.old).units self.old }
         requires ready { IsReady self.old }
