@@ -1,4 +1,4 @@
-//! Writes modules in the binary format (WebAssembly Core 2.0, chapter 5).
+//! Writes modules in the binary format (WebAssembly Core 2.0, chapter 5), and reads again what was written.
 #![tactic(auto)]
 
 mod code;

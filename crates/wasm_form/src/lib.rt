@@ -1,4 +1,5 @@
-//! The abstract syntax of WebAssembly: types, instructions, modules. Lists and texts of them, references, traps.
+//! The abstract syntax of WebAssembly: types, instructions, modules, and which instruction an opcode is. Lists and texts of them; references,
+//! traps, the values of a run, and what a host function is asked and answers.
 #![tactic(auto)]
 
 mod access;
