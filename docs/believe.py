@@ -25,7 +25,7 @@ BEGIN, END = "<!-- made by docs/believe.py -->\n\n", "\n<!-- to here -->\n"
 # What is left out to see what it alone leads to.
 ALONE = {
     "`gen`": ["dyl_commands.Generated.GenDue", "dyl_commands.Runs.GenWorks"],
-    "the answer that a section is too long": ["dyl_commands.Linking.IsLong"],
+    "the answer that a section is too long": ["merge_whole.Merges.IsTooLongFor"],
 }
 
 USE = re.compile(r"^(?:unfoldable )?(?:pub |ghost )?use\s+([\w.]+?)(?:\.\{([^}]*)\})?(?:\s+as\s+(\w+))?;?\s*$", re.M)

@@ -255,7 +255,7 @@ pub fn serve<F: Files, I: Source, O: Sink, E: Sink, A: Ambient>(
             drop(order);
             outcome
         }
-        Err(WordFault::Usage(kind)) => tell(alloc, Outcome::Usage(kind), errors),
+        Err(WordFault::Usage { kind }) => tell(alloc, Outcome::Usage(kind), errors),
         Err(WordFault::Memory) => tell(alloc, Outcome::Memory, errors),
     }
 }

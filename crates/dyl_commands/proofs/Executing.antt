@@ -13,22 +13,22 @@ use Rattle.dyl_front.specs.declared.outcome.Outcome.{Outcome}
 use Rattle.dyl_front.specs.declared.outcome.Outcome.TheVariants.{Ran, Single, Memory}
 use Rattle.dyl_front.specs.declared.order.Order.TheVariants as order
 use Rattle.dyl_commands.specs.Due.{is_done}
-use Rattle.dyl_commands.specs.Fetched.{Reads}
+use Rattle.dyl_commands.specs.Fetched.{ReadsFile}
 use Rattle.dyl_commands.specs.Runs.{guest_arguments, ExecWorks}
 use Rattle.spec_loading.specs.spec_linking.declared.fault.SetFault.{SetFault}
 use Rattle.spec_loading.specs.spec_linking.declared.fault.SetFault.TheVariants as set
-use Rattle.dyl_commands.specs.Served.{Serves, Executes, set_outcome}
+use Rattle.dyl_commands.specs.Served.{Serves, ExecutesModule, set_outcome}
 
 -- what is refused, but for want of memory
 pub refused_is : (wasm : Module) (embedder : Embedder) (steps : ℕ) (fault : SingleFault) (old new : Devices) → (fault ≡ single.Memory → ⊥) → run.IsRefused wasm embedder steps fault old new
-    → Executes wasm embedder steps (Single fault) old new
+    → ExecutesModule wasm embedder steps (Single fault) old new
 refused_is wasm embedder steps single.Memory old new other h = absurd (other refl)
 refused_is wasm embedder steps _ old new other h = h
 
-module _ (embedder : List (List ℕ) → Embedder) (path : List ℕ) (steps : ℕ) (args : List (List ℕ)) (wasm : Module) (old mid : FilesState) (read : Reads path (Ok wasm) old mid) (begun now : Devices) where
+module _ (embedder : List (List ℕ) → Embedder) (path : List ℕ) (steps : ℕ) (args : List (List ℕ)) (wasm : Module) (old mid : FilesState) (read : ReadsFile path (Ok wasm) old mid) (begun now : Devices) where
   -- the arguments that the guest sees make no difference to the names
   module _ (E : Embedder) (is : E ≡ embedder (guest_arguments args)) where
-    exec_serves : (answer : Outcome) → Executes wasm E steps answer begun now → (before after : ℕ) → Serves E.names (Ok (order.Exec path steps args)) answer old mid before after
+    exec_serves : (answer : Outcome) → ExecutesModule wasm E steps answer begun now → (before after : ℕ) → Serves E.names (Ok (order.Exec path steps args)) answer old mid before after
     exec_serves (Ran r) h before after = record {
       tells = λ files told. record { wasm = wasm; file = read.tells files told; opening = h.0; opens = h.1 };
       leaves = λ files told. read.files ∙ told;
@@ -45,7 +45,7 @@ module _ (embedder : List (List ℕ) → Embedder) (path : List ℕ) (steps : �
     exec_serves Memory h before after = record { tells = λ files told. tt; leaves = λ files told. read.files ∙ told; caused = tt; inner = refl }
     exec_serves _ h before after = absurd h
 
-  pub executed_serves : (answer : Outcome) → Executes wasm (embedder (guest_arguments args)) steps answer begun now → (before after : ℕ)
+  pub executed_serves : (answer : Outcome) → ExecutesModule wasm (embedder (guest_arguments args)) steps answer begun now → (before after : ℕ)
       → Serves (embedder (guest_arguments args)).names (Ok (order.Exec path steps args)) answer old mid before after
   executed_serves answer h before after = exec_serves (embedder (guest_arguments args)) refl answer h before after
 
@@ -53,7 +53,7 @@ module _ (embedder : List (List ℕ) → Embedder) (path : List ℕ) (steps : �
   pub is_valid : validation.fault wasm ≡ None
   is_valid = ap validation.fault read.spelled.said.2.0 ∙ read.spelled.said.2.1
 
-  pub executed_works : (answer : Outcome) → Executes wasm (embedder (guest_arguments args)) steps answer begun now → ExecWorks old.told path steps (embedder (guest_arguments args)) answer begun now
+  pub executed_works : (answer : Outcome) → ExecutesModule wasm (embedder (guest_arguments args)) steps answer begun now → ExecWorks old.told path steps (embedder (guest_arguments args)) answer begun now
   executed_works (Ran r) h = record { wasm = wasm; opening = h.0; begun = record { file = read.tells; valid = is_valid; opens = h.1 }; run = h.2 }
   executed_works (Single single.Memory) h = absurd h
   executed_works (Single fault) h = h.1
@@ -67,7 +67,7 @@ pub with_arguments : (wasm : Module) (embedder : List (List ℕ) → Embedder) (
 with_arguments wasm embedder texts wanted same steps r old new h = subst (λ t. run.Executes wasm (embedder t) steps r old new) same h
 
 -- a run never answers Done
-pub never_done : (wasm : Module) (embedder : Embedder) (steps : ℕ) (answer : Outcome) (old new : Devices) → Executes wasm embedder steps answer old new → is_done answer ≡ false
+pub never_done : (wasm : Module) (embedder : Embedder) (steps : ℕ) (answer : Outcome) (old new : Devices) → ExecutesModule wasm embedder steps answer old new → is_done answer ≡ false
 never_done wasm embedder steps (Ran r) old new h = refl
 never_done wasm embedder steps (Single fault) old new h = refl
 never_done wasm embedder steps Memory old new h = refl
@@ -78,8 +78,8 @@ set_not_done set.Memory = refl
 set_not_done fault = refl
 
 -- what is answered with
-pub ran_is : (wasm : Module) (embedder : Embedder) (steps : ℕ) (r : ran.Ran) (old new : Devices) → run.Executes wasm embedder steps (Ok r) old new → Executes wasm embedder steps (Ran r) old new
+pub ran_is : (wasm : Module) (embedder : Embedder) (steps : ℕ) (r : ran.Ran) (old new : Devices) → run.Executes wasm embedder steps (Ok r) old new → ExecutesModule wasm embedder steps (Ran r) old new
 ran_is wasm embedder steps r old new h = h
 
-pub memory_is : (wasm : Module) (embedder : Embedder) (steps : ℕ) (fault : SingleFault) (old new : Devices) → fault ≡ single.Memory → run.Executes wasm embedder steps (Err fault) old new → Executes wasm embedder steps Memory old new
+pub memory_is : (wasm : Module) (embedder : Embedder) (steps : ℕ) (fault : SingleFault) (old new : Devices) → fault ≡ single.Memory → run.Executes wasm embedder steps (Err fault) old new → ExecutesModule wasm embedder steps Memory old new
 memory_is wasm embedder steps fault old new is h = subst (λ f. run.IsRefused wasm embedder steps f old new) is h

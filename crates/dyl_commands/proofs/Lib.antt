@@ -1,4 +1,3 @@
-pub mod Slashes
 pub mod OneFile
 pub mod Reading
 pub mod Dues

@@ -1,5 +1,5 @@
 -- What comes of gathering and linking.
-use Rattle.std.proofs.Common.{◌≡◌, ◌≤◌, ℕ, List, [], ◌∷◌, true, Result, Ok, Err, refl, sym, ap, subst, le_refl, arith}
+use Rattle.std.proofs.Common.{◌≡◌, ℕ, List, [], ◌∷◌, true, Result, Ok, Err, refl, sym, subst}
 use Rattle.std.specs.List.{All, list_all}
 use Rattle.std.proofs.lemmas.Bool.{true≢false, and_from, and_parts}
 use Rattle.std.proofs.lemmas.List.Elements.{All-weaker}
@@ -21,8 +21,7 @@ use Rattle.spec_loading.specs.spec_linking.declared.fault.LinkFault.{LinkFault}
 use Rattle.spec_loading.specs.spec_linking.declared.fault.LinkFault.TheVariants as link
 use Rattle.spec_loading.specs.spec_linking.Sets.{ClosedSet, SetOptions}
 use Rattle.spec_loading.specs.spec_linking.Gathering.{IsGathered}
-use Rattle.spec_loading.specs.spec_linking.Plans.{LinkOptions, Plan, least_of, maxima, limits_in, memory_limits}
-use Rattle.spec_loading.specs.spec_linking.Slots.{linked_plan}
+use Rattle.spec_loading.specs.spec_linking.Plans.{LinkOptions}
 use Rattle.spec_loading.specs.spec_linking.LinkedSets.{LinkedSet, hosts_of}
 use Rattle.spec_loading.specs.spec_linking.Links.{link_fault}
 use Rattle.dyl_link.specs.dyl_search.Found.{ReadsOf}
@@ -45,17 +44,6 @@ links_to l S names also k same h integers = (subst (λ n. IsLinked (linked n l S
 first_fault_to : (L : LinkedSet) (fault : LinkFault) → IsFirst fault (link_fault L) → LinksTo L (Err (link_outcome fault))
 first_fault_to L link.Memory h = tt
 first_fault_to L fault h = h (λ is. cc)
-
--- the most pages are no more than those of the options
-least_below : (bound : ℕ) (ns : List ℕ) → least_of bound ns ≤ bound
-least_below bound [] = le_refl bound
-least_below bound (n ∷ ns) = omega (arith, least_below bound ns)
-
-pub pages_below : (l : LinkOptions) (S : ClosedSet) (names : HostNames) (k : Kept) → IsLinked (linked names l S) k → l.pages ≤ 16384 → k.plan.pages_max ≤ 16384
-pages_below l S names k h few =
-    let same : k.plan.pages_max ≡ (linked_plan (linked names l S)).pages_max = ap (λ (p : Plan). p.pages_max) h.plan in
-    let below : (linked_plan (linked names l S)).pages_max ≤ l.pages = least_below l.pages (maxima (limits_in memory_limits S.members)) in
-    omega (arith, same, below, few)
 
 -- integers are supported, so host functions are that have integers alone
 integer_supported : (t : ValType) → is_integer t ≡ true → is_supported t ≡ true

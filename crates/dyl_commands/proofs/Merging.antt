@@ -7,8 +7,7 @@ use Rattle.spec_hosts.specs.dyl_outside.Faults.{Rises}
 use Rattle.spec_hosts.specs.dyl_outside.Files.{FilesState}
 use Rattle.spec_hosts.specs.spec_runtime.Names.{HostNames}
 use Rattle.spec_loading.specs.spec_linking.LinkedSets.{LinkedSet}
-use Rattle.wasm_encode.specs.SectionSizes.{IsFirstTooLong}
-use Rattle.merge_whole.specs.Merges.{merged_module}
+use Rattle.merge_whole.specs.Merges.{IsTooLongFor}
 use Rattle.spec_merging.specs.declared.fault.MergeFault.{MergeFault}
 use Rattle.spec_merging.specs.declared.fault.MergeFault.TheVariants as merge
 use Rattle.dyl_link.specs.dyl_search.declared.set.SetOptions.{SetOptions}
@@ -33,10 +32,10 @@ stored_merged k out bytes Memory old new merges h = h
 stored_merged k out bytes _ old new merges h = absurd h
 
 -- nothing is merged
-pub not_merged : (k : Kept) (out : List ℕ) (fault : MergeFault) (old : FilesState) → ((id : ℕ) → fault ≡ merge.SectionSize id → (L : LinkedSet) → IsLinked L k → IsFirstTooLong (merged_module L) id)
-    → ((id : ℕ) → fault ≡ merge.SectionSize id → (L : LinkedSet) → IsLinked L k → 2 ^ 32 ≤ whole.bulk L) → WritesMerged k out (merge_outcome fault) old old
-not_merged k out merge.Memory old first big = λ files told. told
-not_merged k out (merge.SectionSize id) old first big = (λ L is. record { first = first id refl L is; big = big id refl L is }, refl)
+pub not_merged : (k : Kept) (out : List ℕ) (fault : MergeFault) (old : FilesState)
+    → ((id : ℕ) → fault ≡ merge.SectionSize id → (L : LinkedSet) → IsLinked L k → IsTooLongFor L id) → WritesMerged k out (merge_outcome fault) old old
+not_merged k out merge.Memory old long = λ files told. told
+not_merged k out (merge.SectionSize id) old long = (long id refl, refl)
 
 module _ (names : HostNames) (o : SetOptions) (l : LinkOptions) (out : List ℕ) (k : Kept) (old mid new : FilesState) (gets : Gets names (options_of o) (links.options_of l) (Ok k) old mid) where
   abbrev L : LinkedSet

@@ -19,7 +19,7 @@ use Rattle.dyl_front.specs.declared.outcome.Outcome.{Outcome}
 use Rattle.dyl_front.specs.declared.outcome.Outcome.TheVariants.{Set, Link, Memory}
 use Rattle.std.specs.Prelude.{Option}
 use Rattle.dyl_commands.specs.Due.{is_done}
-use Rattle.dyl_commands.specs.Fetched.{Reads}
+use Rattle.dyl_commands.specs.Fetched.{ReadsFile}
 use Rattle.dyl_commands.specs.Runs.{PlanWorks, RunWorks, Works}
 use Rattle.dyl_commands.specs.Served.{Serves, IsNotGot, set_outcome}
 
@@ -71,7 +71,7 @@ module _ (names : HostNames) (o : SetOptions) (l : LinkOptions) (old new : Files
   run_idle told steps embedder _ begun h = absurd h.caused
 
 -- the one file that is run
-pub exec_refused : (names : HostNames) (path : List ℕ) (steps : ℕ) (args : List (List ℕ)) (fault : SetFault) (old new : FilesState) (before now : ℕ) → Reads path (Err fault) old new
+pub exec_refused : (names : HostNames) (path : List ℕ) (steps : ℕ) (args : List (List ℕ)) (fault : SetFault) (old new : FilesState) (before now : ℕ) → ReadsFile path (Err fault) old new
     → Serves names (Ok (order.Exec path steps args)) (set_outcome fault) old new before now
 exec_refused names path steps args set.Memory old new before now h = record { tells = λ files told. tt; leaves = λ files told. h.files ∙ told; caused = tt; inner = refl }
 exec_refused names path steps args (set.ReadFault at) old new before now h = record { tells = λ files told. h.caused.0; leaves = λ files told. h.files ∙ told; caused = h.caused; inner = refl }

@@ -17,7 +17,7 @@ use Rattle.dyl_front.specs.declared.outcome.Outcome.TheVariants.{Ran, Memory}
 use Rattle.dyl_commands.specs.Linking.{linked, LinksAt}
 use Rattle.dyl_commands.specs.Due.{is_done}
 use Rattle.dyl_commands.specs.Runs.{IsThere, RunWorks}
-use Rattle.dyl_commands.specs.Served.{Serves, Gets, Runs}
+use Rattle.dyl_commands.specs.Served.{Serves, Gets, ExecutesSet}
 
 module _ (embedder : Embedder) (o : SetOptions) (l : LinkOptions) (steps : ℕ) (k : Kept) (old new : FilesState) (gets : Gets embedder.names (options_of o) (links.options_of l) (Ok k) old new) (begun now : Devices) where
   abbrev L : LinkedSet
@@ -29,19 +29,19 @@ module _ (embedder : Embedder) (o : SetOptions) (l : LinkOptions) (steps : ℕ) 
   there : IsThere old.told embedder.names (options_of o) (links.options_of l) gets.got.set
   there = record { gathered = gets.got.gathered; shape = gets.got.linked.shape; links = gets.got.linked.links }
 
-  pub run_serves : (args : List (List ℕ)) (answer : Outcome) → Runs k embedder steps answer begun now → (before after : ℕ) → Serves embedder.names (Ok (order.Run o l steps args)) answer old new before after
+  pub run_serves : (args : List (List ℕ)) (answer : Outcome) → ExecutesSet k embedder steps answer begun now → (before after : ℕ) → Serves embedder.names (Ok (order.Run o l steps args)) answer old new before after
   run_serves args (Ran r) h before after = record { tells = links_at; leaves = λ files told. gets.files ∙ told; caused = tt; inner = refl }
   run_serves args Memory h before after = record { tells = λ files told. tt; leaves = λ files told. gets.files ∙ told; caused = tt; inner = refl }
   run_serves args _ h before after = absurd h
 
-  pub run_works : (answer : Outcome) → Runs k embedder steps answer begun now → RunWorks old.told (options_of o) (links.options_of l) steps embedder answer begun now
+  pub run_works : (answer : Outcome) → ExecutesSet k embedder steps answer begun now → RunWorks old.told (options_of o) (links.options_of l) steps embedder answer begun now
   run_works (Ran r) h = record { set = gets.got.set; there = there; run = h L gets.got.linked }
   run_works Memory (inl same) = inl same
   run_works Memory (inr cut) = inr (record { set = gets.got.set; there = there; cut = cut L gets.got.linked })
   run_works _ h = absurd h
 
 -- a run never answers Done
-pub runs_not_done : (k : Kept) (embedder : Embedder) (steps : ℕ) (answer : Outcome) (old new : Devices) → Runs k embedder steps answer old new → is_done answer ≡ false
+pub runs_not_done : (k : Kept) (embedder : Embedder) (steps : ℕ) (answer : Outcome) (old new : Devices) → ExecutesSet k embedder steps answer old new → is_done answer ≡ false
 runs_not_done k embedder steps (Ran r) old new h = refl
 runs_not_done k embedder steps Memory old new h = refl
 runs_not_done k embedder steps _ old new h = absurd h

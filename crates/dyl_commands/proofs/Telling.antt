@@ -31,7 +31,7 @@ use Rattle.dyl_commands.specs.Causes.{Caused}
 use Rattle.dyl_commands.specs.Due.{is_done}
 use Rattle.dyl_commands.specs.Told.{IsTold}
 use Rattle.dyl_commands.specs.Linking.{linked}
-use Rattle.dyl_commands.specs.Runs.{guest_arguments, IsRun, IsCut, ExecWorks, IsLoadedRun, IsLoadedCut, RunWorks, PlanWorks, GenWorks, Works}
+use Rattle.dyl_commands.specs.Runs.{guest_arguments, IsFileRun, IsFileCut, ExecWorks, IsLoadedRun, IsLoadedCut, RunWorks, PlanWorks, GenWorks, Works}
 use Rattle.dyl_commands.specs.Served.{Serves}
 
 -- what is so of the outcome, and of want of memory, is so of the answer
@@ -117,7 +117,7 @@ not_broken embedder (e ∷ es) devices = go (is_wasi e.0)
     go false = refl
 
 -- a whole run is one that may be cut short
-cut_of : (told : Option FileMap) (path : List ℕ) (steps : ℕ) (embedder : Embedder) (r : ran.Ran) (old new : Devices) → IsRun told path steps embedder r old new → IsCut told path steps embedder old new
+cut_of : (told : Option FileMap) (path : List ℕ) (steps : ℕ) (embedder : Embedder) (r : ran.Ran) (old new : Devices) → IsFileRun told path steps embedder r old new → IsFileCut told path steps embedder old new
 cut_of told path steps embedder r old new h = record {
   wasm = h.wasm;
   opening = h.opening;

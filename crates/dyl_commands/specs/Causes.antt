@@ -1,4 +1,5 @@
 -- When an answer may come, whatever the files tell.
+-- Cited by the clauses `caused` and `inner` of `serve`.
 use Rattle.std.specs.Prelude.{◌≡◌, ◌⊎◌, List, [], ℕ, Bool, true, false, Result, Ok, Err}
 use Rattle.spec_reading.specs.spec_binary.declared.fault.DecodeFault.TheVariants as decode
 use Rattle.spec_loading.specs.spec_validation.declared.fault.CheckFault.TheVariants as check
@@ -52,14 +53,17 @@ WriteCause (order.Plan o l) old new before now = Rises before now
 WriteCause (order.Gen n pages steps) old new before now = Rises before now
 WriteCause _ old new before now = ⊥
 
--- only a generated set is run where it is done
+-- what is run ends as a run does, and isn't done; what is done otherwise has no runs, but a generated set
 abbrev pub DoneCause : Order → List ran.Ran → Type 0
 DoneCause (order.Gen n pages steps) runs = Unit {0}
+DoneCause (order.Run o l steps args) runs = ⊥
+DoneCause (order.Exec file steps args) runs = ⊥
 DoneCause _ runs = runs ≡ []
 
--- a generated set has at most too few pages, whatever files there are
+-- a generated set has at most too few pages, whatever files there are, and nothing is linked for the one file that is run
 abbrev pub LinkCause : HostNames → Order → LinkFault → Type 0
 LinkCause names (order.Gen n pages steps) fault = GenDue names n pages (Link fault)
+LinkCause names (order.Exec file steps args) fault = ⊥
 LinkCause names _ fault = Unit {0}
 
 -- only for a generated set is there a number of members
@@ -68,20 +72,20 @@ GenCause names (order.Gen n pages steps) fault = GenDue names n pages (Gen fault
 GenCause names _ fault = ⊥
 
 -- only a set or a file is run
-abbrev pub IsRun : Order → Type 0
-IsRun (order.Run o l steps args) = Unit {0}
-IsRun (order.Exec file steps args) = Unit {0}
-IsRun _ = ⊥
+abbrev pub IsRunOrder : Order → Type 0
+IsRunOrder (order.Run o l steps args) = Unit {0}
+IsRunOrder (order.Exec file steps args) = Unit {0}
+IsRunOrder _ = ⊥
 
 -- only such a file may be refused as it is opened
-abbrev pub IsExec : Order → Type 0
-IsExec (order.Exec file steps args) = Unit {0}
-IsExec _ = ⊥
+abbrev pub IsExecOrder : Order → Type 0
+IsExecOrder (order.Exec file steps args) = Unit {0}
+IsExecOrder _ = ⊥
 
 -- only what was merged can have too long a section
-abbrev pub IsMerge : Order → Type 0
-IsMerge (order.Merge o l out) = Unit {0}
-IsMerge _ = ⊥
+abbrev pub IsMergeOrder : Order → Type 0
+IsMergeOrder (order.Merge o l out) = Unit {0}
+IsMergeOrder _ = ⊥
 
 -- What an answer to what is asked says of the files before and after, and of the counts of the puts to the output that failed, where these
 -- host functions are declared.
@@ -89,11 +93,11 @@ abbrev pub Caused : HostNames → Result Order UsageKind → Outcome → FilesSt
 Caused names (Err kind) answer old new before now = (answer ≡ Usage kind) ⊎ (answer ≡ Memory)
 Caused names (Ok order) (Usage kind) old new before now = ⊥
 Caused names (Ok order) (Done runs) old new before now = DoneCause order runs
-Caused names (Ok order) (Ran ran) old new before now = IsRun order
+Caused names (Ok order) (Ran ran) old new before now = IsRunOrder order
 Caused names (Ok order) (Set fault) old new before now = FaultCause order fault old new
 Caused names (Ok order) (Link fault) old new before now = LinkCause names order fault
-Caused names (Ok order) (Merge fault) old new before now = IsMerge order
-Caused names (Ok order) (Single fault) old new before now = IsExec order
+Caused names (Ok order) (Merge fault) old new before now = IsMergeOrder order
+Caused names (Ok order) (Single fault) old new before now = IsExecOrder order
 Caused names (Ok order) (Gen fault) old new before now = GenCause names order fault
 Caused names (Ok order) WriteFault old new before now = WriteCause order old new before now
 Caused names (Ok order) Memory old new before now = Unit {0}

@@ -1,4 +1,5 @@
 -- What is said of the devices where a host table answers, in short words.
+-- Cited by the clause `does` of `serve`.
 use Rattle.std.specs.Prelude.{ℕ, List, Result, Ok}
 use Rattle.wasm_form.specs.declared.module.Module.{Module}
 use Rattle.spec_hosts.specs.dyl_outside.Files.{FilesState}
@@ -16,7 +17,7 @@ use Rattle.dyl_front.specs.declared.order.Order.TheVariants.{Run, Exec}
 use Rattle.dyl_front.specs.declared.outcome.UsageKind.{UsageKind}
 use Rattle.dyl_front.specs.declared.outcome.Outcome.{Outcome}
 use Rattle.dyl_commands.specs.Runs.{guest_arguments, Works, Does}
-use Rattle.dyl_commands.specs.Served.{Runs, Executes}
+use Rattle.dyl_commands.specs.Served.{ExecutesSet, ExecutesModule}
 
 -- what is said of devices before and after, of their parts
 abbrev OfParts : Type 1
@@ -37,21 +38,21 @@ module _ {X : Type 0} {F : X → Type 0} {g : _} where
   abbrev pub RunDoes : HostTable X F g → FilesState → SetOptions → LinkOptions → ℕ → List (List ℕ) → Outcome → OfParts
   RunDoes host files set link steps args = DoesBy host files (Ok (Run set link steps args))
 
-  abbrev pub RunWorks : HostTable X F g → FilesState → SetOptions → LinkOptions → ℕ → List (List ℕ) → Outcome → OfParts
-  RunWorks host files set link steps args = WorksBy host files (Run set link steps args)
+  abbrev pub RunWorksBy : HostTable X F g → FilesState → SetOptions → LinkOptions → ℕ → List (List ℕ) → Outcome → OfParts
+  RunWorksBy host files set link steps args = WorksBy host files (Run set link steps args)
 
   abbrev pub ExecDoes : HostTable X F g → FilesState → List ℕ → ℕ → List (List ℕ) → Outcome → OfParts
   ExecDoes host files file steps args = DoesBy host files (Ok (Exec file steps args))
 
-  abbrev pub ExecWorks : HostTable X F g → FilesState → List ℕ → ℕ → List (List ℕ) → Outcome → OfParts
-  ExecWorks host files file steps args = WorksBy host files (Exec file steps args)
+  abbrev pub ExecWorksBy : HostTable X F g → FilesState → List ℕ → ℕ → List (List ℕ) → Outcome → OfParts
+  ExecWorksBy host files file steps args = WorksBy host files (Exec file steps args)
 
   -- what running a linked set does
   abbrev pub SetRuns : HostTable X F g → Kept → List (List ℕ) → ℕ → Outcome → OfParts
   SetRuns host k args steps answer i o e a input output errors ambient =
-      Runs k (embedder_of (guest_arguments args) host) steps answer (devices i o e a) (devices input output errors ambient)
+      ExecutesSet k (embedder_of (guest_arguments args) host) steps answer (devices i o e a) (devices input output errors ambient)
 
   -- what running a module that was read does
   abbrev pub ModuleDoes : HostTable X F g → Module → List (List ℕ) → ℕ → Outcome → OfParts
   ModuleDoes host wasm args steps answer i o e a input output errors ambient =
-      Executes wasm (embedder_of (guest_arguments args) host) steps answer (devices i o e a) (devices input output errors ambient)
+      ExecutesModule wasm (embedder_of (guest_arguments args) host) steps answer (devices i o e a) (devices input output errors ambient)

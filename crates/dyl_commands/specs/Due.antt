@@ -1,5 +1,6 @@
 -- The outcome that is due for what is asked over some files, if nothing outside fails and there is memory; and what an answer may be in its
 -- place. Each command has its own rows, and no other outcome is ever due for it.
+-- Cited by the clauses `due`, `tells`, `complete` and `quiet` of `serve`.
 use Rattle.std.specs.Prelude.{◌≡◌, ◌≢◌, ◌⊎◌, ◌<◌, ◌≤◌, ◌^◌, List, [], ℕ, Bool, true, false, Result, Ok, Err}
 use Rattle.wasm_form.specs.declared.module.Module.{Module}
 use Rattle.spec_hosts.specs.dyl_outside.Faults.{Rose}
@@ -13,7 +14,7 @@ use Rattle.spec_loading.specs.spec_linking.Gathering as gathering
 use Rattle.spec_loading.specs.spec_linking.Plans.{LinkOptions}
 use Rattle.spec_merging.specs.declared.fault.MergeFault.{MergeFault}
 use Rattle.spec_merging.specs.declared.fault.MergeFault.TheVariants as merge
-use Rattle.merge_whole.specs.Merges.{bulk}
+use Rattle.merge_whole.specs.Merges.{bulk, IsTooLongFor}
 use Rattle.dyl_link.specs.dyl_search.Gathers.{options_of}
 use Rattle.dyl_link.specs.Kept as links
 use Rattle.dyl_front.specs.declared.outcome.UsageKind.{UsageKind}
@@ -22,7 +23,7 @@ use Rattle.dyl_front.specs.declared.outcome.Outcome.TheVariants.{Done, Ran, Usag
 use Rattle.dyl_front.specs.declared.order.Order.{Order}
 use Rattle.dyl_front.specs.declared.order.Order.TheVariants as order
 use Rattle.dyl_commands.specs.OneFile.{OfFile}
-use Rattle.dyl_commands.specs.Linking.{linked, LinksAt, IsLong, FaultDue}
+use Rattle.dyl_commands.specs.Linking.{linked, LinksAt, FaultDue}
 use Rattle.dyl_commands.specs.Generated.{GenDue}
 
 -- ---- merging, running and listing a set
@@ -84,7 +85,7 @@ Tries files (Ok (order.Gen n pages steps)) path = ⊥
 -- a set that is merged has a section that is too long
 pub record HasLongSection (names : HostNames) (files : Files) (o : SetOptions) (link : LinkOptions) (id : ℕ) : Type 0 where
   pub merges : LinksAt names files o link
-  pub long : IsLong (linked names link merges.set) id
+  pub long : IsTooLongFor (linked names link merges.set) id
 
 abbrev pub MergeFaultTells : HostNames → Files → Result Order UsageKind → MergeFault → Type 0
 MergeFaultTells names files (Ok (order.Merge o link out)) (merge.SectionSize id) = HasLongSection names files (options_of o) (links.options_of link) id

@@ -1,4 +1,5 @@
 -- What comes of reading the file at a path.
+-- Cited by no clause of `serve`: what its parts promise.
 use Rattle.std.specs.Prelude.{◌≡◌, ◌≤◌, ℕ, List, length, false, IfOk, IfErr, Result, Ok, Err}
 use Rattle.std.specs.Option.{ForSome}
 use Rattle.std.specs.FinMap.{get}
@@ -47,7 +48,7 @@ pub record IsOfSome (wasm : Module) : Type 0 where
 
 -- What comes of reading the file: what there is to say of it where the files are told; and, whatever they tell, a module that some bytes
 -- spell, or a fault that has its cause.
-pub record Reads (path : List ℕ) (result : Result Module SetFault) (old new : FilesState) : Type 0 where
+pub record ReadsFile (path : List ℕ) (result : Result Module SetFault) (old new : FilesState) : Type 0 where
   pub tells : ForSome old.told (λ told. TellsFile (get told) path result)
   pub spelled : IfOk result IsOfSome
   pub caused : IfErr result (λ fault. FileCause path fault old new)

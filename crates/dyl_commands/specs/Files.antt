@@ -1,4 +1,5 @@
 -- What an answer leaves of the files.
+-- Cited by the clause `files` of `serve`.
 use Rattle.std.specs.Prelude.{◌≡◌, ◌⊎◌, ℕ, List, Some, Result, Ok, IsSomeAnd}
 use Rattle.std.specs.FinMap.{get, insert}
 use Rattle.spec_hosts.specs.dyl_outside.Faults.{Rose}

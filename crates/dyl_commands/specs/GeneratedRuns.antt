@@ -1,4 +1,5 @@
 -- What comes of generating a set and of its runs, step by step.
+-- Cited by no clause of `serve`: what its parts promise.
 use Rattle.std.specs.Prelude.{◌≡◌, ◌⊎◌, ◌<◌, ◌^◌, ℕ, List, ◌∷◌, [], Result, Ok, Err}
 use Rattle.std.specs.FinMap.{get}
 use Rattle.wasm_form.specs.declared.module.Module.{Module}

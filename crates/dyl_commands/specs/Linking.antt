@@ -1,5 +1,6 @@
 -- What there is to say of a set that is asked for: that it is gathered and links, or why not. It is the same for each command that takes one.
-use Rattle.std.specs.Prelude.{◌≡◌, ◌≤◌, ◌^◌, ℕ, Some, Ok, Err}
+-- Cited by every clause of `serve` that speaks of a set.
+use Rattle.std.specs.Prelude.{◌≡◌, Some, Ok, Err}
 use Rattle.spec_hosts.specs.spec_runtime.Names.{HostNames}
 use Rattle.spec_loading.specs.spec_linking.declared.fault.LinkFault.{LinkFault}
 use Rattle.spec_loading.specs.spec_linking.declared.fault.SetFault.TheVariants.{ReadFault}
@@ -8,8 +9,6 @@ use Rattle.spec_loading.specs.spec_linking.Gathering.{IsGathered, Tries}
 use Rattle.spec_loading.specs.spec_linking.Plans.{LinkOptions}
 use Rattle.spec_loading.specs.spec_linking.LinkedSets.{LinkedSet}
 use Rattle.spec_loading.specs.spec_linking.Links.{link_fault, Links}
-use Rattle.wasm_encode.specs.SectionSizes.{IsFirstTooLong}
-use Rattle.merge_whole.specs.Merges.{merged_module, bulk}
 use Rattle.dyl_front.specs.declared.outcome.Outcome.{Outcome}
 use Rattle.dyl_front.specs.declared.outcome.Outcome.TheVariants.{Set, Link, Memory}
 
@@ -28,11 +27,6 @@ pub record HasLinkFault (names : HostNames) (files : Files) (o : SetOptions) (li
   pub set : ClosedSet
   pub gathered : IsGathered files o (Ok set)
   pub found : link_fault (linked names link set) ≡ Some fault
-
--- The merged module of a set has a section with this number that is too long to be written, the first such one; and there is much of the set.
-pub record IsLong (L : LinkedSet) (id : ℕ) : Type 0 where
-  pub first : IsFirstTooLong (merged_module L) id
-  pub big : 2 ^ 32 ≤ bulk L
 
 -- What is due where the set isn't gathered, or doesn't link.
 abbrev pub FaultDue : HostNames → Files → SetOptions → LinkOptions → Outcome → Type 0

@@ -1,4 +1,5 @@
 -- What there is to say of the file at a path that is run: of the file, of its bytes, and of the module that they spell.
+-- Cited by every clause of `serve` that speaks of the file of `exec`.
 use Rattle.std.specs.Prelude.{◌≡◌, ◌≤◌, ◌<◌, ℕ, List, length, None, Some, IsSomeAnd, Result, Ok, Err}
 use Rattle.wasm_form.specs.declared.module.Module.{Module}
 use Rattle.spec_reading.specs.spec_binary.DecodeAnswers.{DecodeAnswer}

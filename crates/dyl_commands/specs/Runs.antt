@@ -1,4 +1,5 @@
 -- What a call does to the input, the output, the errors, the clock and the random words.
+-- Cited by the clause `does` of `serve`, through Clauses.
 use Rattle.std.specs.Prelude.{◌≡◌, ◌⊎◌, ℕ, List, [], ◌∷◌, true, Option, None, Some, Result, Ok, Err, codes}
 use Rattle.std.specs.Option.{ForSome}
 use Rattle.std.specs.FinMap.{get}
@@ -52,7 +53,7 @@ pub record Opens (told : Option FileMap) (path : List ℕ) (names : HostNames) (
   pub opens : module_opening wasm names ≡ Ok opening
 
 -- it was run from its opening state, as is told
-pub record IsRun (told : Option FileMap) (path : List ℕ) (steps : ℕ) (embedder : Embedder) (r : ran.Ran) (old new : Devices) : Type 0 where
+pub record IsFileRun (told : Option FileMap) (path : List ℕ) (steps : ℕ) (embedder : Embedder) (r : ran.Ran) (old new : Devices) : Type 0 where
   pub wasm : Module
   pub opening : ModuleState
   pub begun : Opens told path embedder.names wasm opening
@@ -60,15 +61,15 @@ pub record IsRun (told : Option FileMap) (path : List ℕ) (steps : ℕ) (embedd
 
 -- It was run from its opening state, and memory was wanting: some steps were made, and at most one use of a device was begun that a host
 -- call wanted.
-pub record IsCut (told : Option FileMap) (path : List ℕ) (steps : ℕ) (embedder : Embedder) (old new : Devices) : Type 0 where
+pub record IsFileCut (told : Option FileMap) (path : List ℕ) (steps : ℕ) (embedder : Embedder) (old new : Devices) : Type 0 where
   pub wasm : Module
   pub opening : ModuleState
   pub begun : Opens told path embedder.names wasm opening
   pub cut : IsModuleCut wasm embedder opening steps old new
 
 abbrev pub ExecWorks : Option FileMap → List ℕ → ℕ → Embedder → Outcome → Devices → Devices → Type 0
-ExecWorks told path steps embedder (Ran r) old new = IsRun told path steps embedder r old new
-ExecWorks told path steps embedder Memory old new = (new ≡ old) ⊎ IsCut told path steps embedder old new
+ExecWorks told path steps embedder (Ran r) old new = IsFileRun told path steps embedder r old new
+ExecWorks told path steps embedder Memory old new = (new ≡ old) ⊎ IsFileCut told path steps embedder old new
 ExecWorks told path steps embedder answer old new = new ≡ old
 
 -- ---- a set

@@ -1,4 +1,5 @@
 -- What is so of an answer and of the files, for each command.
+-- Cited by no clause of `serve`: what its parts promise.
 use Rattle.std.specs.Prelude.{◌≡◌, ◌⊎◌, ℕ, List, [], false, Some, IsSomeAnd, IfOk, IfErr, Result, Ok, Err}
 use Rattle.std.specs.Option.{ForSome}
 use Rattle.std.specs.FinMap.{get, insert}
@@ -27,6 +28,7 @@ use Rattle.spec_merging.specs.declared.fault.MergeFault.{MergeFault}
 use Rattle.spec_merging.specs.declared.fault.MergeFault.TheVariants as merge
 use Rattle.wasm_exec.specs.Executed as executed
 use Rattle.wasm_exec.specs.Executed.{HaveIntegers, IsModuleRun, IsModuleCut}
+use Rattle.merge_whole.specs.Merges.{IsTooLongFor}
 use Rattle.merge_whole.specs.Merges as whole
 use Rattle.dyl_link.specs.Kept.{Kept, IsLinked}
 use Rattle.dyl_front.specs.Listing.{listing_of}
@@ -34,7 +36,7 @@ use Rattle.dyl_front.specs.declared.order.Order.{Order}
 use Rattle.dyl_front.specs.declared.outcome.UsageKind.{UsageKind}
 use Rattle.dyl_front.specs.declared.outcome.Outcome.{Outcome}
 use Rattle.dyl_front.specs.declared.outcome.Outcome.TheVariants.{Done, Ran, Set, Link, Merge, Single, WriteFault, Memory}
-use Rattle.dyl_commands.specs.Linking.{linked, IsLong, FaultTells}
+use Rattle.dyl_commands.specs.Linking.{linked, FaultTells}
 use Rattle.dyl_commands.specs.Due.{TellsFor}
 use Rattle.dyl_commands.specs.Files.{LeavesFor}
 use Rattle.dyl_commands.specs.Causes.{SetCause, Caused, has_inner_memory}
@@ -102,7 +104,7 @@ abbrev pub WritesMerged : Kept → List ℕ → Outcome → FilesState → Files
 WritesMerged k out (Done []) old new = ForSome old.told (λ files. IsSomeAnd new.told (HoldsMerged k out files))
 WritesMerged k out WriteFault old new = ForSome old.told (λ files. IsSomeAnd new.told (SameBut out files)) × Rises old.write_faults new.write_faults
 WritesMerged k out (Merge merge.Memory) old new = ⊥
-WritesMerged k out (Merge (merge.SectionSize id)) old new = ((L : LinkedSet) → IsLinked L k → IsLong L id) × (new.told ≡ old.told)
+WritesMerged k out (Merge (merge.SectionSize id)) old new = ((L : LinkedSet) → IsLinked L k → IsTooLongFor L id) × (new.told ≡ old.told)
 WritesMerged k out Memory old new = ForSome old.told (λ files. new.told ≡ Some files)
 WritesMerged k out _ old new = ⊥
 
@@ -123,20 +125,20 @@ Lists k _ old new = ⊥
 -- ---- running a linked set
 
 -- What each outcome does to the devices, for the set of which this is kept.
-abbrev pub Runs : Kept → Embedder → ℕ → Outcome → Devices → Devices → Type 0
-Runs k embedder steps (Ran r) old new = (L : LinkedSet) → IsLinked L k → executed.IsSetRun L embedder steps r old new
-Runs k embedder steps Memory old new = (new ≡ old) ⊎ ((L : LinkedSet) → IsLinked L k → executed.IsSetCut L embedder steps old new)
-Runs k embedder steps _ old new = ⊥
+abbrev pub ExecutesSet : Kept → Embedder → ℕ → Outcome → Devices → Devices → Type 0
+ExecutesSet k embedder steps (Ran r) old new = (L : LinkedSet) → IsLinked L k → executed.IsSetRun L embedder steps r old new
+ExecutesSet k embedder steps Memory old new = (new ≡ old) ⊎ ((L : LinkedSet) → IsLinked L k → executed.IsSetCut L embedder steps old new)
+ExecutesSet k embedder steps _ old new = ⊥
 
 -- ---- running a module that was read
 
 -- what each outcome says of the module, and does to the devices
-abbrev pub Executes : Module → Embedder → ℕ → Outcome → Devices → Devices → Type 0
-Executes wasm embedder steps (Ran r) old new = (opening : ModuleState) × (module_opening wasm embedder.names ≡ Ok opening) × IsModuleRun wasm embedder opening steps r old new
-Executes wasm embedder steps (Single single.Memory) old new = ⊥
-Executes wasm embedder steps (Single fault) old new = (module_opening wasm embedder.names ≡ Err fault) × (new ≡ old)
-Executes wasm embedder steps Memory old new = (new ≡ old) ⊎ ((opening : ModuleState) × (module_opening wasm embedder.names ≡ Ok opening) × IsModuleCut wasm embedder opening steps old new)
-Executes wasm embedder steps _ old new = ⊥
+abbrev pub ExecutesModule : Module → Embedder → ℕ → Outcome → Devices → Devices → Type 0
+ExecutesModule wasm embedder steps (Ran r) old new = (opening : ModuleState) × (module_opening wasm embedder.names ≡ Ok opening) × IsModuleRun wasm embedder opening steps r old new
+ExecutesModule wasm embedder steps (Single single.Memory) old new = ⊥
+ExecutesModule wasm embedder steps (Single fault) old new = (module_opening wasm embedder.names ≡ Err fault) × (new ≡ old)
+ExecutesModule wasm embedder steps Memory old new = (new ≡ old) ⊎ ((opening : ModuleState) × (module_opening wasm embedder.names ≡ Ok opening) × IsModuleCut wasm embedder opening steps old new)
+ExecutesModule wasm embedder steps _ old new = ⊥
 
 -- ---- a fault of the files, of linking, or of merging
 

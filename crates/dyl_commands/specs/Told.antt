@@ -1,4 +1,5 @@
 -- What is put to the errors.
+-- Cited by the clause `does` of `serve`, through Runs.
 use Rattle.std.specs.Prelude.{◌≡◌, ◌⊎◌, IsSome, Result}
 use Rattle.spec_hosts.specs.dyl_outside.declared.fault.IoFault.{IoFault}
 use Rattle.spec_hosts.specs.dyl_outside.Sink.{SinkState, Puts}

@@ -4,11 +4,11 @@ ghost use Rattle.host_calls.specs.Embedders.{names_of};
 ghost use Rattle.dyl_commands.specs.Runs.{guest_arguments};
 ghost use Rattle.dyl_commands.specs.Due.{is_done};
 ghost use Rattle.dyl_commands.specs.Served.{Serves};
-ghost use Rattle.dyl_commands.specs.Clauses.{ModuleDoes, ExecWorks};
+ghost use Rattle.dyl_commands.specs.Clauses.{ModuleDoes, ExecWorksBy};
 
-use crate::module::read_module;
+use crate::one_file::read_module;
 use crate::sets::refused;
-use dyl_front::{Order, Outcome, owned};
+use dyl_front::{Order, Outcome};
 use dyl_link::host_table::HostTable;
 use dyl_link::wasm_check::Checked;
 use spec_hosts::dyl_outside::{Ambient, Files, Sink, Source};
@@ -22,9 +22,9 @@ pub(crate) fn guest_arguments(alloc: Global, args: &[Text]) -> Result<List<Text>
     ensures { IfOk result (λ texts. texts ≡ guest_arguments args.now) }
 {
     let mut texts = Vec::new(alloc);
-    texts.push(owned(alloc, "program")?)?;
+    texts.push(Text::copied(alloc, "program")?)?;
     for arg in args {
-        texts.push(owned(alloc, arg.as_str())?)?;
+        texts.push(Text::copied(alloc, arg.as_str())?)?;
     }
     Ok(List::of(texts))
 }
@@ -72,7 +72,7 @@ pub fn exec_file<F: Files, I: Source, O: Sink, E: Sink, A: Ambient>(
     requires { steps ≤ 9223372036854775807 }
     ensures serves { Serves (names_of host.now) (Ok (Order.Exec file.now steps args.now)) result (F.seen files.old) (F.seen files.new) (O.seen output.old).faults (O.seen output.new).faults }
     ensures done { is_done result ≡ false }
-    ensures works { ExecWorks host.now (F.seen files.old) file.now steps args.now result (I.seen input.old) (O.seen output.old) (E.seen errors.old) (A.seen ambient.old) (I.seen input.new) (O.seen output.new) (E.seen errors.new) (A.seen ambient.new) }
+    ensures works { ExecWorksBy host.now (F.seen files.old) file.now steps args.now result (I.seen input.old) (O.seen output.old) (E.seen errors.old) (A.seen ambient.old) (I.seen input.new) (O.seen output.new) (E.seen errors.new) (A.seen ambient.new) }
 {
     match read_module(alloc, file, files) {
         Ok(checked) => {

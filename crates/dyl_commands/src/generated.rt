@@ -20,13 +20,13 @@ ghost use Rattle.dyl_commands.specs.GeneratedRuns.{MakesFiles, MakesSet, IsLittl
 
 use crate::exec::guest_arguments;
 use crate::sets::linked_set;
-use dyl_front::{Order, Outcome, Report, owned, summary};
+use dyl_front::{Order, Outcome, Report, summary};
 use dyl_gen::{GenFault, generated_set_links, make};
 use dyl_link::dyl_search::SetOptions;
 use dyl_link::host_table::HostTable;
 use dyl_link::wasm_check::{Checked, check};
 use dyl_link::{LinkOptions, Linked};
-use merge_whole::merge_set;
+use merge_whole::merge;
 use spec_hosts::Ran;
 use spec_hosts::dyl_outside::{EmptySource, HeldFiles, HeldSink, IoFault, MemAmbient, Sink};
 use spec_loading::spec_execution::SingleFault;
@@ -36,7 +36,7 @@ use spec_reading::spec_binary::DecodeFault;
 use std::alloc::Global;
 use wasm_decode::decode;
 use wasm_exec::{execute, execute_set};
-use wasm_form::{List, Memory, Module};
+use wasm_form::{List, Memory, Module, Text};
 
 /// The bytes of the stack of a set that is made.
 const STACK: u32 = 65_536;
@@ -46,7 +46,7 @@ fn main_alone(alloc: Global) -> Result<SetOptions, Memory>
     ensures { IfOk result (λ o. options_of o ≡ set_options) }
 {
     Ok(SetOptions {
-        main: owned(alloc, "m0.wasm")?,
+        main: Text::copied(alloc, "m0.wasm")?,
         dl: List::of(Vec::new(alloc)),
         paths: List::of(Vec::new(alloc)),
     })
@@ -163,12 +163,11 @@ fn checked(alloc: Global, wasm: Module) -> Result<Checked, Memory>
 /// The merged module of a linked set of which there is little, read from its bytes.
 fn merged_module(alloc: Global, linked: &Linked) -> Result<Checked, Memory>
     requires set { (L : LinkedSet) × IsLinked L linked.now }
-    requires pages { linked.now.plan.pages_max ≤ 16384 }
     requires hosts { All IsSupported linked.now.hosts }
     requires little { IsLittle linked.now }
     ensures { IfOk result (MergesTo linked.now) }
 {
-    match merge_set(alloc, linked) {
+    match merge(alloc, linked) {
         Ok(bytes) => {
             let wasm = decoded(alloc, &bytes)?;
             checked(alloc, wasm)
@@ -220,7 +219,6 @@ fn merged_run(
     host: &HostTable,
 ) -> Result<Report, Memory>
     requires names { IsLinkedOver linked.now (names_of host.now) }
-    requires pages { linked.now.plan.pages_max ≤ 16384 }
     requires hosts { All IsSupported linked.now.hosts }
     requires little { IsLittle linked.now }
     requires steps { steps ≤ 9223372036854775807 }
@@ -279,7 +277,6 @@ fn run_both<O: Sink>(
 ) -> Outcome
     requires names { IsLinkedOver linked.now (names_of host.now) }
     requires integers { HaveIntegers (names_of host.now) }
-    requires pages { linked.now.plan.pages_max ≤ 16384 }
     requires hosts { All IsSupported linked.now.hosts }
     requires little { IsLittle linked.now }
     requires steps { steps ≤ 9223372036854775807 }

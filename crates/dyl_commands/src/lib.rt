@@ -2,16 +2,16 @@
 //! of an outcome is here too.
 #![tactic(auto)]
 
-mod errors;
+mod error_line;
 mod exec;
 mod generated;
 mod merge;
-mod module;
+mod one_file;
 mod plan;
 mod run;
 mod sets;
 
-pub use errors::tell;
+pub use error_line::tell;
 pub use exec::exec_file;
 pub use generated::gen_main;
 pub use merge::merge_main;

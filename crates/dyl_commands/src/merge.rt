@@ -12,7 +12,7 @@ use dyl_front::{Order, Outcome};
 use dyl_link::dyl_search::SetOptions;
 use dyl_link::host_table::HostTable;
 use dyl_link::{LinkOptions, Linked};
-use merge_whole::merge_set;
+use merge_whole::merge;
 use spec_hosts::dyl_outside::{Files, IoFault};
 use spec_merging::MergeFault;
 use std::alloc::Global;
@@ -41,11 +41,10 @@ fn unmerged(fault: MergeFault) -> Outcome
 /// Writes the merged module of a linked set.
 fn write_merged<F: Files>(alloc: Global, linked: &Linked, out: &str, files: &mut F) -> Outcome
     requires set { (L : LinkedSet) × IsLinked L linked.now }
-    requires pages { linked.now.plan.pages_max ≤ 16384 }
     requires hosts { All IsSupported linked.now.hosts }
     ensures { WritesMerged linked.now out.now result (F.seen files.old) (F.seen files.new) }
 {
-    match merge_set(alloc, linked) {
+    match merge(alloc, linked) {
         Ok(bytes) => store_output(alloc, out, &bytes, files),
         Err(fault) => unmerged(fault),
     }

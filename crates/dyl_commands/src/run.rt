@@ -5,7 +5,7 @@ ghost use Rattle.dyl_front.specs.Orders.{IsLinkInRange};
 ghost use Rattle.wasm_exec.specs.Executed.{HaveIntegers, IsLinkedOver};
 ghost use Rattle.dyl_commands.specs.Due.{is_done};
 ghost use Rattle.dyl_commands.specs.Served.{Serves};
-ghost use Rattle.dyl_commands.specs.Clauses.{SetRuns, RunWorks};
+ghost use Rattle.dyl_commands.specs.Clauses.{SetRuns, RunWorksBy};
 
 use crate::exec::guest_arguments;
 use crate::sets::linked_set;
@@ -64,7 +64,7 @@ pub fn run_main<F: Files, I: Source, O: Sink, E: Sink, A: Ambient>(
     requires steps { steps ≤ 9223372036854775807 }
     ensures serves { Serves (names_of host.now) (Ok (Order.Run set.now link.now steps args.now)) result (F.seen files.old) (F.seen files.new) (O.seen output.old).faults (O.seen output.new).faults }
     ensures done { is_done result ≡ false }
-    ensures works { RunWorks host.now (F.seen files.old) set.now link.now steps args.now result (I.seen input.old) (O.seen output.old) (E.seen errors.old) (A.seen ambient.old) (I.seen input.new) (O.seen output.new) (E.seen errors.new) (A.seen ambient.new) }
+    ensures works { RunWorksBy host.now (F.seen files.old) set.now link.now steps args.now result (I.seen input.old) (O.seen output.old) (E.seen errors.old) (A.seen ambient.old) (I.seen input.new) (O.seen output.new) (E.seen errors.new) (A.seen ambient.new) }
 {
     match linked_set(alloc, set, link, files, host) {
         Ok(linked) => {

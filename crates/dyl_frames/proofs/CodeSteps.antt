@@ -25,11 +25,11 @@ use Rattle.spec_loading.specs.Phases.{LoaderFrame}
 use Rattle.spec_loading.specs.Loading.{Loading, LoadedState, comes_to, loaded_next}
 use Rattle.dyl_frames.specs.declared.frames.Core.{Core}
 use Rattle.dyl_frames.specs.Steps.{IsCodeNext}
-use Rattle.dyl_frames.specs.Cores.{frame_at, stack_of, LiesUnder, loader_arguments, IsStacked, IsLive, IsLoaded, IsCore, IsState, StandsAs, Steps, QuickSteps, StepsFrom, QuickStepsFrom, IsMarkTold, is_made, is_mark}
+use Rattle.dyl_frames.specs.Cores.{frame_at, stack_of, LiesUnder, loader_arguments, IsStacked, IsLive, IsLoaded, IsSound, IsState, StandsAs, Steps, QuickSteps, StepsFrom, QuickStepsFrom, IsMarkTold, is_made, is_mark}
 use Rattle.dyl_frames.proofs.Loads.{IsLoad, step_load}
 use Rattle.dyl_frames.proofs.Telling.{ComesFrom, steps_told, stuck_told, loader_told, deep_told, live_told, leaves_moving}
 
-pub core_live : {Units : Type 0} (V : View Units) (us : Units) (c : Core) → IsCore V us c → c.machine.standing ≡ standing.Moving → IsStacked c.frames.items c.machine.stack.frames
+pub core_live : {Units : Type 0} (V : View Units) (us : Units) (c : Core) → IsSound V us c → c.machine.standing ≡ standing.Moving → IsStacked c.frames.items c.machine.stack.frames
 core_live V us c h moving = subst (λ (st : Standing). IsLive st c.frames.items c.machine.stack.frames) moving h.live
 
 pub state_moving : {Units : Type 0} (D : Loading Units) (c : Core) (us : Units) (memory : MemoryInstance) (s : LoadedState Units) → IsState D c us memory s → c.machine.standing ≡ standing.Moving
@@ -60,9 +60,9 @@ at_mark : (e : Event) (frames : List (Frame ℕ)) → IsAtMark e frames → is_m
 at_mark (event.Marked tag) frames k = refl
 at_mark e frames k = absurd k
 
-module _ {Units : Type 0} (V : View Units) (c : Core) (n : MachineState) (us us' : Units) (memory memory' : MemoryInstance) (h : IsCore V us c) where
+module _ {Units : Type 0} (V : View Units) (c : Core) (n : MachineState) (us us' : Units) (memory memory' : MemoryInstance) (h : IsSound V us c) where
   -- nothing has changed
-  pub same_core : n ≡ c.machine → AreSame (changes us us' memory memory') → IsCore V us' (with_machine c n)
+  pub same_core : n ≡ c.machine → AreSame (changes us us' memory memory') → IsSound V us' (with_machine c n)
   same_core same kept = record {
     over = subst (λ (x : Units). IsOver V x n) (sym kept.0) (subst (λ (x : MachineState). IsOver V us x) (sym same) h.over);
     live = subst (λ (x : MachineState). IsLive x.standing c.frames.items x.stack.frames) (sym same) h.live;
@@ -70,14 +70,14 @@ module _ {Units : Type 0} (V : View Units) (c : Core) (n : MachineState) (us us'
   }
 
   module _ (moving : c.machine.standing ≡ standing.Moving) where
-    pub told_core : (e : Event) (next : Option (Next Units ℕ)) → Told V e next c.machine n (changes us us' memory memory') → IfSome next (KeepsOver (LiesUnder c.frames.items) V (length c.frames.items)) → IfSome next IsLoad → IsOver V us' n → IsCore V us' (with_machine c n)
+    pub told_core : (e : Event) (next : Option (Next Units ℕ)) → Told V e next c.machine n (changes us us' memory memory') → IfSome next (KeepsOver (LiesUnder c.frames.items) V (length c.frames.items)) → IfSome next IsLoad → IsOver V us' n → IsSound V us' (with_machine c n)
     told_core e next t under load over = record {
       over = over;
       live = live_told V c.frames.items c.machine n (changes us us' memory memory') e next t under load h.live;
       pending = h.pending;
     }
 
-    pub step_core : (e : Event) → Stepped V e c.machine n (changes us us' memory memory') → IsOver V us' n → IsCore V us' (with_machine c n)
+    pub step_core : (e : Event) → Stepped V e c.machine n (changes us us' memory memory') → IsOver V us' n → IsSound V us' (with_machine c n)
     step_core e (inl t) over =
         told_core e (next_of V us memory c.machine.stack.frames) t.2 (step_over (LiesUnder c.frames.items) V us memory (length c.frames.items) c.machine.stack.frames (core_live V us c h moving).marks)
         (step_load V us memory c.machine.stack.frames) over
@@ -124,7 +124,7 @@ module _ {Units : Type 0} (D : Loading Units) (s : LoadedState Units) (h : ℕ �
       ∙ ap (λ (x : MemoryInstance). comes_to s (option_map (marked_next h) (next_of D.view us x (Active a ∷ frames)))) space
   code_next us memory (Marked tag ∷ frames) code units space = absurd cc
 
-module _ {Units : Type 0} (D : Loading Units) (c : Core) (n : MachineState) (us us' : Units) (memory memory' : MemoryInstance) (hosts : IsLoaded D D.view) (core : IsCore D.view us c) (moving : c.machine.standing ≡ standing.Moving) (s : LoadedState Units) (k : IsState D c us memory s) where
+module _ {Units : Type 0} (D : Loading Units) (c : Core) (n : MachineState) (us us' : Units) (memory memory' : MemoryInstance) (hosts : IsLoaded D D.view) (core : IsSound D.view us c) (moving : c.machine.standing ≡ standing.Moving) (s : LoadedState Units) (k : IsState D c us memory s) where
   at : (s.run.status ≡ Moving) × (s.run.stack ≡ stack_of c)
   at = state_moving D c us memory s k moving
 
@@ -249,12 +249,12 @@ module _ {Units : Type 0} (D : Loading Units) (c : Core) (n : MachineState) (us 
 pub by_view : {Units : Type 0} (D : Loading Units) (V : View Units) → IsLoaded D V → (P : View Units → Type 0) → P V → P D.view
 by_view D V loaded P p = subst P (sym loaded.view) p
 
-module _ {Units : Type 0} (D : Loading Units) (w w' : Seen Units) (loaded : IsLoaded D w.fixed) (c : Core) (n : MachineState) (core : IsCore w.fixed w.units c) (moving : c.machine.standing ≡ standing.Moving) (o : IsOver w.fixed w'.units n) where
+module _ {Units : Type 0} (D : Loading Units) (w w' : Seen Units) (loaded : IsLoaded D w.fixed) (c : Core) (n : MachineState) (core : IsSound w.fixed w.units c) (moving : c.machine.standing ≡ standing.Moving) (o : IsOver w.fixed w'.units n) where
   own : IsLoaded D D.view
   own = record { view = refl; hosts = loaded.hosts }
 
-  core_seen : IsCore D.view w.units c
-  core_seen = by_view D w.fixed loaded (λ (W : View Units). IsCore W w.units c) core
+  core_seen : IsSound D.view w.units c
+  core_seen = by_view D w.fixed loaded (λ (W : View Units). IsSound W w.units c) core
 
   over_seen : IsOver D.view w'.units n
   over_seen = by_view D w.fixed loaded (λ (W : View Units). IsOver W w'.units n) o
@@ -267,8 +267,8 @@ module _ {Units : Type 0} (D : Loading Units) (w w' : Seen Units) (loaded : IsLo
   quick_from d t s k =
       quick_steps D c n w.units w'.units w.memory w'.memory own core_seen moving s k d (by_view D w.fixed loaded (λ (W : View Units). QuickStepped W d c.machine n (between w w')) t) over_seen
 
-pub quick_core : {Units : Type 0} (w w' : Seen Units) (c : Core) (n : MachineState) (core : IsCore w.fixed w.units c) (moving : c.machine.standing ≡ standing.Moving) (d : Done) → QuickStepped w.fixed d c.machine n (between w w') → IsOver w.fixed w'.units n → d ≢ done.NoMemory
-    → IsCore w.fixed w'.units (with_machine c n)
+pub quick_core : {Units : Type 0} (w w' : Seen Units) (c : Core) (n : MachineState) (core : IsSound w.fixed w.units c) (moving : c.machine.standing ≡ standing.Moving) (d : Done) → QuickStepped w.fixed d c.machine n (between w w') → IsOver w.fixed w'.units n → d ≢ done.NoMemory
+    → IsSound w.fixed w'.units (with_machine c n)
 quick_core w w' c n core moving done.Goes t o found = step_core w.fixed c n w.units w'.units w.memory w'.memory core moving event.Moved t o
 quick_core w w' c n core moving (done.Trapped why) t o found = step_core w.fixed c n w.units w'.units w.memory w'.memory core moving (event.Trapped why) t o
 quick_core w w' c n core moving done.Stuck t o found = step_core w.fixed c n w.units w'.units w.memory w'.memory core moving event.Stuck t o
@@ -281,12 +281,12 @@ quick_core w w' c n core moving done.NoMemory t o found = absurd (found refl)
 
 -- ---- what is told of a call for a step
 
-pub core_after : {Units : Type 0} (w w' : Seen Units) (c : Core) (n : MachineState) → IsCore w.fixed w.units c → c.machine.standing ≡ standing.Moving → (r : Result Event Memory)
-    → IfOk r (λ e. Stepped w.fixed e c.machine n (between w w')) → IsOver w.fixed w'.units n → OnOk r (IsCore w.fixed w'.units (with_machine c n))
+pub core_after : {Units : Type 0} (w w' : Seen Units) (c : Core) (n : MachineState) → IsSound w.fixed w.units c → c.machine.standing ≡ standing.Moving → (r : Result Event Memory)
+    → IfOk r (λ e. Stepped w.fixed e c.machine n (between w w')) → IsOver w.fixed w'.units n → OnOk r (IsSound w.fixed w'.units (with_machine c n))
 core_after w w' c n core moving (Ok e) t over = step_core w.fixed c n w.units w'.units w.memory w'.memory core moving e t over
 core_after w w' c n core moving (Err e) t over = tt
 
-pub steps_after : {Units : Type 0} (w w' : Seen Units) (c : Core) (n : MachineState) → IsCore w.fixed w.units c → c.machine.standing ≡ standing.Moving → (r : Result Event Memory)
+pub steps_after : {Units : Type 0} (w w' : Seen Units) (c : Core) (n : MachineState) → IsSound w.fixed w.units c → c.machine.standing ≡ standing.Moving → (r : Result Event Memory)
     → IfOk r (λ e. Stepped w.fixed e c.machine n (between w w')) → IsOver w.fixed w'.units n
     → IfOk r (λ e. is_mark e ≡ false → (D : Loading Units) → IsLoaded D w.fixed → StepsFrom D e c w (with_machine c n) w')
 steps_after w w' c n core moving (Ok e) t over = λ is D loaded. steps_from D w w' loaded c n core moving over e t is

@@ -30,7 +30,7 @@ use Rattle.spec_loading.specs.Phases.{LoaderFrame}
 use Rattle.spec_loading.specs.Loading.{Loading, LoadedState, comes_to, call_next, after_next, loaded_next}
 use Rattle.dyl_frames.specs.declared.frames.Pending.{Pending}
 use Rattle.dyl_frames.specs.declared.frames.Core.{Core}
-use Rattle.dyl_frames.specs.Cores.{frame_at, LiesOver, LiesUnder, IsLive, IsLoaded, IsCore, IsState, Steps, is_made, is_deep_event, IsOwn, top_frame}
+use Rattle.dyl_frames.specs.Cores.{frame_at, LiesOver, LiesUnder, IsLive, IsLoaded, IsSound, IsState, Steps, is_made, is_deep_event, IsOwn, top_frame}
 use Rattle.dyl_frames.proofs.Loads.{IsPlain}
 use Rattle.dyl_frames.proofs.Telling.{steps_told, stuck_told, deep_is, live_at}
 use Rattle.dyl_frames.proofs.CodeSteps.{changes, with_machine, state_moving, deep_same, same_state, by_view}
@@ -122,7 +122,7 @@ own_plain V us memory (Host entry) own = absurd own
 own_plain V us memory (Loader which) own = absurd own
 own_plain V us memory (Stub unit f) own = absurd own
 
-module _ {Units : Type 0} (w : Seen Units) (c : Core) (h : IsCore w.fixed w.units c) (marked : IsMarked c.machine) (enters : (top_frame c).after ≡ CallEntry) (r : Ref) (own : IsOwn r) (u n : MachineState) (off : Unmarks c.machine u) (e : Event) (told : Begins w e r u n) (over : IsOver w.fixed w.units n) where
+module _ {Units : Type 0} (w : Seen Units) (c : Core) (h : IsSound w.fixed w.units c) (marked : IsMarked c.machine) (enters : (top_frame c).after ≡ CallEntry) (r : Ref) (own : IsOwn r) (u n : MachineState) (off : Unmarks c.machine u) (e : Event) (told : Begins w e r u n) (over : IsOver w.fixed w.units n) where
   m : OnMark c
   m = live_mark w.fixed w.units c h marked
 
@@ -157,11 +157,11 @@ module _ {Units : Type 0} (w : Seen Units) (c : Core) (h : IsCore w.fixed w.unit
       pub back : n' ≡ c.machine
       back = remarked c.machine u n' (alone c m enters) marked.0 off (subst (λ (x : MachineState). Marks 0 x n') unchanged on)
 
-      pub back_core : IsCore w.fixed w.units (with_machine c n')
-      back_core = subst (λ (x : MachineState). IsCore w.fixed w.units (with_machine c x)) (sym back) h
+      pub back_core : IsSound w.fixed w.units (with_machine c n')
+      back_core = subst (λ (x : MachineState). IsSound w.fixed w.units (with_machine c x)) (sym back) h
 
   -- the core that is left once the entry was called
-  pub entered_core : (new : Core) → new.machine ≡ n → new.frames.items ≡ [] → new.stages ≡ c.stages → is_deep_event e ≡ false → IsCore w.fixed w.units new
+  pub entered_core : (new : Core) → new.machine ≡ n → new.frames.items ≡ [] → new.stages ≡ c.stages → is_deep_event e ≡ false → IsSound w.fixed w.units new
   entered_core new machine frames stages begun = record {
     over = subst (λ (x : MachineState). IsOver w.fixed w.units x) (sym machine) over;
     live = subst (λ (x : MachineState). IsLive x.standing new.frames.items x.stack.frames) (sym machine) (subst (λ (xs : List Pending). IsLive n.standing xs n.stack.frames) (sym frames) (live e begun told_bare));

@@ -1,5 +1,5 @@
 -- What a function of the loader answers: a number, a trap, or a frame over the code that called it. A frame that is done gives its handle.
-use Rattle.std.proofs.Common.{◌≡◌, ◌⊎◌, inl, inr, ℕ, zero, suc, ◌+◌, ◌-◌, ◌<◌, List, [], ◌∷◌, ◌++◌, Option, Some, refl, ap, sym, ◌∙◌, subst, true, false, length, length-append, map, take, drop, arith, All}
+use Rattle.std.proofs.Common.{◌≡◌, ◌⊎◌, inl, inr, ℕ, zero, suc, ◌+◌, ◌-◌, ◌<◌, List, [], ◌∷◌, ◌++◌, Option, Some, refl, ap, sym, ◌∙◌, subst, true, false, length, length-append, take, drop, arith, All}
 use Rattle.std.specs.Prelude.{slice_get, reverse}
 use Rattle.spec_loading.specs.wasm_form.declared.runtime.Trap.{Trap}
 use Rattle.spec_loading.specs.spec_runs.Systems.{Status, Trapped}
@@ -22,13 +22,10 @@ use Rattle.spec_loading.specs.declared.task.After.{After}
 use Rattle.spec_loading.specs.declared.task.After.TheVariants.{GiveHandle}
 use Rattle.spec_loading.specs.Phases.{LoaderFrame}
 use Rattle.spec_loading.specs.Loading.{Loading, LoaderState, LoadedState, LoaderAnswer, Traps, Comes, comes_by_itself, with_run, goes_on, gives, answered, after_next, came_to, loaded_next, loaded_step, loaded_too_deep}
-use Rattle.dyl_frames.specs.Tasks.{task_value, after_value}
-use Rattle.dyl_frames.specs.declared.task.Task as code
-use Rattle.dyl_frames.specs.declared.task.After.TheVariants as after
 use Rattle.dyl_frames.specs.declared.frames.Pending.{Pending}
 use Rattle.dyl_frames.specs.declared.frames.Core.{Core}
 use Rattle.dyl_frames.specs.Steps.{TellsStatus, answer_of, next_answer}
-use Rattle.dyl_frames.specs.Cores.{frame_in, frame_at, stack_of, LiesOver, LiesUnder, IsHandle, IsPending, IsStacked, IsLive, IsCore, IsState, IsCalling, IsAtCall, Steps, AnsweredFrom, gives_number, opens_member, top_frame, Drops}
+use Rattle.dyl_frames.specs.Cores.{frame_in, frame_at, stack_of, LiesOver, LiesUnder, IsHandle, IsPending, IsStacked, IsLive, IsSound, IsState, IsCalling, Steps, AnsweredFrom, gives_number, opens_member, top_frame, Drops}
 use Rattle.dyl_frames.proofs.CodeSteps.{with_machine, state_moving}
 use Rattle.dyl_frames.proofs.Telling.{stays_at}
 use Rattle.dyl_frames.proofs.Tops.{OnMark, marks_alike, marks_kept}
@@ -38,7 +35,7 @@ use Rattle.dyl_frames.proofs.Tasks.{live_mark, trapped_core, quiet_depth, quiet_
 
 -- ---- where a function of the loader is waited for
 
-pub loading_live : {Units : Type 0} (V : View Units) (us : Units) (c : Core) → IsCore V us c → c.machine.standing ≡ standing.Loading → IsStacked c.frames.items c.machine.stack.frames × (is_running c.machine.stack.frames ≡ true)
+pub loading_live : {Units : Type 0} (V : View Units) (us : Units) (c : Core) → IsSound V us c → c.machine.standing ≡ standing.Loading → IsStacked c.frames.items c.machine.stack.frames × (is_running c.machine.stack.frames ≡ true)
 loading_live V us c h is = subst (λ (st : Standing). IsLive st c.frames.items c.machine.stack.frames) is h.live
 
 -- a number that is given to code
@@ -63,7 +60,7 @@ module _ {Units : Type 0} (D : Loading Units) (c : Core) (s : LoadedState Units)
   answered_depth : loaded_too_deep D s ≡ false
   answered_depth = ap (λ (o : Option (Comes Units)). passes_limit D.view (o >>= λ y. y.next)) k.comes
 
-module _ {Units : Type 0} (w : Seen Units) (c : Core) (h : IsCore w.fixed w.units c) (loading : c.machine.standing ≡ standing.Loading) where
+module _ {Units : Type 0} (w : Seen Units) (c : Core) (h : IsSound w.fixed w.units c) (loading : c.machine.standing ≡ standing.Loading) where
   live : IsStacked c.frames.items c.machine.stack.frames × (is_running c.machine.stack.frames ≡ true)
   live = loading_live w.fixed w.units c h loading
 
@@ -81,7 +78,7 @@ module _ {Units : Type 0} (w : Seen Units) (c : Core) (h : IsCore w.fixed w.unit
         (received D (record c { error = error }) m w.units w.memory (record s { loader = loader }) refl refl k.units (n ∷ []) s.run k.units k.space c.machine.stack.frames r)
         (given_moving c.machine.stack.frames (n ∷ []) m live.1 r)
 
-    pub gives_core : IsOver w.fixed w.units m → IsCore w.fixed w.units given_core
+    pub gives_core : IsOver w.fixed w.units m → IsSound w.fixed w.units given_core
     gives_core over = record { over = over; live = live_after c.frames.items c.machine.stack.frames (n ∷ []) m live.0.marks r; pending = h.pending }
 
   -- ---- a trap
@@ -99,17 +96,17 @@ module _ {Units : Type 0} (w : Seen Units) (c : Core) (h : IsCore w.fixed w.unit
           ),
         )
 
-    pub traps_core : IsCore w.fixed w.units (with_machine c m)
+    pub traps_core : IsSound w.fixed w.units (with_machine c m)
     traps_core = trapped_core w.fixed w.units c why m h is
 
   -- ---- a frame
 
-  module _ (tasks : List code.Task) (member tag : ℕ) (m : MachineState) (on : Marks tag c.machine m) (new : Core) (p : Pending) (machine : new.machine ≡ m) (frames : new.frames.items ≡ c.frames.items ++ p ∷ [])
-      (items : p.tasks.items ≡ tasks) (follows : p.after ≡ after.GiveHandle member) (stages : new.stages ≡ c.stages) (error : new.error ≡ c.error) (is : tag ≡ length c.frames.items) where
+  module _ (tasks : List Task) (member tag : ℕ) (m : MachineState) (on : Marks tag c.machine m) (new : Core) (p : Pending) (machine : new.machine ≡ m) (frames : new.frames.items ≡ c.frames.items ++ p ∷ [])
+      (items : p.tasks.items ≡ tasks) (follows : p.after ≡ GiveHandle member) (stages : new.stages ≡ c.stages) (error : new.error ≡ c.error) (is : tag ≡ length c.frames.items) where
     abbrev frame : LoaderFrame
-    frame = record { tasks = map task_value (reverse tasks); after = GiveHandle member }
+    frame = record { tasks = reverse tasks; after = GiveHandle member }
 
-    on_top : new.machine.stack.frames ≡ Marked tag ∷ c.machine.stack.frames
+    pub on_top : new.machine.stack.frames ≡ Marked tag ∷ c.machine.stack.frames
     on_top = ap (λ (x : MachineState). x.stack.frames) machine ∙ ap (λ (x : CallStack). x.frames) on.stack
 
     moving : new.machine.standing ≡ standing.Moving
@@ -117,8 +114,8 @@ module _ {Units : Type 0} (w : Seen Units) (c : Core) (h : IsCore w.fixed w.unit
 
     last_frame : frame_at new.frames.items tag ≡ frame
     last_frame =
-        ap (λ (xs : List Pending). frame_at xs tag) frames ∙ ap frame_in (slice_get-append-last c.frames.items p tag is) ∙ ap (λ (ts : List code.Task). record { tasks = map task_value (reverse ts); after = after_value p.after }) items
-        ∙ ap (λ (a : _). record { tasks = map task_value (reverse tasks); after = after_value a }) follows
+        ap (λ (xs : List Pending). frame_at xs tag) frames ∙ ap frame_in (slice_get-append-last c.frames.items p tag is) ∙ ap (λ (ts : List Task). record { tasks = reverse ts; after = p.after }) items
+        ∙ ap (λ (a : _). record { tasks = reverse tasks; after = a }) follows
 
     others : (i : ℕ) → i < length c.frames.items → frame_at c.frames.items i ≡ frame_at new.frames.items i
     others i lt = ap frame_in (sym (slice_get-append-left c.frames.items (p ∷ []) i lt)) ∙ ap (λ (xs : List Pending). frame_at xs i) (sym frames)
@@ -129,10 +126,10 @@ module _ {Units : Type 0} (w : Seen Units) (c : Core) (h : IsCore w.fixed w.unit
         ∙ ap (λ (fs : List (Frame LoaderFrame)). Marked frame ∷ fs)
         (sym (marks_alike (frame_at c.frames.items) (frame_at new.frames.items) (LiesUnder c.frames.items) (length c.frames.items) c.machine.stack.frames live.0.marks others))
 
-    pub opens_from : (D : Loading Units) → AnsweredFrom D event.Moved (opens_member (map task_value (reverse tasks)) member) c w new
+    pub opens_from : (D : Loading Units) → AnsweredFrom D event.Moved (opens_member (reverse tasks) member) c w new
     opens_from D s k answer =
         let call = k.call in
-        let x = opens_member (map task_value (reverse tasks)) member in
+        let x = opens_member (reverse tasks) member in
         moved_by D s (goes_on s (Marked frame ∷ stack_of c)) new w.units w.memory (answered_depth D c s call x answer) (answered_step D c s call x answer)
         (stays_at D s s new w.units w.memory (goes_on s (Marked frame ∷ stack_of c)) standing.Moving (k.stages ∙ sym stages) (k.error ∙ sym error) k.units k.space moving (refl, sym stack_is))
         moving
@@ -159,11 +156,11 @@ module _ {Units : Type 0} (w : Seen Units) (c : Core) (h : IsCore w.fixed w.unit
     appended (x ∷ xs) zero q e = inl e
     appended (x ∷ xs) (suc i) q e = appended xs i q e
 
-    module _ (over : IsOver w.fixed w.units m) (small : All (λ (t : code.Task). t.member < length c.stages) tasks) (handle : member + 1 < 4294967296) where
+    module _ (over : IsOver w.fixed w.units m) (small : All (λ (t : Task). t.member < length c.stages) tasks) (handle : member + 1 < 4294967296) where
       latest : IsPending (length c.stages) p
       latest = record {
-        tasks = subst (λ (ts : List code.Task). All (λ (t : Task). t.member < length c.stages) (map task_value (reverse ts))) (sym items) (tasks_small (length c.stages) tasks small);
-        handle = subst (λ (a : _). IsHandle (after_value a)) (sym follows) handle;
+        tasks = subst (λ (ts : List Task). All (λ (t : Task). t.member < length c.stages) (reverse ts)) (sym items) (tasks_small (length c.stages) tasks small);
+        handle = subst (λ (a : _). IsHandle a) (sym follows) handle;
       }
 
       pending : (i : ℕ) (q : Pending) → slice_get new.frames.items i ≡ Some q → IsPending (length c.stages) q
@@ -173,7 +170,7 @@ module _ {Units : Type 0} (w : Seen Units) (c : Core) (h : IsCore w.fixed w.unit
           go (inl found) = h.pending i q found
           go (inr same) = subst (λ (x : Pending). IsPending (length c.stages) x) same latest
 
-      pub opens_core : IsCore w.fixed w.units new
+      pub opens_core : IsSound w.fixed w.units new
       opens_core = record {
         over = subst (λ (x : MachineState). IsOver w.fixed w.units x) (sym machine) over;
         live = subst (λ (st : Standing). IsLive st new.frames.items new.machine.stack.frames) (sym moving) (subst (λ (fs : List (Frame ℕ)). IsStacked new.frames.items fs) (sym on_top) stacked);
@@ -204,7 +201,7 @@ frame_done : {Units : Type 0} (D : Loading Units) (s : LoadedState Units) (f : L
 frame_done D s f under member tasks after =
     ap (λ (ts : List Task). loaded_next D s (Marked (record f { tasks = ts }) ∷ under)) tasks ∙ ap (λ (a : After). after_next D s under a) after
 
-module _ {Units : Type 0} (w : Seen Units) (c : Core) (h : IsCore w.fixed w.units c) (marked : IsMarked c.machine) (member : ℕ) (handle : (top_frame c).after ≡ GiveHandle member) (u : MachineState) (off : Unmarks c.machine u) where
+module _ {Units : Type 0} (w : Seen Units) (c : Core) (h : IsSound w.fixed w.units c) (marked : IsMarked c.machine) (member : ℕ) (handle : (top_frame c).after ≡ GiveHandle member) (u : MachineState) (off : Unmarks c.machine u) where
   m : OnMark c
   m = live_mark w.fixed w.units c h marked
 
@@ -232,11 +229,14 @@ module _ {Units : Type 0} (w : Seen Units) (c : Core) (h : IsCore w.fixed w.unit
     left_count : m.number ≡ length new.frames.items
     left_count = sym (ap length frames_are ∙ taken_count m.number c.frames.items m.count)
 
+    pub one_less : length c.frames.items ≡ suc (length new.frames.items)
+    one_less = m.count ∙ ap suc left_count
+
     marks_new : AreMarksOver (LiesUnder new.frames.items) (length new.frames.items) m.rest
     marks_new = subst (λ (i : ℕ). AreMarksOver (LiesUnder new.frames.items) i m.rest) left_count
         (marks_kept (LiesUnder c.frames.items) (LiesUnder new.frames.items) m.number m.rest m.marks (λ i lt fs l. subst (λ (x : LoaderFrame). LiesOver x.after fs) (kept_under i lt) l))
 
-    pub handed_core : IsOver w.fixed w.units n → IsCore w.fixed w.units new
+    pub handed_core : IsOver w.fixed w.units n → IsSound w.fixed w.units new
     handed_core over = record {
       over = subst (λ (x : MachineState). IsOver w.fixed w.units x) (sym f.machine) over;
       live = subst (λ (x : MachineState). IsLive x.standing new.frames.items x.stack.frames) (sym f.machine) (live_after new.frames.items m.rest ((member + 1) ∷ []) n marks_new here);

@@ -7,3 +7,4 @@ pub mod Entering
 pub mod Answering
 pub mod Opening
 pub mod Giving
+pub mod FewFrames

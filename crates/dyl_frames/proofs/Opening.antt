@@ -1,8 +1,8 @@
 -- The first frame is put on an empty call stack.
-use Rattle.std.proofs.Common.{◌≡◌, ◌<◌, ℕ, zero, suc, List, [], ◌∷◌, Some, refl, ap, sym, ◌∙◌, subst, length, map, All}
+use Rattle.std.proofs.Common.{◌≡◌, ◌<◌, ℕ, zero, suc, List, [], ◌∷◌, Some, refl, ap, sym, ◌∙◌, subst, length, All}
 use Rattle.std.specs.Prelude.{slice_get, reverse, replicate}
 use Rattle.std.proofs.lemmas.List.{length-replicate}
-use Rattle.std.proofs.lemmas.List.Elements.{All-nil, All-map}
+use Rattle.std.proofs.lemmas.List.Elements.{All-nil}
 use Rattle.spec_loading.specs.spec_execution.Views.{View}
 use Rattle.spec_loading.specs.spec_execution.Ranges.{IsFrameInRange, IsWhole, HoldsAll}
 use Rattle.spec_loading.specs.spec_execution.Runs.{Frame, Marked}
@@ -14,32 +14,29 @@ use Rattle.wasm_machine.specs.Marks.{marked_stack}
 use Rattle.wasm_machine.specs.declared.machine.Standing.{Standing}
 use Rattle.wasm_machine.specs.declared.machine.Standing.TheVariants as standing
 use Rattle.spec_loading.specs.declared.task.Task.{Task}
+use Rattle.spec_loading.specs.declared.task.After.{After}
 use Rattle.spec_loading.specs.declared.task.After.TheVariants.{CallEntry}
 use Rattle.spec_loading.specs.Phases.{LoaderFrame}
 use Rattle.spec_loading.specs.Loading.{Loading}
-use Rattle.dyl_frames.specs.Tasks.{task_value, after_value}
-use Rattle.dyl_frames.specs.declared.task.Task as code
-use Rattle.dyl_frames.specs.declared.task.After as code_after
-use Rattle.dyl_frames.specs.declared.task.After.TheVariants as after
 use Rattle.dyl_frames.specs.declared.frames.Pending.{Pending}
 use Rattle.dyl_frames.specs.declared.frames.Core.{Core}
-use Rattle.dyl_frames.specs.Cores.{frame_of, frame_at, LiesOver, IsHandle, IsPending, IsStacked, IsLive, IsCore, StandsAs, OpensAt}
+use Rattle.dyl_frames.specs.Cores.{frame_of, frame_at, LiesOver, IsHandle, IsPending, IsStacked, IsLive, IsSound, StandsAs, OpensAt}
 
 -- nothing runs over a whole view
 pub idle_over : {Units : Type 0} (V : View Units) (us : Units) (st : Standing) → IsWhole V → HoldsAll V us → st ≡ standing.Moving → IsOver V us (record { stack = empty_stack; standing = st })
 idle_over V us st whole holds is = subst (λ (x : Standing). IsOver V us (record { stack = empty_stack; standing = x })) (sym is)
     (record { range = record { whole = whole; units = holds; stack = All-nil (IsFrameInRange V) }; rooms = refl; asked = tt })
 
-pub tasks_small : (members : ℕ) (tasks : List code.Task) → All (λ (t : code.Task). t.member < members) tasks → All (λ (t : Task). t.member < members) (map task_value (reverse tasks))
-tasks_small members tasks h = All-map (λ (t : Task). t.member < members) task_value (reverse tasks) (All-reverse (λ (t : code.Task). t.member < members) tasks h)
+pub tasks_small : (members : ℕ) (tasks : List Task) → All (λ (t : Task). t.member < members) tasks → All (λ (t : Task). t.member < members) (reverse tasks)
+tasks_small members tasks h = All-reverse (λ (t : Task). t.member < members) tasks h
 
-module _ {Units : Type 0} (w : Seen Units) (members : ℕ) (tasks : List code.Task) (c : Core) (p : Pending) (m : MachineState)
-    (frames : c.frames.items ≡ p ∷ []) (items : p.tasks.items ≡ tasks) (follows : p.after ≡ after.CallEntry) (stages : c.stages ≡ replicate members 0) (error : c.error ≡ 0)
+module _ {Units : Type 0} (w : Seen Units) (members : ℕ) (tasks : List Task) (c : Core) (p : Pending) (m : MachineState)
+    (frames : c.frames.items ≡ p ∷ []) (items : p.tasks.items ≡ tasks) (follows : p.after ≡ CallEntry) (stages : c.stages ≡ replicate members 0) (error : c.error ≡ 0)
     (bare : m.stack.frames ≡ []) (marks : Marks 0 m c.machine) where
-  on_stack : c.machine.stack.frames ≡ Marked 0 ∷ []
+  pub on_stack : c.machine.stack.frames ≡ Marked 0 ∷ []
   on_stack = ap (λ (s : CallStack). s.frames) marks.stack ∙ ap (λ (fs : List (Frame ℕ)). Marked 0 ∷ fs) bare
 
-  pub opened_at : (D : Loading Units) → OpensAt D members (map task_value (reverse tasks)) w c
+  pub opened_at : (D : Loading Units) → OpensAt D members (reverse tasks) w c
   opened_at D s o = record {
     stages = o.stages ∙ sym stages;
     error = o.error ∙ sym error;
@@ -48,13 +45,13 @@ module _ {Units : Type 0} (w : Seen Units) (members : ℕ) (tasks : List code.Ta
     standing = subst (λ (st : Standing). StandsAs D c s st) (sym marks.goes_on) (o.status, stack);
   }
     where
-      frame_is : frame_at c.frames.items 0 ≡ record { tasks = map task_value (reverse tasks); after = CallEntry }
+      frame_is : frame_at c.frames.items 0 ≡ record { tasks = reverse tasks; after = CallEntry }
       frame_is = rw (frames, items, follows) refl
 
       stack : s.run.stack ≡ marked_stack (frame_at c.frames.items) c.machine.stack.frames
       stack = o.stack ∙ ap (λ (f : LoaderFrame). Marked f ∷ []) (sym frame_is) ∙ ap (λ (fs : List (Frame ℕ)). marked_stack (frame_at c.frames.items) fs) (sym on_stack)
 
-  pub opened_core : IsOver w.fixed w.units c.machine → All (λ (t : Task). t.member < members) (map task_value (reverse tasks)) → IsCore w.fixed w.units c
+  pub opened_core : IsOver w.fixed w.units c.machine → All (λ (t : Task). t.member < members) (reverse tasks) → IsSound w.fixed w.units c
   opened_core over small = record {
     over = over;
     live = subst (λ (st : Standing). IsLive st c.frames.items c.machine.stack.frames) (sym marks.goes_on)
@@ -62,8 +59,8 @@ module _ {Units : Type 0} (w : Seen Units) (members : ℕ) (tasks : List code.Ta
     pending = λ i q e. found i q (sym (ap (λ (xs : List Pending). slice_get xs i) frames) ∙ e);
   }
     where
-      nothing_under : LiesOver (after_value p.after) []
-      nothing_under = subst (λ (a : code_after.After). LiesOver (after_value a) []) (sym follows) refl
+      nothing_under : LiesOver p.after []
+      nothing_under = subst (λ (a : After). LiesOver a []) (sym follows) refl
 
       one : IsStacked (p ∷ []) (Marked 0 ∷ [])
       one = record { some = λ e. cc; marks = (refl, nothing_under, refl) }
@@ -73,8 +70,8 @@ module _ {Units : Type 0} (w : Seen Units) (members : ℕ) (tasks : List code.Ta
 
       first : IsPending (length c.stages) p
       first = record {
-        tasks = subst (λ (n : ℕ). All (λ (t : Task). t.member < n) (frame_of p).tasks) (sym count) (subst (λ (ts : List code.Task). All (λ (t : Task). t.member < members) (map task_value (reverse ts))) (sym items) small);
-        handle = subst (λ (a : code_after.After). IsHandle (after_value a)) (sym follows) tt;
+        tasks = subst (λ (n : ℕ). All (λ (t : Task). t.member < n) (frame_of p).tasks) (sym count) (subst (λ (ts : List Task). All (λ (t : Task). t.member < members) (reverse ts)) (sym items) small);
+        handle = subst (λ (a : After). IsHandle a) (sym follows) tt;
       }
 
       found : (i : ℕ) (q : Pending) → slice_get (p ∷ []) i ≡ Some q → IsPending (length c.stages) q

@@ -29,11 +29,9 @@ use Rattle.spec_loading.specs.declared.task.Phase.TheVariants.{Place, Start, Rel
 use Rattle.spec_loading.specs.declared.task.Task.{Task}
 use Rattle.spec_loading.specs.Phases.{LoaderFrame, stage_of}
 use Rattle.spec_loading.specs.Loading.{Loading, LoadedState, Comes, comes_by_itself, comes_to, goes_on, ended_by, place_next, call_next, work_next, task_next, raised, loaded_next, loaded_step, with_run, came_to}
-use Rattle.dyl_frames.specs.Tasks.{task_value}
-use Rattle.dyl_frames.specs.declared.task.Task as code
 use Rattle.dyl_frames.specs.declared.frames.Pending.{Pending}
 use Rattle.dyl_frames.specs.declared.frames.Core.{Core}
-use Rattle.dyl_frames.specs.Cores.{frame_of, frame_in, frame_at, stack_of, LiesUnder, IsHandle, IsPending, IsLive, IsLoaded, IsCore, IsState, Steps, StepsFrom, is_made, is_begun, is_below, is_behind, raised_stages, top_frame, first_of, first_task, TakesTask, Finishes}
+use Rattle.dyl_frames.specs.Cores.{frame_of, frame_in, frame_at, stack_of, LiesUnder, IsHandle, IsPending, IsLive, IsLoaded, IsSound, IsState, Steps, StepsFrom, is_made, is_begun, is_below, is_behind, raised_stages, top_frame, first_of, first_task, TakesTask, Finishes}
 use Rattle.dyl_frames.proofs.CodeSteps.{changes, with_machine, state_moving, core_live, told_core, deep_same, same_state, by_view}
 use Rattle.dyl_frames.proofs.Telling.{stays_at, steps_told, deep_told, stuck_told}
 use Rattle.dyl_frames.proofs.Tops.{OnMark, on_mark, rest_of, finished_stack, finished_live, marks_alike, changed_or_kept, length_set, taken_frame}
@@ -53,7 +51,7 @@ taken_pending members p q t h =
       handle = subst (λ (f : LoaderFrame). IsHandle f.after) (sym same) h.handle;
     }
 
-module _ {Units : Type 0} (V : View Units) (us : Units) (stages : List ℕ) (k : ℕ) (c new : Core) (f : Finishes stages c new) (count : length c.frames.items ≡ suc k) (h : IsCore V us c) (members : length stages ≡ length c.stages) where
+module _ {Units : Type 0} (V : View Units) (us : Units) (stages : List ℕ) (k : ℕ) (c new : Core) (f : Finishes stages c new) (count : length c.frames.items ≡ suc k) (h : IsSound V us c) (members : length stages ≡ length c.stages) where
   same_members : length new.stages ≡ length c.stages
   same_members = ap length f.stages_are ∙ members
 
@@ -66,7 +64,7 @@ module _ {Units : Type 0} (V : View Units) (us : Units) (stages : List ℕ) (k :
           (taken_pending (length c.stages) f.frames.0 f.frames.1 f.frames.4 (h.pending i f.frames.0 (ap (λ (n : ℕ). slice_get c.frames.items n) k.0 ∙ f.frames.2)))
       go (inr k) = h.pending i p k
 
-  pub finished_core : IsCore V us new
+  pub finished_core : IsSound V us new
   finished_core = record {
     over = subst (λ (m : MachineState). IsOver V us m) (sym f.machine) h.over;
     live = finished_live stages c new f k count new.machine.standing new.machine.stack.frames (subst (λ (m : MachineState). IsLive m.standing c.frames.items m.stack.frames) (sym f.machine) h.live);
@@ -286,7 +284,7 @@ module _ {Units : Type 0} (D : Loading Units) (s : LoadedState Units) (c : Core)
       go x is t here = absurd cc
 
 -- a mark on top of the core
-pub live_mark : {Units : Type 0} (V : View Units) (us : Units) (c : Core) → IsCore V us c → IsMarked c.machine → OnMark c
+pub live_mark : {Units : Type 0} (V : View Units) (us : Units) (c : Core) → IsSound V us c → IsMarked c.machine → OnMark c
 live_mark V us c h marked = on_mark c marked (core_live V us c h marked.0)
 
 -- the members of its tasks are there
@@ -294,7 +292,7 @@ first_holds : (P : Task → Type 0) (ts : List Task) (t : Task) → All P ts →
 first_holds P [] t h e = absurd cc
 first_holds P (x ∷ xs) t h e = let same : x ≡ t = cc in subst P same (All-head P x xs h)
 
-module _ {Units : Type 0} (V : View Units) (us : Units) (c : Core) (h : IsCore V us c) (marked : IsMarked c.machine) where
+module _ {Units : Type 0} (V : View Units) (us : Units) (c : Core) (h : IsSound V us c) (marked : IsMarked c.machine) where
   pub frames_there : c.frames.items ≢ []
   frames_there none = let count = (live_mark V us c h marked).count in let clash = sym (ap length none) ∙ count in cc
 
@@ -305,17 +303,17 @@ module _ {Units : Type 0} (V : View Units) (us : Units) (c : Core) (h : IsCore V
       go None e f = absurd cc
       go (Some p) e f = first_holds (λ (x : Task). x.member < length c.stages) (frame_of p).tasks t (h.pending (length c.frames.items - 1) p e).tasks f
 
-  pub tasks_inside : (o : Option code.Task) → option_map task_value o ≡ first_task (top_frame c) → IfSome o (λ t. t.member < length c.stages)
+  pub tasks_inside : (o : Option Task) → o ≡ first_task (top_frame c) → IfSome o (λ t. t.member < length c.stages)
   tasks_inside None e = tt
-  tasks_inside (Some t) e = task_inside (task_value t) (sym e)
+  tasks_inside (Some t) e = task_inside t (sym e)
 
 -- ---- as the machine tells it over its own view
 
 abbrev pub CallTold : {Units : Type 0} → View Units → Units → MemoryInstance → Core → MachineState → Ref → Event → Type 0
 CallTold V us memory c n r e = Told V e (call V us memory (λ _. c.machine.stack.frames) [] r) c.machine n (changes us us memory memory)
 
-pub called_core : {Units : Type 0} (w : Seen Units) (c : Core) (n : MachineState) (h : IsCore w.fixed w.units c) (moving : c.machine.standing ≡ standing.Moving) (r : Ref) (e : Event) → type_of w.fixed r ≡ Some nullary
-    → Begins w e r c.machine n → IsOver w.fixed w.units n → IsCore w.fixed w.units (with_machine c n)
+pub called_core : {Units : Type 0} (w : Seen Units) (c : Core) (n : MachineState) (h : IsSound w.fixed w.units c) (moving : c.machine.standing ≡ standing.Moving) (r : Ref) (e : Event) → type_of w.fixed r ≡ Some nullary
+    → Begins w e r c.machine n → IsOver w.fixed w.units n → IsSound w.fixed w.units (with_machine c n)
 called_core w c n h moving r e plain told over =
     told_core w.fixed c n w.units w.units w.memory w.memory h moving e (call w.fixed w.units w.memory (λ _. c.machine.stack.frames) [] r) told.1
     (call_over (LiesUnder c.frames.items) w.fixed w.units w.memory (length c.frames.items) (λ _. c.machine.stack.frames) [] (λ vs. core_live w.fixed w.units c h moving) r)
@@ -332,7 +330,7 @@ plain_made V next old n c event.Deep plain t b = absurd cc
 plain_made V next old n c event.Stuck plain t b = absurd cc
 plain_made V next old n c e plain t b = absurd t
 
-module _ {Units : Type 0} (D : Loading Units) (w : Seen Units) (loaded : IsLoaded D w.fixed) (c : Core) (n : MachineState) (h : IsCore w.fixed w.units c) (marked : IsMarked c.machine) (t : Task) (first : first_task (top_frame c) ≡ Some t) (behind : is_behind c t ≡ true) (calls : t.phase ≢ Place) (r : Ref) (callee : D.callee t.phase t.member ≡ Some (Some r)) (e : Event) (told : Begins w e r c.machine n) where
+module _ {Units : Type 0} (D : Loading Units) (w : Seen Units) (loaded : IsLoaded D w.fixed) (c : Core) (n : MachineState) (h : IsSound w.fixed w.units c) (marked : IsMarked c.machine) (t : Task) (first : first_task (top_frame c) ≡ Some t) (behind : is_behind c t ≡ true) (calls : t.phase ≢ Place) (r : Ref) (callee : D.callee t.phase t.member ≡ Some (Some r)) (e : Event) (told : Begins w e r c.machine n) where
   told_by : CallTold D.view w.units w.memory c n r e
   told_by = by_view D w.fixed loaded (λ (W : View Units). CallTold W w.units w.memory c n r e) told.1
 
@@ -345,8 +343,8 @@ module _ {Units : Type 0} (D : Loading Units) (w : Seen Units) (loaded : IsLoade
       (by_view D w.fixed loaded (λ (W : View Units). IsOver W w.units n) over) new f
       (plain_made w.fixed (call w.fixed w.units w.memory (λ _. c.machine.stack.frames) [] r) c.machine n (changes w.units w.units w.memory w.memory) e (nullary_plain w.fixed w.units w.memory (λ _. c.machine.stack.frames) r plain) told.1 begun)
 
-pub trapped_core : {Units : Type 0} (V : View Units) (us : Units) (c : Core) (why : Trap) (n : MachineState) → IsCore V us c → n ≡ ended (standing.Trapped why) → IsCore V us (with_machine c n)
-trapped_core V us c why n h is = subst (λ (x : MachineState). IsCore V us (with_machine c x)) (sym is) (record {
+pub trapped_core : {Units : Type 0} (V : View Units) (us : Units) (c : Core) (why : Trap) (n : MachineState) → IsSound V us c → n ≡ ended (standing.Trapped why) → IsSound V us (with_machine c n)
+trapped_core V us c why n h is = subst (λ (x : MachineState). IsSound V us (with_machine c x)) (sym is) (record {
   over = record { range = record { whole = h.over.range.whole; units = h.over.range.units; stack = All-nil (IsFrameInRange V) }; rooms = refl; asked = tt };
   live = tt;
   pending = h.pending;

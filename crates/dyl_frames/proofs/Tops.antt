@@ -1,6 +1,6 @@
 -- The frame on top, and the ones under it.
-use Rattle.std.proofs.Common.{◌≡◌, ◌≢◌, ◌⊎◌, inl, inr, ℕ, zero, suc, ◌-◌, ◌<◌, List, [], ◌∷◌, Option, Some, refl, ap, sym, ◌∙◌, subst, length, get_or, drop, map, arith}
-use Rattle.std.specs.Prelude.{slice_get, slice_set, reverse}
+use Rattle.std.proofs.Common.{◌≡◌, ◌≢◌, ◌⊎◌, inl, inr, ℕ, zero, suc, ◌-◌, ◌<◌, List, [], ◌∷◌, Option, Some, refl, ap, sym, ◌∙◌, subst, length, get_or, drop, arith}
+use Rattle.std.specs.Prelude.{slice_get, slice_set}
 use Rattle.std.specs.Vec.{with_item}
 use Rattle.std.proofs.lemmas.Option.{slice_get_read}
 use Rattle.spec_loading.specs.spec_execution.Runs.{Frame, Active, Marked}
@@ -10,9 +10,6 @@ use Rattle.wasm_machine.specs.declared.machine.Standing.{Standing}
 use Rattle.wasm_machine.specs.declared.machine.Standing.TheVariants as standing
 use Rattle.spec_loading.specs.declared.task.After.{After}
 use Rattle.spec_loading.specs.Phases.{LoaderFrame}
-use Rattle.dyl_frames.specs.Tasks.{task_value, after_value}
-use Rattle.dyl_frames.specs.declared.task.Task as code
-use Rattle.dyl_frames.specs.declared.task.After as code_after
 use Rattle.dyl_frames.specs.declared.frames.Pending.{Pending}
 use Rattle.dyl_frames.specs.declared.frames.Core.{Core}
 use Rattle.dyl_frames.specs.Cores.{frame_of, frame_in, frame_at, LiesOver, LiesUnder, IsStacked, IsLive, top_frame, TakesTask, Finishes}
@@ -149,15 +146,8 @@ set_after (x ∷ xs) (suc j) p q e same (suc i) = set_after xs j p q e same i
 abbrev pub rest_of : LoaderFrame → LoaderFrame
 rest_of f = record f { tasks = drop 1 f.tasks }
 
-mapped_drop : {A B : Type 0} (f : A → B) (xs : List A) → map f (drop 1 xs) ≡ drop 1 (map f xs)
-mapped_drop f [] = refl
-mapped_drop f (x ∷ xs) = refl
-
 pub taken_frame : (p q : Pending) → TakesTask p q → frame_of q ≡ rest_of (frame_of p)
-taken_frame p q t =
-    let tasks : map task_value (reverse q.tasks.items) ≡ drop 1 (map task_value (reverse p.tasks.items)) = ap (λ (xs : List code.Task). map task_value xs) t.tasks ∙ mapped_drop task_value (reverse p.tasks.items) in
-    let after = ap (λ (a : code_after.After). after_value a) t.after in
-    rw (tasks, after) refl
+taken_frame p q t = rw (t.tasks, t.after) refl
 
 module _ (stages : List ℕ) (c new : Core) (f : Finishes stages c new) (k : ℕ) (count : length c.frames.items ≡ suc k) where
   pub same_count : length new.frames.items ≡ length c.frames.items

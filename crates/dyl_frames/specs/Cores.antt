@@ -1,5 +1,5 @@
 -- The core of a run, and the state at which it stands.
-use Rattle.std.specs.Prelude.{◌≡◌, ◌≢◌, ◌<◌, ◌+◌, ℕ, List, [], ◌∷◌, length, map, reverse, drop, take, slice_get, slice_set, ◌-◌, nat_lt, replicate, Option, Some, None, Bool, true, false, IfSome, IsTrue, Result, Ok, Err}
+use Rattle.std.specs.Prelude.{◌≡◌, ◌≢◌, ◌<◌, ◌≤◌, ◌+◌, ℕ, List, [], ◌∷◌, length, map, sum, reverse, drop, take, slice_get, slice_set, ◌-◌, nat_lt, replicate, Option, Some, None, Bool, true, false, IfSome, IsTrue, Result, Ok, Err}
 use Rattle.std.specs.List.{All}
 use Rattle.spec_loading.specs.spec_runs.Systems.{Moving, Waits, Returned, Exited, Trapped}
 use Rattle.spec_loading.specs.wasm_form.declared.runtime.LoaderCall.{LoaderCall}
@@ -28,7 +28,6 @@ use Rattle.spec_loading.specs.declared.task.After.{After}
 use Rattle.spec_loading.specs.declared.task.After.TheVariants.{CallEntry, GiveHandle}
 use Rattle.spec_loading.specs.Phases.{LoaderFrame, stage_of}
 use Rattle.spec_loading.specs.Loading.{Loading, LoadedState, LoaderAnswer, Gives, Opens, with_run, comes_to, loaded_next, loaded_step, loaded_too_deep}
-use Rattle.dyl_frames.specs.Tasks.{task_value, after_value}
 use Rattle.dyl_frames.specs.declared.frames.Pending.{Pending}
 use Rattle.dyl_frames.specs.declared.frames.Core.{Core}
 use Rattle.dyl_frames.specs.Steps.{TellsStatus, next_answer, IsCodeNext}
@@ -36,7 +35,7 @@ use Rattle.dyl_frames.specs.Steps.{TellsStatus, next_answer, IsCodeNext}
 -- ---- the frames
 
 abbrev pub frame_of : Pending → LoaderFrame
-frame_of p = record { tasks = map task_value (reverse p.tasks.items); after = after_value p.after }
+frame_of p = record { tasks = reverse p.tasks.items; after = p.after }
 
 abbrev pub frame_in : Option Pending → LoaderFrame
 frame_in None = record { tasks = []; after = CallEntry }
@@ -63,7 +62,7 @@ IsHandle (GiveHandle m) = m + 1 < 4294967296
 -- the members of its tasks are there
 pub record IsPending (members : ℕ) (p : Pending) : Type 0 where
   pub tasks : All (λ (t : Task). t.member < members) (frame_of p).tasks
-  pub handle : IsHandle (after_value p.after)
+  pub handle : IsHandle p.after
 
 -- ---- what is so of it
 
@@ -85,10 +84,23 @@ pub record IsLoaded {Units : Type 0} (D : Loading Units) (V : View Units) : Type
   pub hosts : (entry : ℕ) → D.view.host entry ≡ host_type (D.names entry)
 
 -- The machine names only what there is, and so do the tasks. The mark of a number stands for the frame of that number.
-pub record IsCore {Units : Type 0} (V : View Units) (us : Units) (c : Core) : Type 0 where
+pub record IsSound {Units : Type 0} (V : View Units) (us : Units) (c : Core) : Type 0 where
   pub over : IsOver V us c.machine
   pub live : IsLive c.machine.standing c.frames.items c.machine.stack.frames
   pub pending : (i : ℕ) (p : Pending) → slice_get c.frames.items i ≡ Some p → IsPending (length c.stages) p
+
+-- There are at most 256 members, each at one of the stages 0 to 4. Each frame waits for the call of a phase, but for one whose mark is on top
+-- of the call stack; and with each such call its member came to a further stage, so that there are no more than all stages together.
+pub record HasFewFrames (c : Core) : Type 0 where
+  pub members : length c.stages ≤ 256
+  pub stages : All (λ (stage : ℕ). stage ≤ 4) c.stages
+  pub frames : length c.frames.items ≤ sum c.stages + 1
+  pub running : is_running c.machine.stack.frames ≡ true → length c.frames.items ≤ sum c.stages
+
+-- what is so of a core, until memory is wanting
+pub record IsCore {Units : Type 0} (V : View Units) (us : Units) (c : Core) : Type 0 where
+  pub sound : IsSound V us c
+  pub few : HasFewFrames c
 
 -- ---- where the run stands
 

@@ -1,3 +1,2 @@
-pub mod Tasks
 pub mod Steps
 pub mod Cores

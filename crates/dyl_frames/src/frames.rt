@@ -1,7 +1,6 @@
 // The run without what is counted and recorded of it.
-ghost use Rattle.std.specs.Prelude.{◌≡◌, ◌≢◌, ◌<◌, ◌≤◌, ◌+◌, [], length, reverse, map, true, false, Some, None, IfOk, OnOk, IfSome, slice_get};
+ghost use Rattle.std.specs.Prelude.{◌≡◌, ◌≢◌, ◌<◌, ◌≤◌, ◌+◌, [], length, reverse, true, false, Some, None, IfOk, OnOk, IfSome, slice_get};
 ghost use Rattle.std.specs.List.{All};
-ghost use Rattle.std.specs.Option.{option_map};
 ghost use Rattle.spec_loading.specs.spec_binary.Indices.{nullary};
 ghost use Rattle.spec_loading.specs.spec_execution.Views.{type_of as type_seen};
 ghost use Rattle.spec_loading.specs.spec_execution.Ranges.{IsWhole, HoldsAll};
@@ -12,14 +11,13 @@ ghost use Rattle.spec_loading.specs.declared.task.Phase.TheVariants as phases;
 ghost use Rattle.spec_loading.specs.declared.task.After.TheVariants as follows;
 ghost use Rattle.spec_loading.specs.Loading.{Loading};
 ghost use Rattle.spec_loading.specs.Loading as loading;
-ghost use Rattle.dyl_frames.specs.Tasks.{phase_value, task_value, after_value};
 ghost use Rattle.dyl_frames.specs.Cores.{IsCore, StepsFrom, QuickStepsFrom, TakenFrom, PlacesFrom, OpensAt, IsMarkTold, IsLoaded, is_begun, is_deep_event};
 ghost use Rattle.dyl_frames.specs.Cores.{AreFrames, first_task, top_frame, TakesTask, Finishes, is_behind, raised_stages, is_mark, IsOwn, FitsHost};
 ghost use Rattle.dyl_frames.specs.Cores.{AnsweredFrom, gives_number, opens_member, Drops};
 
-use crate::task::{After, Phase, Task};
 use dyl_world::{Errors, Stages};
 use spec_loading::wasm_form::{Memory, Ref, Trap};
+use spec_loading::{After, Phase, Task};
 use std::alloc::Global;
 use wasm_machine::{Answer, Done, Event, Machine, Standing, View};
 
@@ -42,7 +40,7 @@ pub struct Core<'m> {
 
 // The stage of a member that has come through a phase.
 fn stage_of(phase: Phase) -> u8
-    ensures stage { result ≡ stage_of (phase_value phase) }
+    ensures stage { result ≡ stage_of phase }
     ensures least { 1 ≤ result }
     ensures most { result ≤ 4 }
 {
@@ -75,18 +73,16 @@ fn take_task(frame: &mut Pending)
     let _ = frame.tasks.pop();
 }
 
-// The number of a mark. There is no memory for more frames than such numbers.
-fn as_tag(n: usize) -> Result<u32, Memory>
-    ensures { IfOk result (λ tag. tag ≡ n) }
+// The number of the mark of a frame that comes after so many.
+fn as_tag(n: usize) -> u32
+    requires { n < 4294967296 }
+    ensures { result ≡ n }
 {
-    match u32::try_from(n) {
-        Ok(tag) => Ok(tag),
-        Err(_) => Err(Memory),
-    }
+    n as u32
 }
 
 impl<'m> Core<'m> {
-    /// A run whose first frame has these tasks, the next one last, and is followed by the entry.
+    /// A run of so many members, whose first frame has these tasks, the next one last, and is followed by the entry.
     pub fn new<V: View<'m>>(
         alloc: Global,
         view: &V,
@@ -95,9 +91,10 @@ impl<'m> Core<'m> {
     ) -> Result<Core<'m>, Memory>
         requires whole { IsWhole (V.seen view.now).fixed }
         requires holds { HoldsAll (V.seen view.now).fixed (V.seen view.now).units }
+        requires few { members ≤ 256 }
         requires tasks { All (λ t. t.member < members) tasks.items }
         ensures core { IfOk result (λ c. IsCore (V.seen view.now).fixed (V.seen view.now).units c) }
-        ensures opened { IfOk result (λ c. (D : Loading V.Units) → OpensAt D members (map task_value (reverse tasks.items)) (V.seen view.now) c) }
+        ensures opened { IfOk result (λ c. (D : Loading V.Units) → OpensAt D members (reverse tasks.items) (V.seen view.now) c) }
         ensures moving { IfOk result (λ c. c.machine.standing ≡ Standing.Moving) }
     {
         let stages = Stages::new(alloc, members)?;
@@ -181,7 +178,7 @@ impl<'m> Core<'m> {
     pub fn next_task<V: View<'m>>(&self, view: &V) -> Option<Task>
         requires core { IsCore (V.seen view.now).fixed (V.seen view.now).units self.now }
         requires marked { IsMarked self.now.machine }
-        ensures task { option_map task_value result ≡ first_task (top_frame self.now) }
+        ensures task { result ≡ first_task (top_frame self.now) }
         ensures member { IfSome result (λ t. t.member < length self.now.stages) }
     {
         let _view = view;
@@ -192,7 +189,7 @@ impl<'m> Core<'m> {
     pub fn follows<V: View<'m>>(&self, view: &V) -> After
         requires core { IsCore (V.seen view.now).fixed (V.seen view.now).units self.now }
         requires marked { IsMarked self.now.machine }
-        ensures { after_value result ≡ (top_frame self.now).after }
+        ensures { result ≡ (top_frame self.now).after }
     {
         let _view = view;
         self.top_after()
@@ -201,7 +198,7 @@ impl<'m> Core<'m> {
     // The same, without what is said of the view.
     fn top_after(&self) -> After
         requires { AreFrames self.now }
-        ensures { after_value result ≡ (top_frame self.now).after }
+        ensures { result ≡ (top_frame self.now).after }
     {
         let Some(frame) = self.frames.last() else {
             unreachable!();
@@ -212,7 +209,7 @@ impl<'m> Core<'m> {
     // The same, without what is said of the view.
     fn top_task(&self) -> Option<Task>
         requires { AreFrames self.now }
-        ensures { option_map task_value result ≡ first_task (top_frame self.now) }
+        ensures { result ≡ first_task (top_frame self.now) }
     {
         let Some(frame) = self.frames.last() else {
             unreachable!();
@@ -245,8 +242,8 @@ impl<'m> Core<'m> {
     fn finish(&mut self, task: Task)
         requires frames { AreFrames self.old }
         requires member { task.member < length self.old.stages }
-        requires behind { is_behind self.old (task_value task) ≡ true }
-        ensures { Finishes (raised_stages self.old (task_value task)) self.old self.new }
+        requires behind { is_behind self.old task ≡ true }
+        ensures { Finishes (raised_stages self.old task) self.old self.new }
     {
         self.take_top();
         self.stages.raise(task.member, stage_of(task.phase));
@@ -255,7 +252,7 @@ impl<'m> Core<'m> {
     /// Whether the member of a task hasn't come so far as its phase.
     pub fn is_behind(&self, task: Task) -> bool
         requires { task.member < length self.now.stages }
-        ensures { result ≡ is_behind self.now (task_value task) }
+        ensures { result ≡ is_behind self.now task }
     {
         self.stages.get(task.member) < stage_of(task.phase)
     }
@@ -264,9 +261,9 @@ impl<'m> Core<'m> {
     pub fn pass<V: View<'m>>(&mut self, view: &V, task: Task)
         requires core { IsCore (V.seen view.now).fixed (V.seen view.now).units self.old }
         requires marked { IsMarked self.old.machine }
-        requires task { first_task (top_frame self.old) ≡ Some (task_value task) }
+        requires task { first_task (top_frame self.old) ≡ Some task }
         requires member { task.member < length self.old.stages }
-        requires behind { is_behind self.old (task_value task) ≡ false }
+        requires behind { is_behind self.old task ≡ false }
         ensures stepped { (D : Loading V.Units) → StepsFrom D Event.Moved self.old (V.seen view.now) self.new (V.seen view.now) }
         ensures core { IsCore (V.seen view.now).fixed (V.seen view.now).units self.new }
         ensures members { length self.new.stages ≡ length self.old.stages }
@@ -279,11 +276,11 @@ impl<'m> Core<'m> {
     fn call_nothing<V: View<'m>>(&mut self, view: &V, task: Task)
         requires core { IsCore (V.seen view.now).fixed (V.seen view.now).units self.old }
         requires marked { IsMarked self.old.machine }
-        requires task { first_task (top_frame self.old) ≡ Some (task_value task) }
+        requires task { first_task (top_frame self.old) ≡ Some task }
         requires member { task.member < length self.old.stages }
-        requires behind { is_behind self.old (task_value task) ≡ true }
-        requires calls { phase_value task.phase ≢ phases.Place }
-        ensures stepped { (D : Loading V.Units) → D.callee (phase_value task.phase) task.member ≡ Some None → StepsFrom D Event.Moved self.old (V.seen view.now) self.new (V.seen view.now) }
+        requires behind { is_behind self.old task ≡ true }
+        requires calls { task.phase ≢ phases.Place }
+        ensures stepped { (D : Loading V.Units) → D.callee task.phase task.member ≡ Some None → StepsFrom D Event.Moved self.old (V.seen view.now) self.new (V.seen view.now) }
         ensures core { IsCore (V.seen view.now).fixed (V.seen view.now).units self.new }
         ensures members { length self.new.stages ≡ length self.old.stages }
     {
@@ -301,12 +298,12 @@ impl<'m> Core<'m> {
     ) -> Result<Event, Memory>
         requires core { IsCore (V.seen view.now).fixed (V.seen view.now).units self.old }
         requires marked { IsMarked self.old.machine }
-        requires task { first_task (top_frame self.old) ≡ Some (task_value task) }
+        requires task { first_task (top_frame self.old) ≡ Some task }
         requires member { task.member < length self.old.stages }
-        requires behind { is_behind self.old (task_value task) ≡ true }
-        requires calls { phase_value task.phase ≢ phases.Place }
+        requires behind { is_behind self.old task ≡ true }
+        requires calls { task.phase ≢ phases.Place }
         requires nullary { type_seen (V.seen view.now).fixed r ≡ Some nullary }
-        ensures stepped { IfOk result (λ e. (D : Loading V.Units) → IsLoaded D (V.seen view.now).fixed → D.callee (phase_value task.phase) task.member ≡ Some (Some r) → StepsFrom D e self.old (V.seen view.now) self.new (V.seen view.now)) }
+        ensures stepped { IfOk result (λ e. (D : Loading V.Units) → IsLoaded D (V.seen view.now).fixed → D.callee task.phase task.member ≡ Some (Some r) → StepsFrom D e self.old (V.seen view.now) self.new (V.seen view.now)) }
         ensures core { OnOk result (IsCore (V.seen view.now).fixed (V.seen view.now).units self.new) }
         ensures members { OnOk result (length self.new.stages ≡ length self.old.stages) }
     {
@@ -322,10 +319,10 @@ impl<'m> Core<'m> {
     pub fn placed<V: View<'m>>(&mut self, view: &V, task: Task, outcome: Result<(), Trap>) -> Event
         requires core { IsCore (V.seen view.now).fixed (V.seen view.now).units self.old }
         requires marked { IsMarked self.old.machine }
-        requires task { first_task (top_frame self.old) ≡ Some (task_value task) }
+        requires task { first_task (top_frame self.old) ≡ Some task }
         requires member { task.member < length self.old.stages }
-        requires behind { is_behind self.old (task_value task) ≡ true }
-        requires places { phase_value task.phase ≡ phases.Place }
+        requires behind { is_behind self.old task ≡ true }
+        requires places { task.phase ≡ phases.Place }
         ensures stepped { (D : Loading V.Units) (before : Seen V.Units) → PlacesFrom D task.member before outcome (V.seen view.now) → StepsFrom D result self.old before self.new (V.seen view.now) }
         ensures core { IsCore (V.seen view.now).fixed (V.seen view.now).units self.new }
         ensures members { length self.new.stages ≡ length self.old.stages }
@@ -373,11 +370,11 @@ impl<'m> Core<'m> {
     ) -> Result<Event, Memory>
         requires core { IsCore (V.seen view.now).fixed (V.seen view.now).units self.old }
         requires marked { IsMarked self.old.machine }
-        requires task { first_task (top_frame self.old) ≡ Some (task_value task) }
+        requires task { first_task (top_frame self.old) ≡ Some task }
         requires member { task.member < length self.old.stages }
-        requires calls { phase_value task.phase ≢ phases.Place }
+        requires calls { task.phase ≢ phases.Place }
         requires nullary { IfSome callee (λ r. type_seen (V.seen view.now).fixed r ≡ Some nullary) }
-        ensures stepped { IfOk result (λ e. (D : Loading V.Units) → IsLoaded D (V.seen view.now).fixed → D.callee (phase_value task.phase) task.member ≡ Some callee → StepsFrom D e self.old (V.seen view.now) self.new (V.seen view.now)) }
+        ensures stepped { IfOk result (λ e. (D : Loading V.Units) → IsLoaded D (V.seen view.now).fixed → D.callee task.phase task.member ≡ Some callee → StepsFrom D e self.old (V.seen view.now) self.new (V.seen view.now)) }
         ensures core { OnOk result (IsCore (V.seen view.now).fixed (V.seen view.now).units self.new) }
         ensures members { OnOk result (length self.new.stages ≡ length self.old.stages) }
     {
@@ -434,11 +431,11 @@ impl<'m> Core<'m> {
         requires loading { self.old.machine.standing ≡ Standing.Loading }
         requires tasks { All (λ t. t.member < length self.old.stages) tasks.items }
         requires handle { member + 1 < 4294967296 }
-        ensures stepped { OnOk result ((D : Loading V.Units) → AnsweredFrom D Event.Moved (opens_member (map task_value (reverse tasks.items)) member) self.old (V.seen view.now) self.new) }
+        ensures stepped { OnOk result ((D : Loading V.Units) → AnsweredFrom D Event.Moved (opens_member (reverse tasks.items) member) self.old (V.seen view.now) self.new) }
         ensures core { OnOk result (IsCore (V.seen view.now).fixed (V.seen view.now).units self.new) }
         ensures members { OnOk result (length self.new.stages ≡ length self.old.stages) }
     {
-        let tag = as_tag(self.frames.len())?;
+        let tag = as_tag(self.frames.len());
         self.machine.mark(alloc, view, tag)?;
         self.frames.push(Pending {
             tasks,

@@ -2,8 +2,7 @@
 #![tactic(auto)]
 
 mod frames;
-mod task;
 
 pub use frames::Core;
-pub use task::{After, Phase, Task};
+pub use spec_loading::{After, Phase, Task};
 pub use wasm_machine::{Answer, Asked, Done, Event, Standing};

@@ -21,4 +21,4 @@ pub use list::listing;
 pub use order::Order;
 pub use outcome::{Opt, Outcome, UsageKind, status};
 pub use reports::{Report, summary};
-pub use words::{WordFault, collected, owned, read_words};
+pub use words::{WordFault, collected, read_words};

@@ -128,9 +128,9 @@ fn put_listing(alloc: Global, linked: &Linked, to: &mut Vec<u8>) -> Result<(), M
 
 /// The listing of a linked set: its plan, its members, the fresh slots, and what each import is, a line for each.
 pub fn listing(alloc: Global, linked: &Linked) -> Result<Vec<u8>, Memory>
-    requires { (L : LinkedSet) × IsLinked L linked.now }
     ensures { IfOk result (λ bytes. (L : LinkedSet) → IsLinked L linked.now → bytes.items ≡ listing_of L) }
 {
+    linked.links();
     let mut bytes = Vec::new(alloc);
     put_listing(alloc, linked, &mut bytes)?;
     Ok(bytes)

@@ -2,26 +2,13 @@
 ghost use Rattle.std.specs.Prelude.{◌≡◌, ℕ, ◌<◌, [], length, nat_eq, None, Some, IfOk, slice_index_or, unwrap_or, if◌then◌else◌};
 ghost use Rattle.std.specs.List.{find, position_from};
 ghost use Rattle.std.specs.Option.{option_map};
-ghost use Rattle.spec_linking.specs.Definitions.{or_other, is_one_of, reserved_names};
+ghost use Rattle.spec_linking.specs.Definitions.{or_other};
 ghost use Rattle.dyl_front.specs.Listing.{is_name_of};
 ghost use Rattle.dyl_front.specs.KeptListing.{is_same_number, name_placed, AreFirst};
 
+use dyl_link::dyl_scope::is_reserved;
 use spec_merging::wasm_form::{Export, ExportDesc, Memory};
 use std::alloc::Global;
-
-/// Whether a name defines nothing, whatever is exported under it.
-fn is_reserved(name: &str) -> bool
-    ensures { result ≡ is_one_of name.now reserved_names }
-{
-    match name {
-        "__wasm_apply_data_relocs"
-        | "__wasm_call_ctors"
-        | "__dso_handle"
-        | "_start"
-        | "_initialize" => true,
-        _ => false,
-    }
-}
 
 /// The function that an export defines its name as.
 fn named_function(e: &Export) -> Option<u32>

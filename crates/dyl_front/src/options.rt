@@ -8,7 +8,7 @@ ghost use Rattle.dyl_front.specs.declared.outcome.Opt.TheVariants.{N};
 
 use crate::order::{LEAST_PAGES, LEAST_STACK, MOST_PAGES, MOST_STACK, MOST_STEPS};
 use crate::outcome::{Opt, UsageKind};
-use crate::words::{WordFault, owned};
+use crate::words::WordFault;
 use dyl_link::LinkOptions;
 use dyl_link::dyl_search::SetOptions;
 use dyl_words::Asked;
@@ -154,7 +154,7 @@ pub(crate) fn owned_all(alloc: Global, parts: &[&str]) -> Result<List<Text>, Mem
 {
     let mut texts = Vec::new(alloc);
     for part in parts {
-        texts.push(owned(alloc, part)?)?;
+        texts.push(Text::copied(alloc, part)?)?;
     }
     Ok(List::of(texts))
 }
@@ -174,7 +174,9 @@ fn items_in(
     };
     let parts = parts(alloc, text, separator)?;
     if some_empty(&parts) {
-        return Err(WordFault::Usage(UsageKind::Name(option)));
+        return Err(WordFault::Usage {
+            kind: UsageKind::Name(option),
+        });
     }
     Ok(owned_all(alloc, &parts)?)
 }
@@ -186,7 +188,7 @@ pub(crate) fn set_in(alloc: Global, main: &str, asked: &Asked<'_>) -> Result<Set
     let dl = items_in(alloc, Opt::Dl, ',', asked.dl)?;
     let paths = items_in(alloc, Opt::Path, ':', asked.path)?;
     Ok(SetOptions {
-        main: owned(alloc, main)?,
+        main: Text::copied(alloc, main)?,
         dl,
         paths,
     })

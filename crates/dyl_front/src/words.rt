@@ -1,6 +1,7 @@
 // Words to an order.
 ghost use Rattle.std.specs.Prelude.{◌≡◌, IfOk, IfErr, map, drop, string_bytes};
 ghost use Rattle.std.specs.IoError.{error_kind};
+ghost use Rattle.std.specs.Vec.Iter.{into_iter_items};
 ghost use Rattle.dyl_words.specs.Words.{asked};
 ghost use Rattle.dyl_words.specs.declared.names.CommandName.TheVariants as command;
 ghost use Rattle.dyl_words.specs.Shown.{shown};
@@ -19,7 +20,8 @@ use std::io::{self, ErrorKind};
 /// Why words are no order.
 #[derive(Clone, Copy, Debug, PartialEq, Eq)]
 pub enum WordFault {
-    Usage(UsageKind),
+    /// They are no order.
+    Usage { kind: UsageKind },
     /// No memory could be had.
     Memory,
 }
@@ -36,7 +38,7 @@ impl From<UsageKind> for WordFault {
     ghost from_gives = { λ kind e. e ≡ word.Usage kind };
 
     fn from(kind: UsageKind) -> WordFault {
-        WordFault::Usage(kind)
+        WordFault::Usage { kind }
     }
 }
 
@@ -46,14 +48,6 @@ impl From<AllocError> for WordFault {
     fn from(_: AllocError) -> WordFault {
         WordFault::Memory
     }
-}
-
-/// A text of its own.
-pub fn owned(alloc: Global, text: &str) -> Result<Text, Memory>
-    ensures { IfOk result (λ t. t ≡ text.now) }
-{
-    let text = String::from_str(alloc, text)?;
-    Ok(Text::of(text))
 }
 
 /// What is answered where the system gives no words: want of memory as such, and else that the words are no texts.
@@ -66,13 +60,21 @@ fn refused(error: &io::Error) -> Outcome
     Outcome::Usage(UsageKind::Words)
 }
 
-/// The words of a call, where the system gives them and there is memory; or the outcome where there are none.
+/// All of these words, in order.
+fn all_words(alloc: Global, words: Args) -> Result<Vec<String>, AllocError>
+    ensures { IfOk result (λ all. all.items ≡ into_iter_items words) }
+{
+    words.collect(alloc)
+}
+
+/// The words of a call, all of them in order, where the system gives them and there is memory; or the outcome where there are none.
 pub fn collected(alloc: Global, answer: io::Result<Args>) -> Result<Vec<String>, Outcome>
+    ensures words { IfOk answer (λ given. IfOk result (λ words. words.items ≡ into_iter_items given)) }
     ensures refused { IfErr answer (λ error. result ≡ Err (refused_words (error_kind error))) }
     ensures memory { IfOk answer (λ words. IfErr result (λ outcome. outcome ≡ Outcome.Memory)) }
 {
     match answer {
-        Ok(words) => match words.collect(alloc) {
+        Ok(given) => match all_words(alloc, given) {
             Ok(words) => Ok(words),
             Err(_) => Err(Outcome::Memory),
         },
@@ -85,7 +87,9 @@ fn word_fault(fault: AskFault) -> WordFault
     ensures { result ≡ word_fault fault }
 {
     match fault {
-        AskFault::Words => WordFault::Usage(UsageKind::Words),
+        AskFault::Words => WordFault::Usage {
+            kind: UsageKind::Words,
+        },
         AskFault::Memory => WordFault::Memory,
     }
 }
@@ -96,7 +100,7 @@ fn merge_order(alloc: Global, main: &str, out: &str, asked: &Asked<'_>) -> Resul
 {
     let set = set_in(alloc, main, asked)?;
     let link = link_in(asked)?;
-    let out = owned(alloc, out)?;
+    let out = Text::copied(alloc, out)?;
     Ok(Order::Merge { set, link, out })
 }
 
@@ -127,7 +131,9 @@ fn run_words(alloc: Global, words: &[&str], asked: &Asked<'_>) -> Result<Order, 
 {
     match words.split_first() {
         Some((main, args)) => run_order(alloc, main, args, asked),
-        None => Err(WordFault::Usage(UsageKind::Words)),
+        None => Err(WordFault::Usage {
+            kind: UsageKind::Words,
+        }),
     }
 }
 
@@ -141,7 +147,7 @@ fn exec_order(
     ensures { Reads result (exec_order file.now (map (λ x. x.now) args.now) (shown asked.now)) }
 {
     let steps = steps_in(asked)?;
-    let file = owned(alloc, file)?;
+    let file = Text::copied(alloc, file)?;
     let args = owned_all(alloc, args)?;
     Ok(Order::Exec { file, steps, args })
 }
@@ -175,7 +181,9 @@ fn order_by(alloc: Global, command: CommandName, asked: &Asked<'_>) -> Result<Or
         (CommandName::Exec, [file, args @ ..]) => exec_order(alloc, file, args, asked),
         (CommandName::Plan, [main]) => plan_order(alloc, main, asked),
         (CommandName::Gen, [number]) => gen_order(number, asked),
-        _ => Err(WordFault::Usage(UsageKind::Words)),
+        _ => Err(WordFault::Usage {
+            kind: UsageKind::Words,
+        }),
     }
 }
 
@@ -195,13 +203,19 @@ pub fn read_words(alloc: Global, words: &[String]) -> Result<Order, WordFault>
     ensures range { IfOk result IsInRange }
 {
     let Some((_program, rest)) = words.split_first() else {
-        return Err(WordFault::Usage(UsageKind::NoCommand));
+        return Err(WordFault::Usage {
+            kind: UsageKind::NoCommand,
+        });
     };
     let Some((word, _)) = rest.split_first() else {
-        return Err(WordFault::Usage(UsageKind::NoCommand));
+        return Err(WordFault::Usage {
+            kind: UsageKind::NoCommand,
+        });
     };
     let Some(command) = CommandName::of(word.as_str()) else {
-        return Err(WordFault::Usage(UsageKind::UnknownCommand));
+        return Err(WordFault::Usage {
+            kind: UsageKind::UnknownCommand,
+        });
     };
     order_asked(alloc, command, rest)
 }

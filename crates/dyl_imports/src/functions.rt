@@ -1,28 +1,13 @@
 // How many functions a member has.
-ghost use Rattle.std.specs.Prelude.{◌≡◌, ◌≤◌, length, map, IfOk};
-ghost use Rattle.spec_loading.specs.spec_binary.IndexSpaces.{function_space, imports_of, functions_in};
+ghost use Rattle.std.specs.Prelude.{◌≡◌, length, map, IfOk};
+ghost use Rattle.spec_loading.specs.spec_binary.IndexSpaces.{function_space};
 ghost use Rattle.dyl_search.specs.Gathers.{member_of};
 ghost use Rattle.dyl_imports.specs.Weak.{function_counts};
 
 use dyl_search::Member;
 use std::alloc::Global;
-use wasm_check::Checked;
-use wasm_form::{Import, ImportDesc, Memory};
-
-// How many functions are imported.
-fn imported_functions(imports: &[Import]) -> usize
-    ensures count { result ≡ length (imports_of functions_in imports.now) }
-    ensures few { result ≤ length imports.now }
-{
-    let mut count = 0;
-    for import in imports {
-        match import.desc {
-            ImportDesc::Func(_) => count += 1,
-            ImportDesc::Table(_) | ImportDesc::Space(_) | ImportDesc::Global(_) => {}
-        }
-    }
-    count
-}
+use wasm_check::{Checked, imported_functions};
+use wasm_form::Memory;
 
 fn function_count(checked: &Checked) -> usize
     ensures { result ≡ length (function_space checked.now) }

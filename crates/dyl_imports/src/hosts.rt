@@ -1,13 +1,13 @@
 // The host functions that imports name.
-ghost use Rattle.std.specs.Prelude.{◌≡◌, ◌<◌, ◌++◌, ◌∷◌, [], ℕ, map, length, find, slice_get, vec_capacity, IfOk, OnOk, OnErr, None};
-ghost use Rattle.std.specs.List.{position_from, list_any};
+ghost use Rattle.std.specs.Prelude.{◌≡◌, ◌<◌, ◌++◌, ◌∷◌, [], map, length, find, slice_get, vec_capacity, OnOk, OnErr, None};
+ghost use Rattle.std.specs.List.{position_from};
 ghost use Rattle.std.specs.Option.{option_copied, option_map};
-ghost use Rattle.spec_loading.specs.spec_linking.LinkedSets.{is_named, is_same_name};
+ghost use Rattle.spec_loading.specs.spec_linking.LinkedSets.{is_named};
 ghost use Rattle.host_table.specs.Names.{host_name_of};
 ghost use Rattle.host_table.specs.Numbers.{number_of, with_number};
 ghost use Rattle.dyl_imports.specs.Hosts.{with_host};
 
-use crate::copies::{as_number, host_name};
+use crate::numbers::as_number;
 use host_table::{HostName, HostNumbers};
 use std::alloc::Global;
 use std::marker::Model;
@@ -93,7 +93,7 @@ impl Hosts {
         requires new { position_from (is_named from.now name.now) 0 self.old ≡ None }
         ensures { OnOk result (self.new ≡ self.old ++ record { module_name = from.now; name = name.now; ty = ty.now } ∷ []) }
     {
-        let host = host_name(alloc, from, name, ty)?;
+        let host = HostName::new(alloc, from, name, ty)?;
         prepare(alloc, &host, &mut self.list, &mut self.numbers)?;
         match self.list.push(host) {
             Ok(()) => Ok(()),

@@ -2,7 +2,6 @@
 //! WebAssembly tool conventions).
 #![tactic(auto)]
 
-mod copies;
 mod declared;
 mod finding;
 mod forms;
@@ -10,6 +9,7 @@ mod functions;
 mod hosts;
 mod imports;
 mod known;
+mod numbers;
 mod own;
 mod refs;
 mod uses;

@@ -6,7 +6,7 @@ ghost use Rattle.spec_loading.specs.spec_linking.Definitions.{named_in, loader_n
 ghost use Rattle.spec_loading.specs.Members as members;
 ghost use Rattle.dyl_imports.specs.Uses.{use_value, shares_function};
 
-use crate::copies::as_number;
+use crate::numbers::as_number;
 use crate::uses::Use;
 use wasm_form::{Memory, Ref};
 

@@ -1,6 +1,6 @@
 // The functions that the numbers of a member name.
-use crate::copies::as_number;
 use crate::imports::Imports;
+use crate::numbers::as_number;
 use crate::own::{add_own, is_loader_name, shares_function};
 use crate::uses::{Use, use_of};
 use dyl_scope::Def;

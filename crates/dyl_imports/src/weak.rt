@@ -7,13 +7,12 @@ ghost use Rattle.dyl_section.specs.Recorded.{import_note};
 ghost use Rattle.dyl_search.specs.Gathers.{member_of};
 ghost use Rattle.dyl_imports.specs.Weak.{is_weak_entry, AreWeakOf};
 
-use crate::copies::owned;
 use dyl_search::Member;
 use dyl_section::ImportInfo;
 use indexmap::IndexSet;
 use std::alloc::Global;
 use std::marker::Model;
-use wasm_form::Memory;
+use wasm_form::{Memory, owned};
 
 #[derive(Drop)]
 pub struct WeakNames {

@@ -1,10 +1,12 @@
 mod Aligns
 mod Definers
 mod Greatest
-mod Limits
 mod OneMore
-pub mod Tellings
 mod Told
 mod Parts
 mod Findings
+mod OutsideSlots
+pub mod InitialValues
+mod NamedFunctions
 mod Sound
+mod Pages

@@ -26,7 +26,7 @@ use Rattle.dyl_slots.specs.Tables.{AreTables}
 use Rattle.dyl_slots.specs.dyl_search.declared.set.ClosedSet.{ClosedSet}
 use Rattle.dyl_slots.specs.dyl_search.Gathers.{set_of}
 use Rattle.dyl_slots.specs.dyl_scope.Scopes.{AreOf}
-use Rattle.dyl_link.specs.declared.linking.Ready.{Ready}
+use Rattle.dyl_link.specs.declared.link_or_fault.Ready.{Ready}
 use Rattle.dyl_link.specs.Kept.{KeptMember, IsLinked, slot_at, slot_in, loader_slot_in}
 use Rattle.dyl_link.specs.Members.{member_value, slots_value}
 use Rattle.dyl_link.specs.Steps.{AreNamed, AreAllOf, IsFoundOf, kept_with}

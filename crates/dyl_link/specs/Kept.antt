@@ -1,13 +1,15 @@
 -- What is kept of a linked set, and when it is what there is of the set.
-use Rattle.std.specs.Prelude.{◌≡◌, ℕ, ◌+◌, ◌%◌, ◌^◌, ◌<◌, List, length, slice_get, Bool, Option, Some, None}
+use Rattle.std.specs.Prelude.{◌≡◌, ℕ, ◌+◌, ◌%◌, ◌^◌, ◌<◌, List, length, slice_get, unwrap_or, Bool, Option, Some, None}
 use Rattle.wasm_form.specs.declared.runtime.LoaderCall.{LoaderCall}
 use Rattle.wasm_form.specs.declared.runtime.LoaderCall.TheVariants.{Dlopen, Dlsym, Dlclose, Dlerror}
 use Rattle.wasm_form.specs.declared.runtime.Ref.{Ref}
 use Rattle.wasm_form.specs.declared.runtime.Ref.TheVariants.{Own, Loader, Host, Stub}
 use Rattle.spec_loading.specs.spec_binary.Options.{◌>>=◌}
+use Rattle.spec_loading.specs.spec_binary.IndexSpaces.{function_space}
 use Rattle.spec_loading.specs.spec_runtime.Names.{HostName, HostNames}
 use Rattle.spec_loading.specs.spec_linking.Gathering.{IsSet}
 use Rattle.spec_loading.specs.spec_linking.Plans as plans
+use Rattle.spec_loading.specs.spec_linking.Definitions.{imported_globals}
 use Rattle.spec_loading.specs.spec_linking.LinkedSets.{LinkedSet, hosts_of, function_ref}
 use Rattle.spec_loading.specs.spec_linking.Slots.{linked_plan, fresh_of, outside_slots, slot_of, table_entries, table_most, imported_number}
 use Rattle.spec_loading.specs.spec_linking.Links.{Links, set_entry}
@@ -82,6 +84,13 @@ slot_in k (Loader call) = loader_slot_in k.loader_slots call
 slot_in k (Host n) = slot_at k.host_slots n
 slot_in k (Stub m f) = None
 
+-- how many functions a member numbers, and how many globals it imports
+abbrev pub functions_in : Kept → ℕ → ℕ
+functions_in k m = unwrap_or (slice_get k.set.members m >>= λ x. Some (length (function_space x.checked))) 0
+
+abbrev pub imported_globals_in : Kept → ℕ → ℕ
+imported_globals_in k m = unwrap_or (slice_get k.set.members m >>= λ x. Some (imported_globals x.checked)) 0
+
 abbrev pub cell_in : Kept → ℕ → ℕ → Option ℕ
 cell_in k m g = slice_get k.cells m >>= λ values. slot_at values g
 
@@ -115,3 +124,7 @@ pub record IsLinked (L : LinkedSet) (k : Kept) : Type 0 where
   pub table_entries : k.table_entries ≡ table_entries L
   pub table_max : k.table_max ≡ table_most L
   pub uses_loader : k.uses_loader ≡ uses_loader L
+
+-- what is kept is that of a set which links
+abbrev pub IsOfSet : Kept → Type 0
+IsOfSet k = (L : LinkedSet) × IsLinked L k

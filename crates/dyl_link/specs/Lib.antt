@@ -4,6 +4,7 @@ pub mod Members
 pub mod Bounds
 pub mod Duplicates
 pub mod Faults
+pub mod Laws
 pub mod Limits
 pub mod Steps
 pub use Rattle.dyl_slots.specs.dyl_imports as dyl_imports

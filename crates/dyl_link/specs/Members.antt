@@ -5,8 +5,8 @@ use Rattle.spec_loading.specs.spec_execution.Views.{loader_type}
 use Rattle.dyl_slots.specs.host_table.Names.{host_name_of}
 use Rattle.dyl_slots.specs.declared.tables.LoaderSlots as code
 use Rattle.dyl_slots.specs.declared.tables.MemberSlots.{MemberSlots}
-use Rattle.dyl_link.specs.declared.linked.Parts.{Parts}
-use Rattle.dyl_link.specs.declared.linked.LoaderTypes.{LoaderTypes}
+use Rattle.dyl_link.specs.declared.linked_set.Parts.{Parts}
+use Rattle.dyl_link.specs.declared.linked_set.LoaderTypes.{LoaderTypes}
 use Rattle.dyl_link.specs.Kept.{KeptMember, LoaderSlots, Kept}
 
 abbrev pub member_value : MemberSlots → KeptMember

@@ -18,9 +18,9 @@ use Rattle.dyl_slots.specs.declared.tables.Tables.{Tables}
 use Rattle.dyl_slots.specs.Given.{AllAt}
 use Rattle.dyl_slots.specs.Tables.{AreTables}
 use Rattle.dyl_link.specs.declared.options.LinkOptions.{LinkOptions}
-use Rattle.dyl_link.specs.declared.placed.Placed.{Placed}
-use Rattle.dyl_link.specs.declared.found.Found.{Found}
-use Rattle.dyl_link.specs.declared.linking.Ready.{Ready}
+use Rattle.dyl_link.specs.declared.layout.Placed.{Placed}
+use Rattle.dyl_link.specs.declared.entry_and_layout.Found.{Found}
+use Rattle.dyl_link.specs.declared.link_or_fault.Ready.{Ready}
 use Rattle.dyl_link.specs.Kept.{options_of, Kept}
 use Rattle.dyl_link.specs.Members.{member_value, slots_value}
 

@@ -1,5 +1,4 @@
 // The faults of cells.
-ghost use Rattle.std.specs.Prelude.{◌≡◌};
 ghost use Rattle.spec_loading.specs.spec_linking.Links as links;
 ghost use Rattle.dyl_slots.specs.dyl_scope.Scopes.{meaning_of};
 ghost use Rattle.dyl_link.specs.Answers.{Tells};

@@ -10,12 +10,11 @@ ghost use Rattle.dyl_slots.specs.dyl_scope.Scopes.{AreOf, meaning_of};
 ghost use Rattle.dyl_link.specs.Answers.{Tells};
 ghost use Rattle.dyl_link.specs.Duplicates.{member_in, duplicate_by};
 
-use dyl_slots::dyl_names::named;
 use dyl_slots::dyl_scope::{Def, Symbols};
 use dyl_slots::dyl_search::Member;
 use spec_loading::spec_linking::LinkFault;
 use std::alloc::Global;
-use wasm_form::{Export, Memory};
+use wasm_form::{Export, Memory, Text};
 
 // The member that a definition is of.
 fn member_in(found: Def) -> Option<u32>
@@ -50,7 +49,7 @@ fn duplicate(
     }
     match definer(symbols, earlier, name) {
         Some(first) => {
-            let name = named(alloc, name)?;
+            let name = Text::copied(alloc, name)?;
             Err(LinkFault::Duplicate {
                 name,
                 first,

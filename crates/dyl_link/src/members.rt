@@ -13,12 +13,11 @@ ghost use Rattle.dyl_link.specs.Faults.{before_imports};
 use crate::imports::import_faults;
 use crate::own::loader_call;
 use dyl_slots::dyl_imports::Imports;
-use dyl_slots::dyl_names::named;
 use dyl_slots::dyl_search::Member;
 use dyl_slots::dyl_section::ExportInfo;
 use spec_loading::spec_linking::LinkFault;
 use std::alloc::Global;
-use wasm_form::Limits;
+use wasm_form::{Limits, Text};
 
 pub(crate) fn own_memory(m: u32, memories: &[Limits]) -> Result<(), LinkFault>
     ensures { Tells result (links.unless (nat_eq (length memories.now) 0) (faults.OwnMemory m)) }
@@ -34,7 +33,7 @@ fn tls_fault(alloc: Global, m: u32, e: &ExportInfo) -> Result<(), LinkFault>
     ensures { Tells result (links.tls_fault m (export_note e.now)) }
 {
     if e.flags / 256 % 2 == 1 {
-        let name = named(alloc, e.name.as_str())?;
+        let name = Text::copied(alloc, e.name.as_str())?;
         return Err(LinkFault::TlsExport { module: m, name });
     }
     Ok(())

@@ -1,7 +1,6 @@
 // The sizes that a set asks for.
-ghost use Rattle.std.specs.Prelude.{◌≡◌, ◌≤◌, map, IfOk, All};
+ghost use Rattle.std.specs.Prelude.{◌≡◌, ◌≤◌, map, IfOk};
 ghost use Rattle.std.specs.List.{flat_map};
-ghost use Rattle.spec_loading.specs.spec_linking.Gathering.{IsSet};
 ghost use Rattle.spec_loading.specs.spec_linking.Plans as plans;
 ghost use Rattle.dyl_slots.specs.dyl_section.Recorded.{record_of};
 ghost use Rattle.dyl_slots.specs.dyl_search.Gathers.{set_of, member_of};

@@ -1,21 +1,12 @@
 // What is found wrong with a name, as an answer.
-ghost use Rattle.std.specs.Prelude.{◌≡◌, Some, IfOk};
+ghost use Rattle.std.specs.Prelude.{Some};
 ghost use Rattle.spec_linking.specs.Links as links;
 ghost use Rattle.spec_linking.specs.declared.fault.LinkFault.TheVariants as faults;
 ghost use Rattle.dyl_names.specs.Findings.{Tells};
 
-use spec_linking::wasm_form::{Memory, Text};
+use spec_linking::wasm_form::Text;
 use spec_linking::{Kind, LinkFault};
 use std::alloc::Global;
-
-/// A text of its own. `Memory` where no memory could be had.
-pub fn named(alloc: Global, name: &str) -> Result<Text, Memory>
-    ensures { IfOk result (λ t. t ≡ name.now) }
-{
-    let mut copy = String::new(alloc);
-    copy.push_str(name)?;
-    Ok(Text::of(copy))
-}
 
 /// That what a member imports under a name has the form or type that it must have, where this holds; or else the fault `IllTyped`.
 pub fn ill_typed(
@@ -30,7 +21,7 @@ pub fn ill_typed(
     if holds {
         return Ok(());
     }
-    let name = named(alloc, name)?;
+    let name = Text::copied(alloc, name)?;
     Err(LinkFault::IllTyped {
         module: m,
         kind,
@@ -42,7 +33,7 @@ pub fn ill_typed(
 pub fn unresolved(alloc: Global, m: u32, kind: Kind, name: &str) -> Result<(), LinkFault>
     ensures { Tells result (Some (faults.Unresolved m kind name.now)) }
 {
-    let name = named(alloc, name)?;
+    let name = Text::copied(alloc, name)?;
     Err(LinkFault::Unresolved {
         module: m,
         kind,

@@ -10,7 +10,7 @@ mod numbers;
 mod symbol;
 
 pub use def::Def;
-pub use findings::{ill_typed, named, unresolved};
+pub use findings::{ill_typed, unresolved};
 pub use first::{by_first, by_member};
 pub use names::Names;
 pub use numbers::{DistinctNumbers, distinct};

@@ -6,7 +6,7 @@ ghost use Rattle.dyl_names.specs.Names.{symbol_value, maybe_symbol, with_symbol,
 
 use crate::symbol::{Definition, Symbol};
 use indexmap::IndexMap;
-use spec_linking::wasm_form::Memory;
+use spec_linking::wasm_form::{Memory, owned};
 use std::alloc::Global;
 use std::marker::Model;
 
@@ -58,8 +58,7 @@ impl Names {
         ensures ok { OnOk result (self.new ≡ with_symbol name.now (symbol_value symbol) self.old) }
         ensures err { OnErr result (self.new ≡ self.old) }
     {
-        let mut key = String::new(alloc);
-        key.push_str(name)?;
+        let key = owned(alloc, name)?;
         self.symbols.insert(key, symbol)?;
         Ok(())
     }

@@ -1,5 +1,5 @@
 // Lists of numbers in which each stands once.
-ghost use Rattle.std.specs.Prelude.{◌≡◌, ℕ, [], false, IfOk, OnOk, length, slice_get, slice_index_or};
+ghost use Rattle.std.specs.Prelude.{◌≡◌, ℕ, [], false, IfOk, OnOk, OnErr, slice_get, slice_index_or};
 ghost use Rattle.spec_linking.specs.Orders.{is_among, with_number, with_numbers};
 
 use spec_linking::wasm_form::{List, Memory};
@@ -67,7 +67,8 @@ impl DistinctNumbers {
     // Adds a number that isn't there.
     fn push(&mut self, n: u32) -> Result<(), Memory>
         requires new { is_among n self.old ≡ false }
-        ensures { OnOk result (self.new ≡ with_number self.old n) }
+        ensures added { OnOk result (self.new ≡ with_number self.old n) }
+        ensures same { OnErr result (self.new ≡ self.old) }
     {
         self.list.push(n)?;
         if (n as usize) < self.marks.len() {
@@ -76,9 +77,10 @@ impl DistinctNumbers {
         Ok(())
     }
 
-    /// Adds a number as the last one, unless it is there.
-    pub fn add(&mut self, n: u32) -> Result<(), Memory>
-        ensures { OnOk result (self.new ≡ with_number self.old n) }
+    /// Adds a number as the last one, unless it is there. At want of memory nothing is changed.
+    pub fn add(&mut self, _alloc: Global, n: u32) -> Result<(), Memory>
+        ensures added { OnOk result (self.new ≡ with_number self.old n) }
+        ensures same { OnErr result (self.new ≡ self.old) }
     {
         if self.contains(n) {
             return Ok(());
@@ -87,11 +89,11 @@ impl DistinctNumbers {
     }
 
     /// Adds those numbers that aren't there. `Memory` where no memory could be had.
-    pub fn add_all(&mut self, numbers: &[u32]) -> Result<(), Memory>
+    pub fn add_all(&mut self, alloc: Global, numbers: &[u32]) -> Result<(), Memory>
         ensures { OnOk result (self.new ≡ with_numbers self.old numbers.now) }
     {
         for n in numbers {
-            self.add(*n)?;
+            self.add(alloc, *n)?;
         }
         Ok(())
     }
@@ -116,6 +118,6 @@ pub fn distinct(alloc: Global, numbers: &[u32]) -> Result<List<u32>, Memory>
     ensures { IfOk result (λ l. l ≡ with_numbers [] numbers.now) }
 {
     let mut known = DistinctNumbers::new(alloc, 256)?;
-    known.add_all(numbers)?;
+    known.add_all(alloc, numbers)?;
     Ok(known.into_list())
 }

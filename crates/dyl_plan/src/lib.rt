@@ -7,3 +7,4 @@ mod region;
 
 pub use plan::{Plan, place};
 pub use region::{Region, Sizes};
+pub use spec_linking::PlanFault;

@@ -1,5 +1,5 @@
 // Plans.
-ghost use Rattle.std.specs.Prelude.{◌≡◌, ◌≤◌, ◌<◌, ◌^◌, length, map, slice_get, Some, IfOk, All};
+ghost use Rattle.std.specs.Prelude.{◌≡◌, ◌≤◌, ◌<◌, length, map, slice_get, Some, IfOk, All};
 ghost use Rattle.spec_linking.specs.Plans as plans;
 ghost use Rattle.dyl_plan.specs.Regions.{region_of, asked, HasAligns, TellsFault, ends_in, ends_fault};
 

@@ -1,9 +1,10 @@
 -- The definition of a name, by what is kept of a set.
-use Rattle.std.specs.Prelude.{◌≡◌, ℕ, ◌<◌, unwrap_or, List, [], ◌∷◌, length, map, Bool, Option, slice_get}
+use Rattle.std.specs.Prelude.{◌≡◌, ℕ, ◌<◌, unwrap_or, List, [], length, map, Bool, Option, None, slice_get, All}
 use Rattle.std.specs.Map.{lookup}
 use Rattle.std.specs.Str.{bytes_eq}
 use Rattle.wasm_form.specs.declared.module.Module.{Module}
 use Rattle.spec_linking.specs.spec_binary.Options.{◌>>=◌}
+use Rattle.spec_linking.specs.spec_validation.Faults.{fault}
 use Rattle.spec_linking.specs.Sets.{Member, ClosedSet}
 use Rattle.spec_linking.specs.Orders.{closure, post_order, with_numbers}
 use Rattle.spec_linking.specs.Definitions as defined
@@ -25,6 +26,18 @@ told_of m = told_by m.wasm m.needed
 
 abbrev pub told_value : declared.Told → Told
 told_value t = record { definitions = map definition_value t.definitions; needed = t.needed }
+
+-- the module of a member has no fault
+abbrev pub IsValid : Member → Type 0
+IsValid m = fault m.wasm ≡ None
+
+-- This was told of the members of a set, in order: of each its module, which has no fault, and the members that it needs. The startup list
+-- is the closure of the first member. Whatever is told of modules without a fault is told so of a set.
+pub record IsTold (S : ClosedSet) (told : List Told) : Type 0 where
+  pub members : told ≡ map told_of S.members
+  pub valid : All IsValid S.members
+  pub startup : S.startup ≡ closure S 0
+  pub some : 0 < length S.members
 
 -- ---- what is kept of a set: the names that each member defines, its closure and its post-order
 

@@ -1,7 +1,6 @@
 // The members that define a name, by the names of all members.
 ghost use Rattle.std.specs.Prelude.{◌≡◌, ◌≤◌, ◌∷◌, [], length, map, None, IfOk, OnOk};
 ghost use Rattle.std.specs.Map.{lookup};
-ghost use Rattle.std.specs.Option.{option_copied};
 ghost use Rattle.std.specs.Str.{bytes_eq};
 ghost use Rattle.dyl_scope.specs.Names.{definition_value};
 ghost use Rattle.dyl_scope.specs.Kept.{names_by};
@@ -33,7 +32,7 @@ fn one(alloc: Global, m: u32) -> Result<DistinctNumbers, Memory>
     ensures { IfOk result (λ members. members ≡ m ∷ []) }
 {
     let mut members = DistinctNumbers::new(alloc, 0)?;
-    members.add(m)?;
+    members.add(alloc, m)?;
     Ok(members)
 }
 
@@ -62,7 +61,7 @@ impl Definers {
         ensures { OnOk result (self.new ≡ with_definer name.now m self.old) }
     {
         match self.members.get_mut(name) {
-            Some(members) => members.add(m),
+            Some(members) => members.add(alloc, m),
             None => self.add_name(alloc, name, m),
         }
     }

@@ -1,7 +1,7 @@
 // The names that the exports of a module define.
 ghost use Rattle.std.specs.Prelude.{◌≡◌, ◌<◌, ◌++◌, map, ◌^◌, length, IsTrue, IfOk, OnOk};
 ghost use Rattle.std.specs.List.{list_all};
-ghost use Rattle.spec_linking.specs.spec_binary.IndexSpaces.{imports_of, imported_count, functions_in, globals_in};
+ghost use Rattle.spec_linking.specs.spec_binary.IndexSpaces.{imports_of, imported_count, globals_in};
 ghost use Rattle.spec_linking.specs.spec_validation.Faults.{global_fits};
 ghost use Rattle.spec_linking.specs.Definitions as defined;
 ghost use Rattle.dyl_scope.specs.Names.{maybe_symbol, symbol_value, definition_value, defined_as, defined_in, data_at, own_data, Counts};
@@ -9,22 +9,8 @@ ghost use Rattle.dyl_scope.specs.Names.{maybe_symbol, symbol_value, definition_v
 use crate::globals::data_symbol;
 use dyl_names::{Definition, Symbol};
 use std::alloc::Global;
+use wasm_check::imported_functions;
 use wasm_form::{Export, ExportDesc, Import, ImportDesc, Memory, Module, Text};
-
-/// How many functions are imported.
-pub fn imported_functions(imports: &[Import]) -> u32
-    requires { length imports.now < 2 ^ 32 }
-    ensures { result ≡ length (imports_of functions_in imports.now) }
-{
-    let mut count = 0;
-    for import in imports {
-        match import.desc {
-            ImportDesc::Func(_) => count += 1,
-            ImportDesc::Table(_) | ImportDesc::Space(_) | ImportDesc::Global(_) => {}
-        }
-    }
-    count
-}
 
 fn imported_globals(imports: &[Import]) -> u32
     requires { length imports.now < 2 ^ 32 }
@@ -57,20 +43,20 @@ pub fn is_reserved(name: &str) -> bool
 // How many functions and globals are imported.
 #[derive(Clone, Copy)]
 pub(crate) struct Imported {
-    functions: u32,
+    functions: usize,
     globals: u32,
 }
 
 /// A function, if it is one of the module's own, where so many are imported.
-pub fn own_function(m: &Module, imported: u32, f: u32) -> Option<u32>
+pub fn own_function(m: &Module, imported: usize, f: u32) -> Option<u32>
     requires counted { imported ≡ imported_count m.now }
     ensures { result ≡ defined.own_only m.now f }
 {
-    if f < imported {
+    let place = f as usize;
+    if place < imported {
         return None;
     }
-    let place = (f - imported) as usize;
-    if place < m.funcs.items().len() {
+    if place - imported < m.funcs.items().len() {
         Some(f)
     } else {
         None
@@ -129,12 +115,8 @@ fn export_symbol(m: &Module, imported: Imported, e: &Export) -> Option<Symbol>
 fn definition(alloc: Global, name: &str, symbol: Symbol) -> Result<Definition, Memory>
     ensures { IfOk result (λ d. definition_value d ≡ (name.now, symbol_value symbol)) }
 {
-    let mut copy = String::new(alloc);
-    copy.push_str(name)?;
-    Ok(Definition {
-        name: Text::of(copy),
-        symbol,
-    })
+    let name = Text::copied(alloc, name)?;
+    Ok(Definition { name, symbol })
 }
 
 fn define_export(

@@ -11,6 +11,6 @@ mod search;
 mod symbols;
 
 pub use dyl_names::{Def, DistinctNumbers};
-pub use exports::{imported_functions, is_reserved, own_function};
+pub use exports::{is_reserved, own_function};
 pub use maker::Maker;
 pub use symbols::Symbols;

@@ -2,10 +2,8 @@
 ghost use Rattle.std.specs.Prelude.{◌≡◌, ◌<◌, ◌≤◌, ◌++◌, ◌∷◌, [], length, map, IfOk, OnOk, OnErr};
 ghost use Rattle.std.specs.List.{range_with_len};
 ghost use Rattle.spec_linking.specs.Sets.{ClosedSet};
-ghost use Rattle.spec_linking.specs.Gathering.{IsSet};
-ghost use Rattle.dyl_scope.specs.Names.{with_all, definition_value};
 ghost use Rattle.dyl_scope.specs.Orders.{needed_in, closure_by, post_order_by};
-ghost use Rattle.dyl_scope.specs.Scopes.{AreOf, told_by, told_of, told_value};
+ghost use Rattle.dyl_scope.specs.Scopes.{AreOf, IsTold, told_by, told_value};
 ghost use Rattle.dyl_scope.specs.Kept.{names_by, kept_of};
 
 use crate::definers::definers_of;
@@ -120,10 +118,11 @@ impl Maker {
         Ok(())
     }
 
-    /// The names and the orders of the members. Where these were told of each member of a set, they are those of the set.
+    /// The names and the orders of the members: those of any set of which this was told, be it one that files give or not. `Memory` where
+    /// no memory could be had.
     pub fn finish(&self, alloc: Global) -> Result<Symbols, Memory>
         ensures count { IfOk result (λ symbols. length symbols.names ≡ length self.now) }
-        ensures exact { IfOk result (λ symbols. (S : ClosedSet) → IsSet S → self.now ≡ map told_of S.members → AreOf S symbols) }
+        ensures exact { IfOk result (λ symbols. (S : ClosedSet) → IsTold S self.now → AreOf S symbols) }
     {
         let symbols = kept(alloc, self.members.as_slice())?;
         Ok(symbols)

@@ -1,5 +1,5 @@
 // The orders in which members are gone through.
-ghost use Rattle.std.specs.Prelude.{◌≡◌, ◌∷◌, [], IfOk, OnOk, length, slice_get};
+ghost use Rattle.std.specs.Prelude.{◌≡◌, [], IfOk, OnOk, length, slice_get};
 ghost use Rattle.spec_linking.specs.Orders.{with_numbers};
 ghost use Rattle.dyl_scope.specs.Orders.{needed_in, needed_at, closure_by, walk_by, walk_value, post_order_by};
 
@@ -19,11 +19,16 @@ fn needed_in(members: &[Told], m: u32) -> &[u32]
 }
 
 // Adds what the known member at a place needs.
-fn add_needed(members: &[Told], known: &mut DistinctNumbers, k: usize) -> Result<(), Memory>
+fn add_needed(
+    alloc: Global,
+    members: &[Told],
+    known: &mut DistinctNumbers,
+    k: usize,
+) -> Result<(), Memory>
     ensures { OnOk result (known.new ≡ with_numbers known.old (needed_at (needed_in members.now) (slice_get known.old k))) }
 {
     match known.get(k) {
-        Some(m) => known.add_all(needed_in(members, m)),
+        Some(m) => known.add_all(alloc, needed_in(members, m)),
         None => Ok(()),
     }
 }
@@ -33,9 +38,9 @@ pub(crate) fn closure_of(alloc: Global, members: &[Told], m: u32) -> Result<Dist
     ensures { IfOk result (λ l. l ≡ closure_by (needed_in members.now) (length members.now) m) }
 {
     let mut known = DistinctNumbers::new(alloc, members.len())?;
-    known.add(m)?;
+    known.add(alloc, m)?;
     for k in 0..members.len() {
-        add_needed(members, &mut known, k)?;
+        add_needed(alloc, members, &mut known, k)?;
     }
     Ok(known)
 }
@@ -48,15 +53,21 @@ pub(crate) struct Walk {
 }
 
 // Goes through the members from m on in depth-first post-order.
-fn go_through(members: &[Told], depth: usize, m: u32, w: &mut Walk) -> Result<(), Memory>
+fn go_through(
+    alloc: Global,
+    members: &[Told],
+    depth: usize,
+    m: u32,
+    w: &mut Walk,
+) -> Result<(), Memory>
     ensures { OnOk result (walk_value w.new ≡ walk_by (needed_in members.now) depth m (walk_value w.old)) }
 {
     if depth == 0 || w.entered.contains(m) {
         return Ok(());
     }
-    w.entered.add(m)?;
+    w.entered.add(alloc, m)?;
     for k in needed_in(members, m) {
-        go_through(members, depth - 1, *k, w)?;
+        go_through(alloc, members, depth - 1, *k, w)?;
     }
     w.left.push(m)?;
     Ok(())
@@ -71,6 +82,6 @@ pub(crate) fn post_order_of(alloc: Global, members: &[Told], m: u32) -> Result<L
         entered,
         left: Vec::new(alloc),
     };
-    go_through(members, members.len(), m, &mut w)?;
+    go_through(alloc, members, members.len(), m, &mut w)?;
     Ok(List::of(w.left))
 }

@@ -10,3 +10,4 @@ mod GatheredSet
 mod Closures
 mod Whole
 mod Only
+mod GivesOne

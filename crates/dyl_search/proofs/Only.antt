@@ -12,7 +12,7 @@ use Rattle.spec_linking.specs.Laws.{OneAnswer, OneRecord, OneGathered}
 use Rattle.dyl_search.specs.declared.set.ClosedSet.{ClosedSet}
 use Rattle.dyl_search.specs.Gathers.{set_of, GathersFrom, OnlyGathers}
 
-one_answer : ReadingAnswers → OneAnswer
+pub one_answer : ReadingAnswers → OneAnswer
 one_answer law bytes one other a b = (law bytes).1 one a ∙ sym ((law bytes).1 other b)
 
 only_in : ReadingAnswers → OneRecord → OneGathered → (files : Files) (o : sets.SetOptions) (r : Result ClosedSet SetFault) → GathersFrom files o r → OnlyGathers files o r

@@ -8,13 +8,12 @@ ghost use Rattle.std.specs.Option.{option_copied};
 ghost use Rattle.dyl_search.specs.Expanded.{expanded_from};
 ghost use Rattle.dyl_search.specs.Found.{Finds, Leaves};
 
-use crate::copies::owned;
 use crate::paths::{beside, file_in, has_slash_in};
 use crate::set::{Member, SetOptions};
 use dyl_outside::{FileFault, Files};
 use spec_linking::SetFault;
 use std::alloc::Global;
-use wasm_form::Text;
+use wasm_form::{Text, owned};
 
 // A file: its path and its bytes.
 #[derive(Drop)]

@@ -3,11 +3,20 @@ ghost use Rattle.std.specs.Prelude.{◌≡◌, ◌∷◌, [], None, ℕ, ◌<◌
 ghost use Rattle.std.specs.Option.{option_map};
 ghost use Rattle.spec_linking.specs.Wanted.{Wanted, is_named, number_of, with_name, with_one_of};
 
-use crate::copies::{as_number, owned};
 use indexmap::IndexMap;
 use std::alloc::Global;
 use std::marker::Model;
-use wasm_form::{Memory, Text};
+use wasm_form::{Memory, Text, owned};
+
+// A number of 32 bits. There is no memory for more names than such numbers.
+fn as_number(n: usize) -> Result<u32, Memory>
+    ensures { IfOk result (λ k. k ≡ n) }
+{
+    match u32::try_from(n) {
+        Ok(k) => Ok(k),
+        Err(_) => Err(Memory),
+    }
+}
 
 // The names that have numbers, in the order of these, each with the number of the member that first needs it.
 #[derive(Drop)]

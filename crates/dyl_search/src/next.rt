@@ -9,14 +9,13 @@ ghost use Rattle.dyl_search.specs.Found.{Finds, Leaves};
 ghost use Rattle.dyl_search.specs.Gathers.{options_of, member_of, Stands, IsNextFile, Stops, OrMissing, IsSearchFault};
 ghost use Rattle.spec_linking.specs.declared.fault.SetFault.TheVariants as faults;
 
-use crate::copies::owned;
 use crate::find::{Found, find_at, find_needed};
 use crate::progress::Progress;
 use crate::set::{Member, SetOptions};
 use dyl_outside::Files;
 use spec_linking::SetFault;
 use std::alloc::Global;
-use wasm_form::Text;
+use wasm_form::{Text, owned};
 
 /// The most bytes of the files of a set.
 pub const MOST_BYTES: usize = 16_777_216;

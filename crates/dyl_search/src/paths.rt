@@ -17,7 +17,7 @@ pub fn has_slash_in(name: &str) -> bool
     name.as_bytes().contains(&b'/')
 }
 
-// What stands after the last slash of a path.
+/// The name that a path gives a main module: what stands after its last slash.
 pub fn name_of(path: &str) -> &str
     ensures { result.now ≡ main_name path.now }
 {

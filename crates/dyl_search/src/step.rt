@@ -9,7 +9,6 @@ ghost use Rattle.dyl_search.specs.Gathers.{options_of, members_of, Stands, IsNex
 ghost use Rattle.dyl_search.specs.Steps.{AreNamed, IsMade};
 ghost use Rattle.spec_linking.specs.declared.fault.SetFault.TheVariants as faults;
 
-use crate::copies::owned;
 use crate::find::Found;
 use crate::load::{Loaded, load};
 use crate::names::Names;
@@ -20,7 +19,7 @@ use dyl_outside::Files;
 use dyl_section::Dylink;
 use spec_linking::SetFault;
 use std::alloc::Global;
-use wasm_form::{List as Listing, Memory, Text};
+use wasm_form::{List as Listing, Memory, Text, owned};
 
 // The numbers of the names that a member needs, of which those without a number get the next ones.
 fn number_names(

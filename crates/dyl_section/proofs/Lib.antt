@@ -7,6 +7,7 @@ pub mod Readings
 pub mod RecordLaws
 pub mod Loop
 pub mod RecordRead
+pub mod SomeRecord
 pub mod Found
 pub mod Shortest
 pub mod Subsections

@@ -19,7 +19,7 @@ broken_is {bytes} b =
       greatest = λ other k. b.greatest other (record { front = k.front; rest = k.rest; parts = k.parts; said = k.said; spelled = k.spelled });
     }
 
-broken_answer : (m : Module) (bytes : List ℕ) (subsection : ℕ) → HasSection m bytes → subsections_at (length bytes) 0 nothing_said bytes ≡ Err subsection
+pub broken_answer : (m : Module) (bytes : List ℕ) (subsection : ℕ) → HasSection m bytes → subsections_at (length bytes) 0 nothing_said bytes ≡ Err subsection
     → RecordAnswer m (Err (faults.BadDylink subsection))
 broken_answer m bytes subsection section e =
     let fuel : length bytes ≤ length bytes = omega arith in

@@ -9,6 +9,10 @@ use Rattle.spec_linking.specs.declared.fault.RecordFault.{RecordFault}
 abbrev pub OneRecordAnswer : Type 0
 OneRecordAnswer = (m : Module) (one other : Result DylinkRecord RecordFault) → RecordAnswer m one → RecordAnswer m other → one ≡ other
 
+-- there is something to say of it, whatever the module is
+abbrev pub SomeRecordAnswer : Type 0
+SomeRecordAnswer = (m : Module) → (answer : Result DylinkRecord RecordFault) × RecordAnswer m answer
+
 -- a module whose first custom section is `dylink.0`, stands first, and holds bytes that say something has that record
 abbrev pub WrittenIsRecorded : Type 0
 WrittenIsRecorded =

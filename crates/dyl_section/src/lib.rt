@@ -9,7 +9,7 @@ mod record;
 mod said;
 mod write;
 
-pub use laws::{one_record_answer, written_is_recorded};
+pub use laws::{one_record_answer, some_record_answer, written_is_recorded};
 pub use read::read_dylink;
 pub use record::{Dylink, ExportInfo, ImportInfo};
 pub use spec_linking::RecordFault;

@@ -41,7 +41,7 @@ one_type _ _ e = absurd cc
 
 -- ---- what stands for a function is a function
 
-abbrev IsFitting : Import → ImportUse → Type 0
+abbrev pub IsFitting : Import → ImportUse → Type 0
 IsFitting i (EnvFunction t) = i.desc ≡ imported.Func t
 IsFitting i (ModuleFunction t) = i.desc ≡ imported.Func t
 IsFitting i _ = Unit {0}
@@ -57,7 +57,7 @@ chosen : (i : Import) (b : Bool) (u v : ImportUse) → IsFitting i u → IsFitti
 chosen i true u v h k = h
 chosen i false u v h k = k
 
-use_fits : (i : Import) → IsFitting i (use_of i)
+pub use_fits : (i : Import) → IsFitting i (use_of i)
 use_fits i =
     chosen i (is_import env_name (codes "memory") i) SharedMemory _ tt (
     chosen i (is_import env_name (codes "__indirect_function_table") i) SharedTable _ tt (

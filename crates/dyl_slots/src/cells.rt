@@ -1,5 +1,5 @@
 // The initial values of imported globals.
-ghost use Rattle.std.specs.Prelude.{◌≡◌, ℕ, ◌+◌, ◌*◌, ◌++◌, ◌<◌, ◌≤◌, ◌^◌, ◌%◌, length, map, slice_get, Some, None, IfOk, OnOk};
+ghost use Rattle.std.specs.Prelude.{◌≡◌, ◌+◌, ◌*◌, ◌++◌, ◌<◌, ◌≤◌, length, map, Some, None, IfOk, OnOk};
 ghost use Rattle.spec_loading.specs.spec_linking.Definitions as definitions;
 ghost use Rattle.spec_loading.specs.spec_linking.LinkedSets.{LinkedSet, definition};
 ghost use Rattle.spec_loading.specs.spec_linking.Slots as slots;

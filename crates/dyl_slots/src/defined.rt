@@ -1,24 +1,23 @@
 // The functions that a member defines under names.
-ghost use Rattle.std.specs.Prelude.{◌≡◌, ◌+◌, ◌<◌, ◌^◌, [], length, None, Some, IfOk, OnOk};
-ghost use Rattle.spec_loading.specs.spec_binary.IndexSpaces.{imports_of, imported_count, functions_in, function_space};
+ghost use Rattle.std.specs.Prelude.{◌≡◌, ◌+◌, length, None, Some, IfOk, OnOk};
+ghost use Rattle.spec_loading.specs.spec_binary.IndexSpaces.{imported_count, function_space};
 ghost use Rattle.spec_loading.specs.spec_linking.Definitions as defined;
 ghost use Rattle.spec_loading.specs.spec_linking.Slots.{with_function, defined_functions};
 
-use dyl_imports::dyl_scope::{DistinctNumbers, imported_functions, is_reserved, own_function};
+use dyl_imports::dyl_scope::{DistinctNumbers, is_reserved, own_function};
+use dyl_imports::wasm_check::imported_functions;
 use std::alloc::Global;
 use wasm_form::{Export, ExportDesc, Memory, Module};
 
 // How many functions there are.
 pub(crate) fn functions_count(m: &Module) -> usize
-    requires imports { length m.now.imports < 2 ^ 32 }
-    requires functions { length m.now.funcs < 2 ^ 32 }
     ensures { result ≡ length (function_space m.now) }
 {
-    imported_functions(m.imports.items()) as usize + m.funcs.items().len()
+    imported_functions(m.imports.items()) + m.funcs.items().len()
 }
 
 // The function of the module's own that an export defines its name as.
-fn defined_function(m: &Module, imported: u32, e: &Export) -> Option<u32>
+fn defined_function(m: &Module, imported: usize, e: &Export) -> Option<u32>
     requires counted { imported ≡ imported_count m.now }
     ensures { result ≡ defined.defined_function m.now e.now }
 {
@@ -31,11 +30,11 @@ fn defined_function(m: &Module, imported: u32, e: &Export) -> Option<u32>
     }
 }
 
-fn define(known: &mut DistinctNumbers, f: Option<u32>) -> Result<(), Memory>
+fn define(alloc: Global, known: &mut DistinctNumbers, f: Option<u32>) -> Result<(), Memory>
     ensures { OnOk result (known.new ≡ with_function known.old f) }
 {
     match f {
-        Some(f) => known.add(f),
+        Some(f) => known.add(alloc, f),
         None => Ok(()),
     }
 }
@@ -46,13 +45,12 @@ pub(crate) fn defined_functions(
     m: &Module,
     count: usize,
 ) -> Result<DistinctNumbers, Memory>
-    requires { length m.now.imports < 2 ^ 32 }
     ensures { IfOk result (λ known. known ≡ defined_functions m.now) }
 {
     let imported = imported_functions(m.imports.items());
     let mut known = DistinctNumbers::new(alloc, count)?;
     for e in m.exports.items() {
-        define(&mut known, defined_function(m, imported, e))?;
+        define(alloc, &mut known, defined_function(m, imported, e))?;
     }
     Ok(known)
 }

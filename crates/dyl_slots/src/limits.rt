@@ -1,5 +1,5 @@
 // The entries of the table.
-ghost use Rattle.std.specs.Prelude.{◌≡◌, ◌+◌, ◌≤◌, ◌<◌, ◌^◌, map, length, min};
+ghost use Rattle.std.specs.Prelude.{◌≡◌, map, min};
 ghost use Rattle.std.specs.List.{flat_map};
 ghost use Rattle.spec_loading.specs.spec_linking.Plans.{least_of, maxima, table_limits, limits_in};
 ghost use Rattle.dyl_imports.specs.dyl_search.Gathers.{member_of};

@@ -3,7 +3,7 @@ ghost use Rattle.std.specs.Prelude.{◌≡◌, ◌+◌, ◌++◌, ◌<◌, ◌^�
 ghost use Rattle.std.specs.List.{list_any, position_from};
 ghost use Rattle.wasm_form.specs.declared.runtime.Ref.TheVariants as refs;
 ghost use Rattle.spec_loading.specs.spec_linking.Slots.{same_call, same_ref};
-ghost use Rattle.dyl_slots.specs.Outside.{calls_in, call_in, hosts_in, with_host_in, outside_in};
+ghost use Rattle.dyl_slots.specs.Outside.{calls_in, call_in, hosts_in, with_host_in};
 
 use dyl_imports::dyl_scope::DistinctNumbers;
 use std::alloc::Global;
@@ -50,11 +50,11 @@ fn calls_in(alloc: Global, list: &[Ref]) -> Result<Vec<LoaderCall>, Memory>
     Ok(calls)
 }
 
-fn add_host(hosts: &mut DistinctNumbers, r: Ref) -> Result<(), Memory>
+fn add_host(alloc: Global, hosts: &mut DistinctNumbers, r: Ref) -> Result<(), Memory>
     ensures { OnOk result (hosts.new ≡ with_host_in hosts.old r) }
 {
     match r {
-        Ref::Host(n) => hosts.add(n),
+        Ref::Host(n) => hosts.add(alloc, n),
         Ref::Own { .. } | Ref::Loader(_) | Ref::Stub { .. } => Ok(()),
     }
 }
@@ -65,7 +65,7 @@ fn hosts_in(alloc: Global, list: &[Ref], count: usize) -> Result<DistinctNumbers
 {
     let mut hosts = DistinctNumbers::new(alloc, count)?;
     for r in list {
-        add_host(&mut hosts, *r)?;
+        add_host(alloc, &mut hosts, *r)?;
     }
     Ok(hosts)
 }

@@ -1,10 +1,10 @@
 // What a member's active element segments place on the shared table.
-ghost use Rattle.std.specs.Prelude.{◌≡◌, ◌<◌, ◌^◌, ◌++◌, ◌∷◌, [], ℕ, map, length, slice_get, is_some, IsTrue, IfOk, OnOk, Some, None};
+ghost use Rattle.std.specs.Prelude.{◌≡◌, ◌<◌, ◌++◌, map, length, slice_get, IsTrue, IfOk, OnOk, Some, None};
 ghost use Rattle.std.specs.List.{list_all};
 ghost use Rattle.wasm_form.specs.declared.types.ValType.TheVariants.{I32, FuncRef};
 ghost use Rattle.spec_loading.specs.spec_binary.IndexSpaces.{imports_of, globals_in, tables_in};
-ghost use Rattle.spec_loading.specs.spec_validation.Faults.{is_constant, is_function, items_fit, elem_fits};
-ghost use Rattle.spec_loading.specs.spec_runtime.Constants.{constant_of, constant_entry, constant_entries, constant_number, numbered_globals};
+ghost use Rattle.spec_loading.specs.spec_validation.Faults.{is_constant, items_fit, elem_fits};
+ghost use Rattle.spec_loading.specs.spec_runtime.Constants.{constant_entry, constant_entries, constant_number, numbered_globals};
 ghost use Rattle.dyl_imports.specs.Uses.{use_value};
 ghost use Rattle.dyl_imports.specs.wasm_check.Constants.{AreOfTypes};
 ghost use Rattle.dyl_slots.specs.Placings.{base_number, number_as, base_numbers, placed_at, placed_by, placings_by};

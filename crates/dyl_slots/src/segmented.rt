@@ -1,10 +1,7 @@
 // The slots that members' regions give their functions, and the functions that have none there.
-ghost use Rattle.std.specs.Prelude.{◌≡◌, ℕ, ◌+◌, ◌<◌, ◌≤◌, ◌^◌, length, is_none, IfOk, Some, None, slice_index_or};
-ghost use Rattle.std.specs.List.{filter};
-ghost use Rattle.spec_loading.specs.spec_binary.IndexSpaces.{function_space};
+ghost use Rattle.std.specs.Prelude.{◌≡◌, ℕ, ◌<◌, ◌^◌, length, IfOk, None, slice_index_or};
 ghost use Rattle.spec_loading.specs.spec_linking.LinkedSets.{LinkedSet};
 ghost use Rattle.spec_loading.specs.spec_linking.Slots.{segment_slot, defined_functions};
-ghost use Rattle.dyl_slots.specs.Fresh.{slot_at};
 ghost use Rattle.dyl_slots.specs.Given.{IsAt, IsSegmentedOf};
 
 use crate::defined::{defined_functions, functions_count};

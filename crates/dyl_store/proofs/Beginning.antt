@@ -22,10 +22,10 @@ use Rattle.spec_loading.specs.spec_linking.Slots.{member_items, cells_of, cell_v
 use Rattle.spec_loading.specs.Addresses.{sum_before, globals_size}
 use Rattle.spec_loading.specs.Members.{from_members, opened_global, opened_globals}
 use Rattle.dyl_link.specs.dyl_search.declared.set.Member as declared
-use Rattle.merge_start.specs.Listed.{AreBases}
-use Rattle.merge_start.proofs.Linked.{wasm_at, one_module, members_count}
+use Rattle.dyl_addresses.specs.Bases.{AreBases}
+use Rattle.dyl_addresses.proofs.Linked.{wasm_at, one_module, members_count}
 use Rattle.dyl_link.specs.Kept.{Kept, IsLinked, function_in}
-use Rattle.dyl_store.specs.declared.names.Names.{Names}
+use Rattle.dyl_store.specs.declared.constants.Names.{Names}
 use Rattle.dyl_store.specs.Opening.{elem_with, global_with, elems_of, of_members, Begins, AreGlobals, Adds, base_globals, cell_globals, own_globals, IsAtCells}
 
 -- ---- member by member

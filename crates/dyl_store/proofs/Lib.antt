@@ -16,6 +16,6 @@ pub mod Stopping
 pub mod Counting
 pub mod Advancing
 pub mod Beginning
-pub mod CellNumbers
+pub mod CellAddresses
 pub mod SharedTable
 pub mod Opened

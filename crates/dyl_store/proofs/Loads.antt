@@ -61,9 +61,12 @@ entry_nullary law x h =
 -- the machine names what there is also over a store that holds all
 pub core_kept : (V : View ModuleParts) (us us' : ModuleParts) (c : Core) → IsCore V us c → HoldsAll V us' → IsCore V us' c
 core_kept V us us' c h holds = record {
-  over = record { range = record { whole = h.over.range.whole; units = holds; stack = h.over.range.stack }; rooms = h.over.rooms; asked = h.over.asked };
-  live = h.live;
-  pending = h.pending;
+  sound = record {
+    over = record { range = record { whole = h.sound.over.range.whole; units = holds; stack = h.sound.over.range.stack }; rooms = h.sound.over.rooms; asked = h.sound.over.asked };
+    live = h.sound.live;
+    pending = h.sound.pending;
+  };
+  few = h.few;
 }
 
 pub placed_core : PlacedHolds → (x : Running) → IsRunning x → (m : ℕ) (r : Result (Unit {0}) Trap) (new : WorldState) → PlacesSo x.linked.now m x.world r new → IsCore (kept_view x.world.linked) new.store x.core
@@ -71,7 +74,7 @@ placed_core law x h m r new placed =
     let L = h.set.0 in
     let linked = h.set.1 in
     let same : kept_view x.world.linked ≡ set_view L = h.fixed ∙ kept_view_is L x.linked.now linked in
-    let before : HoldsAll (set_view L) x.world.store = subst (λ (V : View ModuleParts). HoldsAll V x.world.store) same h.core.over.range.units in
+    let before : HoldsAll (set_view L) x.world.store = subst (λ (V : View ModuleParts). HoldsAll V x.world.store) same h.core.sound.over.range.units in
     let after : HoldsAll (set_view L) new.store = law L linked.shape linked.links m x.world.store x.world.memory (record { units = new.store; memory = new.memory; trap = trap_of r }) before (placed L linked) in
     core_kept (kept_view x.world.linked) x.world.store new.store x.core h.core (subst (λ (V : View ModuleParts). HoldsAll V new.store) (sym same) after)
 

@@ -21,12 +21,11 @@ use Rattle.spec_loading.specs.spec_safety.Laws.{AreThere}
 use Rattle.spec_loading.specs.spec_linking.Sets.{Member}
 use Rattle.spec_loading.specs.spec_linking.LinkedSets.{wasm_of}
 use Rattle.spec_loading.specs.Addresses.{item_address, sum_before}
-use Rattle.merge_match.specs.Parts.{number_of}
 use Rattle.spec_loading.specs.Members.{counts_of, where_stub}
 use Rattle.dyl_link.specs.host_table.declared.host.HostName as declared
 use Rattle.dyl_link.specs.host_table.Names.{host_name_of}
 use Rattle.dyl_link.specs.Kept.{Kept, function_in}
-use Rattle.dyl_store.specs.declared.unit.Unit.{Unit}
+use Rattle.dyl_store.specs.declared.run_member.Unit.{Unit}
 use Rattle.dyl_store.specs.Worlds.{set_in, kept_instances, kept_view}
 use Rattle.dyl_store.specs.Units.{IsMember, IsUnit, AreUnits}
 
@@ -103,21 +102,16 @@ module _ {X : Type 0} (o : Option Module) (wasm : Module) (is : o ≡ Some wasm)
       let here : first + n ≡ place.0 = ap (λ (z : ℕ). z + n) same ∙ at_address in
       (place.1 ∙ ap (λ (z : ℕ). Some z) (sym here), subst (λ (z : ℕ). z < length xs) (sym here) place.2)
 
--- a number is the address, if there is one
-number_is : (numbers : List ℕ) (n : ℕ) (o : Option ℕ) → slice_get numbers n ≡ Some (number_of o) → (a : ℕ) × (o ≡ Some a) → slice_get numbers n ≡ o
-number_is numbers n None e h = absurd cc
-number_is numbers n (Some a) e h = e
-
 module _ (k : Kept) (m : ℕ) (u : Unit) (is : IsUnit k m u) where
   pub global_kept : {X : Type 0} (g : ℕ) (xs : List X) → g < ((kept_instances k).counts m).globals → (a : ℕ) × ((kept_instances k).global_at m g ≡ Some a) × (a < length xs)
       → slice_get u.globals.items g ≡ (kept_instances k).global_at m g
   global_kept g xs lt place =
-      number_is u.globals.items g ((kept_instances k).global_at m g) (is.globals g (subst (λ (o : Option Module). g < (counts_of o).globals) is.member lt)) (place.0, place.1)
+      is.globals g place.0 (subst (λ (o : Option Module). g < (counts_of o).globals) is.member lt) place.1 ∙ sym place.1
 
   pub table_kept : {X : Type 0} (t : ℕ) (xs : List X) → t < ((kept_instances k).counts m).tables → (a : ℕ) × ((kept_instances k).table_at m t ≡ Some a) × (a < length xs)
       → slice_get u.tables.items t ≡ (kept_instances k).table_at m t
   table_kept t xs lt place =
-      number_is u.tables.items t ((kept_instances k).table_at m t) (is.tables t (subst (λ (o : Option Module). t < (counts_of o).tables) is.member lt)) (place.0, place.1)
+      is.tables t place.0 (subst (λ (o : Option Module). t < (counts_of o).tables) is.member lt) place.1 ∙ sym place.1
 
   pub first_elem_kept : (e : ℕ) → e < ((kept_instances k).counts m).elems → u.first_elem ≡ sum_before (λ x. length x.elems) (set_in k).set.members m
   first_elem_kept e lt = is.first_elem (let some : e < length u.checked.now.elems = subst (λ (o : Option Module). e < (counts_of o).elems) is.member lt in omega arith)

@@ -2,6 +2,7 @@
 use Rattle.std.proofs.Common.{◌≡◌, ℕ, ◌<◌, List, [], ◌∷◌, ◌++◌, length, map, Option, Some, refl, ap, ap₂, sym, ◌∙◌, subst, arith, inl, inr, length-append}
 use Rattle.std.specs.Prelude.{slice_get}
 use Rattle.std.proofs.lemmas.Bool.{cases_lt}
+use Rattle.std.proofs.lemmas.List.{length-map}
 use Rattle.std.proofs.lemmas.Option.{slice_get_within, same_Some}
 use Rattle.spec_loading.proofs.of_spec_binary.Lists.{slice_get-append-left, slice_get-append-last}
 use Rattle.wasm_form.specs.declared.instr.Expr.{Expr}
@@ -9,12 +10,15 @@ use Rattle.wasm_form.specs.declared.module.Module.{Module}
 use Rattle.wasm_form.specs.declared.runtime.Ref.TheVariants.{Own}
 use Rattle.spec_loading.specs.spec_linking.LinkedSets.{LinkedSet}
 use Rattle.spec_loading.specs.spec_linking.Slots.{member_number, fresh_of}
-use Rattle.merge_start.specs.Listed.{AreBases, number_with}
-use Rattle.merge_start.proofs.Linked.{wasm_at, one_module, members_count}
-use Rattle.merge_start.proofs.Offsets.{with_bases}
+use Rattle.spec_loading.specs.Laws.{SizesArePlanned, SlotsFit}
+use Rattle.dyl_addresses.specs.Bases.{AreBases}
+use Rattle.dyl_addresses.specs.Offsets.{number_with}
+use Rattle.dyl_addresses.proofs.Linked.{wasm_at, one_module, members_count}
+use Rattle.dyl_addresses.proofs.Offsets.{with_bases}
 use Rattle.dyl_link.specs.dyl_search.declared.set.Member.{Member}
 use Rattle.dyl_link.specs.Kept.{Kept, IsLinked, fresh_in}
-use Rattle.dyl_store.specs.declared.placing.Placement.{Placement}
+use Rattle.dyl_store.specs.declared.place_member.Placement.{Placement}
+use Rattle.dyl_store.proofs.SharedTable.{fresh_few}
 use Rattle.dyl_store.specs.Placements.{IsPlacement, elem_offset, data_offset, own_entry}
 
 own_entries : (m : ℕ) (fs : List ℕ) → map (own_entry m) fs ≡ map Some (map (Own m) fs)
@@ -24,17 +28,19 @@ own_entries m (f ∷ fs) = ap (λ (rs : List _). Some (Own m f) ∷ rs) (own_ent
 pub placement_is : (k : Kept) (m : ℕ) (x : Member) (bases : List (Option ℕ)) (fresh : List ℕ) (p : Placement)
     → slice_get k.set.members m ≡ Some x → ((L : LinkedSet) → IsLinked L k → AreBases L m bases) → Some fresh ≡ fresh_in k m
     → p.elems.items ≡ map (elem_offset (number_with bases)) x.checked.elems → p.datas.items ≡ map (data_offset (number_with bases)) x.checked.datas
-    → p.slots.items ≡ map (own_entry m) fresh → length p.slots.items < 4294967296 → IsPlacement k m p
-placement_is k m x bases fresh p here are found elems datas slots few = λ L h wasm is.
+    → p.slots.items ≡ map (own_entry m) fresh → SlotsFit → SizesArePlanned → IsPlacement k m p
+placement_is k m x bases fresh p here are found elems datas slots fit sizes = λ L h wasm is.
     let same : x.checked ≡ wasm = one_module x.checked wasm (sym (wasm_at L k h m x here) ∙ is) in
     let numbers : number_with bases ≡ member_number L m = with_bases L m bases (are L h) in
     let inside : m < length L.set.members = (let within = slice_get_within k.set.members m x here in let many = members_count L k h in omega (arith, within, many)) in
     let own : fresh ≡ fresh_of L m = same_Some fresh (fresh_of L m) (found ∙ h.fresh m inside) in
+    let few = fresh_few L h.links fit sizes m inside in
+    let many = ap length (slots ∙ ap (map (own_entry m)) own) ∙ length-map (fresh_of L m) (own_entry m) in
     record {
       elems = elems ∙ ap₂ (λ (n : Expr → Option ℕ) (w : Module). map (elem_offset n) w.elems) numbers same;
       datas = datas ∙ ap₂ (λ (n : Expr → Option ℕ) (w : Module). map (data_offset n) w.datas) numbers same;
       slots = slots ∙ ap (map (own_entry m)) own ∙ own_entries m (fresh_of L m);
-      few = few;
+      few = omega arith;
     }
 
 -- one member more

@@ -25,26 +25,24 @@ use Rattle.spec_loading.specs.spec_linking.Slots.{linked_plan}
 use Rattle.spec_loading.proofs.of_spec_linking.LinkedFacts.{linked_limits}
 use Rattle.spec_loading.specs.spec_safety.Laws.{AreThere, StoreIsWhole}
 use Rattle.spec_loading.proofs.of_spec_safety.StepsInRange.{All-reverse}
-use Rattle.spec_loading.specs.declared.task.Task as loader
 use Rattle.spec_loading.specs.Texts.{error_texts}
 use Rattle.spec_loading.proofs.Rows.{texts_length}
 use Rattle.spec_loading.specs.Phases.{opening_tasks, startup_frame, open_frame}
 use Rattle.spec_loading.specs.Members.{set_view, opening_store}
 use Rattle.spec_loading.specs.LoadedSet.{set_loading, set_opening, set_run, opening_memory}
 use Rattle.spec_loading.specs.Laws.{LinkedIsThere, OpeningHolds, SizesArePlanned}
-use Rattle.merge_start.specs.Points.{AreOf}
-use Rattle.merge_start.proofs.Linked.{members_count}
-use Rattle.merge_start.proofs.Ranges.{of_open}
+use Rattle.dyl_addresses.specs.Sets.{AreOf}
+use Rattle.dyl_addresses.proofs.Linked.{members_count}
+use Rattle.dyl_addresses.proofs.Ranges.{of_open}
 use Rattle.dyl_link.specs.dyl_scope.Scopes.{list_at}
-use Rattle.dyl_frames.specs.declared.task.Task.{Task}
-use Rattle.dyl_frames.specs.Tasks.{task_value}
+use Rattle.spec_loading.specs.declared.task.Task.{Task}
 use Rattle.dyl_frames.specs.declared.frames.Core.{Core}
 use Rattle.dyl_frames.specs.Cores.{IsCore, IsState, OpensAt}
 use Rattle.dyl_link.specs.Kept.{Kept, IsLinked}
 use Rattle.dyl_store.specs.declared.world.World.TheInside.{Inside}
 use Rattle.dyl_store.specs.declared.running.Running.{Running}
 use Rattle.dyl_store.specs.declared.store.Store.TheInside as kept
-use Rattle.merge_start.specs.Listed.{IsOfSet}
+use Rattle.dyl_addresses.specs.Sets.{IsOfSet}
 use Rattle.dyl_store.specs.Worlds.{WorldState, kept_instances, kept_view, HasSizes}
 use Rattle.dyl_store.specs.Units.{AreUnits, IsWorld, store_of}
 use Rattle.dyl_store.specs.Opened.{IsOpened}
@@ -103,7 +101,7 @@ module _ (L : LinkedSet) (k : Kept) (h : IsLinked L k) (plan : Plan) (is : plan 
 abbrev IsOf : ℕ → Task → Type 0
 IsOf n t = t.member < n
 
-inside : (L : LinkedSet) (ts : List Task) → AreOf L (map task_value ts) → All (IsOf (length L.set.members)) ts
+inside : (L : LinkedSet) (ts : List Task) → AreOf L ts → All (IsOf (length L.set.members)) ts
 inside L [] are = All-nil (IsOf (length L.set.members))
 inside L (t ∷ ts) are = All-cons (IsOf (length L.set.members)) t ts are.0 (inside L ts are.1)
 
@@ -112,11 +110,11 @@ pub names_count : (L : LinkedSet) (k : Kept) → IsLinked L k → (m : ℕ) → 
 names_count L k h m lt = subst (λ (n : ℕ). m < n) (sym (h.symbols.count ∙ members_count L k h)) lt
 
 module _ (L : LinkedSet) (k : Kept) (h : IsLinked L k) (m : ℕ) (lt : m < length k.set.members) (tasks : List Task) (breadth post : List ℕ)
-    (opens : map task_value (reverse tasks) ≡ opening_tasks breadth post) (starts : breadth ≡ closure L.set m) (order : post ≡ list_at k.symbols.orders m) where
+    (opens : reverse tasks ≡ opening_tasks breadth post) (starts : breadth ≡ closure L.set m) (order : post ≡ list_at k.symbols.orders m) where
   within : m < length L.set.members
   within = subst (λ (n : ℕ). m < n) (sym (members_count L k h)) lt
 
-  pub open_tasks : map task_value (reverse tasks) ≡ (open_frame L.set m).tasks
+  pub open_tasks : reverse tasks ≡ (open_frame L.set m).tasks
   open_tasks = opens ∙ ap₂ opening_tasks starts (order ∙ h.symbols.orders m within)
 
   pub open_members : All (λ (t : Task). t.member < length k.set.members) tasks
@@ -187,7 +185,7 @@ no_stages : (xs : List Member) → map {B = ℕ} (λ m. 0) xs ≡ replicate (len
 no_stages [] = refl
 no_stages (x ∷ xs) = ap (λ (ns : List ℕ). 0 ∷ ns) (no_stages xs)
 
-pub core_at : (L : LinkedSet) (k : Kept) → IsLinked L k → (w : WorldState) → IsOpened k w → (count : ℕ) → count ≡ length k.set.members → (tasks : List loader.Task) → tasks ≡ (startup_frame L.set).tasks → (c : Core)
+pub core_at : (L : LinkedSet) (k : Kept) → IsLinked L k → (w : WorldState) → IsOpened k w → (count : ℕ) → count ≡ length k.set.members → (tasks : List Task) → tasks ≡ (startup_frame L.set).tasks → (c : Core)
     → OpensAt (set_loading L) count tasks (record { fixed = kept_view w.linked; units = w.store; memory = w.memory }) c → IsState (set_loading L) c w.store w.memory (set_opening L)
 core_at L k h w opened count many tasks are c opens =
     opens (set_opening L) (record {

@@ -19,8 +19,9 @@ use Rattle.spec_loading.specs.spec_linking.Links.{Links}
 use Rattle.spec_loading.proofs.of_spec_linking.LinkedFacts.{linked_limits}
 use Rattle.spec_loading.specs.LoadedSet.{slots_before, first_slot}
 use Rattle.spec_loading.specs.Members.{opening_table}
+use Rattle.spec_loading.specs.Laws.{SizesArePlanned, SlotsFit}
 use Rattle.wasm_space.specs.Access.{ChangesOrTraps}
-use Rattle.merge_start.proofs.Linked.{members_count}
+use Rattle.dyl_addresses.proofs.Linked.{members_count}
 use Rattle.dyl_link.specs.Kept.{Kept, IsLinked, fresh_in, first_slot_in}
 use Rattle.dyl_store.specs.Opening.{outside_at}
 
@@ -82,6 +83,15 @@ ends L k h last slot fresh is first own =
     let p : slot ≡ first_slot L last = same_Some slot (first_slot L last) (first ∙ h.first_slots last inside) in
     let q : fresh ≡ fresh_of L last = same_Some fresh (fresh_of L last) (own ∙ h.fresh last inside) in
     ap₂ (λ (n : ℕ) (fs : List ℕ). n + length fs) p q ∙ outside_is L last (omega arith)
+
+-- the fresh slots of a member are some of the entries
+pub fresh_few : (L : LinkedSet) → Links L → SlotsFit → SizesArePlanned → (m : ℕ) → m < length L.set.members → length (fresh_of L m) < 4294967296
+fresh_few L links fit sizes m inside =
+    let fits = fit L m inside in
+    let sized = (sizes L).1 in
+    let most = most_entries L links in
+    let many = length-map (fresh_of L m) (Own m) in
+    omega arith
 
 -- ---- the entries
 

@@ -21,11 +21,10 @@ use Rattle.spec_loading.specs.spec_linking.LinkedSets.{LinkedSet, wasm_of, funct
 use Rattle.spec_loading.specs.spec_linking.Slots.{linked_plan, memory_base, table_base, as_number, member_items, fresh_functions, CellName, cell_of_import, cells_of, cell_value}
 use Rattle.spec_loading.specs.Addresses.{memory_base_address}
 use Rattle.spec_loading.specs.Members.{from_members, opened_global, opened_globals, opening_table}
-use Rattle.merge_start.specs.Listed.{AreBases}
-use Rattle.merge_match.specs.Renumbering.{Numbers}
-use Rattle.merge_index.specs.Numbering.{numbers_of}
+use Rattle.dyl_addresses.specs.Bases.{AreBases}
+use Rattle.dyl_addresses.specs.Kept.{KeptAddresses, kept_global, kept_table, kept_elem, kept_data}
 use Rattle.dyl_link.specs.Kept.{Kept, IsLinked}
-use Rattle.dyl_store.specs.declared.names.Names.{Names}
+use Rattle.dyl_store.specs.declared.constants.Names.{Names}
 
 -- ---- constant expressions
 
@@ -64,13 +63,22 @@ elem_with names segment = opened_items (items_with names) segment
 
 -- ---- addresses
 
--- the numbers of a set that links
-abbrev pub AreNumbers : Kept → Numbers → Type 0
-AreNumbers k n = (L : LinkedSet) → IsLinked L k → n ≡ numbers_of L
+-- those of what member m has; what has none is never asked for
+abbrev pub global_place : KeptAddresses → ℕ → ℕ → ℕ
+global_place a m g = unwrap_or (kept_global a m g) 0
 
--- the first of the numbers
+abbrev pub table_place : KeptAddresses → ℕ → ℕ → ℕ
+table_place a m t = unwrap_or (kept_table a m t) 0
+
+abbrev pub elem_place : KeptAddresses → ℕ → ℕ → ℕ
+elem_place a m e = unwrap_or (kept_elem a m e) 0
+
+abbrev pub data_place : KeptAddresses → ℕ → ℕ → ℕ
+data_place a m d = unwrap_or (kept_data a m d) 0
+
+-- the first of the addresses
 abbrev pub first_of : (ℕ → ℕ) → ℕ → List ℕ
-first_of number count = map number (range_with_len 0 count)
+first_of address count = map address (range_with_len 0 count)
 
 -- ---- what members have
 
@@ -127,20 +135,20 @@ own_globals L m wasm = map (opened_global L m) wasm.globals
 abbrev pub IsAtCells : Kept → ℕ → List Value → Type 0
 IsAtCells k m globals = (L : LinkedSet) → IsLinked L k → length globals ≡ memory_base_address L m + 2
 
--- a cell has the number of what comes next, unless it is there already
+-- a cell has the address of what comes next, unless it is there already
 abbrev pub with_cell : List Value → ℕ → Option ℕ → List Value
-with_cell globals number value = if nat_eq number (length globals) then globals ++ Num (unwrap_or value 0) ∷ [] else globals
+with_cell globals address value = if nat_eq address (length globals) then globals ++ Num (unwrap_or value 0) ∷ [] else globals
 
 -- the same of the cell that an import is of, if it is of one
 abbrev pub with_cells : List Value → ℕ → Option ℕ → List CellName → List Value
-with_cells globals number value [] = globals
-with_cells globals number value (c ∷ cs) = with_cell globals number value
+with_cells globals address value [] = globals
+with_cells globals address value (c ∷ cs) = with_cell globals address value
 
 -- and of some imports, where the first of the globals that they give has number g
 abbrev pub with_imports : (ℕ → ℕ) → (ℕ → Option ℕ) → List Value → ℕ → List Import → List Value
-with_imports number value globals g [] = globals
-with_imports number value globals g (i ∷ is) =
-    with_imports number value (with_cells globals (number g) (value g) (cell_of_import i)) (g + length (globals_in i.desc)) is
+with_imports address value globals g [] = globals
+with_imports address value globals g (i ∷ is) =
+    with_imports address value (with_cells globals (address g) (value g) (cell_of_import i)) (g + length (globals_in i.desc)) is
 
 -- ---- the shared table
 

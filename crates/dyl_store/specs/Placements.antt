@@ -23,7 +23,7 @@ use Rattle.spec_loading.specs.spec_execution.Activations.{Effect}
 use Rattle.spec_loading.specs.spec_execution.Segments.{Performed, all_performed, elem_effects, data_effects, all_effects}
 use Rattle.dyl_link.specs.Kept.{Kept, IsLinked}
 use Rattle.dyl_frames.specs.Cores.{Places}
-use Rattle.dyl_store.specs.declared.placing.Placement.{Placement}
+use Rattle.dyl_store.specs.declared.place_member.Placement.{Placement}
 use Rattle.dyl_store.specs.Worlds.{WorldState, kept_view}
 
 -- what is wanted was written from a segment, which is empty then; or there is none, which is a trap that changes nothing

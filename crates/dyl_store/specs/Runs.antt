@@ -6,10 +6,10 @@ use Rattle.wasm_step.specs.declared.done.Done.{Done}
 use Rattle.wasm_machine.specs.declared.event.Event.{Event}
 use Rattle.dyl_link.specs.Kept.{Kept, IsLinked}
 use Rattle.dyl_frames.specs.Cores.{IsCore, IsState, StepsFrom, QuickStepsFrom}
-use Rattle.merge_start.specs.Listed.{IsOfSet}
+use Rattle.dyl_addresses.specs.Sets.{IsOfSet}
 use Rattle.dyl_store.specs.Worlds.{kept_view, seen_of}
 use Rattle.dyl_store.specs.Placements.{IsPlacement}
-use Rattle.dyl_store.specs.declared.placing.Placement.{Placement}
+use Rattle.dyl_store.specs.declared.place_member.Placement.{Placement}
 use Rattle.dyl_store.specs.declared.running.Running.{Running}
 
 -- the run stands at this state

@@ -5,10 +5,9 @@ use Rattle.spec_loading.specs.spec_execution.Instances.{ModuleParts}
 use Rattle.spec_loading.specs.spec_linking.LinkedSets.{wasm_of}
 use Rattle.spec_loading.specs.spec_safety.Laws.{AreThere}
 use Rattle.spec_loading.specs.Addresses.{sum_before, global_address, table_address}
-use Rattle.merge_match.specs.Parts.{number_of}
 use Rattle.wasm_instance.specs.Rooms.{HaveRooms}
 use Rattle.dyl_link.specs.Kept.{Kept}
-use Rattle.dyl_store.specs.declared.unit.Unit.{Unit}
+use Rattle.dyl_store.specs.declared.run_member.Unit.{Unit}
 use Rattle.dyl_store.specs.declared.world.World.TheInside.{Inside}
 use Rattle.dyl_store.specs.Worlds.{WorldState, set_in, kept_instances, HasSizes, Fits}
 
@@ -21,8 +20,8 @@ pub record IsUnit (k : Kept) (m : ℕ) (u : Unit) : Type 0 where
   pub member : wasm_of (set_in k) m ≡ Some u.checked.now
   pub imported : u.imported ≡ imported_count u.checked.now
   pub rooms : HaveRooms u.checked.now (length u.checked.now.codes) u.rooms.items
-  pub globals : (g : ℕ) → g < length (global_space u.checked.now) → slice_get u.globals.items g ≡ Some (number_of (global_address (set_in k) m g))
-  pub tables : (t : ℕ) → t < length (table_space u.checked.now) → slice_get u.tables.items t ≡ Some (number_of (table_address (set_in k) m t))
+  pub globals : (g a : ℕ) → g < length (global_space u.checked.now) → global_address (set_in k) m g ≡ Some a → slice_get u.globals.items g ≡ Some a
+  pub tables : (t a : ℕ) → t < length (table_space u.checked.now) → table_address (set_in k) m t ≡ Some a → slice_get u.tables.items t ≡ Some a
   pub first_elem : 0 < length u.checked.now.elems → u.first_elem ≡ sum_before (λ x. length x.elems) (set_in k).set.members m
   pub first_data : 0 < length u.checked.now.datas → u.first_data ≡ sum_before (λ x. length x.datas) (set_in k).set.members m
 

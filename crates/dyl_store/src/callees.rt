@@ -7,15 +7,14 @@ ghost use Rattle.spec_loading.specs.Phases as loader;
 ghost use Rattle.spec_loading.specs.declared.task.Phase.TheVariants as phases;
 ghost use Rattle.spec_loading.specs.LoadedSet.{set_loading};
 ghost use Rattle.dyl_link.specs.Kept.{IsLinked};
-ghost use Rattle.dyl_frames.specs.Tasks.{phase_value};
-ghost use Rattle.merge_start.specs.Listed.{IsOfSet};
+ghost use Rattle.dyl_addresses.specs.Sets.{IsOfSet};
 ghost use Rattle.dyl_store.specs.Worlds.{kept_view};
 
 use dyl_frames::{Phase, Task};
 use dyl_link::Linked;
+use dyl_link::wasm_check::exported_function;
 use spec_loading::linked_functions_are_typed;
 use wasm_form::{Module, Ref};
-use wasm_instance::exported_function;
 
 // The constructors of a member; those of main are left to an entry `_start`.
 fn constructors(wasm: &Module, m: u32) -> Option<u32>
@@ -29,7 +28,7 @@ fn constructors(wasm: &Module, m: u32) -> Option<u32>
 
 // The function that a phase calls, by its number in the member.
 fn phase_function(wasm: &Module, task: Task) -> Option<u32>
-    ensures { result ≡ loader.phase_function (phase_value task.phase) task.member wasm.now }
+    ensures { result ≡ loader.phase_function task.phase task.member wasm.now }
 {
     match task.phase {
         Phase::Place => None,
@@ -43,7 +42,7 @@ fn phase_function(wasm: &Module, task: Task) -> Option<u32>
 pub(crate) fn callee(linked: &Linked, task: Task) -> Option<Ref>
     requires set { IsOfSet linked.now }
     requires member { task.member < length linked.now.set.members }
-    ensures found { (L : LinkedSet) → IsLinked L linked.now → (set_loading L).callee (phase_value task.phase) task.member ≡ Some result }
+    ensures found { (L : LinkedSet) → IsLinked L linked.now → (set_loading L).callee task.phase task.member ≡ Some result }
     ensures nullary { IfSome result (λ r. type_seen (kept_view linked.now) r ≡ Some nullary) }
 {
     linked_functions_are_typed();

@@ -1,22 +1,22 @@
 // The cells of a member, one for each kind and name, in the order of imports.
-ghost use Rattle.std.specs.Prelude.{◌≡◌, ◌<◌, length, OnOk};
+ghost use Rattle.std.specs.Prelude.{◌≡◌, ◌<◌, ◌^◌, length, OnOk};
 ghost use Rattle.spec_loading.specs.spec_linking.Slots.{cell_of_import};
-ghost use Rattle.merge_index.specs.Kept.{numbers_in};
+ghost use Rattle.dyl_addresses.specs.Kept.{AreAddresses};
+ghost use Rattle.dyl_addresses.specs.Sets.{IsOfSet};
 ghost use Rattle.dyl_link.specs.Kept.{cell_in};
-ghost use Rattle.merge_start.specs.Listed.{IsOfSet};
-ghost use Rattle.dyl_store.specs.Opening.{AreNumbers, Adds, cell_globals, IsAtCells, with_cell, with_cells, with_imports};
+ghost use Rattle.dyl_store.specs.Opening.{global_place, Adds, cell_globals, IsAtCells, with_cell, with_cells, with_imports};
 
-use crate::units::{end_of, is_global};
+use crate::opened_members::{global_place, is_global};
+use dyl_addresses::Addresses;
 use dyl_link::Linked;
 use dyl_link::dyl_imports::{Use, use_of};
-use merge_index::Numbers;
 use wasm_form::{Import, Memory, Value};
 
-// Adds a cell, unless it is there already: it has the number of what comes next.
-fn put_cell(to: &mut Vec<Value>, number: u32, value: Option<u32>) -> Result<(), Memory>
-    ensures { OnOk result (to.new.items ≡ with_cell to.old.items number value) }
+// Adds a cell, unless it is there already: it has the address of what comes next.
+fn put_cell(to: &mut Vec<Value>, address: u32, value: Option<u32>) -> Result<(), Memory>
+    ensures { OnOk result (to.new.items ≡ with_cell to.old.items address value) }
 {
-    if number as usize == to.len() {
+    if address as usize == to.len() {
         to.push(Value::Num(u64::from(value.unwrap_or(0))))?;
     }
     Ok(())
@@ -26,13 +26,13 @@ fn put_cell(to: &mut Vec<Value>, number: u32, value: Option<u32>) -> Result<(), 
 fn put_cell_of(
     to: &mut Vec<Value>,
     i: &Import,
-    number: u32,
+    address: u32,
     value: Option<u32>,
 ) -> Result<(), Memory>
-    ensures { OnOk result (to.new.items ≡ with_cells to.old.items number value (cell_of_import i.now)) }
+    ensures { OnOk result (to.new.items ≡ with_cells to.old.items address value (cell_of_import i.now)) }
 {
     match use_of(i) {
-        Use::DataCell | Use::SlotCell => put_cell(to, number, value),
+        Use::DataCell | Use::SlotCell => put_cell(to, address, value),
         _ => Ok(()),
     }
 }
@@ -41,16 +41,17 @@ fn put_cell_of(
 fn put_cells(
     to: &mut Vec<Value>,
     linked: &Linked,
-    numbers: &Numbers,
+    addresses: &Addresses,
     m: u32,
     imports: &[Import],
 ) -> Result<(), Memory>
-    ensures { OnOk result (to.new.items ≡ with_imports ((numbers_in numbers.now).global m) (cell_in linked.now m) to.old.items 0 imports.now) }
+    requires { length imports.now < 2 ^ 32 }
+    ensures { OnOk result (to.new.items ≡ with_imports (global_place addresses.now m) (cell_in linked.now m) to.old.items 0 imports.now) }
 {
     let mut g: u32 = 0;
     for i in imports {
-        put_cell_of(to, i, numbers.global(m, g), linked.find_cell(m, g))?;
-        g = end_of(g, is_global(i.desc))?;
+        put_cell_of(to, i, global_place(addresses, m, g), linked.find_cell(m, g))?;
+        g += is_global(i.desc);
     }
     Ok(())
 }
@@ -59,11 +60,12 @@ fn put_cells(
 pub(crate) fn put_member_cells(
     to: &mut Vec<Value>,
     linked: &Linked,
-    numbers: &Numbers,
+    addresses: &Addresses,
     m: u32,
 ) -> Result<(), Memory>
+    requires set { IsOfSet linked.now }
     requires member { m < length linked.now.set.members }
-    requires numbers { AreNumbers linked.now (numbers_in numbers.now) }
+    requires addresses { AreAddresses linked.now addresses.now }
     requires place { IsAtCells linked.now m to.old.items }
     ensures { OnOk result (Adds cell_globals linked.now m to.old.items to.new.items) }
 {
@@ -71,7 +73,7 @@ pub(crate) fn put_member_cells(
     put_cells(
         to,
         linked,
-        numbers,
+        addresses,
         m,
         member.checked.module().imports.items(),
     )

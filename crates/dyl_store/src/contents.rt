@@ -2,19 +2,18 @@
 ghost use Rattle.std.specs.Prelude.{◌≡◌, ◌<◌, ◌++◌, ℕ, length, map, slice_get, IfOk, OnOk};
 ghost use Rattle.spec_loading.specs.spec_linking.LinkedSets.{LinkedSet};
 ghost use Rattle.spec_loading.specs.Members.{opening_store};
-ghost use Rattle.merge_index.specs.Kept.{numbers_in};
+ghost use Rattle.dyl_addresses.specs.Kept.{AreAddresses};
 ghost use Rattle.dyl_link.specs.Kept.{IsLinked, function_in};
-ghost use Rattle.merge_start.specs.Listed.{IsOfSet};
+ghost use Rattle.dyl_addresses.specs.Sets.{IsOfSet};
 ghost use Rattle.dyl_store.specs.Opening as opening;
-ghost use Rattle.dyl_store.specs.Opening.{AreNumbers, AreGlobals, Adds, base_globals, own_globals};
+ghost use Rattle.dyl_store.specs.Opening.{AreGlobals, Adds, base_globals, own_globals};
 ghost use Rattle.spec_loading.specs.Members as members;
 
 use crate::cells::put_member_cells;
-use crate::names::{Names, put_elems, put_globals};
+use crate::constants::{Names, put_elems, put_globals};
 use crate::shared::shared_table;
+use dyl_addresses::{Addresses, bases_of};
 use dyl_link::Linked;
-use merge_index::Numbers;
-use merge_start::bases_of;
 use std::alloc::Global;
 use wasm_form::{Data, Memory, Ref, Value};
 use wasm_instance::tables_of as own_tables;
@@ -173,17 +172,17 @@ fn put_member_globals(
     alloc: Global,
     to: &mut Vec<Value>,
     linked: &Linked,
-    numbers: &Numbers,
+    addresses: &Addresses,
     m: u32,
 ) -> Result<(), Memory>
     requires set { IsOfSet linked.now }
     requires member { m < length linked.now.set.members }
-    requires numbers { AreNumbers linked.now (numbers_in numbers.now) }
+    requires addresses { AreAddresses linked.now addresses.now }
     requires before { AreGlobals linked.now m to.old.items }
     ensures { OnOk result (Adds members.opened_globals linked.now m to.old.items to.new.items) }
 {
     put_bases(to, linked, m)?;
-    put_member_cells(to, linked, numbers, m)?;
+    put_member_cells(to, linked, addresses, m)?;
     put_own_globals(alloc, to, linked, m)
 }
 
@@ -191,17 +190,17 @@ fn put_member_globals(
 pub(crate) fn globals_of(
     alloc: Global,
     linked: &Linked,
-    numbers: &Numbers,
+    addresses: &Addresses,
 ) -> Result<Vec<Value>, Memory>
     requires set { IsOfSet linked.now }
-    requires numbers { AreNumbers linked.now (numbers_in numbers.now) }
+    requires addresses { AreAddresses linked.now addresses.now }
     ensures { IfOk result (λ v. (L : LinkedSet) → IsLinked L linked.now → v.items ≡ (opening_store L).globals) }
 {
     let count = linked.set().members.items().len() as u32;
     let mut all = Vec::new(alloc);
     all.push(Value::Num(u64::from(linked.plan().stack_top())))?;
     for m in 0..count {
-        put_member_globals(alloc, &mut all, linked, numbers, m)?;
+        put_member_globals(alloc, &mut all, linked, addresses, m)?;
     }
     Ok(all)
 }

@@ -4,19 +4,19 @@
 
 mod callees;
 mod cells;
+mod constants;
 mod contents;
 mod loader;
-mod names;
+mod opened_members;
 mod opening;
-mod placements;
-mod placing;
+mod place_member;
+mod run_member;
 mod running;
+mod segment_places;
 mod segments;
 mod shared;
 mod store;
 mod tasks;
-mod unit;
-mod units;
 mod view;
 mod world;
 

@@ -1,45 +1,30 @@
 // A linked set in its opening state.
 ghost use Rattle.std.specs.Prelude.{◌≡◌, ◌≤◌, ◌+◌, length, IfOk};
-ghost use Rattle.spec_loading.specs.spec_runtime.Memories.{new_memory, overwritten};
+ghost use Rattle.spec_loading.specs.spec_runtime.Memories.{overwritten};
 ghost use Rattle.spec_loading.specs.spec_linking.LinkedSets.{LinkedSet};
 ghost use Rattle.spec_loading.specs.LoadedSet.{set_loading, set_opening, opening_memory};
 ghost use Rattle.dyl_link.specs.Kept.{IsLinked};
 ghost use Rattle.dyl_frames.specs.Cores.{IsCore, IsState};
-ghost use Rattle.merge_start.specs.Listed.{IsOfSet};
-ghost use Rattle.merge_index.specs.Kept.{numbers_in};
+ghost use Rattle.dyl_addresses.specs.Sets.{IsOfSet};
+ghost use Rattle.dyl_addresses.specs.Kept.{AreAddresses};
 ghost use Rattle.dyl_store.specs.Worlds.{kept_view};
-ghost use Rattle.dyl_store.specs.Opening.{AreNumbers};
 ghost use Rattle.dyl_store.specs.Opened.{IsOpened};
 ghost use Rattle.dyl_store.specs.Runs.{IsRunning, IsAt};
 
 use crate::contents::{datas_of, elems_of, globals_of, tables_of};
-use crate::placements::placements_of;
+use crate::opened_members::units_of;
 use crate::running::Running;
+use crate::segment_places::placements_of;
 use crate::tasks::member_tasks;
-use crate::units::units_of;
 use crate::world::World;
+use dyl_addresses::Addresses;
 use dyl_frames::Core;
 use dyl_link::Linked;
-use merge_index::Numbers;
 use spec_loading::spec_safety::store_is_in_range;
 use spec_loading::{error_texts, linked_code_is_there, slots_fit};
 use std::alloc::Global;
 use wasm_form::Memory;
 use wasm_space::Space;
-
-// The most pages of a memory (WebAssembly Core 2.0, section 3.2.5).
-const MOST_PAGES: u32 = 65_536;
-
-// So many pages of zeros. There is no memory for more than there may be.
-fn new_memory(alloc: Global, pages: u32, most: u32) -> Result<Space, Memory>
-    requires { pages ≤ most }
-    ensures { IfOk result (λ s. s ≡ new_memory pages most) }
-{
-    if most > MOST_PAGES {
-        return Err(Memory);
-    }
-    Space::new(alloc, pages, most)
-}
 
 // Writes bytes that lie in the memory.
 fn put(memory: &mut Space, at: u32, bytes: &[u8])
@@ -53,12 +38,13 @@ fn put(memory: &mut Space, at: u32, bytes: &[u8])
 
 // The memory of a linked set: zeros, with the texts of the loader's errors behind the stack.
 fn memory_of(alloc: Global, linked: &Linked) -> Result<Space, Memory>
-    requires { IsOfSet linked.now }
+    requires set { IsOfSet linked.now }
     ensures { IfOk result (λ s. (L : LinkedSet) → IsLinked L linked.now → s ≡ opening_memory L) }
 {
     slots_fit();
+    linked.has_few_pages();
     let plan = linked.plan();
-    let mut memory = new_memory(alloc, plan.pages(), plan.pages_max())?;
+    let mut memory = Space::new(alloc, plan.pages(), plan.pages_max())?;
     put(&mut memory, plan.texts(), error_texts());
     Ok(memory)
 }
@@ -79,15 +65,15 @@ fn core_of<'m>(alloc: Global, linked: &Linked, world: &World<'m>) -> Result<Core
 }
 
 impl<'m> World<'m> {
-    // The members of a linked set as they begin, by their numbers.
-    fn opened(alloc: Global, linked: &'m Linked, numbers: &Numbers) -> Result<World<'m>, Memory>
+    // The members of a linked set as they begin, by the addresses of what they have.
+    fn opened(alloc: Global, linked: &'m Linked, addresses: &Addresses) -> Result<World<'m>, Memory>
         requires set { IsOfSet linked.now }
-        requires numbers { AreNumbers linked.now (numbers_in numbers.now) }
+        requires addresses { AreAddresses linked.now addresses.now }
         ensures { IfOk result (λ w. IsOpened linked.now w) }
     {
         linked_code_is_there();
-        let units = units_of(alloc, linked, numbers)?;
-        let globals = globals_of(alloc, linked, numbers)?;
+        let units = units_of(alloc, linked, addresses)?;
+        let globals = globals_of(alloc, linked, addresses)?;
         let tables = tables_of(alloc, linked)?;
         let elems = elems_of(alloc, linked)?;
         let datas = datas_of(alloc, linked)?;
@@ -105,12 +91,12 @@ impl<'m> World<'m> {
 
     // The members of a linked set as they begin.
     pub fn open(alloc: Global, linked: &'m Linked) -> Result<World<'m>, Memory>
-        requires { IsOfSet linked.now }
+        requires set { IsOfSet linked.now }
         ensures { IfOk result (λ w. IsOpened linked.now w) }
     {
-        let numbers = Numbers::of(alloc, linked)?;
-        let opened = World::opened(alloc, linked, &numbers);
-        drop(numbers);
+        let addresses = Addresses::of(alloc, linked)?;
+        let opened = World::opened(alloc, linked, &addresses);
+        drop(addresses);
         opened
     }
 }
@@ -118,7 +104,7 @@ impl<'m> World<'m> {
 impl<'m> Running<'m> {
     // A linked set in its opening state.
     pub fn open(alloc: Global, linked: &'m Linked) -> Result<Running<'m>, Memory>
-        requires { IsOfSet linked.now }
+        requires set { IsOfSet linked.now }
         ensures running { IfOk result (λ x. IsRunning x) }
         ensures opened { IfOk result (λ x. (L : LinkedSet) → IsLinked L linked.now → IsAt L x (set_opening L)) }
         ensures linked { IfOk result (λ x. x.linked.now ≡ linked.now) }

@@ -6,14 +6,13 @@ ghost use Rattle.spec_loading.specs.LoadedSet.{set_loading};
 ghost use Rattle.spec_loading.specs.spec_linking.LinkedSets.{LinkedSet};
 ghost use Rattle.wasm_machine.specs.Machines.{IsMarked};
 ghost use Rattle.dyl_link.specs.Kept.{IsLinked};
-ghost use Rattle.dyl_frames.specs.Tasks.{phase_value, task_value};
 ghost use Rattle.dyl_frames.specs.Cores.{is_mark, first_task, top_frame, FitsHost, TakenFrom};
 ghost use Rattle.dyl_store.specs.Worlds.{kept_view, seen_of};
 ghost use Rattle.dyl_store.specs.Runs.{IsRunning, IsSomewhere, StepsTo, QuickStepsTo};
 ghost use Rattle.dyl_store.specs.Calls.{is_loader};
 
 use crate::callees::callee;
-use crate::placing::Placement;
+use crate::place_member::Placement;
 use crate::world::World;
 use dyl_frames::{After, Core, Phase, Task};
 use dyl_link::Linked;
@@ -40,8 +39,8 @@ fn is_mark(event: &Event) -> bool
 
 // Whether a phase places its member.
 fn is_place(phase: Phase) -> bool
-    ensures places { result ≡ true → phase_value phase ≡ phases.Place }
-    ensures calls { result ≡ false → phase_value phase ≢ phases.Place }
+    ensures places { result ≡ true → phase ≡ phases.Place }
+    ensures calls { result ≡ false → phase ≢ phases.Place }
 {
     matches!(phase, Phase::Place)
 }
@@ -160,7 +159,7 @@ impl<'m> Running<'m> {
     fn work(&mut self, alloc: Global, task: Task) -> Result<Event, Memory>
         requires running { IsRunning self.old }
         requires marked { IsMarked self.old.core.machine }
-        requires task { first_task (top_frame self.old.core) ≡ Some (task_value task) }
+        requires task { first_task (top_frame self.old.core) ≡ Some task }
         requires member { task.member < length self.old.core.stages }
         ensures stepped { IfOk result (λ e. (L : LinkedSet) → IsLinked L self.old.linked.now → StepsTo L e self.old self.new) }
         ensures running { OnOk result (IsRunning self.new) }
@@ -177,9 +176,9 @@ impl<'m> Running<'m> {
     fn place(&mut self, task: Task) -> Event
         requires running { IsRunning self.old }
         requires marked { IsMarked self.old.core.machine }
-        requires task { first_task (top_frame self.old.core) ≡ Some (task_value task) }
+        requires task { first_task (top_frame self.old.core) ≡ Some task }
         requires member { task.member < length self.old.core.stages }
-        requires places { phase_value task.phase ≡ phases.Place }
+        requires places { task.phase ≡ phases.Place }
         ensures stepped { (L : LinkedSet) → IsLinked L self.old.linked.now → StepsTo L result self.old self.new }
         ensures running { IsRunning self.new }
         ensures linked { self.new.linked ≡ self.old.linked }

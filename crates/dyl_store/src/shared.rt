@@ -4,7 +4,7 @@ ghost use Rattle.spec_loading.specs.spec_runtime.Tables.{new_table, entries_over
 ghost use Rattle.spec_loading.specs.spec_linking.LinkedSets.{LinkedSet};
 ghost use Rattle.spec_loading.specs.Members.{opening_table};
 ghost use Rattle.dyl_link.specs.Kept.{IsLinked};
-ghost use Rattle.merge_start.specs.Listed.{IsOfSet};
+ghost use Rattle.dyl_addresses.specs.Sets.{IsOfSet};
 ghost use Rattle.dyl_store.specs.Opening.{outside_at};
 
 use dyl_link::Linked;

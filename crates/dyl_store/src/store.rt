@@ -6,7 +6,6 @@ ghost use Rattle.spec_loading.specs.spec_linking.LinkedSets.{LinkedSet};
 ghost use Rattle.spec_loading.specs.LoadedSet.{SetState};
 ghost use Rattle.dyl_link.specs.host_table.Names.{host_name_of};
 ghost use Rattle.dyl_link.specs.Kept.{IsLinked};
-ghost use Rattle.merge_start.specs.Listed.{IsOfSet};
 ghost use Rattle.dyl_store.specs.Stores.{Stands, new_run, has_ended, is_waiting, IsAnswered, IsCodeNext, RunStepped, ArgumentsFit, Advances, Awaits};
 ghost use Rattle.dyl_store.specs.Runs.{IsRunning, IsAt};
 ghost use Rattle.dyl_store.specs.Steps.{event_of, steps_told, AreNumbers, Counted};
@@ -117,9 +116,9 @@ impl<'m> Store<'m> {
     /// A linked set in its opening state: the loader is to open the main module and then to call the entry. `Memory` where no memory could
     /// be had.
     pub fn load(alloc: Global, linked: &'m Linked) -> Result<Store<'m>, Memory>
-        requires { IsOfSet linked.now }
         ensures { IfOk result (λ s. s ≡ new_run linked.now) }
     {
+        linked.links();
         let running = Running::open(alloc, linked)?;
         Ok(Store {
             running,
@@ -175,6 +174,7 @@ impl<'m> Store<'m> {
         ensures left { (L : LinkedSet) → IsLinked L self.old.linked → OnOk result ((r : Ran hosts SetState) → Stands L self.new r → self.new.steps < most → IsCodeNext L r.state → ⊥) }
         ensures found { OnOk result (self.new.lost ≡ false) }
         ensures lost { OnErr result (self.new.lost ≡ true) }
+        ensures again { self.old.lost ≡ true → result ≡ Err (record {}) }
     {
         if self.lost {
             return Err(Memory);

@@ -1,11 +1,10 @@
 // The tasks of opening a member.
-ghost use Rattle.std.specs.Prelude.{◌≡◌, ◌<◌, ◌++◌, length, map, reverse, IfOk, OnOk};
+ghost use Rattle.std.specs.Prelude.{◌≡◌, ◌<◌, ◌++◌, length, reverse, IfOk, OnOk};
 ghost use Rattle.std.specs.List.{All};
 ghost use Rattle.spec_loading.specs.spec_linking.LinkedSets.{LinkedSet};
 ghost use Rattle.spec_loading.specs.Phases.{tasks_of, opening_tasks, open_frame};
 ghost use Rattle.dyl_link.specs.Kept.{IsLinked};
-ghost use Rattle.dyl_frames.specs.Tasks.{phase_value, task_value};
-ghost use Rattle.merge_start.specs.Listed.{IsOfSet};
+ghost use Rattle.dyl_addresses.specs.Sets.{IsOfSet};
 
 use dyl_frames::{Phase, Task};
 use dyl_link::Linked;
@@ -14,7 +13,7 @@ use wasm_form::Memory;
 
 // Adds a phase of some members, in order.
 fn put_tasks(to: &mut Vec<Task>, phase: Phase, members: &[u32]) -> Result<(), Memory>
-    ensures { OnOk result (map task_value to.new.items ≡ map task_value to.old.items ++ tasks_of (phase_value phase) members.now) }
+    ensures { OnOk result (to.new.items ≡ to.old.items ++ tasks_of phase members.now) }
 {
     for m in members {
         to.push(Task { phase, member: *m })?;
@@ -24,7 +23,7 @@ fn put_tasks(to: &mut Vec<Task>, phase: Phase, members: &[u32]) -> Result<(), Me
 
 // The tasks of opening, in order.
 fn tasks_in_order(alloc: Global, breadth: &[u32], post: &[u32]) -> Result<Vec<Task>, Memory>
-    ensures { IfOk result (λ v. map task_value v.items ≡ opening_tasks breadth.now post.now) }
+    ensures { IfOk result (λ v. v.items ≡ opening_tasks breadth.now post.now) }
 {
     let mut tasks = Vec::new(alloc);
     put_tasks(&mut tasks, Phase::Place, breadth)?;
@@ -36,7 +35,7 @@ fn tasks_in_order(alloc: Global, breadth: &[u32], post: &[u32]) -> Result<Vec<Ta
 
 // The tasks of opening, of which the next one comes last.
 fn opening_tasks(alloc: Global, breadth: &[u32], post: &[u32]) -> Result<Vec<Task>, Memory>
-    ensures { IfOk result (λ v. map task_value (reverse v.items) ≡ opening_tasks breadth.now post.now) }
+    ensures { IfOk result (λ v. reverse v.items ≡ opening_tasks breadth.now post.now) }
 {
     let mut tasks = tasks_in_order(alloc, breadth, post)?;
     tasks.reverse();
@@ -47,7 +46,7 @@ fn opening_tasks(alloc: Global, breadth: &[u32], post: &[u32]) -> Result<Vec<Tas
 pub(crate) fn member_tasks(alloc: Global, linked: &Linked, m: u32) -> Result<Vec<Task>, Memory>
     requires set { IsOfSet linked.now }
     requires member { m < length linked.now.set.members }
-    ensures tasks { IfOk result (λ v. (L : LinkedSet) → IsLinked L linked.now → map task_value (reverse v.items) ≡ (open_frame L.set m).tasks) }
+    ensures tasks { IfOk result (λ v. (L : LinkedSet) → IsLinked L linked.now → reverse v.items ≡ (open_frame L.set m).tasks) }
     ensures members { IfOk result (λ v. All (λ t. t.member < length linked.now.set.members) v.items) }
 {
     let tasks = opening_tasks(

@@ -1,5 +1,5 @@
 // The members of a linked set as a view.
-use crate::unit::code_of;
+use crate::run_member::code_of;
 use crate::world::World;
 use std::alloc::Global;
 use wasm_form::{Code, FuncType, Memory, Ref, Trap, Value};

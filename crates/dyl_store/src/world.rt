@@ -3,7 +3,7 @@ ghost use Rattle.std.specs.Prelude.{◌≡◌, ◌<◌, length, Some};
 ghost use Rattle.dyl_store.specs.Units.{IsMember, IsUnit};
 ghost use Rattle.dyl_store.specs.Worlds.{kept_instances, HasPlaces};
 
-use crate::unit::Unit;
+use crate::run_member::Unit;
 use dyl_link::Linked;
 use std::marker::Model;
 use wasm_form::{Ref, Value};

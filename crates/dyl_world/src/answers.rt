@@ -46,9 +46,9 @@ fn open_named(set: &ClosedSet, name: &[u8], flags: u32) -> Opening
 
 /// What `dlopen` comes to, whose name stands at an address in memory. A name at address 0 is the program itself.
 pub fn open_answer(linked: &Linked, memory: &Space, name: u32, flags: u32) -> Opening
-    requires { (L : LinkedSet) × IsLinked L linked.now }
     ensures { (L : LinkedSet) → IsLinked L linked.now → result ≡ loader.open_answer L memory.now name flags }
 {
+    linked.links();
     if name == 0 {
         return Opening::Main;
     }
@@ -92,10 +92,10 @@ pub fn symbol_answer(
     handle: u32,
     name: u32,
 ) -> Finding
-    requires linked { (L : LinkedSet) × IsLinked L linked.now }
     requires stages { length stages.now ≡ length linked.now.set.members }
     ensures { (L : LinkedSet) → IsLinked L linked.now → result ≡ loader.symbol_answer L stages.now memory.now handle name }
 {
+    linked.links();
     match string_at(memory, name) {
         Some(text) => find_named(linked, stages, handle, text),
         None => Finding::Trapped,
@@ -131,10 +131,10 @@ fn text_address(plan: &Plan, offset: u32) -> u32
 
 /// What `dlerror` answers: the address of the text of the last error, or 0 where none is set. None is set afterwards.
 pub fn error_answer(linked: &Linked, errors: &mut Errors) -> u32
-    requires { (L : LinkedSet) × IsLinked L linked.now }
     ensures value { (L : LinkedSet) → IsLinked L linked.now → result ≡ loader.error_answer L errors.old }
     ensures none { errors.new ≡ 0 }
 {
+    linked.links();
     match errors.take() {
         0 => 0,
         e => text_address(linked.plan(), text_offset(e)),

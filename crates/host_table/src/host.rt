@@ -2,7 +2,7 @@
 ghost use Rattle.std.specs.Prelude.{◌≡◌, IfOk};
 ghost use Rattle.host_table.specs.Names.{host_name_of};
 
-use crate::copies::{copied_type, owned};
+use crate::copies::copied_type;
 use spec_runtime::wasm_form::{FuncType, Memory, Text};
 use std::alloc::Global;
 
@@ -35,8 +35,8 @@ impl HostName {
     pub fn new(alloc: Global, from: &str, name: &str, ty: &FuncType) -> Result<HostName, Memory>
         ensures { IfOk result (λ h. host_name_of h ≡ (record { module_name = from.now; name = name.now; ty = ty.now })) }
     {
-        let module = Text::of(owned(alloc, from)?);
-        let name = Text::of(owned(alloc, name)?);
+        let module = Text::copied(alloc, from)?;
+        let name = Text::copied(alloc, name)?;
         let ty = copied_type(alloc, ty)?;
         Ok(HostName { module, name, ty })
     }

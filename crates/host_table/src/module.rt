@@ -6,10 +6,9 @@ ghost use Rattle.std.specs.Option.{option_copied};
 ghost use Rattle.spec_runtime.specs.Names.{empty_module, declares, with_function, with_every_name, module_match, has_integers};
 ghost use Rattle.host_table.specs.Names.{match_of, fits_where};
 
-use crate::copies::owned;
 use crate::types::{is_rest_type, is_same_type};
 use indexmap::IndexMap;
-use spec_runtime::wasm_form::{FuncType, Memory};
+use spec_runtime::wasm_form::{FuncType, Memory, owned};
 use std::alloc::Global;
 use std::marker::Model;
 

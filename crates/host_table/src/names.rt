@@ -6,10 +6,9 @@ ghost use Rattle.std.specs.Option.{option_copied};
 ghost use Rattle.spec_runtime.specs.Names.{HostModule, no_names, empty_module, host_module, change_module, with_name, with_rest, host_match, host_typed, has_integers};
 ghost use Rattle.host_table.specs.Names.{match_of};
 
-use crate::copies::owned;
 use crate::module::{HostMatch, ModuleNames};
 use indexmap::IndexMap;
-use spec_runtime::wasm_form::{FuncType, Memory};
+use spec_runtime::wasm_form::{FuncType, Memory, owned};
 use std::alloc::Global;
 use std::marker::Model;
 

@@ -4,9 +4,8 @@ ghost use Rattle.std.specs.Map.{lookup};
 ghost use Rattle.std.specs.Str.{bytes_eq};
 ghost use Rattle.host_table.specs.Numbers.{number_of, with_number};
 
-use crate::copies::owned;
 use indexmap::IndexMap;
-use spec_runtime::wasm_form::Memory;
+use spec_runtime::wasm_form::{Memory, owned};
 use std::alloc::Global;
 use std::marker::Model;
 

@@ -7,7 +7,6 @@ ghost use Rattle.host_table.specs.Answers.{Keeps};
 ghost use Rattle.host_table.specs.Numbers.{number_of, with_number};
 ghost use Rattle.host_table.specs.Table.{is_same_name, functions_of, entry_count, entry_number, FitEntry, FitsEntry, GivesAnswer, Adds, IsUnchanged};
 
-use crate::copies::owned;
 use crate::entry::{AddFault, AddRefused, Entry, HostTable};
 use crate::{Callback, HostName, HostNames, HostNumbers, Reply};
 use spec_runtime::wasm_form::{FuncType, Memory, Text};
@@ -143,7 +142,7 @@ fn prepare(
 fn named(alloc: Global, from: &str, name: &str, ty: FuncType) -> Result<HostName, Memory>
     ensures { IfOk result (λ h. host_name_of h ≡ record { module_name = from.now; name = name.now; ty = ty }) }
 {
-    let module = Text::of(owned(alloc, from)?);
-    let name = Text::of(owned(alloc, name)?);
+    let module = Text::copied(alloc, from)?;
+    let name = Text::copied(alloc, name)?;
     Ok(HostName { module, name, ty })
 }

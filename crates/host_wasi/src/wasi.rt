@@ -32,7 +32,7 @@ impl Model for Wasi {
 
 impl Wasi {
     /// The calls for a program with these arguments, of which the first one is its name.
-    pub fn new(args: List<Text>) -> Wasi
+    pub fn new(_alloc: Global, args: List<Text>) -> Wasi
         ensures { result ≡ args }
     {
         Wasi { texts: args }

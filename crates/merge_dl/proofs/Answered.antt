@@ -19,7 +19,7 @@ use Rattle.spec_loading.specs.spec_runtime.Memories.{MemoryInstance}
 use Rattle.spec_loading.specs.spec_execution.Values.{low, take_values}
 use Rattle.spec_loading.specs.spec_execution.Activations.{Activation, with_values}
 use Rattle.spec_loading.specs.spec_execution.Views.{loader_type}
-use Rattle.spec_loading.specs.spec_execution.Runs.{Frame, Next, Goes, Loads, call, calling, call_own, call_loader, arguments, entered, became}
+use Rattle.spec_loading.specs.spec_execution.Runs.{Frame, Goes, Loads, call, calling, call_own, call_loader, arguments, entered, became}
 use Rattle.spec_loading.specs.spec_execution.Runs as frames
 use Rattle.spec_loading.specs.spec_execution.Instances.{module_hosts, module_view}
 use Rattle.spec_loading.specs.spec_execution.OneModule.{Starting, ModuleState, module_step}

@@ -25,10 +25,10 @@ use Rattle.spec_loading.proofs.of_spec_safety.Lookups.{got}
 use Rattle.merge_start.specs.Words.{Starts, number}
 use Rattle.merge_start.specs.Running.{Changing}
 use Rattle.merge_start.proofs.Reaching.{does_number, does_global, does_less}
-use Rattle.merge_start.proofs.Ranges.{closure_inside}
+use Rattle.dyl_addresses.proofs.Ranges.{closure_inside}
 use Rattle.merge_dl.specs.Words.{Finders, when, fault_code, tries_code, handle_code, handles_code, libraries, symbol_call_code}
 use Rattle.merge_dl.proofs.Sites.{Outcome, Passes, Fails, Runs, Answers, runs_then, runs_ends, runs_does, runs_get, runs_set, runs_when, runs_over, answers_runs}
-use Rattle.merge_dl.proofs.Grounds.{Ground, runs_length, fails_length, begins_string, short_string}
+use Rattle.merge_dl.proofs.Grounds.{Ground, runs_length, fails_length}
 use Rattle.merge_dl.proofs.Tries.{runs_fault, runs_if_local, runs_not_local, finding_outcome, finding_ends, search_locals, sought, runs_tries}
 
 -- what a handle of a member comes to
@@ -53,7 +53,7 @@ module _ {L : LinkedSet} {x : Starts} {d : Finders} {merged : Module} {stages : 
   tries : (ms : List ℕ) → All (λ m. m < length L.set.members) ms → (v : ℕ)
       → Runs merged x (tries_code d ms) c (ls v) [] (finding_outcome c d (sought L s ms))
   tries ms all v =
-      runs_tries merged x c h p s (short_string ground p s known) (begins_string ground p s known) L links d ground.finds ground.old ground.held ms all v
+      runs_tries merged x c ground.bounded h p s known L links d ground.finds ground.old ground.held ms all v
 
   refuses : (v : ℕ) → Runs merged x (fault_code d bad_handle_error 0) c (ls v) [] (finding_outcome c d (finding.Refused bad_handle_error))
   refuses v = runs_fault (ls v) d bad_handle_error 0 ground.old (omega arith) (omega arith) ground.held

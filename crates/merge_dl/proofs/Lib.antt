@@ -14,4 +14,5 @@ pub mod Opens
 pub mod Texts
 pub mod Answered
 pub mod Typed
+pub mod Called
 pub mod Making

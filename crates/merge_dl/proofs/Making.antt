@@ -11,6 +11,9 @@ use Rattle.wasm_form.specs.declared.module.Export.{Export}
 use Rattle.wasm_form.specs.declared.module.Module.{Module}
 use Rattle.wasm_form.specs.declared.runtime.LoaderCall.TheVariants.{Dlopen, Dlsym, Dlclose, Dlerror}
 use Rattle.spec_loading.specs.spec_linking.Sets.{Member}
+use Rattle.spec_loading.specs.spec_linking.Plans.{texts_size, end_of, regions_of}
+use Rattle.spec_loading.specs.spec_linking.Slots.{linked_plan}
+use Rattle.spec_loading.proofs.of_spec_linking.Placing.{above, end_above}
 use Rattle.spec_loading.specs.spec_linking.Definitions.{Definition, MemberFunction, MemberData, LoaderFunction, HeapBase, HeapEnd, HostFunction, WeakSymbol, Undefined, or_defined}
 use Rattle.spec_loading.specs.spec_linking.Orders.{closure}
 use Rattle.spec_loading.specs.spec_linking.LinkedSets.{LinkedSet}
@@ -20,7 +23,7 @@ use Rattle.dyl_link.specs.dyl_search.declared.set.Member as declared
 use Rattle.dyl_link.specs.dyl_search.Gathers.{member_of}
 use Rattle.merge_match.specs.Parts.{number_of}
 use Rattle.merge_start.specs.Words.{Starts}
-use Rattle.merge_start.specs.declared.part.Part.{Part}
+use Rattle.wasm_form.specs.declared.module.Part.{Part}
 use Rattle.merge_dl.specs.Words.{Finders, may_be_string, named_code, named_codes, name_number, search_code, wide, return_code, members_code, open_call_code, tries_code, handles_code, libraries, symbol_call_code, closes_code, close_call_code, error_call_code, when, give_code, fault_code, is_local, code_with, handle_type, unary_type, binary_type, one_i32, one_i64}
 use Rattle.merge_dl.specs.Listed.{AreDlNumbers, starts_in, finders_in, open_begin, symbol_begin, found_code, export_code, call_part}
 use Rattle.merge_dl.specs.declared.numbers.DlNumbers.{DlNumbers}
@@ -64,6 +67,17 @@ search_made L m (e ∷ es) =
     ∙ ap (λ l. export_code L m e ++ l) (search_made L m es)
     ∙ sym (append_assoc (export_code L m e) (flat_map (export_code L m) es) (wide 0 ∷ []))
 
+-- ---- the texts of errors
+
+-- they end before the heap
+pub texts_within : (L : LinkedSet) → (linked_plan L).stack_top + texts_size ≤ (linked_plan L).heap_base
+texts_within L =
+    let regions = regions_of L.set.members in
+    let start = (linked_plan L).stack_top + texts_size in
+    let past = end_above (λ r. r.mem_size) (λ r. r.mem_align) start regions in
+    let rounded = above 16 (end_of (λ r. r.mem_size) (λ r. r.mem_align) start regions) (omega arith) in
+    omega arith
+
 -- ---- lists from a place on
 
 -- what a member has comes before what those behind it have
@@ -79,6 +93,13 @@ member_next {X} of ms j x lt item m next step to more all wasm same put before =
     ∙ ap (λ (y : declared.Member). from (y ∷ rest)) item
     ∙ sym (at_drop_more from ms j x lt)
     ∙ before
+
+-- no member is left
+pub member_last : {X : Type 0} (of : ℕ → Module → List X) (m : ℕ) (ms : List declared.Member) (j : ℕ) → length ms ≤ j → (to all : List X)
+    → to ++ from_members of m (map member_of (drop j ms)) ≡ all → to ≡ all
+member_last {X} of m ms j le to all before =
+    let from : List declared.Member → List X = λ l. to ++ from_members of m (map member_of l) in
+    sym (append-nil to) ∙ ap from (sym (drop_all j ms le)) ∙ before
 
 drop_next : {A : Type 0} (i : ℕ) (xs : List A) → i < length xs → (y : A) × (drop i xs ≡ y ∷ drop (i + 1) xs)
 drop_next i [] lt = absurd (omega arith)
@@ -112,24 +133,6 @@ module _ (L : LinkedSet) (x : Starts) (d : Finders) (begun put all : List Instr)
       ∙ ap (λ l. l ++ last) (b ∙ ap₂ (λ u v. u ++ members_code x 0 v) a same)
       ∙ append_assoc (open_begin d) (members_code x 0 L.set.members) last
 
-  pub symbol_made : begun ≡ symbol_begin d L.set.startup → put ≡ begun ++ handles_code L x d 1 (drop 1 ms)
-      → all ≡ put ++ fault_code d bad_handle_error 0 → all ≡ symbol_call_code L x d
-  unfolding symbol_call_code
-  symbol_made a b c =
-      let last = fault_code d bad_handle_error 0 in
-      c
-      ∙ ap (λ l. l ++ last) (b ∙ ap₂ (λ u v. u ++ handles_code L x d 1 (drop 1 v)) a same)
-      ∙ append_assoc (symbol_begin d L.set.startup) (handles_code L x d 1 (libraries L)) last
-
-  pub close_made : begun ≡ is_local 0 1 ++ when (give_code 0) ∷ [] → put ≡ begun ++ closes_code x 1 (drop 1 ms)
-      → all ≡ put ++ fault_code d bad_close_error not_closed → all ≡ close_call_code L x d
-  unfolding close_call_code
-  close_made a b c =
-      let last = fault_code d bad_close_error not_closed in
-      c
-      ∙ ap (λ l. l ++ last) (b ∙ ap₂ (λ u v. u ++ closes_code x 1 (drop 1 v)) a same)
-      ∙ append_assoc (is_local 0 1 ++ when (give_code 0) ∷ []) (closes_code x 1 (libraries L)) last
-
 -- ---- by the numbers of a set
 
 members_same : (x y : Starts) (m : ℕ) (ms : List Member) → ((j : ℕ) → j < length ms → x.opening (m + j) ≡ y.opening (m + j))
@@ -153,10 +156,10 @@ closes_same x y same m [] = refl
 closes_same x y same m (a ∷ ms) =
     ap₂ (λ g l. (is_local 0 (m + 1) ++ when (Index 0x23 (g + m) ∷ when (give_code 0) ∷ []) ∷ []) ++ l) same (closes_same x y same (m + 1) ms)
 
-abbrev part_with : FuncType → List Group → List Instr → Part
+abbrev pub part_with : FuncType → List Group → List Instr → Part
 part_with ty locals is = record { ty = ty; code = code_with locals is }
 
-part_same : (ty other : FuncType) (ls gs : List Group) (is js : List Instr) → ty ≡ other → ls ≡ gs → is ≡ js
+pub part_same : (ty other : FuncType) (ls gs : List Group) (is js : List Instr) → ty ≡ other → ls ≡ gs → is ≡ js
     → part_with ty ls is ≡ part_with other gs js
 part_same ty other ls gs is js a b c = ap (λ t. part_with t ls is) a ∙ ap₂ (part_with other) b c
 

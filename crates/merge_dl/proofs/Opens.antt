@@ -1,5 +1,5 @@
 -- dlopen: the member of a name is opened.
-use Rattle.std.proofs.Common.{◌≡◌, ℕ, zero, suc, ◌+◌, ◌^◌, ◌<◌, Bool, true, false, List, [], ◌∷◌, ◌++◌, length, nat_eq, bit_and, Option, Some, None, cond, refl, sym, ap, ◌∙◌, subst, arith, append_assoc, mod-eq_of_lt, if◌then◌else◌}
+use Rattle.std.proofs.Common.{◌≡◌, ℕ, zero, suc, ◌+◌, ◌^◌, ◌<◌, Bool, true, false, List, [], ◌∷◌, ◌++◌, length, drop, nat_eq, bit_and, Option, Some, None, cond, refl, sym, ap, ◌∙◌, subst, arith, append_assoc, mod-eq_of_lt, if◌then◌else◌}
 use Rattle.std.specs.Prelude.{bytes_eq}
 use Rattle.std.specs.List.{position_from}
 use Rattle.std.proofs.lemmas.Nat.{and_le_r}
@@ -23,8 +23,8 @@ use Rattle.merge_start.proofs.Reaching.{with_global, does_number}
 use Rattle.merge_dl.specs.Words.{Finders, when, give_code, fault_code, named_codes, opens_code, members_code, open_call_code}
 use Rattle.merge_dl.proofs.Operators.{does_eqz, does_and}
 use Rattle.merge_dl.proofs.Sites.{Outcome, Passes, Gives, Fails, Opens, Runs, Answers, runs_then, runs_ends, runs_does, runs_get, runs_set, runs_when, runs_over, answers_runs}
-use Rattle.merge_dl.proofs.Names.{names_same, names_other}
-use Rattle.merge_dl.proofs.Grounds.{Ground, runs_length, fails_length, begins_string, short_string}
+use Rattle.merge_dl.proofs.Names.{Begins, string_begins, string_short, names_same, names_other}
+use Rattle.merge_dl.proofs.Grounds.{Ground, runs_length, fails_length}
 use Rattle.merge_dl.proofs.Tries.{runs_give, runs_fault}
 use Rattle.merge_dl.proofs.Handles.{not_zero}
 
@@ -53,6 +53,12 @@ module _ {L : LinkedSet} {x : Starts} {d : Finders} {merged : Module} {stages : 
   abbrev ls : List Value
   ls = Num p ∷ Num f ∷ Num (length s) ∷ []
 
+  short : length s < 2 ^ 32
+  short = string_short c.memory (low W32 p) s known ground.bounded
+
+  begins : Begins s (drop (low W32 p) c.memory.bytes)
+  begins = string_begins c.memory (low W32 p) s known
+
   abbrev fault : List Instr
   fault = fault_code d no_module_error 0
 
@@ -77,11 +83,11 @@ module _ {L : LinkedSet} {x : Starts} {d : Finders} {merged : Module} {stages : 
       go true q later =
           subst (λ (code : List Instr). Runs merged x code c ls [] (Opens c m)) joined
           (runs_ends rest (Opens c m) tt
-          (names_same merged x c ls p refl 2 s refl (short_string ground p s known) (begins_string ground p s known) member.name (opens_code x m) (Opens c m) q tt (runs_opens c ls m)))
+          (names_same merged x c ls p refl 2 s refl short begins member.name (opens_code x m) (Opens c m) q tt (runs_opens c ls m)))
       go false q later =
           let result = opening_outcome c d (begin_or (named (m + 1) members)) in
           subst (λ (code : List Instr). Runs merged x code c ls [] result) joined
-          (runs_then result (names_other merged x c ls p refl 2 s refl (short_string ground p s known) (begins_string ground p s known) member.name (opens_code x m) q) later)
+          (runs_then result (names_other merged x c ls p refl 2 s refl short begins member.name (opens_code x m) q) later)
 
   -- the flags are tested before the name
   abbrev flags : ℕ

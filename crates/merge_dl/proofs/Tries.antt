@@ -1,5 +1,5 @@
 -- Members are searched in order: what is given is the number of the first definition.
-use Rattle.std.proofs.Common.{◌≡◌, ℕ, ◌%◌, ◌^◌, ◌<◌, Bool, true, false, List, [], ◌∷◌, ◌++◌, length, drop, nat_eq, slice_get, Option, Some, None, refl, sym, ap, ◌∙◌, subst, arith, mod-eq_of_lt, ⊎_elim}
+use Rattle.std.proofs.Common.{◌≡◌, ℕ, ◌%◌, ◌^◌, ◌<◌, Bool, true, false, List, [], ◌∷◌, ◌++◌, length, nat_eq, slice_get, Some, None, refl, sym, ap, ◌∙◌, subst, arith, mod-eq_of_lt, ⊎_elim}
 use Rattle.std.proofs.lemmas.Bool.Decides.{nat_tests}
 use Rattle.std.specs.List.{All}
 use Rattle.std.proofs.lemmas.List.Elements.{All-head, All-tail}
@@ -11,27 +11,23 @@ use Rattle.wasm_form.specs.declared.runtime.Value.TheVariants.{Num}
 use Rattle.spec_loading.specs.spec_runtime.Numerics.{W32, W64}
 use Rattle.spec_loading.specs.spec_execution.Values.{low}
 use Rattle.spec_loading.specs.spec_execution.Activations.{one_if}
-use Rattle.spec_loading.specs.spec_binary.Options.{◌>>=◌}
-use Rattle.spec_loading.specs.spec_linking.Sets.{Member}
 use Rattle.spec_loading.specs.spec_linking.Definitions.{Definition, LoaderFunction, HeapBase, HeapEnd, MemberFunction, MemberData, HostFunction, WeakSymbol, Undefined, or_defined, member_definition, searched}
-use Rattle.spec_loading.specs.spec_linking.LinkedSets.{LinkedSet, wasm_of}
+use Rattle.spec_loading.specs.spec_linking.LinkedSets.{LinkedSet}
 use Rattle.spec_loading.specs.spec_linking.Slots.{cell_number}
 use Rattle.spec_loading.specs.spec_linking.Links.{Links}
 use Rattle.spec_loading.specs.declared.answers.Finding.{Finding}
 use Rattle.spec_loading.specs.declared.answers.Finding.TheVariants as finding
-use Rattle.spec_loading.specs.LoaderAnswers.{no_symbol_error, found_number}
-use Rattle.spec_loading.proofs.of_spec_safety.Lookups.{got}
+use Rattle.spec_loading.specs.LoaderAnswers.{no_symbol_error, found_number, string_at}
+use Rattle.merge_match.specs.Bounded.{IsBounded}
 use Rattle.merge_start.specs.Words.{Starts}
 use Rattle.merge_start.specs.Running.{Changing}
 use Rattle.merge_start.specs.Started.{IsWord}
 use Rattle.merge_start.proofs.Reaching.{with_global, does_number, does_set}
-use Rattle.merge_dl.specs.Words.{Finders, when, return_code, give_code, fault_code, is_local, found_value, find_body, search_type, try_code, tries_code}
-use Rattle.merge_dl.specs.Ready.{HasFunction}
+use Rattle.merge_dl.specs.Words.{Finders, when, return_code, give_code, fault_code, is_local, found_value, try_code, tries_code}
+use Rattle.merge_dl.specs.Called.{defined_number, search_value, SearchesMember}
 use Rattle.merge_dl.proofs.Operators.{does_eqz, does_equal, does_wide_eqz, does_wrap}
 use Rattle.merge_dl.proofs.Sites.{Outcome, Passes, Gives, Fails, IsEnd, Runs, runs_then, runs_ends, runs_does, runs_get, runs_tee, runs_when, runs_when_on, runs_over, runs_return}
-use Rattle.merge_dl.proofs.Names.{Begins}
 use Rattle.merge_dl.proofs.Defined.{definition_numbered}
-use Rattle.merge_dl.proofs.Searches.{search_value, told, runs_find}
 
 -- ---- pieces
 
@@ -113,39 +109,38 @@ first_numbered L s HostFunction other k e = e
 first_numbered L s WeakSymbol other k e = e
 first_numbered L s Undefined other k e = absurd cc
 
-module _ (merged : Module) (x : Starts) (c : Changing) (h p : ℕ) (s : List ℕ) (short : length s < 2 ^ 32)
-    (begins : Begins s (drop (low W32 p) c.memory.bytes)) (L : LinkedSet) (links : Links L) (d : Finders)
-    (finds : (m : ℕ) (wasm : Module) → wasm_of L m ≡ Some wasm → HasFunction merged (d.find m) search_type (find_body L m wasm))
-    (old : Value) (held : slice_get c.units.globals d.error ≡ Some old) where
+module _ (merged : Module) (x : Starts) (c : Changing) (bounded : IsBounded c.memory) (h p : ℕ) (s : List ℕ)
+    (known : string_at c.memory (low W32 p) ≡ Some s) (L : LinkedSet) (links : Links L) (d : Finders)
+    (finds : (m : ℕ) → m < length L.set.members → SearchesMember L m merged (d.find m)) (old : Value) (held : slice_get c.units.globals d.error ≡ Some old) where
   abbrev locals : ℕ → List Value
   locals v = search_locals h p s v
 
   abbrev value : ℕ → ℕ
-  value m = search_value (told L m s)
+  value m = search_value (defined_number L m s)
 
-  asks : (m v : ℕ) (wasm : Module) → wasm_of L m ≡ Some wasm
+  asks : (m v : ℕ) → m < length L.set.members
       → Runs merged x (Index 0x20 1 ∷ Index 0x20 2 ∷ Index 0x10 (d.find m) ∷ Index 0x22 3 ∷ []) c (locals v) [] (Passes c (locals (value m)) (Num (value m) ∷ []))
-  asks m v wasm found =
+  asks m v lt =
       let o = Passes c (locals (value m)) (Num (value m) ∷ []) in
       runs_then o (runs_get 1 (Num p) [] refl) (runs_then o (runs_get 2 (Num (length s)) (Num p ∷ []) refl)
-      (runs_then o (runs_find c p s short begins L links m (d.find m) wasm found (finds m wasm found) (locals v) [])
+      (runs_then o (runs_does (locals v) ((finds m lt).calls c bounded p s known))
       (runs_tee 3 (Num (value m)) (Num v) [] refl)))
 
   tests : (ls : List Value) (v : ℕ) → Runs merged x (Plain 0x50 ∷ Plain 0x45 ∷ []) c ls (Num v ∷ []) (Passes c ls (Num (asked v) ∷ []))
   tests ls v = runs_then (Passes c ls (Num (asked v) ∷ [])) (runs_does ls (does_wide_eqz v [])) (runs_does ls (does_eqz (one_if (nat_eq (low W64 v) 0)) []))
 
-  tries_none : (m v : ℕ) (wasm : Module) → wasm_of L m ≡ Some wasm → told L m s ≡ None → Runs merged x (try_code d m) c (locals v) [] (Passes c (locals 0) [])
-  tries_none m v wasm found none =
+  tries_none : (m v : ℕ) → m < length L.set.members → defined_number L m s ≡ None → Runs merged x (try_code d m) c (locals v) [] (Passes c (locals 0) [])
+  tries_none m v lt none =
       let zero_value : value m ≡ 0 = ap search_value none in
-      let asked_it = subst (λ k. Runs merged x (Index 0x20 1 ∷ Index 0x20 2 ∷ Index 0x10 (d.find m) ∷ Index 0x22 3 ∷ []) c (locals v) [] (Passes c (locals k) (Num k ∷ []))) zero_value (asks m v wasm found) in
+      let asked_it = subst (λ k. Runs merged x (Index 0x20 1 ∷ Index 0x20 2 ∷ Index 0x10 (d.find m) ∷ Index 0x22 3 ∷ []) c (locals v) [] (Passes c (locals k) (Num k ∷ []))) zero_value (asks m v lt) in
       runs_then (Passes c (locals 0) []) asked_it (runs_then (Passes c (locals 0) []) (tests (locals 0) 0) (runs_over gets 0 refl))
 
-  tries_some : (m v k : ℕ) (wasm : Module) → wasm_of L m ≡ Some wasm → told L m s ≡ Some k → k < 2 ^ 32 → Runs merged x (try_code d m) c (locals v) [] (Gives c (Num k))
-  tries_some m v k wasm found some small =
+  tries_some : (m v k : ℕ) → m < length L.set.members → defined_number L m s ≡ Some k → k < 2 ^ 32 → Runs merged x (try_code d m) c (locals v) [] (Gives c (Num k))
+  tries_some m v k lt some small =
       let some_value : value m ≡ found_value k = ap search_value some in
       let ls = locals (found_value k) in
       let o = Gives c (Num k) in
-      let asked_it = subst (λ j. Runs merged x (Index 0x20 1 ∷ Index 0x20 2 ∷ Index 0x10 (d.find m) ∷ Index 0x22 3 ∷ []) c (locals v) [] (Passes c (locals j) (Num j ∷ []))) some_value (asks m v wasm found) in
+      let asked_it = subst (λ j. Runs merged x (Index 0x20 1 ∷ Index 0x20 2 ∷ Index 0x10 (d.find m) ∷ Index 0x22 3 ∷ []) c (locals v) [] (Passes c (locals j) (Num j ∷ []))) some_value (asks m v lt) in
       let yes : low W32 (asked (found_value k)) ≡ 1 = rw (found_wide k small) refl in
       let gets_it : Runs merged x gets c ls [] o =
       runs_then o (runs_get 3 (Num (found_value k)) [] refl)
@@ -160,21 +155,19 @@ module _ (merged : Module) (x : Starts) (c : Changing) (h p : ℕ) (s : List ℕ
       let later = runs_tries ms (All-tail (λ k. k < length L.set.members) m ms all) 0 in
       ⊎_elim (none later) some (definition_numbered L links m s)
     where
-      member : (wasm : Module) × (wasm_of L m ≡ Some wasm)
-      member =
-          let found = got L.set.members m (All-head (λ k. k < length L.set.members) m ms all) in
-          (found.0.wasm, ap (λ (o : Option Member). o >>= λ y. Some y.wasm) found.1)
+      lt : m < length L.set.members
+      lt = All-head (λ k. k < length L.set.members) m ms all
 
       none : Runs merged x (tries_code d ms) c (locals 0) [] (finding_outcome c d (sought L s ms)) → member_definition L.set m s ≡ Undefined
           → Runs merged x (tries_code d (m ∷ ms)) c (locals v) [] (finding_outcome c d (sought L s (m ∷ ms)))
       none later e =
           let same : sought L s (m ∷ ms) ≡ sought L s ms = ap (λ z. found_number (cell_number L s (or_defined z (searched L.set ms s)))) e in
           subst (λ f. Runs merged x (tries_code d (m ∷ ms)) c (locals v) [] (finding_outcome c d f)) (sym same)
-          (runs_then (finding_outcome c d (sought L s ms)) (tries_none m v member.0 member.1 (ap (cell_number L s) e)) later)
+          (runs_then (finding_outcome c d (sought L s ms)) (tries_none m v lt (ap (cell_number L s) e)) later)
 
-      some : (k : ℕ) × (told L m s ≡ Some k) × (k < 2 ^ 32) → Runs merged x (tries_code d (m ∷ ms)) c (locals v) [] (finding_outcome c d (sought L s (m ∷ ms)))
+      some : (k : ℕ) × (defined_number L m s ≡ Some k) × (k < 2 ^ 32) → Runs merged x (tries_code d (m ∷ ms)) c (locals v) [] (finding_outcome c d (sought L s (m ∷ ms)))
       some t =
           let same : sought L s (m ∷ ms) ≡ finding.Address t.0 =
           ap found_number (first_numbered L s (member_definition L.set m s) (searched L.set ms s) t.0 t.1) in
           subst (λ f. Runs merged x (tries_code d (m ∷ ms)) c (locals v) [] (finding_outcome c d f)) (sym same)
-          (runs_ends (tries_code d ms) (Gives c (Num t.0)) tt (tries_some m v t.0 member.0 member.1 t.1 t.2))
+          (runs_ends (tries_code d ms) (Gives c (Num t.0)) tt (tries_some m v t.0 lt t.1 t.2))

@@ -8,6 +8,7 @@ use Rattle.wasm_form.specs.declared.types.ValType.{ValType}
 use Rattle.wasm_form.specs.declared.types.ValType.TheVariants.{I32, I64}
 use Rattle.wasm_form.specs.declared.instr.BlockType.TheVariants.{Empty}
 use Rattle.wasm_form.specs.declared.instr.Instr.{Instr, Plain, Index, Block, Loop, Access}
+use Rattle.wasm_form.specs.declared.module.Module.{Module}
 use Rattle.wasm_form.specs.declared.runtime.LoaderCall.{LoaderCall}
 use Rattle.wasm_form.specs.declared.runtime.LoaderCall.TheVariants.{Dlopen, Dlsym, Dlclose, Dlerror}
 use Rattle.spec_loading.specs.spec_binary.Options.{◌>>=◌}
@@ -22,9 +23,9 @@ use Rattle.spec_loading.specs.spec_linking.Gathering.{IsSet}
 use Rattle.spec_loading.specs.spec_linking.LinkedSets.{LinkedSet}
 use Rattle.spec_loading.specs.LoaderAnswers.{bad_flags_error, no_module_error, bad_handle_error, no_symbol_error, bad_close_error, other_flags, not_closed}
 use Rattle.merge_start.specs.Words.{Starts}
-use Rattle.merge_start.proofs.Ranges.{closure_inside}
+use Rattle.dyl_addresses.proofs.Ranges.{closure_inside}
 use Rattle.merge_start.proofs.Typed.{One, none, on_top, number_typed, less_typed, get_typed, set_typed}
-use Rattle.merge_dl.specs.Words.{Finders, when, return_code, give_code, fault_code, is_local, length_code, bytes_code, named_code, named_codes, may_be_string, name_numbers, found_value, wide, search_code, opens_code, members_code, open_call_code, try_code, tries_code, handle_code, handles_code, libraries, symbol_call_code, closes_code, close_call_code, text_code, error_call_code, handle_type, unary_type, search_type, call_body}
+use Rattle.merge_dl.specs.Words.{Finders, when, return_code, give_code, fault_code, is_local, length_code, bytes_code, named_code, named_codes, may_be_string, name_numbers, found_value, wide, search_code, opens_code, members_code, open_call_code, try_code, tries_code, handle_code, handles_code, libraries, symbol_call_code, closes_code, close_call_code, text_code, error_call_code, handle_type, unary_type, search_type, length_body, find_body, call_body}
 use Rattle.merge_dl.specs.Typed.{HasHeight, number_type, HasNamed, LoaderIsTyped}
 
 -- ---- code under labels
@@ -321,13 +322,19 @@ module _ {c : Context} {L : LinkedSet} {x : Starts} {d : Finders} where
   calls_typed set has Dlerror locals results =
       body_typed (on_top (I32 ∷ []) none) (ends c (I32 ∷ []) (on_top (I32 ∷ []) none) results refl) (error_typed has results (local_at c (I32 ∷ []) 0 I32 locals refl))
 
+pub length_height : (c : Context) → c.memory ≡ true → HasHeight c unary_type length_body
+length_height c memory locals results =
+    body_typed (on_top (I32 ∷ []) none) (ends c (I32 ∷ []) (on_top (I32 ∷ []) none) results refl)
+    (length_typed memory (local_at c (I32 ∷ I32 ∷ []) 0 I32 locals refl) (local_at c (I32 ∷ I32 ∷ []) 1 I32 locals refl))
+
+pub find_height : (L : LinkedSet) (m : ℕ) (wasm : Module) (c : Context) → c.memory ≡ true → HasHeight c search_type (find_body L m wasm)
+find_height L m wasm c memory locals results =
+    body_typed (on_top (I64 ∷ []) none) (ends c (I64 ∷ []) (on_top (I64 ∷ []) none) results refl)
+    (search_typed (name_numbers L m wasm) memory results (local_at c (I32 ∷ I32 ∷ []) 0 I32 locals refl) (local_at c (I32 ∷ I32 ∷ []) 1 I32 locals refl))
+
 pub loader_is_typed : LoaderIsTyped
 loader_is_typed L x d c = record {
-  lengths = λ memory locals results.
-      body_typed (on_top (I32 ∷ []) none) (ends c (I32 ∷ []) (on_top (I32 ∷ []) none) results refl)
-      (length_typed memory (local_at c (I32 ∷ I32 ∷ []) 0 I32 locals refl) (local_at c (I32 ∷ I32 ∷ []) 1 I32 locals refl));
-  finds = λ memory m wasm locals results.
-      body_typed (on_top (I64 ∷ []) none) (ends c (I64 ∷ []) (on_top (I64 ∷ []) none) results refl)
-      (search_typed (name_numbers L m wasm) memory results (local_at c (I32 ∷ I32 ∷ []) 0 I32 locals refl) (local_at c (I32 ∷ I32 ∷ []) 1 I32 locals refl));
+  lengths = λ memory. length_height c memory;
+  finds = λ memory m wasm. find_height L m wasm c memory;
   calls = calls_typed;
 }

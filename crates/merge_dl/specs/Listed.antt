@@ -10,8 +10,9 @@ use Rattle.spec_loading.specs.spec_execution.Views.{loader_type}
 use Rattle.spec_loading.specs.spec_linking.LinkedSets.{LinkedSet}
 use Rattle.spec_loading.specs.LoaderAnswers.{bad_flags_error, other_flags}
 use Rattle.merge_match.specs.Parts.{nowhere, number_of}
+use Rattle.merge_pieces.specs.Opcodes as op
 use Rattle.merge_start.specs.Words.{Starts, number}
-use Rattle.merge_start.specs.declared.part.Part.{Part}
+use Rattle.wasm_form.specs.declared.module.Part.{Part}
 use Rattle.merge_dl.specs.Words.{Finders, handle_type, unary_type, binary_type, search_type, length_body, find_body, call_body, when, give_code, return_code, fault_code, is_local, tries_code, wide, found_value, named_codes, name_number}
 use Rattle.merge_dl.specs.declared.numbers.DlNumbers.{DlNumbers}
 
@@ -29,7 +30,7 @@ pub record AreDlNumbers (L : LinkedSet) (n : DlNumbers) (x : Starts) (d : Finder
 abbrev pub starts_in : DlNumbers → Starts
 starts_in n = record {
   guards = n.guard;
-  slots = nowhere;
+  slots = λ m. nowhere;
   phase = λ m p. nowhere;
   starting = nowhere;
   opening = λ m. number_of (slice_get n.opens m);
@@ -64,13 +65,14 @@ call_parts L x d = call_part L x d Dlopen ∷ call_part L x d Dlsym ∷ call_par
 -- where the byte at the address in local 1 isn't zero, the address is raised, and all is done again
 abbrev pub byte_code : List Instr
 byte_code =
-    Index 0x20 1 ∷ Access 0x2D 0 0 ∷ when (Index 0x20 1 ∷ number 1 ∷ Plain 0x6A ∷ Index 0x21 1 ∷ Index 0x0C 1 ∷ []) ∷ []
+    Index op.local_get 1 ∷ Access op.i32_load8_u 0 0
+    ∷ when (Index op.local_get 1 ∷ number 1 ∷ Plain op.i32_add ∷ Index op.local_set 1 ∷ Index op.br 1 ∷ []) ∷ []
 
 -- ---- names
 
 -- the byte at a place of a string is compared
 abbrev pub compared_code : ℕ → ℕ → List Instr
-compared_code i b = Index 0x20 0 ∷ Access 0x2D 0 i ∷ number b ∷ Plain 0x47 ∷ Index 0x0D 0 ∷ []
+compared_code i b = Index op.local_get 0 ∷ Access op.i32_load8_u 0 i ∷ number b ∷ Plain op.i32_ne ∷ Index op.br_if 0 ∷ []
 
 -- the code of a name that has a number
 abbrev pub found_code : Option (List ℕ × ℕ) → List Instr
@@ -86,14 +88,15 @@ export_code L m e = found_code (name_number L m e)
 -- no name is the program itself; the length of the name is in local 2; the flags are tested
 abbrev pub open_begin : Finders → List Instr
 open_begin d =
-    Index 0x20 0 ∷ Plain 0x45 ∷ when (give_code 1)
-    ∷ Index 0x20 0 ∷ Index 0x10 d.length ∷ Index 0x21 2
-    ∷ Index 0x20 1 ∷ number other_flags ∷ Plain 0x71 ∷ when (fault_code d bad_flags_error 0) ∷ []
+    Index op.local_get 0 ∷ Plain op.i32_eqz ∷ when (give_code 1)
+    ∷ Index op.local_get 0 ∷ Index op.call d.length ∷ Index op.local_set 2
+    ∷ Index op.local_get 1 ∷ number other_flags ∷ Plain op.i32_and ∷ when (fault_code d bad_flags_error 0) ∷ []
 
 -- the length of the name is in local 2; for the handles 0 and 1 some members are searched
 abbrev pub symbol_begin : Finders → List ℕ → List Instr
 symbol_begin d startup =
-    Index 0x20 1 ∷ Index 0x10 d.length ∷ Index 0x21 2 ∷ Index 0x20 0 ∷ number 2 ∷ Plain 0x49 ∷ when (tries_code d startup) ∷ []
+    Index op.local_get 1 ∷ Index op.call d.length ∷ Index op.local_set 2 ∷ Index op.local_get 0 ∷ number 2 ∷ Plain op.i32_lt_u
+    ∷ when (tries_code d startup) ∷ []
 
 -- ---- errors
 

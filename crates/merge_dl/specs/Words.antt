@@ -20,6 +20,7 @@ use Rattle.spec_loading.specs.spec_linking.Definitions.{member_definition}
 use Rattle.spec_loading.specs.spec_linking.LinkedSets.{LinkedSet}
 use Rattle.spec_loading.specs.spec_linking.Slots.{linked_plan, cell_number}
 use Rattle.spec_loading.specs.LoaderAnswers.{bad_flags_error, no_module_error, bad_handle_error, no_symbol_error, bad_close_error, error_offsets, other_flags, not_closed}
+use Rattle.merge_pieces.specs.Opcodes as op
 use Rattle.merge_start.specs.Words.{Starts, number}
 
 -- The numbers of what is added for them: the global that holds the number of the last error, or 0; the function that gives the length of a
@@ -36,7 +37,7 @@ abbrev pub when : List Instr → Instr
 when code = If Empty (record { list = code }) None
 
 abbrev pub return_code : List Instr
-return_code = Plain 0x0F ∷ []
+return_code = Plain op.return_ ∷ []
 
 -- the function returns a number
 abbrev pub give_code : ℕ → List Instr
@@ -44,32 +45,39 @@ give_code k = number k ∷ return_code
 
 -- an error is kept, and the function returns a number
 abbrev pub fault_code : Finders → ℕ → ℕ → List Instr
-fault_code d e answer = number e ∷ Index 0x24 d.error ∷ give_code answer
+fault_code d e answer = number e ∷ Index op.global_set d.error ∷ give_code answer
 
 -- whether a local is a number
 abbrev pub is_local : ℕ → ℕ → List Instr
-is_local x k = Index 0x20 x ∷ number k ∷ Plain 0x46 ∷ []
+is_local x k = Index op.local_get x ∷ number k ∷ Plain op.i32_eq ∷ []
 
 -- ---- the length of a string
 
 -- Local 1 goes from the address in local 0 on to the first zero byte. A load past the end of the memory traps.
 unfoldable pub length_code : List Instr
 length_code =
-    Index 0x20 0 ∷ Index 0x21 1
-    ∷ Loop Empty (record { list = Index 0x20 1 ∷ Access 0x2D 0 0 ∷ when (Index 0x20 1 ∷ number 1 ∷ Plain 0x6A ∷ Index 0x21 1 ∷ Index 0x0C 1 ∷ []) ∷ [] })
-    ∷ Index 0x20 1 ∷ Index 0x20 0 ∷ Plain 0x6B ∷ []
+    Index op.local_get 0 ∷ Index op.local_set 1
+    ∷ Loop Empty
+    (record {
+      list =
+          Index op.local_get 1 ∷ Access op.i32_load8_u 0 0
+          ∷ when (Index op.local_get 1 ∷ number 1 ∷ Plain op.i32_add ∷ Index op.local_set 1 ∷ Index op.br 1 ∷ []) ∷ [];
+    })
+    ∷ Index op.local_get 1 ∷ Index op.local_get 0 ∷ Plain op.i32_sub ∷ []
 
 -- ---- names
 
 -- the bytes from place i on of the string at the address in local 0 are compared with these; the block is left where one is another
 abbrev pub bytes_code : ℕ → List ℕ → List Instr
 bytes_code i [] = []
-bytes_code i (b ∷ bs) = Index 0x20 0 ∷ Access 0x2D 0 i ∷ number b ∷ Plain 0x47 ∷ Index 0x0D 0 ∷ bytes_code (i + 1) bs
+bytes_code i (b ∷ bs) =
+    Index op.local_get 0 ∷ Access op.i32_load8_u 0 i ∷ number b ∷ Plain op.i32_ne ∷ Index op.br_if 0 ∷ bytes_code (i + 1) bs
 
 -- Where the string at the address in local 0 is this name, some code is done, which returns. Its length is in a local.
 unfoldable pub named_code : ℕ → List ℕ → List Instr → Instr
 named_code len name code =
-    Block Empty (record { list = Index 0x20 len ∷ number (length name) ∷ Plain 0x47 ∷ Index 0x0D 0 ∷ (bytes_code 0 name ++ code) })
+    Block Empty
+    (record { list = Index op.local_get len ∷ number (length name) ∷ Plain op.i32_ne ∷ Index op.br_if 0 ∷ (bytes_code 0 name ++ code) })
 
 -- A string in a memory has fewer bytes than there are addresses, each of which is a word.
 abbrev pub may_be_string : List ℕ → Bool
@@ -108,7 +116,7 @@ find_code L m wasm = search_code (name_numbers L m wasm)
 
 -- the function that opens a member is called, and what it gives is returned
 abbrev pub opens_code : Starts → ℕ → List Instr
-opens_code x m = Index 0x10 (x.opening m) ∷ return_code
+opens_code x m = Index op.call (x.opening m) ∷ return_code
 
 -- the names of members, numbered from m on
 abbrev pub members_code : Starts → ℕ → List Member → List Instr
@@ -117,9 +125,9 @@ members_code x m (member ∷ members) = named_codes 2 member.name (opens_code x 
 
 unfoldable pub open_call_code : LinkedSet → Starts → Finders → List Instr
 open_call_code L x d =
-    Index 0x20 0 ∷ Plain 0x45 ∷ when (give_code 1)
-    ∷ Index 0x20 0 ∷ Index 0x10 d.length ∷ Index 0x21 2
-    ∷ Index 0x20 1 ∷ number other_flags ∷ Plain 0x71 ∷ when (fault_code d bad_flags_error 0)
+    Index op.local_get 0 ∷ Plain op.i32_eqz ∷ when (give_code 1)
+    ∷ Index op.local_get 0 ∷ Index op.call d.length ∷ Index op.local_set 2
+    ∷ Index op.local_get 1 ∷ number other_flags ∷ Plain op.i32_and ∷ when (fault_code d bad_flags_error 0)
     ∷ (members_code x 0 L.set.members ++ fault_code d no_module_error 0)
 
 -- ---- dlsym: a handle in local 0, the address of the name in local 1
@@ -127,7 +135,8 @@ open_call_code L x d =
 -- a member is searched, and a number that it has is returned
 abbrev pub try_code : Finders → ℕ → List Instr
 try_code d m =
-    Index 0x20 1 ∷ Index 0x20 2 ∷ Index 0x10 (d.find m) ∷ Index 0x22 3 ∷ Plain 0x50 ∷ Plain 0x45 ∷ when (Index 0x20 3 ∷ Plain 0xA7 ∷ return_code) ∷ []
+    Index op.local_get 1 ∷ Index op.local_get 2 ∷ Index op.call (d.find m) ∷ Index op.local_tee 3 ∷ Plain op.i64_eqz ∷ Plain op.i32_eqz
+    ∷ when (Index op.local_get 3 ∷ Plain op.i32_wrap_i64 ∷ return_code) ∷ []
 
 -- members are searched in order
 abbrev pub tries_code : Finders → List ℕ → List Instr
@@ -136,7 +145,9 @@ tries_code d (m ∷ ms) = try_code d m ++ tries_code d ms
 
 -- where local 0 is the handle of a member that has been placed, its closure is searched
 abbrev pub handle_code : LinkedSet → Starts → Finders → ℕ → List Instr
-handle_code L x d m = is_local 0 (m + 1) ++ when (Index 0x23 (x.guards + m) ∷ when (tries_code d (closure L.set m)) ∷ fault_code d bad_handle_error 0) ∷ []
+handle_code L x d m =
+    is_local 0 (m + 1)
+    ++ when (Index op.global_get (x.guards + m) ∷ when (tries_code d (closure L.set m)) ∷ fault_code d bad_handle_error 0) ∷ []
 
 -- those of members, numbered from m on
 abbrev pub handles_code : LinkedSet → Starts → Finders → ℕ → List Member → List Instr
@@ -149,15 +160,15 @@ libraries L = drop 1 L.set.members
 
 unfoldable pub symbol_call_code : LinkedSet → Starts → Finders → List Instr
 symbol_call_code L x d =
-    Index 0x20 1 ∷ Index 0x10 d.length ∷ Index 0x21 2
-    ∷ Index 0x20 0 ∷ number 2 ∷ Plain 0x49 ∷ when (tries_code d L.set.startup)
+    Index op.local_get 1 ∷ Index op.call d.length ∷ Index op.local_set 2
+    ∷ Index op.local_get 0 ∷ number 2 ∷ Plain op.i32_lt_u ∷ when (tries_code d L.set.startup)
     ∷ (handles_code L x d 1 (libraries L) ++ fault_code d bad_handle_error 0)
 
 -- ---- dlclose: a handle in local 0
 
 -- where local 0 is the handle of a member that has been placed, 0 is returned
 abbrev pub close_code : Starts → ℕ → List Instr
-close_code x m = is_local 0 (m + 1) ++ when (Index 0x23 (x.guards + m) ∷ when (give_code 0) ∷ []) ∷ []
+close_code x m = is_local 0 (m + 1) ++ when (Index op.global_get (x.guards + m) ∷ when (give_code 0) ∷ []) ∷ []
 
 abbrev pub closes_code : Starts → ℕ → List Member → List Instr
 closes_code x m [] = []
@@ -174,7 +185,7 @@ text_code L e = is_local 0 (e + 1) ++ when (give_code ((linked_plan L).stack_top
 
 unfoldable pub error_call_code : LinkedSet → Finders → List Instr
 error_call_code L d =
-    Index 0x23 d.error ∷ Index 0x21 0 ∷ number 0 ∷ Index 0x24 d.error
+    Index op.global_get d.error ∷ Index op.local_set 0 ∷ number 0 ∷ Index op.global_set d.error
     ∷ (text_code L 0 ++ (text_code L 1 ++ (text_code L 2 ++ (text_code L 3 ++ (text_code L 4 ++ number 0 ∷ [])))))
 
 -- ---- functions

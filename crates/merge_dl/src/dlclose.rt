@@ -1,31 +1,35 @@
 // `dlclose`.
-ghost use Rattle.std.specs.Prelude.{◌≡◌, ◌++◌, drop, map, IfOk, OnOk};
+ghost use Rattle.std.specs.Prelude.{◌≡◌, ◌<◌, ◌≤◌, ◌^◌, ◌++◌, length, drop, map, IfOk, OnOk};
 ghost use Rattle.wasm_form.specs.declared.runtime.LoaderCall.TheVariants.{Dlclose};
 ghost use Rattle.spec_loading.specs.spec_linking.LinkedSets.{LinkedSet};
 ghost use Rattle.dyl_link.specs.dyl_search.Gathers.{member_of};
 ghost use Rattle.dyl_link.specs.Kept.{IsLinked};
+ghost use Rattle.dyl_addresses.specs.Sets.{IsOfSet};
 ghost use Rattle.merge_start.specs.Words.{Starts};
 ghost use Rattle.merge_dl.specs.Words.{Finders, close_code, closes_code, close_call_code};
 ghost use Rattle.merge_dl.specs.Listed.{AreDlNumbers, starts_in, finders_in, call_part};
 
-use crate::numbers::{DlNumbers, as_number, sum};
+use crate::numbers::DlNumbers;
 use crate::parts::{part, unary_type};
 use crate::words::{fault, give, when, where_first};
 use dyl_link::Linked;
 use dyl_link::dyl_search::Member;
-use merge_start::Part;
+use merge_pieces::opcodes;
 use std::alloc::Global;
-use wasm_form::{Instr, Memory};
+use wasm_form::{Instr, Memory, Part};
 
 // Where local 0 is the handle of member m and it has been placed, 0 is returned.
 fn close_code(alloc: Global, n: &DlNumbers, m: u32) -> Result<Vec<Instr>, Memory>
+    requires few { m < 2 ^ 16 }
+    requires guard { n.now.guard < 2 ^ 31 }
     ensures { IfOk result (λ x. x.items ≡ close_code (starts_in n.now) m) }
 {
-    let guard = sum(n.guard, m)?;
-    let handle = sum(m, 1)?;
     let closed = give(alloc, 0)?;
-    let code = vec![in alloc; Instr::Index(0x23, guard), when(closed)]?;
-    where_first(alloc, handle, code)
+    let code = vec![in alloc;
+        Instr::Index(opcodes::GLOBAL_GET, n.guard + m),
+        when(closed),
+    ]?;
+    where_first(alloc, m + 1, code)
 }
 
 // The handles of the members behind the main module.
@@ -35,9 +39,11 @@ fn put_closes(
     n: &DlNumbers,
     members: &[Member],
 ) -> Result<(), Memory>
+    requires few { length members.now ≤ 256 }
+    requires guard { n.now.guard < 2 ^ 31 }
     ensures { OnOk result (to.new.items ≡ to.old.items ++ closes_code (starts_in n.now) 1 (drop 1 (map member_of members.now))) }
 {
-    let count = as_number(members.len())?;
+    let count = members.len() as u32;
     for m in 1..count {
         let mut one = close_code(alloc, n, m)?;
         to.append(&mut one)?;
@@ -47,6 +53,8 @@ fn put_closes(
 
 #[tactic(auto, unfolding(crate::specs::Words::close_call_code))]
 fn close_call_code(alloc: Global, linked: &Linked, n: &DlNumbers) -> Result<Vec<Instr>, Memory>
+    requires set { IsOfSet linked.now }
+    requires guard { n.now.guard < 2 ^ 31 }
     ensures { IfOk result (λ x. (L : LinkedSet) → IsLinked L linked.now → x.items ≡ close_call_code L (starts_in n.now) (finders_in n.now)) }
 {
     let itself = give(alloc, 0)?;
@@ -58,6 +66,8 @@ fn close_call_code(alloc: Global, linked: &Linked, n: &DlNumbers) -> Result<Vec<
 }
 
 pub(crate) fn close_function(alloc: Global, linked: &Linked, n: &DlNumbers) -> Result<Part, Memory>
+    requires set { IsOfSet linked.now }
+    requires guard { n.now.guard < 2 ^ 31 }
     ensures { IfOk result (λ p. (L : LinkedSet) (x : Starts) (d : Finders) → IsLinked L linked.now → AreDlNumbers L n.now x d → p ≡ call_part L x d Dlclose) }
 {
     let ty = unary_type(alloc)?;

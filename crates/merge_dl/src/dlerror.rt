@@ -1,19 +1,21 @@
 // `dlerror`.
-ghost use Rattle.std.specs.Prelude.{◌≡◌, ◌++◌, IfOk, OnOk};
+ghost use Rattle.std.specs.Prelude.{◌≡◌, ◌+◌, ◌<◌, ◌^◌, ◌++◌, IfOk, OnOk};
 ghost use Rattle.wasm_form.specs.declared.runtime.LoaderCall.TheVariants.{Dlerror};
+ghost use Rattle.spec_loading.specs.spec_linking.Plans.{texts_size};
 ghost use Rattle.spec_loading.specs.spec_linking.LinkedSets.{LinkedSet};
 ghost use Rattle.dyl_link.specs.Kept.{IsLinked};
+ghost use Rattle.dyl_addresses.specs.Sets.{IsOfSet};
 ghost use Rattle.merge_start.specs.Words.{Starts};
 ghost use Rattle.merge_dl.specs.Words.{Finders, error_call_code};
 ghost use Rattle.merge_dl.specs.Listed.{AreDlNumbers, finders_in, text_at, texts_at, call_part};
 
-use crate::numbers::{DlNumbers, sum};
+use crate::numbers::DlNumbers;
 use crate::parts::{handle_type, one_local, part};
 use crate::words::{give, number, where_first};
 use dyl_link::Linked;
-use merge_start::Part;
+use merge_pieces::opcodes;
 use std::alloc::Global;
-use wasm_form::{Instr, Memory, ValType};
+use wasm_form::{Instr, Memory, Part, ValType};
 
 // Where local 0 is the number of an error, the address of its text is returned, which stands so many bytes behind an address.
 fn put_text(
@@ -23,17 +25,19 @@ fn put_text(
     e: u32,
     offset: u32,
 ) -> Result<(), Memory>
+    requires error { e < 5 }
+    requires text { address + offset < 2 ^ 32 }
     ensures { OnOk result (to.new.items ≡ to.old.items ++ text_at address e offset) }
 {
-    let number = sum(e, 1)?;
-    let text = give(alloc, sum(address, offset)?)?;
-    let mut code = where_first(alloc, number, text)?;
+    let text = give(alloc, address + offset)?;
+    let mut code = where_first(alloc, e + 1, text)?;
     to.append(&mut code)?;
     Ok(())
 }
 
 // The texts of the errors stand from an address on.
 fn put_texts(to: &mut Vec<Instr>, alloc: Global, address: u32) -> Result<(), Memory>
+    requires { address + texts_size < 2 ^ 32 }
     ensures { OnOk result (to.new.items ≡ to.old.items ++ texts_at address) }
 {
     put_text(to, alloc, address, 0, 0)?;
@@ -44,23 +48,35 @@ fn put_texts(to: &mut Vec<Instr>, alloc: Global, address: u32) -> Result<(), Mem
     Ok(())
 }
 
+// The address of the error texts. They end before the heap, so there is an address for each.
+fn texts_address(linked: &Linked) -> u32
+    requires { IsOfSet linked.now }
+    ensures is { result ≡ linked.now.plan.stack_top }
+    ensures fits { result + texts_size < 2 ^ 32 }
+{
+    let _heap = linked.plan().heap_base();
+    linked.plan().texts()
+}
+
 // The last error is in local 0, and none is kept any more.
 #[tactic(auto, unfolding(crate::specs::Words::error_call_code))]
 fn error_call_code(alloc: Global, linked: &Linked, n: &DlNumbers) -> Result<Vec<Instr>, Memory>
+    requires { IsOfSet linked.now }
     ensures { IfOk result (λ x. (L : LinkedSet) → IsLinked L linked.now → x.items ≡ error_call_code L (finders_in n.now)) }
 {
     let mut code = vec![in alloc;
-        Instr::Index(0x23, n.error),
-        Instr::Index(0x21, 0),
+        Instr::Index(opcodes::GLOBAL_GET, n.error),
+        Instr::Index(opcodes::LOCAL_SET, 0),
         number(0),
-        Instr::Index(0x24, n.error),
+        Instr::Index(opcodes::GLOBAL_SET, n.error),
     ]?;
-    put_texts(&mut code, alloc, linked.plan().texts())?;
+    put_texts(&mut code, alloc, texts_address(linked))?;
     code.push(number(0))?;
     Ok(code)
 }
 
 pub(crate) fn error_function(alloc: Global, linked: &Linked, n: &DlNumbers) -> Result<Part, Memory>
+    requires { IsOfSet linked.now }
     ensures { IfOk result (λ p. (L : LinkedSet) (x : Starts) (d : Finders) → IsLinked L linked.now → AreDlNumbers L n.now x d → p ≡ call_part L x d Dlerror) }
 {
     let ty = handle_type(alloc)?;

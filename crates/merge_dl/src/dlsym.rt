@@ -1,46 +1,50 @@
 // `dlsym`.
-ghost use Rattle.std.specs.Prelude.{◌≡◌, ◌<◌, ◌++◌, length, drop, map, IfOk, OnOk};
+ghost use Rattle.std.specs.Prelude.{◌≡◌, ◌<◌, ◌^◌, ◌++◌, length, drop, map, IfOk, OnOk};
 ghost use Rattle.wasm_form.specs.declared.runtime.LoaderCall.TheVariants.{Dlsym};
 ghost use Rattle.spec_loading.specs.spec_linking.LinkedSets.{LinkedSet};
 ghost use Rattle.dyl_link.specs.dyl_search.Gathers.{member_of};
 ghost use Rattle.dyl_link.specs.Kept.{IsLinked};
 ghost use Rattle.merge_start.specs.Words.{Starts};
-ghost use Rattle.merge_start.specs.Listed.{IsOfSet};
+ghost use Rattle.merge_start.specs.Listed.{AreFew};
+ghost use Rattle.dyl_addresses.specs.Sets.{IsOfSet};
 ghost use Rattle.merge_dl.specs.Words.{Finders, try_code, tries_code, handle_code, handles_code, symbol_call_code};
 ghost use Rattle.merge_dl.specs.Listed.{AreDlNumbers, starts_in, finders_in, symbol_begin, call_part};
 
-use crate::numbers::{DlNumbers, as_number, sum};
+use crate::numbers::DlNumbers;
 use crate::parts::{binary_type, part, two_locals};
 use crate::words::{fault, number, when, where_first};
 use dyl_link::Linked;
-use merge_start::Part;
+use merge_pieces::opcodes;
 use std::alloc::Global;
-use wasm_form::{Instr, Memory, ValType};
+use wasm_form::{Instr, Memory, Part, ValType};
 
 // Member m is searched, and a number that it has is returned.
 fn try_code(alloc: Global, n: &DlNumbers, m: u32) -> Result<Vec<Instr>, Memory>
+    requires few { m < 2 ^ 16 }
+    requires first { n.now.first_function < 2 ^ 31 }
     ensures { IfOk result (λ x. x.items ≡ try_code (finders_in n.now) m) }
 {
-    let behind = sum(n.first_function, 1)?;
-    let find = sum(behind, m)?;
+    let find = n.first_function + 1 + m;
     let found = vec![in alloc;
-        Instr::Index(0x20, 3),
-        Instr::Plain(0xA7),
-        Instr::Plain(0x0F),
+        Instr::Index(opcodes::LOCAL_GET, 3),
+        Instr::Plain(opcodes::I32_WRAP_I64),
+        Instr::Plain(opcodes::RETURN),
     ]?;
     Ok(vec![in alloc;
-        Instr::Index(0x20, 1),
-        Instr::Index(0x20, 2),
-        Instr::Index(0x10, find),
-        Instr::Index(0x22, 3),
-        Instr::Plain(0x50),
-        Instr::Plain(0x45),
+        Instr::Index(opcodes::LOCAL_GET, 1),
+        Instr::Index(opcodes::LOCAL_GET, 2),
+        Instr::Index(opcodes::CALL, find),
+        Instr::Index(opcodes::LOCAL_TEE, 3),
+        Instr::Plain(opcodes::I64_EQZ),
+        Instr::Plain(opcodes::I32_EQZ),
         when(found),
     ]?)
 }
 
 // Members are searched in order.
 fn tries_code(alloc: Global, n: &DlNumbers, members: &[u32]) -> Result<Vec<Instr>, Memory>
+    requires few { AreFew members.now }
+    requires first { n.now.first_function < 2 ^ 31 }
     ensures { IfOk result (λ x. x.items ≡ tries_code (finders_in n.now) members.now) }
 {
     let mut code = Vec::new(alloc);
@@ -55,16 +59,20 @@ fn tries_code(alloc: Global, n: &DlNumbers, members: &[u32]) -> Result<Vec<Instr
 
 // Where local 0 is the handle of member m and it has been placed, its closure is searched.
 fn handle_code(alloc: Global, linked: &Linked, n: &DlNumbers, m: u32) -> Result<Vec<Instr>, Memory>
-    requires { m < length linked.now.symbols.names }
+    requires set { IsOfSet linked.now }
+    requires member { m < length linked.now.set.members }
+    requires guard { n.now.guard < 2 ^ 31 }
+    requires first { n.now.first_function < 2 ^ 31 }
     ensures { IfOk result (λ x. (L : LinkedSet) → IsLinked L linked.now → x.items ≡ handle_code L (starts_in n.now) (finders_in n.now) m) }
 {
-    let guard = sum(n.guard, m)?;
-    let handle = sum(m, 1)?;
     let searched = tries_code(alloc, n, linked.symbols().closure(m))?;
-    let mut code = vec![in alloc; Instr::Index(0x23, guard), when(searched)]?;
+    let mut code = vec![in alloc;
+        Instr::Index(opcodes::GLOBAL_GET, n.guard + m),
+        when(searched),
+    ]?;
     let mut refused = fault(alloc, n, 3, 0)?;
     code.append(&mut refused)?;
-    where_first(alloc, handle, code)
+    where_first(alloc, m + 1, code)
 }
 
 // The handles of the members behind the main module.
@@ -74,10 +82,12 @@ fn put_handles(
     linked: &Linked,
     n: &DlNumbers,
 ) -> Result<(), Memory>
-    requires { IsOfSet linked.now }
+    requires set { IsOfSet linked.now }
+    requires guard { n.now.guard < 2 ^ 31 }
+    requires first { n.now.first_function < 2 ^ 31 }
     ensures { OnOk result ((L : LinkedSet) → IsLinked L linked.now → to.new.items ≡ to.old.items ++ handles_code L (starts_in n.now) (finders_in n.now) 1 (drop 1 (map member_of linked.now.set.members))) }
 {
-    let count = as_number(linked.set().members.items().len())?;
+    let count = linked.set().members.items().len() as u32;
     for m in 1..count {
         let mut one = handle_code(alloc, linked, n, m)?;
         to.append(&mut one)?;
@@ -87,23 +97,27 @@ fn put_handles(
 
 // The length of the name is in local 2; for the handles 0 and 1 the members that start with the main module are searched.
 fn symbol_begin(alloc: Global, n: &DlNumbers, startup: &[u32]) -> Result<Vec<Instr>, Memory>
+    requires few { AreFew startup.now }
+    requires first { n.now.first_function < 2 ^ 31 }
     ensures { IfOk result (λ x. x.items ≡ symbol_begin (finders_in n.now) startup.now) }
 {
     let searched = tries_code(alloc, n, startup)?;
     Ok(vec![in alloc;
-        Instr::Index(0x20, 1),
-        Instr::Index(0x10, n.first_function),
-        Instr::Index(0x21, 2),
-        Instr::Index(0x20, 0),
+        Instr::Index(opcodes::LOCAL_GET, 1),
+        Instr::Index(opcodes::CALL, n.first_function),
+        Instr::Index(opcodes::LOCAL_SET, 2),
+        Instr::Index(opcodes::LOCAL_GET, 0),
         number(2),
-        Instr::Plain(0x49),
+        Instr::Plain(opcodes::I32_LT_U),
         when(searched),
     ]?)
 }
 
 #[tactic(auto, unfolding(crate::specs::Words::symbol_call_code))]
 fn symbol_call_code(alloc: Global, linked: &Linked, n: &DlNumbers) -> Result<Vec<Instr>, Memory>
-    requires { IsOfSet linked.now }
+    requires set { IsOfSet linked.now }
+    requires guard { n.now.guard < 2 ^ 31 }
+    requires first { n.now.first_function < 2 ^ 31 }
     ensures { IfOk result (λ x. (L : LinkedSet) → IsLinked L linked.now → x.items ≡ symbol_call_code L (starts_in n.now) (finders_in n.now)) }
 {
     let mut code = symbol_begin(alloc, n, linked.set().startup.items())?;
@@ -114,7 +128,9 @@ fn symbol_call_code(alloc: Global, linked: &Linked, n: &DlNumbers) -> Result<Vec
 }
 
 pub(crate) fn symbol_function(alloc: Global, linked: &Linked, n: &DlNumbers) -> Result<Part, Memory>
-    requires { IsOfSet linked.now }
+    requires set { IsOfSet linked.now }
+    requires guard { n.now.guard < 2 ^ 31 }
+    requires first { n.now.first_function < 2 ^ 31 }
     ensures { IfOk result (λ p. (L : LinkedSet) (x : Starts) (d : Finders) → IsLinked L linked.now → AreDlNumbers L n.now x d → p ≡ call_part L x d Dlsym) }
 {
     let ty = binary_type(alloc)?;

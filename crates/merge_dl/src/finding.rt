@@ -1,23 +1,24 @@
 // The functions that search the names of members.
-ghost use Rattle.std.specs.Prelude.{◌≡◌, ◌++◌, ◌∷◌, [], IfOk, OnOk};
+ghost use Rattle.std.specs.Prelude.{◌≡◌, ◌++◌, ◌∷◌, IfOk, OnOk};
 ghost use Rattle.std.specs.List.{flat_map};
 ghost use Rattle.spec_loading.specs.spec_linking.Definitions.{member_definition};
 ghost use Rattle.spec_loading.specs.spec_linking.LinkedSets.{LinkedSet};
 ghost use Rattle.spec_loading.specs.spec_linking.Slots.{cell_number};
 ghost use Rattle.spec_loading.specs.Members.{from_members};
 ghost use Rattle.dyl_link.specs.Kept.{IsLinked};
-ghost use Rattle.merge_start.specs.Listed.{IsOfSet};
+ghost use Rattle.dyl_addresses.specs.Sets.{IsOfSet};
 ghost use Rattle.merge_dl.specs.Words.{return_code, wide, found_value, find_code};
+ghost use Rattle.merge_dl.specs.Called.{AreSearchParts};
 ghost use Rattle.merge_dl.specs.Listed.{export_code, find_part, find_parts};
 
 use crate::comparing::put_named;
-use crate::numbers::{DlNumbers, sum};
+use crate::numbers::DlNumbers;
 use crate::parts::{part, search_type};
 use dyl_link::Linked;
 use dyl_world::search;
-use merge_start::Part;
+use merge_pieces::opcodes;
 use std::alloc::Global;
-use wasm_form::{Export, Instr, List, Memory, Module};
+use wasm_form::{Export, Instr, List, Memory, Module, Part};
 
 // The slot of the function, or the address of the data, that member m defines a name as.
 fn name_number(linked: &Linked, m: u32, name: &[u8]) -> Option<u32>
@@ -32,7 +33,10 @@ fn found_code(alloc: Global, k: u32) -> Result<Vec<Instr>, Memory>
     ensures { IfOk result (λ x. x.items ≡ wide (found_value k) ∷ return_code) }
 {
     let value = 0x1_0000_0000 + u64::from(k);
-    Ok(vec![in alloc; Instr::I64Const(value.cast_signed()), Instr::Plain(0x0F)]?)
+    Ok(vec![in alloc;
+        Instr::I64Const(value.cast_signed()),
+        Instr::Plain(opcodes::RETURN),
+    ]?)
 }
 
 // The name of an export of member m is compared, if it defines it.
@@ -98,14 +102,15 @@ fn find_function(alloc: Global, linked: &Linked, m: u32, wasm: &Module) -> Resul
 /// and gives 2^32 with the slot of the function or the address of the data that the member defines by that name, or 0 where it defines none.
 /// `Memory` where no memory could be had.
 pub fn find_functions(alloc: Global, linked: &Linked, _n: &DlNumbers) -> Result<List<Part>, Memory>
-    requires set { IsOfSet linked.now }
-    ensures { IfOk result (λ parts. (L : LinkedSet) → IsLinked L linked.now → parts ≡ from_members (find_parts L) 0 L.set.members) }
+    ensures code { IfOk result (λ parts. (L : LinkedSet) → IsLinked L linked.now → parts ≡ from_members (find_parts L) 0 L.set.members) }
+    ensures works { IfOk result (λ parts. (L : LinkedSet) → IsLinked L linked.now → AreSearchParts L parts) }
 {
+    linked.links();
     let mut parts = Vec::new(alloc);
     let mut m: u32 = 0;
     for member in linked.set().members.items() {
         parts.push(find_function(alloc, linked, m, member.checked.module())?)?;
-        m = sum(m, 1)?;
+        m += 1;
     }
     Ok(List::of(parts))
 }

@@ -1,9 +1,8 @@
 // The functions of the loader.
-ghost use Rattle.std.specs.Prelude.{◌≡◌, IfOk};
+ghost use Rattle.std.specs.Prelude.{◌≡◌, ◌<◌, ◌^◌, IfOk};
 ghost use Rattle.spec_loading.specs.spec_linking.LinkedSets.{LinkedSet};
 ghost use Rattle.dyl_link.specs.Kept.{IsLinked};
 ghost use Rattle.merge_start.specs.Words.{Starts};
-ghost use Rattle.merge_start.specs.Listed.{IsOfSet};
 ghost use Rattle.merge_dl.specs.Words.{Finders};
 ghost use Rattle.merge_dl.specs.Listed.{AreDlNumbers, call_parts};
 
@@ -13,16 +12,17 @@ use crate::dlopen::open_function;
 use crate::dlsym::symbol_function;
 use crate::numbers::DlNumbers;
 use dyl_link::Linked;
-use merge_start::Part;
 use std::alloc::Global;
-use wasm_form::{List, Memory};
+use wasm_form::{List, Memory, Part};
 
-/// The functions of the loader as code of the merged module of a linked set: `dlopen`, `dlsym`, `dlclose` and `dlerror`. `Memory` where no
-/// memory could be had.
-pub fn loader_functions(alloc: Global, linked: &Linked, n: &DlNumbers) -> Result<List<Part>, Memory>
-    requires set { IsOfSet linked.now }
+/// The functions of the loader as code of the merged module of a linked set, in this order: `dlopen`, `dlsym`, `dlclose` and `dlerror`.
+/// `Memory` where no memory could be had.
+pub fn dl_functions(alloc: Global, linked: &Linked, n: &DlNumbers) -> Result<List<Part>, Memory>
+    requires guard { n.now.guard < 2 ^ 31 }
+    requires first { n.now.first_function < 2 ^ 31 }
     ensures { IfOk result (λ parts. (L : LinkedSet) (x : Starts) (d : Finders) → IsLinked L linked.now → AreDlNumbers L n.now x d → parts ≡ call_parts L x d) }
 {
+    linked.links();
     let opens = open_function(alloc, linked, n)?;
     let symbols = symbol_function(alloc, linked, n)?;
     let closes = close_function(alloc, linked, n)?;

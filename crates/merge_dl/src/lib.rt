@@ -1,6 +1,6 @@
 //! The functions of the loader as code of a merged module, and the law of the step that calls one.
 //!
-//! `specs/` has the words of the code and what a merged module must have for it.
+//! `specs/` has the words of the code, what the functions do that the functions of the loader call, and what a merged module must have for it.
 #![tactic(auto)]
 
 mod comparing;
@@ -15,14 +15,27 @@ mod parts;
 mod strings;
 mod words;
 
-ghost use Rattle.merge_dl.specs.Laws.{LoaderIsAnswered};
+ghost use Rattle.merge_dl.specs.Laws.{LengthsAreGiven, MembersAreSearched, DefinedIsNumbered, LoaderIsAnswered};
 ghost use Rattle.merge_dl.specs.Typed.{LoaderIsTyped};
 
 pub use finding::find_functions;
-pub use functions::loader_functions;
+pub use functions::dl_functions;
 pub use numbers::DlNumbers;
 pub use parts::loader_types;
 pub use strings::length_function;
+
+/// The code for the length of a string gives the length of each string of a memory, or traps where no zero byte follows, at whatever number of
+/// a module it stands.
+pub fn lengths_are_given()
+    ensures { LengthsAreGiven }
+{}
+
+/// The code for the search of a member of a linked set gives for each string of a memory what the member defines it as, or 0 where it doesn't
+/// define it, at whatever number of a module it stands; and each name that a member defines has a slot or an address.
+pub fn members_are_searched()
+    ensures searches { MembersAreSearched }
+    ensures numbers { DefinedIsNumbered }
+{}
 
 /// A call of a function of the loader comes to what it comes to in the set.
 pub fn loader_calls_are_answered()

@@ -4,9 +4,8 @@ ghost use Rattle.merge_dl.specs.Words as words;
 ghost use Rattle.merge_dl.specs.Words.{code_with};
 ghost use Rattle.merge_dl.specs.Listed as listed;
 
-use merge_start::Part;
 use std::alloc::Global;
-use wasm_form::{Code, Expr, FuncType, Group, Instr, List, Memory, ValType};
+use wasm_form::{Code, Expr, FuncType, Group, Instr, List, Memory, Part, ValType};
 
 // The type of functions that take these parameters and give one result.
 fn function_type(alloc: Global, taken: &[ValType], given: ValType) -> Result<FuncType, Memory>

@@ -5,6 +5,7 @@ ghost use Rattle.merge_dl.specs.Words.{when, give_code, fault_code, is_local};
 ghost use Rattle.merge_dl.specs.Listed.{finders_in};
 
 use crate::numbers::DlNumbers;
+use merge_pieces::opcodes;
 use std::alloc::Global;
 use wasm_form::{BlockType, Expr, Instr, List, Memory};
 
@@ -28,7 +29,7 @@ pub(crate) fn when(code: Vec<Instr>) -> Instr
 pub(crate) fn give(alloc: Global, k: u32) -> Result<Vec<Instr>, Memory>
     ensures { IfOk result (λ x. x.items ≡ give_code k) }
 {
-    Ok(vec![in alloc; number(k), Instr::Plain(0x0F)]?)
+    Ok(vec![in alloc; number(k), Instr::Plain(opcodes::RETURN)]?)
 }
 
 // An error is kept, and the function returns a number.
@@ -37,9 +38,9 @@ pub(crate) fn fault(alloc: Global, n: &DlNumbers, e: u32, answer: u32) -> Result
 {
     Ok(vec![in alloc;
         number(e),
-        Instr::Index(0x24, n.error),
+        Instr::Index(opcodes::GLOBAL_SET, n.error),
         number(answer),
-        Instr::Plain(0x0F),
+        Instr::Plain(opcodes::RETURN),
     ]?)
 }
 
@@ -48,9 +49,9 @@ pub(crate) fn where_first(alloc: Global, k: u32, code: Vec<Instr>) -> Result<Vec
     ensures { IfOk result (λ x. x.items ≡ is_local 0 k ++ when code.items ∷ []) }
 {
     Ok(vec![in alloc;
-        Instr::Index(0x20, 0),
+        Instr::Index(opcodes::LOCAL_GET, 0),
         number(k),
-        Instr::Plain(0x46),
+        Instr::Plain(opcodes::I32_EQ),
         when(code),
     ]?)
 }

@@ -18,8 +18,9 @@ use Rattle.merge_match.specs.Joined.{own_address, function_address}
 use Rattle.merge_index.specs.Numbering.{host_count, first_stub, stubs_before, stubs_below, is_stub, stub_address, first_phase, first_opening, length_number, first_find, first_call, call_place, call_number, loader_numbers, function_number, named_number}
 use Rattle.merge_index.specs.declared.numbers.LoaderNumbers.{LoaderNumbers}
 use Rattle.merge_index.specs.Kept.{number_at, own_from, stub_number, call_in}
-use Rattle.merge_index.specs.Lists.{Known, numbered, stub_size, stubs_end, ref_number, named_from, named_lists}
-use Rattle.merge_index.proofs.Numbered.{wasms, numbered_item}
+use Rattle.dyl_addresses.specs.Lists.{numbered}
+use Rattle.merge_index.specs.Lists.{Known, stub_size, stubs_end, ref_number, named_from, named_lists}
+use Rattle.dyl_addresses.proofs.Items.{wasms, numbered_item}
 use Rattle.merge_index.proofs.Refs.{ref_fits}
 use Rattle.merge_index.proofs.Stubs.{Reads, before_one, stubs_to, counted}
 use Rattle.merge_index.proofs.StubNumbers.{stub_within}
@@ -50,7 +51,7 @@ module _ (L : LinkedSet) where
       at y e true = refl
       at y e false =
           let i = f - imported_count y.wasm in
-          numbered_item codes_size (host_count L) L.set.members m i
+          ap number_of (numbered_item codes_size (host_count L) L.set.members m i)
           ∙ ap (λ (o : Option Member). number_of (o >>= λ x. item_address (host_count L + sum_before codes_size L.set.members m) (codes_size x.wasm) i)) e
 
       go : (o : Option Member) → slice_get L.set.members m ≡ o

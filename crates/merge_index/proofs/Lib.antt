@@ -1,12 +1,9 @@
-pub mod Numbered
-pub mod Bytes
-pub mod Cells
-pub mod GlobalNumbers
-pub mod TableNumbers
 pub mod Refs
 pub mod Stubs
 pub mod StubNumbers
 pub mod FunctionNumbers
 pub mod Whole
 pub mod Distinct
-pub mod Keys
+pub mod Counted
+pub mod FewNumbers
+pub mod FewItems

@@ -1,33 +1,27 @@
 -- What is kept stands for the numbers of the set.
-use Rattle.std.proofs.Common.{◌≡◌, ℕ, ◌+◌, List, [], ◌∷◌, length, map, slice_get, Option, Some, None, refl, sym, ap, ap₂, ◌∙◌, arith}
+use Rattle.std.proofs.Common.{◌≡◌, ℕ, ◌+◌, List, [], ◌∷◌, length, refl, ap, ap₂, ◌∙◌, arith}
 use Rattle.std.proofs.Math.Path.{fun_ext}
 use Rattle.std.proofs.lemmas.List.{length-map}
 use Rattle.wasm_form.specs.declared.module.Module.{Module}
 use Rattle.wasm_form.specs.declared.runtime.Ref.{Ref}
 use Rattle.wasm_form.specs.declared.runtime.Ref.TheVariants.{Own, Loader, Host, Stub}
-use Rattle.spec_loading.specs.spec_binary.Options.{◌>>=◌}
 use Rattle.spec_loading.specs.spec_linking.Sets as sets
-use Rattle.spec_loading.specs.spec_linking.LinkedSets.{LinkedSet, wasm_of}
-use Rattle.spec_loading.specs.Addresses.{item_address, sum_before}
+use Rattle.spec_loading.specs.spec_linking.LinkedSets.{LinkedSet}
+use Rattle.spec_loading.specs.Addresses.{sum_before}
 use Rattle.spec_loading.specs.Members.{uses_loader}
-use Rattle.dyl_link.specs.dyl_search.declared.set.Member.{Member}
-use Rattle.dyl_link.specs.dyl_search.Gathers.{member_of}
 use Rattle.dyl_link.specs.Kept.{Kept, IsLinked}
 use Rattle.merge_match.specs.Renumbering.{Numbers}
 use Rattle.merge_match.specs.Parts.{number_of}
 use Rattle.merge_index.specs.Numbering.{host_count, first_stub, first_phase, loader_numbers, function_number, numbers_of}
 use Rattle.merge_index.specs.Kept.{KeptNumbers, number_at, stub_number, call_in, numbers_in, function_in}
-use Rattle.merge_index.specs.Lists.{module_of, size_in, numbered, total, named_lists, all_stubs_end, loader_where, kept_with, kept_of}
-use Rattle.merge_index.specs.declared.lists.Space.TheVariants.{Codes}
-use Rattle.merge_index.proofs.Numbered.{wasms, numbered_item, total_is}
-use Rattle.merge_index.proofs.GlobalNumbers.{global_number}
-use Rattle.merge_index.proofs.TableNumbers.{place, table_number}
+use Rattle.dyl_addresses.specs.Kept.{KeptAddresses, AreAddressesOf}
+use Rattle.dyl_addresses.specs.Lists.{size_in, numbers_end}
+use Rattle.merge_index.specs.Lists.{named_lists, all_stubs_end, loader_where, kept_with, kept_of}
+use Rattle.dyl_addresses.specs.declared.lists.Space.TheVariants.{Codes}
+use Rattle.dyl_addresses.proofs.Items.{wasms, items_are}
+use Rattle.dyl_addresses.proofs.Whole.{of_modules}
 use Rattle.merge_index.proofs.Stubs.{ended}
 use Rattle.merge_index.proofs.FunctionNumbers.{owns, imports, own_is, called, named_is, stub_number_is}
-
-modules_are : (xs : List Member) → map module_of xs ≡ wasms (map member_of xs)
-modules_are [] = refl
-modules_are (x ∷ xs) = ap (λ l. module_of x ∷ l) (modules_are xs)
 
 same_numbers : (a b : Numbers) → ((r : Ref) → a.function r ≡ b.function r) → ((m f : ℕ) → a.named m f ≡ b.named m f)
     → ((m t : ℕ) → a.ty m t ≡ b.ty m t) → ((m g : ℕ) → a.global m g ≡ b.global m g) → ((m t : ℕ) → a.table m t ≡ b.table m t)
@@ -44,25 +38,16 @@ same_numbers a b function named ty global table elem segment =
     both : {f g : ℕ → ℕ → ℕ} → ((m i : ℕ) → f m i ≡ g m i) → f ≡ g
     both h = fun_ext (λ m. fun_ext (h m))
 
-module _ (L : LinkedSet) (k : Kept) (h : IsLinked L k) where
-  with_wasm : (o : Option sets.Member) (f : Module → Option ℕ) → ((o >>= λ x. Some x.wasm) >>= f) ≡ (o >>= λ x. f x.wasm)
-  with_wasm None f = refl
-  with_wasm (Some x) f = refl
+pub total_is : (size : Module → ℕ) (start : ℕ) (xs : List sets.Member) → numbers_end size start (wasms xs) ≡ start + sum_before size xs (length xs)
+total_is size start [] = omega arith
+total_is size start (x ∷ xs) = total_is size (start + size x.wasm) xs ∙ omega arith
 
-  -- items of one kind from the first address on
-  plain : (size : Module → ℕ) (m i : ℕ)
-      → number_at (numbered size 0 (wasms L.set.members)) m i
-      ≡ number_of (wasm_of L m >>= λ wasm. item_address (sum_before size L.set.members m) (size wasm) i)
-  plain size m i =
-      numbered_item size 0 L.set.members m i
-      ∙ ap (λ n. number_of (slice_get L.set.members m >>= λ x. item_address n (size x.wasm) i)) (omega arith)
-      ∙ ap number_of (sym (with_wasm (slice_get L.set.members m) (λ wasm. item_address (sum_before size L.set.members m) (size wasm) i)))
-
-  first_is : total (size_in Codes) (host_count L) (wasms L.set.members) ≡ first_stub L
+module _ (L : LinkedSet) (k : Kept) (h : IsLinked L k) (addresses : KeptAddresses) where
+  first_is : numbers_end (size_in Codes) (host_count L) (wasms L.set.members) ≡ first_stub L
   first_is = total_is (size_in Codes) (host_count L) L.set.members
 
   abbrev kept : KeptNumbers
-  kept = kept_with (host_count L) (wasms L.set.members) k.functions (uses_loader L)
+  kept = kept_with (host_count L) (wasms L.set.members) k.functions (uses_loader L) addresses
 
   phase_same : kept.first_phase ≡ first_phase L
   phase_same = ap (λ n. all_stubs_end n k.functions) first_is ∙ ended L (first_stub L) k.functions h.functions
@@ -84,22 +69,20 @@ module _ (L : LinkedSet) (k : Kept) (h : IsLinked L k) where
       ∙ ap (stub_number (first_stub L) (first_phase L)) (named_same m f)
       ∙ stub_number_is L m f
 
-  kept_is : kept_of k ≡ kept
+  kept_is : kept_of k addresses ≡ kept
   kept_is =
-      let set = ap (λ (S : sets.ClosedSet). S.members) h.set in
-      ap₂ (λ n ms. kept_with n ms k.functions k.uses_loader) (ap length h.hosts) (modules_are k.set.members ∙ ap wasms set)
-      ∙ ap (λ b. kept_with (host_count L) (wasms L.set.members) k.functions b) h.uses_loader
+      ap₂ (λ n ms. kept_with n ms k.functions k.uses_loader addresses) (ap length h.hosts) (of_modules L k h)
+      ∙ ap (λ b. kept_with (host_count L) (wasms L.set.members) k.functions b addresses) h.uses_loader
 
-  pub numbers_are : numbers_in (kept_of k) ≡ numbers_of L
-  numbers_are =
+  pub numbers_are : AreAddressesOf L addresses → numbers_in (kept_of k addresses) ≡ numbers_of L
+  numbers_are are =
       ap numbers_in kept_is
-      ∙ same_numbers (numbers_in kept) (numbers_of L) function_same named_same (plain (λ x. length x.types)) (global_number L)
-      (λ m t. table_number 1 L.set.members m t
-      ∙ ap number_of (sym (with_wasm (slice_get L.set.members m) (λ wasm. place (1 + sum_before (λ w. length w.tables) L.set.members m) wasm t))))
-      (plain (λ x. length x.elems)) (plain (λ x. length x.datas))
+      ∙ same_numbers (numbers_in kept) (numbers_of L) function_same named_same (λ m t. ap number_of (items_are L (λ x. length x.types) m t))
+      (λ m g. ap number_of (are.globals m g)) (λ m t. ap number_of (are.tables m t))
+      (λ m e. ap number_of (are.elems m e)) (λ m d. ap number_of (are.datas m d))
 
-  pub first_phase_is : (kept_of k).first_phase ≡ first_phase L
+  pub first_phase_is : (kept_of k addresses).first_phase ≡ first_phase L
   first_phase_is = ap (λ (x : KeptNumbers). x.first_phase) kept_is ∙ phase_same
 
-  pub loader_is : (kept_of k).loader ≡ loader_numbers L
+  pub loader_is : (kept_of k addresses).loader ≡ loader_numbers L
   loader_is = ap (λ (x : KeptNumbers). x.loader) kept_is ∙ loader_same

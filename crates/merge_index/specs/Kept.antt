@@ -5,13 +5,14 @@ use Rattle.wasm_form.specs.declared.runtime.LoaderCall.TheVariants.{Dlopen, Dlsy
 use Rattle.wasm_form.specs.declared.runtime.Ref.{Ref}
 use Rattle.wasm_form.specs.declared.runtime.Ref.TheVariants.{Own, Loader, Host, Stub}
 use Rattle.merge_match.specs.Renumbering.{Numbers}
-use Rattle.merge_match.specs.Parts.{nowhere}
+use Rattle.dyl_addresses.specs.Kept.{KeptAddresses, kept_global, kept_table, kept_elem, kept_data}
+use Rattle.merge_match.specs.Parts.{nowhere, number_of}
 pub use Rattle.merge_pieces.specs.Numbers.{number_at}
 use Rattle.merge_index.specs.declared.numbers.LoaderNumbers.{LoaderNumbers}
 
--- Of each member, by its own numbers, the numbers of the functions that these name, and of its types, globals, tables and segments. The
--- functions that it defines have numbers of their own, behind the ones that it imports; stubs have theirs from one on, up to the first
--- function that is generated. The functions of the loader have numbers where the set uses them.
+-- Of each member, by its own numbers, the numbers of the functions that these name, and of its types, and the addresses of its globals,
+-- tables and segments. The functions that it defines have numbers of their own, behind the ones that it imports; stubs have theirs from one
+-- on, up to the first function that is generated. The functions of the loader have numbers where the set uses them.
 pub record KeptNumbers : Type 0 where
   pub functions : List (List ℕ)
   pub owns : List (List ℕ)
@@ -20,10 +21,7 @@ pub record KeptNumbers : Type 0 where
   pub first_phase : ℕ
   pub loader : Option LoaderNumbers
   pub types : List (List ℕ)
-  pub globals : List (List ℕ)
-  pub tables : List (List ℕ)
-  pub elems : List (List ℕ)
-  pub segments : List (List ℕ)
+  pub addresses : KeptAddresses
 
 -- the number of a function of member m, by the numbers of those that each member defines, where so many are imported
 abbrev pub own_from : List (List ℕ) → ℕ → Option ℕ → ℕ → ℕ
@@ -56,8 +54,8 @@ numbers_in k = record {
   function = function_in k;
   named = number_at k.functions;
   ty = number_at k.types;
-  global = number_at k.globals;
-  table = number_at k.tables;
-  elem = number_at k.elems;
-  segment = number_at k.segments;
+  global = λ m g. number_of (kept_global k.addresses m g);
+  table = λ m t. number_of (kept_table k.addresses m t);
+  elem = λ m e. number_of (kept_elem k.addresses m e);
+  segment = λ m d. number_of (kept_data k.addresses m d);
 }

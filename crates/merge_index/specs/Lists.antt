@@ -1,54 +1,25 @@
 -- How the lists of numbers are made, member by member.
-use Rattle.std.specs.Prelude.{ℕ, ◌+◌, ◌*◌, List, [], ◌∷◌, ◌++◌, length, map, slice_get, Bool, Option, Some, None, if◌then◌else◌}
-use Rattle.std.specs.List.{range_with_len}
+use Rattle.std.specs.Prelude.{ℕ, ◌+◌, ◌*◌, List, [], ◌∷◌, length, map, slice_get, Bool, Option, Some, None, if◌then◌else◌}
 use Rattle.wasm_form.specs.declared.module.Code.{Code}
 use Rattle.wasm_form.specs.declared.module.Module.{Module}
 use Rattle.wasm_form.specs.declared.runtime.LoaderCall.TheVariants.{Dlopen, Dlsym, Dlclose, Dlerror}
 use Rattle.wasm_form.specs.declared.runtime.Ref.{Ref}
 use Rattle.wasm_form.specs.declared.runtime.Ref.TheVariants.{Own, Loader, Host, Stub}
 use Rattle.spec_loading.specs.spec_binary.Options.{◌>>=◌}
-use Rattle.spec_loading.specs.spec_binary.IndexSpaces.{imports_of, tables_in, imported_count}
-use Rattle.dyl_link.specs.dyl_search.declared.set.Member.{Member}
+use Rattle.spec_loading.specs.spec_binary.IndexSpaces.{imported_count}
 use Rattle.dyl_link.specs.Kept.{Kept}
 use Rattle.merge_index.specs.declared.functions.Known as declared
-use Rattle.merge_index.specs.declared.lists.Space.{Space}
-use Rattle.merge_index.specs.declared.lists.Space.TheVariants.{Types, Codes, Tables, Elems, Datas}
+use Rattle.dyl_addresses.specs.Sets.{module_of}
+use Rattle.dyl_addresses.specs.declared.lists.Space.TheVariants.{Types, Codes}
+use Rattle.dyl_addresses.specs.Lists.{size_in, numbers_end, numbered}
+use Rattle.dyl_addresses.specs.Kept.{KeptAddresses}
 use Rattle.merge_index.specs.declared.numbers.LoaderNumbers.{LoaderNumbers}
 use Rattle.merge_index.specs.Numbering.{call_place}
 use Rattle.merge_index.specs.Kept.{KeptNumbers, own_from, call_in}
-use Rattle.merge_index.specs.Globals.{global_lists}
-
-abbrev pub module_of : Member → Module
-module_of x = x.checked
 
 -- a body of member m, by its number
 abbrev pub code_in : Kept → ℕ → ℕ → Option Code
 code_in k m body = slice_get k.set.members m >>= λ x. slice_get (module_of x).codes body
-
-abbrev pub size_in : Space → Module → ℕ
-size_in Types wasm = length wasm.types
-size_in Codes wasm = length wasm.codes
-size_in Tables wasm = length wasm.tables
-size_in Elems wasm = length wasm.elems
-size_in Datas wasm = length wasm.datas
-
--- so many numbers for each module, from a number on
-abbrev pub numbered : (Module → ℕ) → ℕ → List Module → List (List ℕ)
-numbered size start [] = []
-numbered size start (x ∷ xs) = range_with_len start (size x) ∷ numbered size (start + size x) xs
-
--- how much the modules have, beside so much
-abbrev pub total : (Module → ℕ) → ℕ → List Module → ℕ
-total size start [] = start
-total size start (x ∷ xs) = total size (start + size x) xs
-
--- imported tables are the shared one, which has number 0
-abbrev pub shared_tables : Module → List ℕ
-shared_tables wasm = map (λ t. 0) (imports_of tables_in wasm.imports)
-
-abbrev pub table_lists : ℕ → List Module → List (List ℕ)
-table_lists start [] = []
-table_lists start (x ∷ xs) = (shared_tables x ++ range_with_len start (length x.tables)) ∷ table_lists (start + length x.tables) xs
 
 -- ---- functions
 
@@ -116,13 +87,13 @@ loader_where uses first count = if uses then Some (loader_behind first count) el
 
 -- ---- the whole
 
--- What is kept of the numbers of a set with so many host functions, by the modules of its members and the functions that these name, and
--- by whether it uses the loader.
-abbrev pub kept_with : ℕ → List Module → List (List Ref) → Bool → KeptNumbers
-kept_with hosts wasms refs uses =
+-- What is kept of the numbers of a set with so many host functions, by the modules of its members and the functions that these name, by
+-- whether it uses the loader, and by the addresses of what its members have.
+abbrev pub kept_with : ℕ → List Module → List (List Ref) → Bool → KeptAddresses → KeptNumbers
+kept_with hosts wasms refs uses addresses =
     let owns = numbered (size_in Codes) hosts wasms in
     let imported = map imported_count wasms in
-    let first = total (size_in Codes) hosts wasms in
+    let first = numbers_end (size_in Codes) hosts wasms in
     let generated = all_stubs_end first refs in
     let loader = loader_where uses generated (length wasms) in
     record {
@@ -133,11 +104,8 @@ kept_with hosts wasms refs uses =
       first_phase = generated;
       loader = loader;
       types = numbered (size_in Types) 0 wasms;
-      globals = global_lists 1 wasms;
-      tables = table_lists 1 wasms;
-      elems = numbered (size_in Elems) 0 wasms;
-      segments = numbered (size_in Datas) 0 wasms;
+      addresses = addresses;
     }
 
-abbrev pub kept_of : Kept → KeptNumbers
-kept_of k = kept_with (length k.hosts) (map module_of k.set.members) k.functions k.uses_loader
+abbrev pub kept_of : Kept → KeptAddresses → KeptNumbers
+kept_of k addresses = kept_with (length k.hosts) (map module_of k.set.members) k.functions k.uses_loader addresses

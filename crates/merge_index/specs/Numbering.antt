@@ -138,7 +138,7 @@ numbers_of L = record {
 abbrev pub starts_of : LinkedSet → Starts
 starts_of L = record {
   guards = 1 + sum_of globals_size L;
-  slots = sum_of (λ x. length x.elems) L;
+  slots = λ m. sum_of (λ x. length x.elems) L + m;
   phase = phase_number L;
   starting = entry_number L;
   opening = λ m. first_opening L + m;

@@ -1,8 +1,7 @@
 // The numbers of functions.
-ghost use Rattle.std.specs.Prelude.{◌≡◌, IfOk};
+ghost use Rattle.std.specs.Prelude.{◌≡◌, ◌+◌, ◌*◌, ◌<◌, ◌≤◌, ◌^◌, IfOk};
 ghost use Rattle.merge_index.specs.Lists.{stub_size, known_of, ref_number, named_from, stubs_end, named_lists, all_stubs_end, loader_behind};
 
-use crate::lists::end_of;
 use crate::numbers::{LoaderNumbers, call_in, count_at, own_from};
 use std::alloc::Global;
 use wasm_form::{List, Memory, Ref};
@@ -16,7 +15,7 @@ pub(crate) struct Known<'a> {
     pub loader: Option<LoaderNumbers>,
 }
 
-fn stub_size(r: Ref) -> usize
+fn stub_size(r: Ref) -> u32
     ensures { result ≡ stub_size r }
 {
     match r {
@@ -40,25 +39,27 @@ fn ref_number(known: Known<'_>, stub: u32, r: Ref) -> u32
 }
 
 // The number after those of the stubs among some functions.
-fn stubs_end(stub: u32, refs: &[Ref]) -> Result<u32, Memory>
-    ensures { IfOk result (λ end. end ≡ stubs_end stub refs.now) }
+fn stubs_end(stub: u32, refs: &[Ref]) -> u32
+    requires { stubs_end stub refs.now < 2 ^ 32 }
+    ensures { result ≡ stubs_end stub refs.now }
 {
     let mut next = stub;
     for r in refs {
-        next = end_of(next, stub_size(*r))?;
+        next += stub_size(*r);
     }
-    Ok(next)
+    next
 }
 
 // That after those of all members.
-pub(crate) fn all_stubs_end(stub: u32, refs: &[List<Ref>]) -> Result<u32, Memory>
-    ensures { IfOk result (λ end. end ≡ all_stubs_end stub refs.now) }
+pub(crate) fn all_stubs_end(stub: u32, refs: &[List<Ref>]) -> u32
+    requires { all_stubs_end stub refs.now < 2 ^ 32 }
+    ensures { result ≡ all_stubs_end stub refs.now }
 {
     let mut next = stub;
     for named in refs {
-        next = stubs_end(next, named.items())?;
+        next = stubs_end(next, named.items());
     }
-    Ok(next)
+    next
 }
 
 // The numbers of the functions that a member names, where stubs have theirs from one on, and the number after these.
@@ -68,6 +69,7 @@ fn named_from(
     stub: u32,
     refs: &[Ref],
 ) -> Result<(List<u32>, u32), Memory>
+    requires { stubs_end stub refs.now < 2 ^ 32 }
     ensures named { IfOk result (λ x. x.0 ≡ named_from (known_of known.entry) stub refs.now) }
     ensures end { IfOk result (λ x. x.1 ≡ stubs_end stub refs.now) }
 {
@@ -75,7 +77,7 @@ fn named_from(
     let mut next = stub;
     for r in refs {
         list.push(ref_number(known, next, *r))?;
-        next = end_of(next, stub_size(*r))?;
+        next += stub_size(*r);
     }
     Ok((List::of(list), next))
 }
@@ -87,6 +89,7 @@ pub(crate) fn named_lists(
     known: Known<'_>,
     stub: u32,
 ) -> Result<Vec<List<u32>>, Memory>
+    requires { all_stubs_end stub refs.now < 2 ^ 32 }
     ensures { IfOk result (λ v. v.items ≡ named_lists (known_of known.entry) stub refs.now) }
 {
     let mut lists = Vec::new(alloc);
@@ -100,25 +103,22 @@ pub(crate) fn named_lists(
 }
 
 // The numbers of what there is for the functions of the loader, where the phases of so many members begin with a number.
-pub(crate) fn loader_behind(first: u32, count: usize) -> Result<LoaderNumbers, Memory>
-    ensures { IfOk result (λ n. n ≡ loader_behind first count) }
+pub(crate) fn loader_behind(first: u32, count: u32) -> LoaderNumbers
+    requires first { first < 2 ^ 31 }
+    requires few { count ≤ 256 }
+    ensures { result ≡ loader_behind first count }
 {
-    let members = end_of(0, count)?;
-    let entry = end_of(first, 4 * members as usize)?;
-    let first_opening = end_of(entry, 1)?;
-    let length = end_of(first_opening, count)?;
-    let first_find = end_of(length, 1)?;
-    let dlopen = end_of(first_find, count)?;
-    let dlsym = end_of(dlopen, 1)?;
-    let dlclose = end_of(dlopen, 2)?;
-    let dlerror = end_of(dlopen, 3)?;
-    Ok(LoaderNumbers {
+    let first_opening = first + 4 * count + 1;
+    let length = first_opening + count;
+    let first_find = length + 1;
+    let dlopen = first_find + count;
+    LoaderNumbers {
         first_opening,
         length,
         first_find,
         dlopen,
-        dlsym,
-        dlclose,
-        dlerror,
-    })
+        dlsym: dlopen + 1,
+        dlclose: dlopen + 2,
+        dlerror: dlopen + 3,
+    }
 }

@@ -2,7 +2,6 @@
 #![tactic(auto)]
 
 mod functions;
-mod globals;
 mod laws;
 mod lists;
 mod numbers;

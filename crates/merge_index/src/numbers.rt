@@ -1,14 +1,17 @@
 // Numbers of a linked set.
-ghost use Rattle.std.specs.Prelude.{◌≡◌, length, slice_get, IfOk};
+ghost use Rattle.std.specs.Prelude.{◌≡◌, ◌<◌, ◌≤◌, ◌^◌, length, slice_get, IfOk};
 ghost use Rattle.spec_loading.specs.spec_linking.LinkedSets.{LinkedSet};
 ghost use Rattle.dyl_link.specs.Kept.{IsLinked};
 ghost use Rattle.merge_index.specs.Numbering.{first_phase, loader_numbers, numbers_of};
+ghost use Rattle.merge_match.specs.Parts.{number_of};
+ghost use Rattle.dyl_addresses.specs.Kept.{AreAddresses};
+ghost use Rattle.dyl_addresses.specs.Sets.{IsOfSet};
 ghost use Rattle.merge_index.specs.Lists.{loader_where, kept_of};
 ghost use Rattle.merge_index.specs.Kept.{own_from, stub_number, call_in, numbers_in};
 
 use crate::functions::{Known, all_stubs_end, loader_behind, named_lists};
-use crate::globals::global_lists;
-use crate::lists::{Space, end_of, imported_counts, numbered, table_lists, total};
+use crate::lists::{imported_counts, total};
+use dyl_addresses::{Addresses, Space, numbered};
 use dyl_link::Linked;
 use merge_pieces::number_at;
 use std::alloc::Global;
@@ -16,7 +19,17 @@ use std::marker::Model;
 use wasm_form::{List, LoaderCall, Memory, Ref};
 
 // The number of what is out of range: no module has so many of anything.
-pub(crate) const NOWHERE: u32 = u32::MAX;
+const NOWHERE: u32 = u32::MAX;
+
+// The number of what has this address.
+fn number_of(address: Option<u32>) -> u32
+    ensures { result ≡ number_of address }
+{
+    match address {
+        Some(address) => address,
+        None => NOWHERE,
+    }
+}
 
 // The number of a function of member m, by the numbers of those that each member defines, where so many are imported.
 pub(crate) fn own_from(owns: &[List<u32>], m: u32, imported: Option<u32>, f: u32) -> u32
@@ -75,8 +88,8 @@ pub(crate) fn count_at(counts: &[u32], m: u32) -> Option<u32>
     Some(*counts.get(m as usize)?)
 }
 
-/// The numbers in the merged module of what the members of a linked set have. What is out of range has the number 4,294,967,295, at which no
-/// module has anything.
+/// The numbers in the merged module of what the members of a linked set have: globals, tables and segments have their addresses. What is out of
+/// range has the number 4,294,967,295, at which no module has anything.
 #[derive(Drop)]
 pub struct Numbers {
     pub(crate) functions: Vec<List<u32>>,
@@ -86,10 +99,7 @@ pub struct Numbers {
     pub(crate) first_phase: u32,
     pub(crate) loader: Option<LoaderNumbers>,
     pub(crate) types: Vec<List<u32>>,
-    pub(crate) globals: Vec<List<u32>>,
-    pub(crate) tables: Vec<List<u32>>,
-    pub(crate) elems: Vec<List<u32>>,
-    pub(crate) segments: Vec<List<u32>>,
+    pub(crate) addresses: Addresses,
 }
 
 impl Model for Numbers {
@@ -105,35 +115,36 @@ impl Model for Numbers {
       first_phase = n.first_phase;
       loader = n.loader;
       types = n.types.items;
-      globals = n.globals.items;
-      tables = n.tables.items;
-      elems = n.elems.items;
-      segments = n.segments.items;
+      addresses = n.addresses;
     } };
 }
 
 // What there is for the functions of the loader, where the set uses them and the phases begin with a number.
-fn loader_where(linked: &Linked, first: u32) -> Result<Option<LoaderNumbers>, Memory>
-    ensures { IfOk result (λ n. n ≡ loader_where linked.now.uses_loader first (length linked.now.set.members)) }
+fn loader_where(linked: &Linked, first: u32) -> Option<LoaderNumbers>
+    requires first { first < 2 ^ 31 }
+    requires few { length linked.now.set.members ≤ 256 }
+    ensures { result ≡ loader_where linked.now.uses_loader first (length linked.now.set.members) }
 {
     if !linked.uses_loader() {
-        return Ok(None);
+        return None;
     }
-    let numbers = loader_behind(first, linked.set().members.items().len())?;
-    Ok(Some(numbers))
+    let count = linked.set().members.items().len() as u32;
+    Some(loader_behind(first, count))
 }
 
 // What is kept of a linked set.
 fn kept(alloc: Global, linked: &Linked) -> Result<Numbers, Memory>
-    ensures { IfOk result (λ n. n ≡ kept_of linked.now) }
+    requires { IsOfSet linked.now }
+    ensures kept { IfOk result (λ n. n ≡ kept_of linked.now n.addresses) }
+    ensures addresses { IfOk result (λ n. AreAddresses linked.now n.addresses) }
 {
     let members = linked.set().members.items();
-    let hosts = end_of(0, linked.hosts().len())?;
+    let hosts = linked.hosts().len() as u32;
     let owns = numbered(alloc, members, Space::Codes, hosts)?;
     let imported = imported_counts(alloc, members)?;
-    let first_stub = total(members, Space::Codes, hosts)?;
-    let first_phase = all_stubs_end(first_stub, linked.functions())?;
-    let loader = loader_where(linked, first_phase)?;
+    let first_stub = total(members, Space::Codes, hosts);
+    let first_phase = all_stubs_end(first_stub, linked.functions());
+    let loader = loader_where(linked, first_phase);
     let known = Known {
         owns: owns.as_slice(),
         imported: imported.as_slice(),
@@ -141,10 +152,7 @@ fn kept(alloc: Global, linked: &Linked) -> Result<Numbers, Memory>
     };
     let functions = named_lists(alloc, linked.functions(), known, first_stub)?;
     let types = numbered(alloc, members, Space::Types, 0)?;
-    let globals = global_lists(alloc, members, 1)?;
-    let tables = table_lists(alloc, members, 1)?;
-    let elems = numbered(alloc, members, Space::Elems, 0)?;
-    let segments = numbered(alloc, members, Space::Datas, 0)?;
+    let addresses = Addresses::of(alloc, linked)?;
     Ok(Numbers {
         functions,
         owns,
@@ -153,10 +161,7 @@ fn kept(alloc: Global, linked: &Linked) -> Result<Numbers, Memory>
         first_phase,
         loader,
         types,
-        globals,
-        tables,
-        elems,
-        segments,
+        addresses,
     })
 }
 
@@ -167,6 +172,7 @@ impl Numbers {
         ensures phase { IfOk result (λ n. (L : LinkedSet) → IsLinked L linked.now → n.first_phase ≡ first_phase L) }
         ensures loader { IfOk result (λ n. (L : LinkedSet) → IsLinked L linked.now → n.loader ≡ loader_numbers L) }
     {
+        linked.links();
         let numbers = kept(alloc, linked)?;
         Ok(numbers)
     }
@@ -226,27 +232,27 @@ impl Numbers {
     pub fn global(&self, m: u32, g: u32) -> u32
         ensures { result ≡ (numbers_in self.now).global m g }
     {
-        number_at(self.globals.as_slice(), m, g)
+        number_of(self.addresses.global(m, g))
     }
 
     /// The number of table t of member m.
     pub fn table(&self, m: u32, t: u32) -> u32
         ensures { result ≡ (numbers_in self.now).table m t }
     {
-        number_at(self.tables.as_slice(), m, t)
+        number_of(self.addresses.table(m, t))
     }
 
     /// The number of element segment e of member m.
     pub fn elem(&self, m: u32, e: u32) -> u32
         ensures { result ≡ (numbers_in self.now).elem m e }
     {
-        number_at(self.elems.as_slice(), m, e)
+        number_of(self.addresses.elem(m, e))
     }
 
     /// The number of data segment d of member m.
     pub fn segment(&self, m: u32, d: u32) -> u32
         ensures { result ≡ (numbers_in self.now).segment m d }
     {
-        number_at(self.segments.as_slice(), m, d)
+        number_of(self.addresses.segment(m, d))
     }
 }

@@ -59,13 +59,13 @@ fn copied<T: Copy>(alloc: Global, list: &[T]) -> Result<List<T>, Memory>
 
 impl Numbers {
     /// The type of a block of member m, with its number replaced.
-    pub fn rename_type(&self, m: u32, t: BlockType) -> BlockType
-        ensures { result ≡ block_type (numbers_in self.now) m t }
+    pub fn rename_type(&self, t: &BlockType, m: u32) -> BlockType
+        ensures { result ≡ block_type (numbers_in self.now) m t.now }
     {
         match t {
             BlockType::Empty => BlockType::Empty,
-            BlockType::Value(v) => BlockType::Value(v),
-            BlockType::Index(k) => BlockType::Index(self.ty(m, k)),
+            BlockType::Value(v) => BlockType::Value(*v),
+            BlockType::Index(k) => BlockType::Index(self.ty(m, *k)),
         }
     }
 }
@@ -117,16 +117,16 @@ fn rename_instr(alloc: Global, n: &Numbers, m: u32, i: &Instr) -> Result<Instr, 
         Instr::Index(op, k) => Ok(Instr::Index(*op, index(n, m, index_form(*op), *k))),
         Instr::Block(t, e) => {
             let e = rename_expr(alloc, n, m, e)?;
-            Ok(Instr::Block(n.rename_type(m, *t), e))
+            Ok(Instr::Block(n.rename_type(t, m), e))
         }
         Instr::Loop(t, e) => {
             let e = rename_expr(alloc, n, m, e)?;
-            Ok(Instr::Loop(n.rename_type(m, *t), e))
+            Ok(Instr::Loop(n.rename_type(t, m), e))
         }
         Instr::If(t, e, other) => {
             let e = rename_expr(alloc, n, m, e)?;
             let other = rename_other(alloc, n, m, other)?;
-            Ok(Instr::If(n.rename_type(m, *t), e, other))
+            Ok(Instr::If(n.rename_type(t, m), e, other))
         }
         Instr::BrTable(labels, last) => Ok(Instr::BrTable(copied(alloc, labels.items())?, *last)),
         Instr::CallIndirect { ty, table } => Ok(Instr::CallIndirect {

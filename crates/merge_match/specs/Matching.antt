@@ -74,12 +74,18 @@ Stacks n P (Trapped why) fs gs = Unit {0}
 abbrev pub Shared : Type 0 → Type 0 → Type 1
 Shared Units Other = LoaderState → Sharing Units Other
 
--- The memories are equal, and so is how the states stand; what is shared is the same; and the call stacks are the same.
+-- The matching of a state s of a loaded run and a state t of a run over one unit, under the numbers n. `P` says which points of the one
+-- unit's code stand for the frames of the loader, and `Same` what is the same of units and of the one.
 pub record Matches {Units Other Start : Type 0} (n : Numbers) (P : Places Start) (Same : Shared Units Other)
     (s : LoadedState Units) (t : State Other Start) : Type 0 where
+  -- the memories are equal, with their maxima
   pub memory : t.memory ≡ s.run.memory
+  -- both are moving, or wait for the same call, or have the same end
   pub status : t.status ≡ s.run.status
+  -- globals, tables, segments and what the loader keeps are the same
   pub units : Same s.loader s.run.units t.units
+  -- The activations of s are in order those of t, by the numbers, and each frame of the loader is a point of code in t. At the bottom of t
+  -- there may be more. Of the call stacks of ended states nothing is asked.
   pub stacks : Stacks n P s.run.status s.run.stack t.stack
 
 -- ---- runs

@@ -1,4 +1,4 @@
--- The run of the merged module agrees with that of the loaded set.
+-- The merged module meets the premises of the laws of one step and of agreeing runs, so its run agrees with that of the loaded set.
 use Rattle.std.proofs.Common.{◌≡◌, ◌≤◌, Bool, true, false, refl, arith}
 use Rattle.spec_loading.specs.spec_runs.Agreement.{Agree}
 use Rattle.spec_loading.specs.spec_execution.OneModule.{module_system, opened_state}
@@ -8,14 +8,16 @@ use Rattle.spec_loading.proofs.of_spec_linking.LinkedFacts.{linked_limits}
 use Rattle.spec_loading.specs.Members.{uses_loader}
 use Rattle.spec_loading.specs.LoadedSet.{opening_memory, set_system, set_opening}
 use Rattle.merge_match.specs.Bounded.{IsBounded}
-use Rattle.merge_start.specs.Laws.{CallsAreAnswered}
+use Rattle.merge_start.specs.Laws.{CallsAreAnswered, SetsRunAsMerged, UnusedIsAnswered}
+use Rattle.merge_dl.specs.Laws.{LengthsAreGiven, MembersAreSearched, LoaderIsAnswered}
 use Rattle.merge_module.specs.MergedModule.{finders_of}
-use Rattle.merge_module.proofs.Known.{IsKnown, HasCodeLaws}
+use Rattle.merge_module.specs.Laws.{MeetsPremises}
+use Rattle.merge_module.proofs.Known.{IsKnown}
 use Rattle.merge_module.proofs.Ready.{is_ready, start_ready, loader_ready}
-use Rattle.merge_module.proofs.Opens.{N, X, M, has_parts, opened}
+use Rattle.merge_module.proofs.Opens.{N, X, M, has_parts, opened, module_opens}
 use Rattle.merge_module.proofs.OpenedStore.{is_opened}
 
-module _ (laws : HasCodeLaws) (L : LinkedSet) (K : IsKnown L) (few : (linked_plan L).pages_max ≤ 16384) where
+module _ (unused : UnusedIsAnswered) (lengths : LengthsAreGiven) (searches : MembersAreSearched) (loader : LoaderIsAnswered) (L : LinkedSet) (K : IsKnown L) (few : (linked_plan L).pages_max ≤ 16384) where
   -- the memory that the set begins with ends before the last address
   bounded : IsBounded (opening_memory L)
   bounded =
@@ -30,10 +32,23 @@ module _ (laws : HasCodeLaws) (L : LinkedSet) (K : IsKnown L) (few : (linked_pla
     where
       go : (b : Bool) → uses_loader L ≡ b → CallsAreAnswered L (N L K few) (X L K few) (M L K few)
       go true used =
-          laws.answered L (N L K few) (X L K few) (finders_of L (X L K few)) (M L K few) K.set K.links used (has_parts L K few) (loader_ready L K few used)
-      go false unused = laws.unused L (N L K few) (X L K few) (M L K few) (has_parts L K few) unused
+          loader L (N L K few) (X L K few) (finders_of L (X L K few)) (M L K few) K.set K.links used (has_parts L K few)
+          (loader_ready lengths searches L K few used)
+      go false none = unused L (N L K few) (X L K few) (M L K few) (has_parts L K few) none
 
-  pub runs_agree : Agree (set_system L) (module_system (M L K few)) (set_opening L) (opened_state (M L K few) (X L K few).starting (opened L K few) (opening_memory L))
-  runs_agree =
-      laws.runs L (N L K few) (X L K few) (M L K few) (has_parts L K few) (is_ready L K few) (start_ready L K.set) answered bounded K.set
+  pub meets : MeetsPremises L
+  meets = record {
+    parts = has_parts L K few;
+    ready = is_ready L K few;
+    start = start_ready L K.set;
+    calls = answered;
+    bounded = bounded;
+    opening = opened L K few;
+    opens = module_opens L K few;
+    opened = is_opened L K few;
+  }
+
+  pub runs_agree : SetsRunAsMerged → Agree (set_system L) (module_system (M L K few)) (set_opening L) (opened_state (M L K few) (X L K few).starting (opened L K few) (opening_memory L))
+  runs_agree runs =
+      runs L (N L K few) (X L K few) (M L K few) (has_parts L K few) (is_ready L K few) (start_ready L K.set) answered bounded K.set
       (opened L K few) (is_opened L K few)

@@ -3,11 +3,11 @@ use Rattle.std.proofs.Common.{◌≡◌, ℕ, ◌+◌, ◌*◌, ◌≤◌, List,
 use Rattle.std.specs.List.{All}
 use Rattle.std.proofs.lemmas.List.{length-map}
 use Rattle.std.proofs.lemmas.List.Elements.{All-nil, All-cons, All-head, All-tail}
+use Rattle.spec_reading.specs.wasm_form.declared.types.FuncType.{FuncType}
 use Rattle.spec_reading.specs.wasm_form.declared.module.Module.{Module}
-use Rattle.spec_loading.specs.spec_runtime.Names.{HostName}
 use Rattle.spec_loading.specs.spec_linking.Sets.{Member}
 use Rattle.spec_loading.specs.spec_linking.Gathering.{total_size, IsMember}
-use Rattle.spec_loading.specs.spec_linking.LinkedSets.{LinkedSet, hosts_of}
+use Rattle.spec_loading.specs.spec_linking.LinkedSets.{LinkedSet}
 use Rattle.spec_loading.specs.spec_linking.Slots.{linked_plan, fresh_from, fresh_functions, outside_slots}
 use Rattle.spec_loading.specs.Members.{from_members}
 use Rattle.spec_loading.specs.LoadedSet.{own_functions}
@@ -16,11 +16,12 @@ use Rattle.wasm_encode.specs.Laws.{WeightIsLeast}
 use Rattle.wasm_encode.specs.Weight.{sum_of, type_weight, expr_weight, elem_weight, data_weight, weight}
 use Rattle.merge_match.specs.Renumbering.{Numbers}
 use Rattle.merge_dl.specs.Words.{handle_type, unary_type, binary_type, search_type}
-use Rattle.merge_module.specs.MergedModule.{members_types, generated_functions_types, number_expr, exported_functions, passive_elem, slots_elem, outside_elem, declared_elem, passive_data, texts_segment}
+use Rattle.merge_module.specs.MergedModule.{members_types, generated_functions_types, added_types, number_expr, exported_functions, passive_elem, slots_elem, outside_elem, declared_elem, passive_data, texts_segment}
+use Rattle.merge_module.specs.Laws.{types_bulk}
 use Rattle.merge_module.proofs.Known.{IsKnown}
 use Rattle.merge_module.proofs.WithLoader.{with_either}
-use Rattle.merge_module.proofs.SetMembers.{member_text, total_cons}
-use Rattle.merge_module.proofs.Counted.{few_bytes, few_members, few_of}
+use Rattle.merge_index.proofs.FewItems.{member_text, total_cons}
+use Rattle.merge_index.proofs.Counted.{few_bytes, few_members, few_of}
 use Rattle.merge_dl.proofs.SlotWords.{table_within}
 use Rattle.merge_module.proofs.Opens.{N, M}
 use Rattle.merge_module.proofs.Formed.{named_few}
@@ -83,14 +84,18 @@ module _ (L : LinkedSet) (K : IsKnown L) (few : (linked_plan L).pages_max ≤ 16
       let some = with_either L (λ l. sum_of type_weight l ≤ 13) (handle_type ∷ unary_type ∷ binary_type ∷ search_type ∷ []) (omega arith) (λ used. omega arith) in
       omega arith
 
-  pub types_light : sum_of type_weight (map (λ (h : HostName). h.ty) (hosts_of L)) ≤ 33554432 → sum_of type_weight merged.types ≤ 50331662
-  types_light hosts =
+  added_light : (tys : List FuncType) → sum_of type_weight tys ≡ types_bulk tys
+  added_light [] = refl
+  added_light (ty ∷ tys) = (let later = added_light tys in omega arith)
+
+  pub types_light : types_bulk (added_types L) ≤ 33554432 → sum_of type_weight merged.types ≤ 50331662
+  types_light few_added =
       let own = own_types_light in
       let bytes = few_bytes L K.set in
       let generated = generated_light in
-      let hosts_types = map (λ (h : HostName). h.ty) (hosts_of L) in
-      let both = sum_then type_weight (members_types L) (generated_functions_types L ++ hosts_types) in
-      let rest = sum_then type_weight (generated_functions_types L) hosts_types in
+      let added = added_light (added_types L) in
+      let both = sum_then type_weight (members_types L) (generated_functions_types L ++ added_types L) in
+      let rest = sum_then type_weight (generated_functions_types L) (added_types L) in
       omega arith
 
   -- ---- segments

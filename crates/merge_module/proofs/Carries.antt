@@ -50,14 +50,15 @@ use Rattle.merge_match.proofs.Joined.{item_there, member_within}
 use Rattle.merge_match.proofs.Lists.{length-slice_set}
 use Rattle.merge_dl.specs.Words.{call_body}
 use Rattle.merge_index.specs.Numbering.{function_number}
-use Rattle.merge_module.specs.MergedModule.{finders_of, shared_table_type, renumbered_items, number_global, own_global, member_globals, guard_globals, merged_globals, merged_tables, passive_elem, outside_elem, declared_elem, merged_elems, passive_data, texts_segment}
+use Rattle.merge_module.specs.MergedModule.{finders_of, host_type_number, shared_table_type, renumbered_items, number_global, own_global, member_globals, guard_globals, merged_globals, merged_tables, passive_elem, outside_elem, declared_elem, merged_elems, passive_data, texts_segment}
 use Rattle.merge_module.proofs.Known.{IsKnown}
 use Rattle.merge_module.proofs.HostImports.{no_tables, no_globals}
 use Rattle.merge_module.proofs.ImportedGlobals.{global_import}
 use Rattle.merge_module.proofs.ImportedTables.{imported_table}
 use Rattle.merge_module.proofs.References.{function_typed}
-use Rattle.merge_module.proofs.MergedSpaces.{first_host_type, past_front, in_front, host_typed}
-use Rattle.merge_module.proofs.Counted.{few_bytes, few_of}
+use Rattle.merge_module.proofs.MergedSpaces.{past_front, in_front}
+use Rattle.merge_module.proofs.HostTypes.{host_typed}
+use Rattle.merge_index.proofs.Counted.{few_bytes, few_of}
 use Rattle.merge_module.proofs.GlobalValues.{one_type}
 use Rattle.merge_module.proofs.Applied.{slot_elems, outside_number}
 use Rattle.merge_module.proofs.OwnNumbers.{x}
@@ -112,7 +113,7 @@ module _ (L : LinkedSet) (K : IsKnown L) (few : (linked_plan L).pages_max ≤ 16
   ref_typed (Host e) ty h =
       let k = went_on (set_hosts L e) (λ (k : HostName). Some k.ty) ty h in
       let same : k.0.ty ≡ ty = (let q = k.2 in cc) in
-      host_typed L n (X L K few) e k.0 k.1 (slice_get_within (hosts_of L) e k.0 k.1) ∙ ap Some same
+      host_typed L K n (X L K few) e k.0 k.1 ∙ ap Some same
   ref_typed (Own m f) ty h =
       let y = went_on (V.code m f) (λ (y : Function). Some y.ty) ty h in
       let same : y.0.ty ≡ ty = (let q = y.2 in cc) in
@@ -130,7 +131,7 @@ module _ (L : LinkedSet) (K : IsKnown L) (few : (linked_plan L).pages_max ≤ 16
   -- a global of the module, past its imports, of which none is one
   pub global_at : (a : ℕ) (g : GlobalDef) → slice_get (merged_globals L n) a ≡ Some g → slice_get (global_space merged) a ≡ Some g.ty
   global_at a g e =
-      ap (λ (l : List GlobalType). slice_get (l ++ map type_of_global (merged_globals L n)) a) (no_globals (first_host_type L) (hosts_of L))
+      ap (λ (l : List GlobalType). slice_get (l ++ map type_of_global (merged_globals L n)) a) (no_globals (host_type_number L) 0 (hosts_of L))
       ∙ slice_get-map type_of_global (merged_globals L n) a ∙ ap (option_map type_of_global) e
 
   module _ (m : ℕ) (member : Member) (at : slice_get L.set.members m ≡ Some member) where
@@ -267,7 +268,7 @@ module _ (L : LinkedSet) (K : IsKnown L) (few : (linked_plan L).pages_max ≤ 16
     -- ---- tables
 
     pub table_at : (a : ℕ) (ty : TableType) → slice_get (merged_tables L) a ≡ Some ty → slice_get (table_space merged) a ≡ Some ty
-    table_at a ty e = ap (λ (l : List TableType). slice_get (l ++ merged_tables L) a) (no_tables (first_host_type L) (hosts_of L)) ∙ e
+    table_at a ty e = ap (λ (l : List TableType). slice_get (l ++ merged_tables L) a) (no_tables (host_type_number L) 0 (hosts_of L)) ∙ e
 
     tables_few : length (from_members (λ k (w : Module). w.tables) 0 L.set.members ++ []) ≤ nowhere
     tables_few =

@@ -10,6 +10,7 @@ use Rattle.merge_module.proofs.Applied.{outside_number}
 use Rattle.merge_match.proofs.Lists.{length-slice_set}
 use Rattle.spec_reading.proofs.of_spec_binary.Lists.{holds_at}
 use Rattle.std.proofs.lemmas.List.Elements.{All-nil, All-cons, All-head, All-tail, All-append}
+use Rattle.spec_reading.specs.wasm_form.declared.types.FuncType.{FuncType}
 use Rattle.spec_reading.specs.wasm_form.declared.module.Import.{Import}
 use Rattle.spec_reading.specs.wasm_form.declared.module.ImportDesc.TheVariants as imported
 use Rattle.spec_reading.specs.wasm_form.declared.module.GlobalDef.{GlobalDef}
@@ -34,15 +35,16 @@ use Rattle.merge_match.specs.Joined.{renumbered_code}
 use Rattle.merge_start.specs.Words.{Starts}
 use Rattle.merge_dl.specs.Words.{handle_type, unary_type, binary_type, search_type}
 use Rattle.merge_index.specs.Numbering.{stubs_of, starts_of}
-use Rattle.merge_module.specs.MergedModule.{with_loader, members_types, generated_functions_types, host_imports, stub_types, generated_types, stub_codes, trap_code, shared_table_type, number_global, constant_instr, own_global, member_globals, guard_globals, merged_globals, passive_elem, slots_elem, outside_elem, named_functions, exported_functions, declared_elem, merged_elems, passive_data, texts_segment, merged_module}
-use Rattle.merge_module.specs.Laws.{IsWritable, IsFunction, HasShape}
+use Rattle.merge_module.specs.MergedModule.{with_loader, members_types, generated_functions_types, added_types, host_type_number, host_imports, stub_types, generated_types, stub_codes, trap_code, shared_table_type, number_global, constant_instr, own_global, member_globals, guard_globals, merged_globals, passive_elem, slots_elem, outside_elem, named_functions, exported_functions, declared_elem, merged_elems, passive_data, texts_segment, merged_module}
+use Rattle.merge_module.specs.Shape.{IsFunction, HasShape}
 use Rattle.merge_module.proofs.Known.{IsKnown}
 use Rattle.merge_module.proofs.WithLoader.{with_all}
 use Rattle.merge_module.proofs.SetMembers.{member_formed}
 use Rattle.spec_loading.specs.spec_linking.Gathering.{IsMember, IsSet}
-use Rattle.merge_module.proofs.Counted.{few_bytes, few_of, few_hosts}
+use Rattle.merge_index.proofs.Counted.{few_bytes, few_of, few_hosts}
 use Rattle.merge_module.proofs.StubLists.{lengths_same}
-use Rattle.merge_module.proofs.MergedSpaces.{first_host_type, few_types, few_funcs, few_codes, own_funcs, own_codes, generated_codes, generated_codes_many}
+use Rattle.merge_module.proofs.MergedSpaces.{few_types, few_funcs, few_codes, own_funcs, own_codes, generated_codes, generated_codes_many}
+use Rattle.merge_module.proofs.HostNames.{IsNamed, hosts_named}
 use Rattle.merge_module.proofs.OpenedStore.{globals_many, elems_many}
 use Rattle.merge_module.proofs.Generated.{entry_typed}
 use Rattle.merge_dl.proofs.SlotWords.{table_within}
@@ -69,17 +71,17 @@ repeated : {A : Type 0} (P : A → Type 0) (k : ℕ) (a : A) → P a → All P (
 repeated P zero a p = All-nil P
 repeated P (suc k) a p = All-cons P a (replicate k a) p (repeated P k a p)
 
-hosts_long : (t : ℕ) (hs : List HostName) → length (host_imports t hs) ≡ length hs
-hosts_long t [] = refl
-hosts_long t (h ∷ hs) = ap suc (hosts_long (t + 1) hs)
+hosts_long : (t : ℕ → FuncType → ℕ) (e : ℕ) (hs : List HostName) → length (host_imports t e hs) ≡ length hs
+hosts_long t e [] = refl
+hosts_long t e (h ∷ hs) = ap suc (hosts_long t (e + 1) hs)
 
-hosts_formed : (t : ℕ) (hs : List HostName) → All IsWritable hs → All IsFormedImport (host_imports t hs)
-hosts_formed t [] all = All-nil IsFormedImport
-hosts_formed t (h ∷ hs) all =
-    let one = All-head IsWritable h hs all in
-    let rest = hosts_formed (t + 1) hs (All-tail IsWritable h hs all) in
-    All-cons IsFormedImport (record { «module» = h.module_name; field = h.name; desc = imported.Func t }) (host_imports (t + 1) hs)
-    (record { from = one.1.0; field = one.1.1; desc = tt }) rest
+hosts_formed : (t : ℕ → FuncType → ℕ) (e : ℕ) (hs : List HostName) → All IsNamed hs → All IsFormedImport (host_imports t e hs)
+hosts_formed t e [] all = All-nil IsFormedImport
+hosts_formed t e (h ∷ hs) all =
+    let one = All-head IsNamed h hs all in
+    let rest = hosts_formed t (e + 1) hs (All-tail IsNamed h hs all) in
+    All-cons IsFormedImport (record { «module» = h.module_name; field = h.name; desc = imported.Func (t e h.ty) }) (host_imports t (e + 1) hs)
+    (record { from = one.0; field = one.1; desc = tt }) rest
 
 -- as long of each member, as long of all
 same_lengths : {A B : Type 0} (of : ℕ → Module → List A) (like : ℕ → Module → List B) (P : Member → Type 0) → ((k : ℕ) (y : Member) → P y → length (of k y.wasm) ≡ length (like k y.wasm))
@@ -195,12 +197,10 @@ module _ (L : LinkedSet) (K : IsKnown L) (few : (linked_plan L).pages_max ≤ 16
       (All-cons IsFormedType binary_type (search_type ∷ []) (omega arith, omega arith)
       (All-cons IsFormedType search_type [] (omega arith, omega arith) (All-nil IsFormedType))))))
 
-  types_formed : All IsWritable (hosts_of L) → All IsFormedType merged.types
-  types_formed hosts =
-      let own = map (λ (h : HostName). h.ty) (hosts_of L) in
-      All-append IsFormedType (members_types L) (generated_functions_types L ++ own) (each_formed IsFormedType (λ m wasm. wasm.types) (λ m y lt is. is.types.1))
-      (All-append IsFormedType (generated_functions_types L) own generated_formed
-      (map_all IsWritable IsFormedType (λ (h : HostName). h.ty) (λ h is. is.0) (hosts_of L) hosts))
+  types_formed : All IsFormedType (added_types L) → All IsFormedType merged.types
+  types_formed added =
+      All-append IsFormedType (members_types L) (generated_functions_types L ++ added_types L) (each_formed IsFormedType (λ m wasm. wasm.types) (λ m y lt is. is.types.1))
+      (All-append IsFormedType (generated_functions_types L) (added_types L) generated_formed added)
 
   tables_formed : All IsFormedTable merged.tables
   tables_formed =
@@ -235,7 +235,7 @@ module _ (L : LinkedSet) (K : IsKnown L) (few : (linked_plan L).pages_max ≤ 16
   imports_few =
       let hosts = few_hosts L K.set in
       let bytes = few_bytes L K.set in
-      let same = hosts_long (first_host_type L) (hosts_of L) in
+      let same = hosts_long (host_type_number L) 0 (hosts_of L) in
       omega arith
 
   bodies_same : length merged.codes ≡ length merged.funcs
@@ -250,14 +250,14 @@ module _ (L : LinkedSet) (K : IsKnown L) (few : (linked_plan L).pages_max ≤ 16
       let five = length-append (from_members (stub_types L n) 0 members) (generated_types L) in
       omega arith
 
-  pub merged_formed : All IsWritable (hosts_of L) → IsWellFormed merged
-  merged_formed hosts =
+  pub merged_formed : All IsFormedType (added_types L) → IsWellFormed merged
+  merged_formed added =
       let types = few_types L n x K.set in
       let funcs = few_funcs L n x K.set in
       let bodies = few_codes L n x K.set in
       record {
-        types = (omega arith, types_formed hosts);
-        imports = (imports_few, hosts_formed (first_host_type L) (hosts_of L) hosts);
+        types = (omega arith, types_formed added);
+        imports = (imports_few, hosts_formed (host_type_number L) 0 (hosts_of L) (hosts_named L K.set));
         funcs = omega arith;
         tables = (tables_few, tables_formed);
         memories = omega arith;
@@ -274,14 +274,15 @@ module _ (L : LinkedSet) (K : IsKnown L) (few : (linked_plan L).pages_max ≤ 16
         counts = record { bodies = bodies_same; datas = refl };
       }
 
-hosts_functions : (t : ℕ) (hs : List HostName) → All (λ (i : Import). IsFunction i.desc) (host_imports t hs)
-hosts_functions t [] = All-nil (λ (i : Import). IsFunction i.desc)
-hosts_functions t (h ∷ hs) =
-    All-cons (λ (i : Import). IsFunction i.desc) (record { «module» = h.module_name; field = h.name; desc = imported.Func t }) (host_imports (t + 1) hs) tt (hosts_functions (t + 1) hs)
+hosts_functions : (t : ℕ → FuncType → ℕ) (e : ℕ) (hs : List HostName) → All (λ (i : Import). IsFunction i.desc) (host_imports t e hs)
+hosts_functions t e [] = All-nil (λ (i : Import). IsFunction i.desc)
+hosts_functions t e (h ∷ hs) =
+    All-cons (λ (i : Import). IsFunction i.desc) (record { «module» = h.module_name; field = h.name; desc = imported.Func (t e h.ty) })
+    (host_imports t (e + 1) hs) tt (hosts_functions t (e + 1) hs)
 
 pub merged_shaped : (L : LinkedSet) → IsSet L.set → HasShape L (merged_module L)
 merged_shaped L set = record {
-  imports = hosts_functions (first_host_type L) (hosts_of L);
+  imports = hosts_functions (host_type_number L) 0 (hosts_of L);
   table = refl;
   memory = refl;
   entry = (starts_of L).starting;

@@ -4,14 +4,10 @@ use Rattle.std.specs.Prelude.{Ok}
 use Rattle.std.specs.List.{All, flat_map, list_any}
 use Rattle.std.specs.Map.{lookup}
 use Rattle.std.specs.Str.{bytes_eq}
-use Rattle.std.specs.Cmp.Lexicographic.{pointwise}
 use Rattle.std.proofs.lemmas.List.Elements.{All-nil, All-cons, All-head, All-tail, All-append}
-use Rattle.spec_reading.specs.wasm_form.declared.types.ValType.{ValType}
-use Rattle.spec_reading.specs.wasm_form.declared.types.ValType.TheVariants.{I32, I64, F32, F64, FuncRef, ExternRef}
 use Rattle.spec_reading.specs.wasm_form.declared.types.FuncType.{FuncType}
 use Rattle.spec_reading.specs.wasm_form.declared.module.Import.{Import}
 use Rattle.spec_reading.specs.wasm_form.declared.module.Module.{Module}
-use Rattle.spec_reading.specs.spec_binary.SameTypes.{same_type, same_function_type}
 use Rattle.spec_loading.specs.spec_runtime.Names.{HostName, HostMatch, Unknown, Fits, OtherType, host_module, host_match, host_typed}
 use Rattle.spec_loading.specs.spec_execution.OneModule.{imports_met}
 use Rattle.spec_loading.specs.spec_linking.declared.fault.Kind.TheVariants as kind
@@ -23,24 +19,8 @@ use Rattle.spec_loading.specs.spec_linking.LinkedSets.{LinkedSet, definition, is
 use Rattle.spec_loading.specs.spec_linking.Links.{where_fits, covers, has_first_type, is_host_type, function_fault, match_fault, fault_as, Links}
 use Rattle.spec_loading.proofs.of_spec_linking.LinkedFacts.{holds_so, IsLinkedMember, linked_member}
 use Rattle.merge_module.specs.MergedModule.{host_imports}
-use Rattle.merge_module.proofs.HostImports.{HasTypes, later_types}
-
--- ---- a type is itself
-
-type_itself : (t : ValType) → same_type t t ≡ true
-type_itself I32 = refl
-type_itself I64 = refl
-type_itself F32 = refl
-type_itself F64 = refl
-type_itself FuncRef = refl
-type_itself ExternRef = refl
-
-types_itself : (ts : List ValType) → pointwise same_type ts ts ≡ true
-types_itself [] = refl
-types_itself (t ∷ ts) = rw (type_itself t, types_itself ts) refl
-
-function_itself : (ty : FuncType) → same_function_type ty ty ≡ true
-function_itself ty = rw (types_itself ty.params, types_itself ty.results) refl
+use Rattle.merge_module.proofs.AddedTypes.{function_itself}
+use Rattle.merge_module.proofs.HostImports.{HasTypes, first_type, later_types}
 
 -- ---- what is declared
 
@@ -148,10 +128,10 @@ module _ (L : LinkedSet) where
 
   -- ---- the imports of the module
 
-  pub are_met : (m : Module) (t : ℕ) (hs : List HostName) → HasTypes m t hs → All IsMet hs → imports_met m L.names (host_imports t hs) ≡ Ok tt
-  are_met m t [] types all = refl
-  are_met m t (h ∷ hs) types all =
-      let place : t + 0 ≡ t = omega arith in
-      let first : slice_get m.types t ≡ Some h.ty = subst (λ n. slice_get m.types n ≡ Some h.ty) place (types 0 h refl) in
-      let rest = are_met m (t + 1) hs (later_types m t h hs types) (All-tail IsMet h hs all) in
+  pub are_met : (m : Module) (t : ℕ → FuncType → ℕ) (e : ℕ) (hs : List HostName) → HasTypes m t e hs → All IsMet hs
+      → imports_met m L.names (host_imports t e hs) ≡ Ok tt
+  are_met m t e [] types all = refl
+  are_met m t e (h ∷ hs) types all =
+      let first = first_type m t e h hs types in
+      let rest = are_met m t (e + 1) hs (later_types m t e h hs types) (All-tail IsMet h hs all) in
       rw (first, All-head IsMet h hs all, rest) refl

@@ -29,9 +29,11 @@ use Rattle.merge_match.specs.Joined.{own_address, function_address, IsPlaced, Is
 use Rattle.merge_index.specs.Numbering.{is_stub, stubs_below, stubs_before, first_stub, first_call, call_place, call_number, function_number}
 use Rattle.merge_module.proofs.Known.{IsKnown}
 use Rattle.merge_module.proofs.SetMembers.{is_sound}
+use Rattle.merge_module.specs.MergedModule.{host_type_number}
 use Rattle.merge_module.proofs.HostImports.{hosts_are}
-use Rattle.merge_module.proofs.Counted.{few_bytes, few_hosts}
-use Rattle.merge_module.proofs.MergedSpaces.{first_host_type, host_many, host_types, host_typed, few_types, few_funcs, few_codes, no_function}
+use Rattle.merge_index.proofs.Counted.{few_bytes, few_hosts}
+use Rattle.merge_module.proofs.MergedSpaces.{host_many, few_types, few_funcs, few_codes, no_function}
+use Rattle.merge_module.proofs.HostTypes.{host_types, host_typed}
 use Rattle.merge_module.proofs.References.{stub_there, IsDefined, defined_there, function_typed}
 use Rattle.merge_module.proofs.OwnNumbers.{n, x, merged, own_typed, stub_typed, stub_at}
 use Rattle.merge_module.proofs.LoaderFunctions.{call_there}
@@ -134,7 +136,7 @@ module _ (L : LinkedSet) (K : IsKnown L) where
   pub typed : (m f : ℕ) (r : Ref) → function_ref L m f ≡ Some r → (ty : FuncType) × (function_type (merged L set) (function_number L r) ≡ Some ty)
   typed m f (Host e) q =
       let there = host_there e (ref_exists m f (Host e) q) in
-      (there.0.ty, host_typed L (n L set) (x L set) e there.0 there.1 there.2)
+      (there.0.ty, host_typed L K (n L set) (x L set) e there.0 there.1)
   typed m f (Own k g) q =
       let there = own_defined k g (ref_exists m f (Own k g) q) in
       (there.2.ty, own_typed L set k g there.0 there.1 there.2)
@@ -199,5 +201,5 @@ module _ (L : LinkedSet) (K : IsKnown L) where
     typed = typed;
     stubs = stubs;
     loader = loader;
-    hosts = λ e. ap (λ l. slice_get l e) (hosts_are (merged L set) (first_host_type L) (hosts_of L) (host_types L (n L set) (x L set)));
+    hosts = λ e. ap (λ l. slice_get l e) (hosts_are (merged L set) (host_type_number L) 0 (hosts_of L) (host_types L K (n L set) (x L set)));
   }

@@ -20,7 +20,7 @@ use Rattle.spec_loading.specs.LoadedSet.{first_slot, own_functions, set_loading,
 use Rattle.spec_loading.specs.Laws.{LinkedIsThere, LinkedIsTyped, IsCallable, CalleesAreThere, EntryIsThere, OpeningHolds, SizesArePlanned, SlotsFit}
 use Rattle.merge_start.specs.Laws.{SetsRunAsMerged, UnusedIsAnswered}
 use Rattle.merge_start.specs.Typed.{GeneratedIsTyped}
-use Rattle.merge_dl.specs.Laws.{LoaderIsAnswered}
+use Rattle.merge_dl.specs.Laws.{LengthsAreGiven, MembersAreSearched, LoaderIsAnswered}
 use Rattle.merge_dl.specs.Typed.{LoaderIsTyped}
 
 pub record IsKnown (L : LinkedSet) : Type 0 where
@@ -64,6 +64,8 @@ known laws L set links = record {
 pub record HasCodeLaws : Type 0 where
   pub runs : SetsRunAsMerged
   pub unused : UnusedIsAnswered
+  pub lengths : LengthsAreGiven
+  pub searches : MembersAreSearched
   pub answered : LoaderIsAnswered
   pub generated : GeneratedIsTyped
   pub loader : LoaderIsTyped

@@ -1,14 +1,15 @@
 pub mod Known
 pub mod WithLoader
 pub mod PlannedWords
-pub mod SpelledParts
 pub mod SpelledConstants
 pub mod SetMembers
 pub mod MemberEffects
 pub mod HostImports
+pub mod AddedTypes
 pub mod StubLists
-pub mod Counted
 pub mod MergedSpaces
+pub mod HostTypes
+pub mod HostNames
 pub mod References
 pub mod OwnNumbers
 pub mod Generated
@@ -47,6 +48,7 @@ pub mod Valid
 pub mod Headline
 pub mod Formed
 pub mod Bounds
+pub mod HostWeights
 pub mod LightGlobals
 pub mod LightCode
 pub mod Short

@@ -20,8 +20,8 @@ use Rattle.merge_module.specs.MergedModule.{with_loader, plain_code, trap_code, 
 use Rattle.merge_module.specs.Laws.{names_bulk}
 use Rattle.merge_module.proofs.Known.{IsKnown}
 use Rattle.merge_module.proofs.WithLoader.{with_either}
-use Rattle.merge_module.proofs.SetMembers.{total_cons}
-use Rattle.merge_module.proofs.Counted.{few_bytes, few_members, stubs_within}
+use Rattle.merge_index.proofs.FewItems.{total_cons}
+use Rattle.merge_index.proofs.Counted.{few_bytes, few_members, stubs_within}
 use Rattle.merge_module.proofs.Opens.{N, X, M}
 use Rattle.merge_module.proofs.Weights.{sum_then, sum_same, counted, code_weighs}
 use Rattle.merge_module.proofs.Pieces.{trap_step}

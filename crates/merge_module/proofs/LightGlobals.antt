@@ -12,7 +12,7 @@ use Rattle.merge_match.specs.Renumbering.{Numbers}
 use Rattle.merge_module.specs.MergedModule.{with_loader, number_global, own_global, member_globals, guard_globals}
 use Rattle.merge_module.proofs.Known.{IsKnown}
 use Rattle.merge_module.proofs.WithLoader.{with_either}
-use Rattle.merge_module.proofs.Counted.{few_bytes, few_members, few_of}
+use Rattle.merge_index.proofs.Counted.{few_bytes, few_members, few_of}
 use Rattle.merge_module.proofs.OpenedStore.{two_each, cells_few, member_globals_fit, guards_few}
 use Rattle.merge_module.proofs.Opens.{N, M}
 use Rattle.merge_module.proofs.Weights.{sum_then}

@@ -1,8 +1,8 @@
 -- The function space of a merged module: the host functions, those of the members, stubs, and what is generated.
-use Rattle.std.proofs.Common.{◌≡◌, ℕ, zero, suc, ◌+◌, ◌-◌, ◌*◌, ◌<◌, ◌≤◌, List, [], ◌∷◌, ◌++◌, length, map, replicate, slice_get, Option, Some, None, refl, sym, ap, ◌∙◌, arith, length-append}
+use Rattle.std.proofs.Common.{◌≡◌, ℕ, zero, suc, ◌+◌, ◌-◌, ◌*◌, ◌≤◌, List, [], ◌∷◌, ◌++◌, length, map, replicate, slice_get, Option, Some, None, refl, sym, ap, ◌∙◌, arith, length-append}
 use Rattle.std.specs.Prelude.{unwrap_or}
 use Rattle.std.proofs.lemmas.List.{length-map, length-replicate}
-use Rattle.std.proofs.lemmas.Option.{slice_get-map, slice_get_past}
+use Rattle.std.proofs.lemmas.Option.{slice_get_past}
 use Rattle.spec_reading.specs.wasm_form.declared.types.FuncType.{FuncType}
 use Rattle.spec_reading.specs.wasm_form.declared.module.Code.{Code}
 use Rattle.spec_reading.specs.wasm_form.declared.module.Module.{Module}
@@ -10,7 +10,6 @@ use Rattle.spec_reading.specs.spec_binary.Options.{◌>>=◌}
 use Rattle.spec_reading.specs.spec_binary.Indices.{nullary, function_type, function_with, function_at}
 use Rattle.spec_reading.specs.spec_binary.IndexSpaces.{imports_of, functions_in, function_space, imported_count}
 use Rattle.spec_reading.proofs.of_spec_binary.Lists.{slice_get-append-right}
-use Rattle.spec_loading.specs.spec_runtime.Names.{HostName}
 use Rattle.spec_loading.specs.spec_linking.Sets.{Member}
 use Rattle.spec_loading.specs.spec_linking.Gathering.{IsSet}
 use Rattle.spec_loading.specs.spec_linking.LinkedSets.{LinkedSet, hosts_of}
@@ -22,10 +21,11 @@ use Rattle.merge_match.proofs.JoinedParts.{own_type, own_at}
 use Rattle.merge_start.specs.Words.{Starts, entry_code, open_code}
 use Rattle.merge_dl.specs.Words.{handle_type, unary_type, binary_type, search_type, length_body, find_body}
 use Rattle.merge_index.specs.Numbering.{stubs_of}
-use Rattle.merge_module.specs.MergedModule.{with_loader, members_types, nullary_number, handle_number, unary_number, binary_number, search_number, generated_functions_types, stub_types, loader_funcs, generated_types, stub_codes, phase_codes, open_codes, find_codes, call_codes, loader_codes, plain_code, trap_code, module_with}
+use Rattle.merge_module.specs.MergedModule.{with_loader, members_types, nullary_number, handle_number, unary_number, binary_number, search_number, generated_functions_types, first_use, added_types, first_added, host_type_number, stub_types, loader_funcs, generated_types, stub_codes, phase_codes, open_codes, find_codes, call_codes, loader_codes, plain_code, trap_code, module_with}
 use Rattle.merge_module.proofs.WithLoader.{with_few, with_many}
-use Rattle.merge_module.proofs.HostImports.{functions_of, numbered_types, HasTypes}
-use Rattle.merge_module.proofs.Counted.{few_bytes, few_members, few_hosts, few_of, stubs_within}
+use Rattle.merge_module.proofs.HostImports.{functions_of}
+use Rattle.merge_module.proofs.AddedTypes.{added_few}
+use Rattle.merge_index.proofs.Counted.{few_bytes, few_members, few_hosts, few_of, stubs_within}
 
 -- the item at a place past the front
 pub past_front : {A : Type 0} (front rest : List A) (i : ℕ) → slice_get (front ++ rest) (length front + i) ≡ slice_get rest i
@@ -61,10 +61,6 @@ generated_many L =
     let many = loader_many L in
     omega (arith, length-append (replicate (4 * length L.set.members + 1) (nullary_number L)) (with_loader L (loader_funcs L)))
 
--- the number of the type of the first host function
-abbrev pub first_host_type : LinkedSet → ℕ
-first_host_type L = nullary_number L + length (generated_functions_types L)
-
 -- there are as many types of generated functions
 pub few_generated_types : (L : LinkedSet) → length (generated_functions_types L) ≤ 5
 few_generated_types L = (let few = with_few L (handle_type ∷ unary_type ∷ binary_type ∷ search_type ∷ []) in omega arith)
@@ -74,36 +70,26 @@ module _ (L : LinkedSet) (n : Numbers) (x : Starts) where
   merged = module_with L n x
 
   pub host_many : imported_count merged ≡ length (hosts_of L)
-  host_many = functions_of (first_host_type L) (hosts_of L)
+  host_many = functions_of (host_type_number L) 0 (hosts_of L)
 
   -- ---- types
-
-  abbrev host_function_types : List FuncType
-  host_function_types = map (λ (h : HostName). h.ty) (hosts_of L)
 
   -- a type of generated functions, by its place among these
   pub generated_type_there : (i : ℕ) (ty : FuncType) → slice_get (generated_functions_types L) i ≡ Some ty → slice_get merged.types (nullary_number L + i) ≡ Some ty
   generated_type_there i ty at =
-      past_front (members_types L) (generated_functions_types L ++ host_function_types) i ∙ in_front (generated_functions_types L) host_function_types i ty at
+      past_front (members_types L) (generated_functions_types L ++ added_types L) i ∙ in_front (generated_functions_types L) (added_types L) i ty at
 
   pub nullary_there : slice_get merged.types (nullary_number L) ≡ Some nullary
   nullary_there =
       let place : nullary_number L + 0 ≡ nullary_number L = omega arith in
       ap (slice_get merged.types) (sym place) ∙ generated_type_there 0 nullary refl
 
-  pub host_types : HasTypes merged (first_host_type L) (hosts_of L)
-  host_types e h at =
-      let place : nullary_number L + (length (generated_functions_types L) + e) ≡ first_host_type L + e = omega arith in
-      let there : slice_get host_function_types e ≡ Some h.ty = slice_get-map (λ (h : HostName). h.ty) (hosts_of L) e ∙ rw at refl in
-      ap (slice_get merged.types) (sym place) ∙ past_front (members_types L) (generated_functions_types L ++ host_function_types) (length (generated_functions_types L) + e)
-      ∙ past_front (generated_functions_types L) host_function_types e ∙ there
-
-  -- a host function by its number
-  pub host_typed : (e : ℕ) (h : HostName) → slice_get (hosts_of L) e ≡ Some h → e < length (hosts_of L) → function_type merged e ≡ Some h.ty
-  host_typed e h at lt =
-      let t = first_host_type L in
-      let there = in_front (imports_of functions_in merged.imports) merged.funcs e (t + e) (numbered_types t (hosts_of L) e lt) in
-      ap (λ (o : Option ℕ). o >>= slice_get merged.types) there ∙ host_types e h at
+  -- a type that is added, by its place among these
+  pub added_type_there : (i : ℕ) → slice_get merged.types (first_added L + i) ≡ slice_get (added_types L) i
+  added_type_there i =
+      let place : first_added L + i ≡ nullary_number L + (length (generated_functions_types L) + i) = omega arith in
+      ap (slice_get merged.types) place ∙ past_front (members_types L) (generated_functions_types L ++ added_types L) (length (generated_functions_types L) + i)
+      ∙ past_front (generated_functions_types L) (added_types L) i
 
   -- ---- functions that the module defines, by their places
 
@@ -164,8 +150,9 @@ module _ (L : LinkedSet) (n : Numbers) (x : Starts) where
         let hosts = few_hosts L set in
         let bytes = few_bytes L set in
         let generated = few_generated_types L in
-        let rest = length-append (generated_functions_types L) host_function_types in
-        omega (arith, length-append (members_types L) (generated_functions_types L ++ host_function_types), length-map (hosts_of L) (λ (h : HostName). h.ty))
+        let added = added_few (first_use L) [] 0 (hosts_of L) in
+        let rest = length-append (generated_functions_types L) (added_types L) in
+        omega (arith, length-append (members_types L) (generated_functions_types L ++ added_types L))
 
     stub_types_many : length (from_members (stub_types L n) 0 L.set.members) ≤ 16777216
     stub_types_many =

@@ -25,7 +25,7 @@ use Rattle.merge_match.specs.Renumbering.{Numbers, reference, value}
 use Rattle.merge_module.specs.MergedModule.{with_loader, number_global, own_global, member_globals, guard_globals, merged_globals}
 use Rattle.merge_module.proofs.Known.{IsKnown}
 use Rattle.merge_module.proofs.WithLoader.{with_map}
-use Rattle.merge_module.proofs.SetMembers.{member_spelled}
+use Rattle.merge_index.proofs.FewItems.{member_spelled}
 use Rattle.merge_module.proofs.SpelledConstants.{Fit, constants_fit}
 use Rattle.merge_module.proofs.PlannedWords.{stack_within}
 use Rattle.merge_module.proofs.Slots.{cell_word, base_word, table_base_word}

@@ -1,11 +1,10 @@
 -- The merged module opens with what the set begins with, and behind it the guards and the segments of fresh slots.
-use Rattle.std.proofs.Common.{◌≡◌, ℕ, zero, suc, ◌+◌, ◌*◌, ◌<◌, ◌≤◌, true, List, [], ◌∷◌, ◌++◌, length, map, slice_get, slice_set, Option, Some, refl, sym, ap, ap₂, ◌∙◌, subst, arith, length-append, append-nil, Bool, false, if◌then◌else◌}
-use Rattle.std.specs.List.{All, flat_map, list_any}
+use Rattle.std.proofs.Common.{◌≡◌, ℕ, zero, suc, ◌+◌, ◌*◌, ◌<◌, ◌≤◌, true, List, [], ◌∷◌, ◌++◌, length, map, slice_get, slice_set, Option, Some, refl, sym, ap, ap₂, ◌∙◌, subst, arith, length-append, append-nil}
+use Rattle.std.specs.List.{All}
 use Rattle.std.proofs.lemmas.List.{length-map, map-append}
 use Rattle.std.proofs.lemmas.List.Elements.{All-head, All-tail}
 use Rattle.spec_reading.specs.wasm_form.declared.types.TableType.{TableType}
 use Rattle.spec_reading.specs.wasm_form.declared.types.FuncType.{FuncType}
-use Rattle.spec_reading.specs.wasm_form.declared.module.Import.{Import}
 use Rattle.spec_reading.specs.wasm_form.declared.module.Data.{Data}
 use Rattle.spec_reading.specs.wasm_form.declared.module.Module.{Module}
 use Rattle.spec_reading.specs.wasm_form.declared.runtime.Ref.{Ref}
@@ -19,9 +18,8 @@ use Rattle.spec_loading.specs.spec_execution.Instances.{ModuleParts, module_targ
 use Rattle.spec_loading.specs.spec_execution.OneModule.{opened_table}
 use Rattle.spec_loading.specs.spec_linking.Sets.{Member}
 use Rattle.spec_loading.specs.spec_linking.Gathering.{total_size, IsMember}
-use Rattle.spec_loading.specs.spec_linking.Imports.{ImportUse, DataCell, SlotCell, use_of}
 use Rattle.spec_loading.specs.spec_linking.LinkedSets.{LinkedSet, wasm_of}
-use Rattle.spec_loading.specs.spec_linking.Slots.{linked_plan, CellName, cell_as, cell_of_import, same_cell, first_cells, cells_of, cell_value, fresh_of, member_items}
+use Rattle.spec_loading.specs.spec_linking.Slots.{linked_plan, cells_of, cell_value, fresh_of, member_items}
 use Rattle.spec_loading.specs.Addresses.{globals_size}
 use Rattle.spec_loading.specs.Members.{from_members, opened_global, opened_globals, opening_table, opening_store}
 use Rattle.merge_match.specs.Renumbering.{Numbers, entry, table_instance}
@@ -34,8 +32,10 @@ use Rattle.merge_index.specs.Numbering.{function_number}
 use Rattle.merge_module.specs.MergedModule.{with_loader, passive_elem, slots_elem, outside_elem, declared_elem, merged_elems, passive_data, texts_segment, merged_datas, merged_globals, member_globals, guard_globals, own_global, number_global, merged_tables}
 use Rattle.merge_module.proofs.Known.{IsKnown}
 use Rattle.merge_module.proofs.WithLoader.{with_used, with_few}
-use Rattle.merge_module.proofs.SetMembers.{AreFew as AreFewParts, is_sound, member_few, total_cons}
-use Rattle.merge_module.proofs.Counted.{joined_length, few_bytes, few_members, few_of}
+pub use Rattle.spec_loading.proofs.of_spec_linking.FewImports.{cells_few}
+use Rattle.merge_index.proofs.FewItems.{AreFew as AreFewParts, member_few, total_cons}
+use Rattle.merge_module.proofs.SetMembers.{is_sound}
+use Rattle.merge_index.proofs.Counted.{joined_length, few_bytes, few_members, few_of}
 use Rattle.merge_module.proofs.MergedSpaces.{in_front, one_each, host_many}
 use Rattle.merge_module.proofs.OwnNumbers.{own_number, own_typed}
 use Rattle.merge_module.proofs.OpenedItems.{members_mapped, elems_same}
@@ -58,32 +58,6 @@ each_same of other same k (x ∷ xs) = ap₂ (λ a b. a ++ b) (same k x.wasm) (e
 passive_bytes : (ds : List Data) → map (λ (d : Data). d.bytes) (map passive_data ds) ≡ map (λ (d : Data). d.bytes) ds
 passive_bytes [] = refl
 passive_bytes (d ∷ ds) = ap (λ l. d.bytes ∷ l) (passive_bytes ds)
-
--- ---- cells: no more than imports
-
-cells_of_import_few : (i : Import) (u : ImportUse) → length (cell_as i u) ≤ 1
-cells_of_import_few i DataCell = omega arith
-cells_of_import_few i SlotCell = omega arith
-cells_of_import_few i _ = omega arith
-
-cells_named : (is : List Import) → length (flat_map cell_of_import is) ≤ length is
-cells_named [] = omega arith
-cells_named (i ∷ is) =
-    let one = cells_of_import_few i (use_of i) in
-    let later = cells_named is in
-    omega (arith, length-append (cell_of_import i) (flat_map cell_of_import is))
-
-cells_first : (known cs : List CellName) → length (first_cells known cs) ≤ length cs
-cells_first known [] = omega arith
-cells_first known (c ∷ cs) = go (list_any (same_cell c) known) (cells_first known cs) (cells_first (known ++ c ∷ []) cs)
-  where
-    go : (b : Bool) → length (first_cells known cs) ≤ length cs → length (first_cells (known ++ c ∷ []) cs) ≤ length cs
-        → length (if b then first_cells known cs else c ∷ first_cells (known ++ c ∷ []) cs) ≤ suc (length cs)
-    go true le more = omega arith
-    go false le more = omega arith
-
-pub cells_few : (w : Module) → length (cells_of w) ≤ length w.imports
-cells_few w = (let first = cells_first [] (flat_map cell_of_import w.imports) in let all = cells_named w.imports in omega arith)
 
 -- two and its size of each are no more than two of each and the whole
 pub two_each : {A : Type 0} (of : ℕ → Module → List A) → ((k : ℕ) (x : Member) → AreFewParts x.wasm x.size → length (of k x.wasm) ≤ 2 + x.size)
@@ -260,5 +234,6 @@ module _ (L : LinkedSet) (K : IsKnown L) (few : (linked_plan L).pages_max ≤ 16
     slots = λ k lt. in_front (map (items_of L K few) (slots L K few)) ([] ∷ [] ∷ []) k (slot_items L n k)
         (slots_at 0 members k k (λ l y at. (let place : l ≡ 0 + l = omega arith in subst (λ a. wasm_of L a ≡ Some y.wasm) place (ap (λ (o : Option Member). o >>= λ z. Some z.wasm) at))) lt (omega arith));
     first_guard = (let all = joined_length (opened_globals L) globals_size (globals_fit L) 0 members in omega arith);
-    first_slots = joined_length (λ k wasm. map (opened_items (member_items L k)) wasm.elems) (λ w. length w.elems) (λ k w. length-map w.elems (opened_items (member_items L k))) 0 members;
+    first_slots = λ m lt.
+        ap (λ c. c + m) (sym (joined_length (λ k wasm. map (opened_items (member_items L k)) wasm.elems) (λ w. length w.elems) (λ k w. length-map w.elems (opened_items (member_items L k))) 0 members));
   }

@@ -35,13 +35,14 @@ use Rattle.merge_match.proofs.Spaces.{initialized_same}
 use Rattle.merge_match.proofs.JoinedParts.{named_host, joined_has_parts}
 use Rattle.merge_start.specs.Words.{Starts}
 use Rattle.merge_index.specs.Numbering.{function_number}
-use Rattle.merge_module.specs.MergedModule.{shared_table_type, outside_elem, declared_elem, texts_segment}
+use Rattle.merge_module.specs.MergedModule.{host_type_number, shared_table_type, outside_elem, declared_elem, texts_segment}
 use Rattle.merge_module.proofs.Known.{IsKnown}
 use Rattle.merge_dl.proofs.SlotWords.{table_within}
 use Rattle.merge_module.proofs.PlannedWords.{most_within, stack_within, texts_within}
 use Rattle.spec_loading.proofs.Rows.{texts_length}
 use Rattle.merge_module.proofs.HostsMatch.{hosts_met, are_met}
-use Rattle.merge_module.proofs.MergedSpaces.{first_host_type, past_front, host_many, host_types, host_typed}
+use Rattle.merge_module.proofs.MergedSpaces.{past_front, host_many}
+use Rattle.merge_module.proofs.HostTypes.{host_types, host_typed}
 use Rattle.merge_module.proofs.OwnNumbers.{n, x, merged}
 use Rattle.merge_module.proofs.LoaderFunctions.{call_there}
 use Rattle.merge_module.proofs.Joins.{is_joined}
@@ -96,7 +97,7 @@ module _ (L : LinkedSet) (K : IsKnown L) (few : (linked_plan L).pages_max ≤ 16
   host_target e lt =
       let h = got (hosts_of L) e lt in
       let many = host_many L N X in
-      ap (λ (o : Option FuncType). o >>= λ ty. Some (function_named M e)) (host_typed L N X e h.0 h.1 lt) ∙ ap Some (named_host M e (omega arith))
+      ap (λ (o : Option FuncType). o >>= λ ty. Some (function_named M e)) (host_typed L K N X e h.0 h.1) ∙ ap Some (named_host M e (omega arith))
 
   -- a function outside the members that has a slot
   pub outside_target : (r : Ref) → IsOutsideSet L r → module_target M (N.function r) ≡ Some (reference N r)
@@ -234,4 +235,4 @@ module _ (L : LinkedSet) (K : IsKnown L) (few : (linked_plan L).pages_max ≤ 16
   -- the module opens
   pub module_opens : module_opening M L.names ≡ Ok (opened_state M X.starting opened (opening_memory L))
   module_opens =
-      rw (are_met L M (first_host_type L) (hosts_of L) (host_types L N X) (hosts_met L K.links), entry_found, segments_opened) refl
+      rw (are_met L M (host_type_number L) 0 (hosts_of L) (host_types L K N X) (hosts_met L K.links), entry_found, segments_opened) refl

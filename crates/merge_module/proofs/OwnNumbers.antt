@@ -27,7 +27,7 @@ use Rattle.merge_index.specs.Numbering.{sum_of, host_count, is_stub, stubs_below
 use Rattle.merge_module.specs.MergedModule.{stub_types, generated_types, stub_codes, trap_code, merged_module}
 use Rattle.merge_module.proofs.SetMembers.{is_sound}
 use Rattle.merge_module.proofs.StubLists.{filtered_at, member_at}
-use Rattle.merge_module.proofs.Counted.{joined_length}
+use Rattle.merge_index.proofs.Counted.{joined_length}
 use Rattle.merge_module.proofs.MergedSpaces.{past_front, in_front, own_funcs, own_codes, type_at, code_at, few_types, few_funcs}
 use Rattle.merge_module.proofs.References.{StubThere, IsDefined}
 

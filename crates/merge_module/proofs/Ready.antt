@@ -25,16 +25,18 @@ use Rattle.spec_loading.specs.Members.{uses_loader, set_view}
 use Rattle.spec_loading.specs.LoadedSet.{callee_of, phase_callee}
 use Rattle.spec_loading.specs.Laws.{IsCallable}
 use Rattle.merge_start.specs.Started.{MemberReady, EntryReady, StartReady, OpenReady, IsReady}
-use Rattle.merge_dl.specs.Words.{search_type, find_body}
-use Rattle.merge_dl.specs.Ready.{HasFunction, LoaderReady}
+use Rattle.merge_dl.specs.Called.{SearchesMember}
+use Rattle.merge_dl.specs.Ready.{LoaderReady}
+use Rattle.merge_dl.specs.Laws.{LengthsAreGiven, MembersAreSearched}
 use Rattle.merge_module.specs.MergedModule.{finders_of}
 use Rattle.merge_dl.proofs.SlotWords.{table_within}
 use Rattle.merge_module.proofs.PlannedWords.{stack_within}
-use Rattle.merge_module.proofs.Counted.{few_members}
+use Rattle.merge_index.proofs.Counted.{few_members}
 use Rattle.merge_module.proofs.Known.{IsKnown}
 use Rattle.merge_module.proofs.References.{IsDefined}
 use Rattle.merge_module.proofs.SpelledConstants.{constants_fit}
-use Rattle.merge_module.proofs.SetMembers.{member_formed, member_spelled}
+use Rattle.merge_index.proofs.FewItems.{member_spelled}
+use Rattle.merge_module.proofs.SetMembers.{member_formed}
 use Rattle.merge_module.proofs.Joins.{own_defined}
 use Rattle.merge_module.proofs.MemberEffects.{segments_ready}
 use Rattle.merge_module.proofs.OwnNumbers.{n, x, merged}
@@ -102,7 +104,8 @@ pub start_ready : (L : LinkedSet) (set : IsSet L.set) → StartReady L (n L set)
 start_ready L set = record { start = refl; target = generated.entry_target L set; code = generated.entry_there L set }
 
 -- what the functions of the loader stand on, where they are used
-module _ (L : LinkedSet) (K : IsKnown L) (few : (linked_plan L).pages_max ≤ 16384) (used : uses_loader L ≡ true) where
+module _ (lengths : LengthsAreGiven) (searches : MembersAreSearched) (L : LinkedSet) (K : IsKnown L)
+    (few : (linked_plan L).pages_max ≤ 16384) (used : uses_loader L ≡ true) where
   open_ready : (m : ℕ) → m < length L.set.members → OpenReady L (n L K.set) (x L K.set) (merged L K.set) m
   open_ready m lt =
       let found = got L.set.members m lt in
@@ -110,17 +113,17 @@ module _ (L : LinkedSet) (K : IsKnown L) (few : (linked_plan L).pages_max ≤ 16
       let count = few_members L K.set in
       record { target = there.target; code = there.code; word = omega arith }
 
-  find_ready : (m : ℕ) (wasm : Module) → wasm_of L m ≡ Some wasm → HasFunction (merged L K.set) ((finders_of L (x L K.set)).find m) search_type (find_body L m wasm)
-  find_ready m wasm here =
-      let y = went_on (slice_get L.set.members m) (λ (y : Member). Some y.wasm) wasm here in
-      let same : y.0.wasm ≡ wasm = (let e = y.2 in cc) in
-      subst (λ w. HasFunction (merged L K.set) ((finders_of L (x L K.set)).find m) search_type (find_body L m w)) same (find_there L K.set used m y.0 y.1)
+  find_ready : (m : ℕ) → m < length L.set.members → SearchesMember L m (merged L K.set) ((finders_of L (x L K.set)).find m)
+  find_ready m lt =
+      let y = got L.set.members m lt in
+      let here : wasm_of L m ≡ Some y.0.wasm = ap (λ (o : Option Member). o >>= λ z. Some z.wasm) y.1 in
+      searches L K.links m y.0.wasm here (merged L K.set) ((finders_of L (x L K.set)).find m) (find_there L K.set used m y.0 y.1)
 
   pub loader_ready : LoaderReady L (n L K.set) (x L K.set) (finders_of L (x L K.set)) (merged L K.set)
   loader_ready = record {
     texts = (let within = stack_within L K.links few in omega arith);
     error = refl;
-    lengths = length_there L K.set used;
+    lengths = lengths (merged L K.set) (finders_of L (x L K.set)).length (length_there L K.set used);
     finds = find_ready;
     calls = call_there L K.set used;
     opens = open_ready;

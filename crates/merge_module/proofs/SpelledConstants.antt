@@ -18,8 +18,8 @@ use Rattle.spec_reading.specs.wasm_form.declared.module.Module.{Module}
 use Rattle.spec_reading.proofs.of_spec_binary.SignedSpelling.{signed_range}
 use Rattle.spec_reading.proofs.of_spec_binary.Joined.{each_all}
 use Rattle.std.specs.List.{All}
-use Rattle.merge_module.proofs.SpelledParts.{AreSpelled}
-use Rattle.spec_reading.specs.spec_binary.Instructions.{SpellsInstr, SpellsInstrs, SpellsExpr}
+use Rattle.spec_reading.proofs.of_spec_binary.SpelledParts.{AreSpelled}
+use Rattle.spec_reading.specs.spec_binary.Instructions.{SpellsInstr, SpellsInstrs}
 use Rattle.spec_reading.specs.spec_binary.Instructions as instructions
 use Rattle.spec_reading.specs.spec_binary.Parts.{SpellsConstant, SpellsGlobal, SpellsElemMode, SpellsElem, SpellsDataMode, SpellsData}
 use Rattle.spec_reading.specs.spec_binary.Parts as parts

@@ -1,5 +1,5 @@
 -- The functions of a member that are stubs, by their places among these.
-use Rattle.std.proofs.Common.{◌≡◌, ℕ, zero, suc, ◌+◌, ◌-◌, ◌<◌, ◌≤◌, Bool, true, false, List, [], ◌∷◌, ◌++◌, length, slice_get, Some, cond, refl, sym, ap, ◌∙◌, subst, arith}
+use Rattle.std.proofs.Common.{◌≡◌, ℕ, zero, suc, ◌+◌, ◌-◌, ◌<◌, Bool, true, false, List, [], ◌∷◌, ◌++◌, length, slice_get, Some, cond, refl, sym, ap, ◌∙◌, subst, arith}
 use Rattle.std.specs.Prelude.{take}
 use Rattle.std.specs.List.{filter, range_with_len}
 use Rattle.spec_reading.specs.wasm_form.declared.module.Module.{Module}
@@ -28,16 +28,6 @@ module _ (test : ℕ → Bool) where
           (length (cond b (a ∷ filter test (range_with_len (a + 1) k)) (filter test (range_with_len (a + 1) k)))) ≡ Some (a + suc k)
       go true q h = h
       go false q h = h
-
-  -- there are no more than there are numbers
-  pub filtered_length : (a n : ℕ) → length (filter test (range_with_len a n)) ≤ n
-  filtered_length a zero = omega arith
-  filtered_length a (suc n) = go (test a) (filtered_length (a + 1) n)
-    where
-      go : (b : Bool) → length (filter test (range_with_len (a + 1) n)) ≤ n
-          → length (cond b (a ∷ filter test (range_with_len (a + 1) n)) (filter test (range_with_len (a + 1) n))) ≤ suc n
-      go true h = omega arith
-      go false h = omega arith
 
 -- what a member has stands behind what those before it have
 module _ {X Y : Type 0} (of : ℕ → Module → List X) (like : ℕ → Module → List Y) (same : (m : ℕ) (wasm : Module) → length (of m wasm) ≡ length (like m wasm)) where

@@ -57,20 +57,21 @@ use Rattle.merge_start.specs.Typed.{GeneratedIsTyped}
 use Rattle.merge_dl.specs.Words.{handle_type, unary_type, binary_type, search_type}
 use Rattle.merge_dl.specs.Typed.{LoaderIsTyped}
 use Rattle.merge_index.specs.Numbering.{is_stub, stubs_of}
-use Rattle.merge_module.specs.MergedModule.{with_loader, nullary_number, handle_number, unary_number, binary_number, search_number, host_imports, stub_types, loader_funcs, generated_types, stub_codes, shared_table_type, number_expr, number_global, constant_instr, own_global, member_globals, guard_globals, passive_mode, renumbered_items, passive_elem, slots_elem, outside_elem, declared_elem, named_functions, exported_functions, passive_data, texts_segment}
+use Rattle.merge_module.specs.MergedModule.{with_loader, nullary_number, handle_number, unary_number, binary_number, search_number, host_type_number, host_imports, stub_types, loader_funcs, generated_types, stub_codes, shared_table_type, number_expr, number_global, constant_instr, own_global, member_globals, guard_globals, passive_mode, renumbered_items, passive_elem, slots_elem, outside_elem, declared_elem, named_functions, exported_functions, passive_data, texts_segment}
 use Rattle.merge_module.proofs.Known.{IsKnown}
 use Rattle.merge_module.proofs.WithLoader.{with_all}
 use Rattle.merge_module.proofs.LoaderFunctions.{handle_there, unary_there, binary_there, search_there}
-use Rattle.merge_module.proofs.HostImports.{HasTypes, later_types, no_tables}
+use Rattle.merge_module.proofs.HostImports.{HasTypes, first_type, later_types, no_tables}
 use Rattle.merge_module.proofs.SetMembers.{is_sound}
 use Rattle.merge_dl.proofs.SlotWords.{table_within}
 use Rattle.merge_module.proofs.PlannedWords.{entries_within}
 use Rattle.merge_module.proofs.References.{stub_there}
-use Rattle.merge_module.proofs.MergedSpaces.{first_host_type, host_types, nullary_there, generated_codes}
+use Rattle.merge_module.proofs.MergedSpaces.{nullary_there, generated_codes}
+use Rattle.merge_module.proofs.HostTypes.{host_types}
 use Rattle.merge_module.proofs.Generated.{entry_typed}
 use Rattle.merge_module.proofs.GlobalValues.{base_is_number, IsNamed, IsValue, of_type, opened_is}
 use Rattle.merge_module.proofs.SpelledConstants.{Fit, constants_fit}
-use Rattle.merge_module.proofs.SetMembers.{member_spelled}
+use Rattle.merge_index.proofs.FewItems.{member_spelled}
 use Rattle.merge_module.proofs.SlotFunctions.{IsOwnIn, fresh_own, IsOutsideSet, slots_outside}
 use Rattle.merge_module.proofs.Applied.{outside_at}
 use Rattle.merge_module.proofs.Opens.{N, X, M, named_target, outside_target}
@@ -153,14 +154,15 @@ module _ (L : LinkedSet) (K : IsKnown L) (few : (linked_plan L).pages_max ≤ 16
 
   -- ---- imports
 
-  hosts_fit : (t : ℕ) (hs : List HostName) → HasTypes merged t hs → All (λ (h : HostName). IsTrue (is_function_supported h.ty)) hs → All (ImportFits merged) (host_imports t hs)
-  hosts_fit t [] types all = All-nil (ImportFits merged)
-  hosts_fit t (h ∷ hs) types all =
-      let place : t + 0 ≡ t = omega arith in
-      let first : slice_get merged.types t ≡ Some h.ty = subst (λ k. slice_get merged.types k ≡ Some h.ty) place (types 0 h refl) in
+  hosts_fit : (t : ℕ → FuncType → ℕ) (e : ℕ) (hs : List HostName) → HasTypes merged t e hs
+      → All (λ (h : HostName). IsTrue (is_function_supported h.ty)) hs → All (ImportFits merged) (host_imports t e hs)
+  hosts_fit t e [] types all = All-nil (ImportFits merged)
+  hosts_fit t e (h ∷ hs) types all =
+      let first = first_type merged t e h hs types in
       let supported = All-head (λ (h : HostName). IsTrue (is_function_supported h.ty)) h hs all in
-      All-cons (ImportFits merged) _ (host_imports (t + 1) hs) (supported_at merged t h.ty first supported, is_type_at merged t h.ty first)
-      (hosts_fit (t + 1) hs (later_types merged t h hs types) (All-tail (λ (h : HostName). IsTrue (is_function_supported h.ty)) h hs all))
+      All-cons (ImportFits merged) _ (host_imports t (e + 1) hs)
+      (supported_at merged (t e h.ty) h.ty first supported, is_type_at merged (t e h.ty) h.ty first)
+      (hosts_fit t (e + 1) hs (later_types merged t e h hs types) (All-tail (λ (h : HostName). IsTrue (is_function_supported h.ty)) h hs all))
 
   -- ---- one member
 
@@ -454,7 +456,7 @@ module _ (L : LinkedSet) (K : IsKnown L) (few : (linked_plan L).pages_max ≤ 16
       (outside_there rs (All-tail (IsOutsideSet L) r rs all))
 
   table_is : table_space merged ≡ merged.tables
-  table_is = ap (λ l. l ++ merged.tables) (no_tables (first_host_type L) (hosts_of L))
+  table_is = ap (λ l. l ++ merged.tables) (no_tables (host_type_number L) 0 (hosts_of L))
 
   outside_fits : ElemFits merged (outside_elem L n)
   outside_fits =
@@ -498,7 +500,7 @@ module _ (L : LinkedSet) (K : IsKnown L) (few : (linked_plan L).pages_max ≤ 16
 
   pub merged_valid : GeneratedIsTyped → LoaderIsTyped → All (λ (h : HostName). IsTrue (is_function_supported h.ty)) (hosts_of L) → fault merged ≡ None
   merged_valid typing loader_typing hosts = fits_valid merged (record {
-    imports = hosts_fit (first_host_type L) (hosts_of L) (host_types L n x) hosts;
+    imports = hosts_fit (host_type_number L) 0 (hosts_of L) (host_types L K n x) hosts;
     funcs = funcs_all;
     tables = tables_all;
     one_memory = rw (memory_is L K few) refl;

@@ -33,13 +33,13 @@ use Rattle.merge_match.specs.Laws.{CarriesMember}
 use Rattle.merge_match.proofs.JoinedBodies.{bodies_are_typed}
 use Rattle.merge_start.specs.Words.{Starts}
 use Rattle.merge_index.specs.Numbering.{is_stub, stubs_of}
-use Rattle.merge_module.specs.MergedModule.{stub_types, generated_types, stub_codes, trap_code}
+use Rattle.merge_module.specs.MergedModule.{host_type_number, stub_types, generated_types, stub_codes, trap_code}
 use Rattle.merge_module.proofs.Known.{IsKnown}
 use Rattle.merge_module.proofs.HostImports.{no_memories}
 use Rattle.merge_module.proofs.SetMembers.{is_sound}
 use Rattle.merge_module.proofs.References.{stub_there}
 use Rattle.merge_module.proofs.StubLists.{member_at}
-use Rattle.merge_module.proofs.MergedSpaces.{first_host_type, past_front, in_front, own_funcs, own_codes}
+use Rattle.merge_module.proofs.MergedSpaces.{past_front, in_front, own_funcs, own_codes}
 use Rattle.merge_module.proofs.OwnNumbers.{own_funcs_many, own_codes_many}
 use Rattle.merge_module.proofs.Joins.{is_joined}
 use Rattle.merge_module.proofs.Opens.{N, X, M}
@@ -108,7 +108,7 @@ module _ (L : LinkedSet) (K : IsKnown L) (few : (linked_plan L).pages_max ≤ 16
   members = L.set.members
 
   pub memory_is : memory_space merged ≡ merged.memories
-  memory_is = ap (λ l. l ++ merged.memories) (no_memories (first_host_type L) (hosts_of L))
+  memory_is = ap (λ l. l ++ merged.memories) (no_memories (host_type_number L) 0 (hosts_of L))
 
   pub carries : (m : ℕ) (member : Member) → slice_get members m ≡ Some member → CarriesMember n m member.wasm merged
   carries m member at f c = record {

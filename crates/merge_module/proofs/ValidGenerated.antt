@@ -45,16 +45,16 @@ use Rattle.spec_loading.specs.Members.{uses_loader, from_members}
 use Rattle.merge_match.specs.Renumbering.{Numbers}
 use Rattle.merge_match.specs.Parts.{number_of}
 use Rattle.merge_start.specs.Words.{Starts, slots_effect, phase_code, entry_code}
-use Rattle.merge_start.specs.Points.{AreOf}
+use Rattle.dyl_addresses.specs.Sets.{AreOf}
 use Rattle.merge_start.specs.Typed.{IsEffectTyped, AreEffectsTyped, IsPhaseTyped, AreTasksTyped, IsEntryTyped, GeneratedIsTyped}
-use Rattle.merge_start.proofs.Ranges.{of_startup}
+use Rattle.dyl_addresses.proofs.Ranges.{of_startup}
 use Rattle.merge_index.specs.Numbering.{stubs_of, function_number}
 use Rattle.merge_module.specs.MergedModule.{with_loader, nullary_number, number_global, member_globals, guard_globals, merged_globals, shared_table_type, passive_elem, slots_elem, outside_elem, declared_elem, stub_types, generated_types, stub_codes, phase_codes, plain_code}
 use Rattle.merge_module.proofs.Known.{IsKnown}
 use Rattle.merge_module.proofs.WithLoader.{with_used}
 use Rattle.merge_module.proofs.SetMembers.{is_sound}
 use Rattle.merge_module.proofs.StubLists.{lengths_same, member_at, one_there}
-use Rattle.merge_module.proofs.Counted.{joined_length}
+use Rattle.merge_index.proofs.Counted.{joined_length}
 use Rattle.merge_module.proofs.MergedSpaces.{past_front, in_front, own_funcs, own_codes, nullary_there, phases_many}
 use Rattle.merge_module.proofs.OwnNumbers.{own_funcs_many, own_codes_many}
 use Rattle.merge_module.proofs.Generated.{nullary_listed, phase_typed}
@@ -196,8 +196,8 @@ module _ (L : LinkedSet) (K : IsKnown L) (few : (linked_plan L).pages_max ≤ 16
     slots_typed : IsEffectTyped c (slots_effect L x m)
     slots_typed =
         let many = joined_length (λ k w. map (passive_elem n k) w.elems) (λ w. length w.elems) (λ k w. length-map w.elems (passive_elem n k)) 0 members in
-        let place : x.slots + m ≡ length (own_elems L n) + m = omega arith in
-        let there : slice_get merged.elems (x.slots + m) ≡ Some (slots_elem L n m) =
+        let place : x.slots m ≡ length (own_elems L n) + m = omega arith in
+        let there : slice_get merged.elems (x.slots m) ≡ Some (slots_elem L n m) =
         ap (slice_get merged.elems) place ∙ past_front (own_elems L n) (slot_elems L n ++ outside_elem L n ∷ declared_elem L n ∷ []) m
         ∙ in_front (slot_elems L n) (outside_elem L n ∷ declared_elem L n ∷ []) m (slots_elem L n m) (one_there (λ k w. slots_elem L n k) 0 members m m member at (omega arith)) in
         (ap (λ (o : Option Elem). o >>= type_of_elem) there, ap (λ (o : Option TableType). o >>= elem_of_table) (table_at L K few m member at 0 (shared_table_type L) refl))

@@ -19,7 +19,7 @@ use Rattle.spec_loading.specs.Members.{from_members, uses_loader}
 use Rattle.merge_match.specs.Renumbering.{Numbers}
 use Rattle.merge_start.specs.Words.{Starts, entry_code, open_code}
 use Rattle.merge_start.specs.Typed.{GeneratedIsTyped}
-use Rattle.merge_start.proofs.Ranges.{of_open}
+use Rattle.dyl_addresses.proofs.Ranges.{of_open}
 use Rattle.merge_dl.specs.Words.{Finders, handle_type, unary_type, search_type, length_body, find_body, call_body}
 use Rattle.merge_dl.specs.Ready.{HasFunction}
 use Rattle.merge_dl.specs.Typed.{HasHeight, HasNamed, LoaderIsTyped}

@@ -1,33 +1,30 @@
 -- What is so of the merged module of a linked set.
-use Rattle.std.specs.Prelude.{◌≡◌, ℕ, ◌+◌, ◌≤◌, ◌<◌, ◌^◌, List, [], ◌∷◌, length, slice_get, Some, None, IsTrue, Contains}
+use Rattle.std.specs.Prelude.{◌≡◌, ℕ, ◌+◌, ◌≤◌, ◌<◌, ◌^◌, List, [], ◌∷◌, length, Contains, Ok}
 use Rattle.std.specs.List.{All}
-use Rattle.spec_reading.specs.wasm_form.declared.module.ImportDesc.{ImportDesc}
-use Rattle.spec_reading.specs.wasm_form.declared.module.ImportDesc.TheVariants as imported
-use Rattle.spec_reading.specs.wasm_form.declared.module.Import.{Import}
+use Rattle.spec_reading.specs.wasm_form.declared.types.FuncType.{FuncType}
 use Rattle.spec_reading.specs.wasm_form.declared.module.Code.{Code}
 use Rattle.spec_reading.specs.wasm_form.declared.module.Module.{Module}
-use Rattle.spec_reading.specs.spec_binary.Indices.{function_type, nullary}
 use Rattle.spec_reading.specs.spec_binary.Parts.{SpellsFunc}
 use Rattle.spec_reading.specs.spec_binary.Modules.{SpellsModule}
-use Rattle.spec_reading.specs.spec_binary.WellFormed.{IsShort, IsFormedType, IsWellFormed}
-use Rattle.spec_loading.specs.spec_runtime.Names.{HostName}
-use Rattle.spec_loading.specs.spec_validation.Faults.{is_function_supported}
+use Rattle.spec_reading.specs.spec_binary.WellFormed.{IsFormedType, IsWellFormed}
+use Rattle.spec_loading.specs.spec_execution.Instances.{ModuleParts}
+use Rattle.spec_loading.specs.spec_execution.OneModule.{module_opening, opened_state}
 use Rattle.spec_loading.specs.spec_linking.Sets.{Member}
 use Rattle.spec_loading.specs.spec_linking.Gathering.{IsSet}
 use Rattle.spec_loading.specs.spec_linking.LinkedSets.{LinkedSet, hosts_of}
 use Rattle.spec_loading.specs.spec_linking.Slots.{linked_plan}
 use Rattle.spec_loading.specs.spec_linking.Links.{Links}
+use Rattle.spec_loading.specs.LoadedSet.{opening_memory}
 use Rattle.spec_loading.specs.Merged.{Merged}
 use Rattle.wasm_encode.specs.SectionSizes.{IsContents}
-use Rattle.merge_module.specs.MergedModule.{shared_table_type, shared_memory_type, entry_exports, merged_module}
-
--- a host function of types that modules may use
-abbrev pub IsSupported : HostName → Type 0
-IsSupported h = IsTrue (is_function_supported h.ty)
-
--- a host function whose import and type can be written
-abbrev pub IsWritable : HostName → Type 0
-IsWritable h = IsFormedType h.ty × (IsShort h.module_name × IsShort h.name)
+use Rattle.merge_match.specs.Bounded.{IsBounded}
+use Rattle.merge_match.specs.Laws.{HasParts}
+use Rattle.merge_start.specs.Started.{IsOpened, IsReady, StartReady}
+use Rattle.merge_start.specs.Laws.{CallsAreAnswered}
+use Rattle.merge_index.specs.Numbering.{numbers_of, starts_of}
+pub use Rattle.merge_module.specs.Shape.{IsSupported}
+use Rattle.merge_module.specs.Shape.{StandsFor, HasShape}
+use Rattle.merge_module.specs.MergedModule.{added_types, merged_module}
 
 -- A set that links, within the limit of pages, over host functions of types that modules may use.
 pub record IsMergeable (L : LinkedSet) : Type 0 where
@@ -36,31 +33,35 @@ pub record IsMergeable (L : LinkedSet) : Type 0 where
   pub pages : (linked_plan L).pages_max ≤ 16384
   pub hosts : All IsSupported (hosts_of L)
 
--- bytes that spell the merged module merge the set
+-- ---- what it does
+
+-- What the laws of one step and of agreeing runs ask of a module, which the merged module has with the numbers of the set: the functions of
+-- the members, code for each frame of the loader, and functions that answer the calls of the loader's. It opens with what the set begins with.
+pub record MeetsPremises (L : LinkedSet) : Type 0 where
+  pub parts : HasParts L (numbers_of L) (merged_module L)
+  pub ready : IsReady L (numbers_of L) (starts_of L) (merged_module L)
+  pub start : StartReady L (numbers_of L) (starts_of L) (merged_module L)
+  pub calls : CallsAreAnswered L (numbers_of L) (starts_of L) (merged_module L)
+  pub bounded : IsBounded (opening_memory L)
+  pub opening : ModuleParts
+  pub opens : module_opening (merged_module L) L.names ≡ Ok (opened_state (merged_module L) (starts_of L).starting opening (opening_memory L))
+  pub opened : IsOpened L (numbers_of L) (starts_of L) opening
+
+abbrev pub MergedIsReady : Type 0
+MergedIsReady = (L : LinkedSet) → IsSet L.set → Links L → (linked_plan L).pages_max ≤ 16384 → MeetsPremises L
+
+-- the merged module stands for the set, and bytes that spell it merge the set
+abbrev pub MergedStands : Type 0
+MergedStands = (L : LinkedSet) → IsMergeable L → StandsFor L (merged_module L)
+
 abbrev pub SpelledMerges : Type 0
 SpelledMerges = (L : LinkedSet) → IsMergeable L → (bytes : List ℕ) → SpellsModule (merged_module L) bytes → Merged L bytes
 
--- the merged module has a form that can be written, where the imports of its host functions have
+-- ---- its form
+
+-- the merged module has a form that can be written, where the types have that the host table alone brings
 abbrev pub MergedIsFormed : Type 0
-MergedIsFormed = (L : LinkedSet) → IsMergeable L → All IsWritable (hosts_of L) → IsWellFormed (merged_module L)
-
-abbrev pub IsFunction : ImportDesc → Type 0
-IsFunction (imported.Func t) = Unit {0}
-IsFunction (imported.Table ty) = ⊥
-IsFunction (imported.Space limits) = ⊥
-IsFunction (imported.Global ty) = ⊥
-
--- The module imports functions alone. It has one memory and the shared table as its first, each with the planned sizes; it exports the entry
--- function and the memory, and nothing else; and it has no start function and no custom section.
-pub record HasShape (L : LinkedSet) (wasm : Module) : Type 0 where
-  pub imports : All (λ (i : Import). IsFunction i.desc) wasm.imports
-  pub table : slice_get wasm.tables 0 ≡ Some (shared_table_type L)
-  pub memory : wasm.memories ≡ shared_memory_type L ∷ []
-  pub entry : ℕ
-  pub exports : wasm.exports ≡ entry_exports entry
-  pub takes_nothing : function_type wasm entry ≡ Some nullary
-  pub start : wasm.start ≡ None
-  pub customs : wasm.customs ≡ []
+MergedIsFormed = (L : LinkedSet) → IsMergeable L → All IsFormedType (added_types L) → IsWellFormed (merged_module L)
 
 -- the merged module has this shape
 abbrev pub MergedHasShape : Type 0
@@ -68,19 +69,19 @@ MergedHasShape = (L : LinkedSet) → IsMergeable L → HasShape L (merged_module
 
 -- ---- how long it is
 
--- what host functions take: the bytes of their names, the types of what they take and give, and two for each
-abbrev pub hosts_bulk : List HostName → ℕ
-hosts_bulk [] = 0
-hosts_bulk (h ∷ hs) = 2 + (length h.module_name + length h.name) + (length h.ty.params + length h.ty.results) + hosts_bulk hs
+-- what types take: one for each, and one for each value that they take and give
+abbrev pub types_bulk : List FuncType → ℕ
+types_bulk [] = 0
+types_bulk (ty ∷ tys) = 1 + (length ty.params + length ty.results) + types_bulk tys
 
 -- how many bytes the names of members have
 abbrev pub names_bulk : List Member → ℕ
 names_bulk [] = 0
 names_bulk (m ∷ ms) = length m.name + names_bulk ms
 
--- A set whose host functions have short names and types, and whose members have short names.
+-- A set whose members have short names, and whose host table brings short types where it alone brings them.
 pub record IsBrief (L : LinkedSet) : Type 0 where
-  pub hosts : hosts_bulk (hosts_of L) ≤ 33554432
+  pub types : types_bulk (added_types L) ≤ 33554432
   pub names : names_bulk L.set.members ≤ 16777216
 
 -- The contents of each section take fewer than 2^32 bytes, however they are spelled, and so does each body.

@@ -1,11 +1,10 @@
 -- The module that is written for a linked set, part by part.
-use Rattle.std.specs.Prelude.{ℕ, ◌+◌, ◌*◌, true, false, List, [], ◌∷◌, ◌++◌, length, map, replicate, slice_get, Bool, Some, None, unwrap_or, codes, if◌then◌else◌}
+use Rattle.std.specs.Prelude.{ℕ, ◌+◌, ◌*◌, true, false, List, [], ◌∷◌, ◌++◌, length, map, replicate, slice_get, nat_eq, Bool, Option, Some, None, unwrap_or, codes, if◌then◌else◌}
 use Rattle.std.specs.Int.{cast_signed, w64}
-use Rattle.std.specs.List.{flat_map}
+use Rattle.std.specs.List.{flat_map, find, list_any, position_or_len, range_with_len}
 use Rattle.spec_reading.specs.wasm_form.declared.types.ValType.{ValType}
 use Rattle.spec_reading.specs.wasm_form.declared.types.ValType.TheVariants.{I32, I64, FuncRef}
 use Rattle.spec_reading.specs.wasm_form.declared.types.FuncType.{FuncType}
-use Rattle.spec_reading.specs.wasm_form.declared.types.Limits.{Limits}
 use Rattle.spec_reading.specs.wasm_form.declared.types.TableType.{TableType}
 use Rattle.spec_reading.specs.wasm_form.declared.instr.Instr.{Instr, Index, I64Const, RefNull, roll-Instr}
 use Rattle.spec_reading.specs.wasm_form.declared.instr.Instr.TheOpen as Open
@@ -27,22 +26,27 @@ use Rattle.spec_reading.specs.wasm_form.declared.module.Data.{Data}
 use Rattle.spec_reading.specs.wasm_form.declared.module.Module.{Module}
 use Rattle.spec_reading.specs.wasm_form.declared.runtime.LoaderCall.TheVariants.{Dlopen, Dlsym, Dlclose, Dlerror}
 use Rattle.spec_reading.specs.wasm_form.declared.runtime.Ref.{Ref}
+use Rattle.spec_reading.specs.wasm_form.declared.runtime.Ref.TheVariants.{Own, Loader, Host, Stub}
 use Rattle.spec_reading.specs.wasm_form.declared.runtime.Value.{Value}
 use Rattle.spec_reading.specs.wasm_form.declared.runtime.Value.TheVariants.{Num, Func}
+use Rattle.spec_reading.specs.spec_binary.Options.{◌>>=◌}
 use Rattle.spec_reading.specs.spec_binary.Indices.{nullary}
-use Rattle.spec_reading.specs.spec_binary.IndexSpaces.{function_space}
+use Rattle.spec_reading.specs.spec_binary.IndexSpaces.{function_space, imported_count}
+use Rattle.spec_reading.specs.spec_binary.SameTypes.{same_function_type}
 use Rattle.spec_loading.specs.spec_runtime.Names.{HostName}
-use Rattle.spec_loading.specs.spec_linking.LinkedSets.{LinkedSet, hosts_of}
-use Rattle.spec_loading.specs.spec_linking.Slots.{linked_plan, memory_base, table_base, cells_of, cell_value, fresh_functions, outside_slots, table_entries, table_most}
+use Rattle.spec_loading.specs.spec_linking.LinkedSets.{LinkedSet, hosts_of, function_ref}
+use Rattle.spec_loading.specs.spec_linking.Slots.{linked_plan, memory_base, table_base, cells_of, cell_value, fresh_functions, outside_slots}
 use Rattle.spec_loading.specs.Texts.{error_texts}
 use Rattle.spec_loading.specs.declared.task.Phase.TheVariants.{Place, Start, Relocate, Construct}
 use Rattle.spec_loading.specs.Members.{from_members, uses_loader, opened_global}
 use Rattle.spec_loading.specs.LoadedSet.{own_functions}
 use Rattle.merge_match.specs.Renumbering.{Numbers, expr}
-use Rattle.merge_match.specs.Joined.{renumbered_code}
+use Rattle.merge_match.specs.Parts.{number_of}
+use Rattle.merge_match.specs.Joined.{renumbered_code, type_address}
 use Rattle.merge_start.specs.Words.{Starts, number, phase_code, entry_code, open_code}
 use Rattle.merge_dl.specs.Words.{Finders, handle_type, unary_type, binary_type, search_type, length_body, find_body, call_body}
 use Rattle.merge_index.specs.Numbering.{stubs_of, length_number, first_find, numbers_of, starts_of}
+pub use Rattle.merge_module.specs.Shape.{shared_table_type, shared_memory_type, entry_exports}
 
 -- what each member has, one after the other
 abbrev of_members : {X : Type 0} → LinkedSet → (ℕ → Module → List X) → List X
@@ -57,7 +61,7 @@ with_loader L xs = if uses_loader L then xs else []
 abbrev pub members_types : LinkedSet → List FuncType
 members_types L = of_members L (λ m wasm. wasm.types)
 
--- behind those of the members come the types of generated functions, and then those of the host functions
+-- behind those of the members come the types of generated functions
 abbrev pub nullary_number : LinkedSet → ℕ
 nullary_number L = length (members_types L)
 
@@ -80,16 +84,66 @@ search_number L = nullary_number L + 4
 abbrev pub generated_functions_types : LinkedSet → List FuncType
 generated_functions_types L = nullary ∷ loader_types L
 
-abbrev pub merged_types : LinkedSet → List FuncType
-merged_types L = members_types L ++ (generated_functions_types L ++ map (λ (h : HostName). h.ty) (hosts_of L))
+-- the host function that an imported function is, with the number of its type
+abbrev pub host_use : Option Ref → ℕ → List (ℕ × ℕ)
+host_use (Some (Host e)) t = (e, t) ∷ []
+host_use (Some (Own m f)) t = []
+host_use (Some (Loader which)) t = []
+host_use (Some (Stub m f)) t = []
+host_use None t = []
 
--- host functions, whose types have the numbers from t on
-abbrev pub host_imports : ℕ → List HostName → List Import
-host_imports t [] = []
-host_imports t (h ∷ hs) = record { «module» = h.module_name; field = h.name; desc = imported.Func t } ∷ host_imports (t + 1) hs
+-- the number of the type of function f of member m
+abbrev pub function_type_number : LinkedSet → ℕ → Module → ℕ → ℕ
+function_type_number L m wasm f = number_of (type_address L m (unwrap_or (slice_get (function_space wasm) f) 0))
+
+-- the host functions that functions which member m imports are, with the numbers of their types
+abbrev pub host_uses : LinkedSet → ℕ → Module → List (ℕ × ℕ)
+host_uses L m wasm = flat_map (λ f. host_use (function_ref L m f) (function_type_number L m wasm f)) (range_with_len 0 (imported_count wasm))
+
+-- what the first of some that are host function e gives
+abbrev pub use_among : List (ℕ × ℕ) → ℕ → Option ℕ
+use_among uses e = find (λ (u : ℕ × ℕ). nat_eq u.0 e) uses >>= λ (u : ℕ × ℕ). Some u.1
+
+-- the number of the type of the first imported function that is host function e, if there is one
+abbrev pub first_use : LinkedSet → ℕ → Option ℕ
+first_use L e = use_among (of_members L (host_uses L)) e
+
+-- a type that is added behind some, if it isn't one of these
+abbrev pub with_type : List FuncType → Option ℕ → FuncType → List FuncType
+with_type known (Some t) ty = known
+with_type known None ty = if list_any (same_function_type ty) known then known else known ++ ty ∷ []
+
+-- those of the host functions, which are numbered from e on, that no imported function is
+abbrev pub types_added : (ℕ → Option ℕ) → List FuncType → ℕ → List HostName → List FuncType
+types_added given known e [] = known
+types_added given known e (h ∷ hs) = types_added given (with_type known (given e) h.ty) (e + 1) hs
+
+-- Host functions that no imported function is are asked for by `GOT.func` alone. Their types come last, each once.
+abbrev pub added_types : LinkedSet → List FuncType
+added_types L = types_added (first_use L) [] 0 (hosts_of L)
+
+abbrev pub first_added : LinkedSet → ℕ
+first_added L = nullary_number L + length (generated_functions_types L)
+
+abbrev pub merged_types : LinkedSet → List FuncType
+merged_types L = members_types L ++ (generated_functions_types L ++ added_types L)
+
+-- a number that is given, or else that of the type among those that are added, which have their numbers from one on
+abbrev pub type_number : ℕ → List FuncType → Option ℕ → FuncType → ℕ
+type_number first added (Some t) ty = t
+type_number first added None ty = first + position_or_len (same_function_type ty) added
+
+-- The number of the type of host function e is that of the first imported function that is this host function.
+abbrev pub host_type_number : LinkedSet → ℕ → FuncType → ℕ
+host_type_number L e ty = type_number (first_added L) (added_types L) (first_use L e) ty
+
+-- host functions, which are numbered from e on, with these numbers of their types
+abbrev pub host_imports : (ℕ → FuncType → ℕ) → ℕ → List HostName → List Import
+host_imports t e [] = []
+host_imports t e (h ∷ hs) = record { «module» = h.module_name; field = h.name; desc = imported.Func (t e h.ty) } ∷ host_imports t (e + 1) hs
 
 abbrev pub merged_imports : LinkedSet → List Import
-merged_imports L = host_imports (nullary_number L + length (generated_functions_types L)) (hosts_of L)
+merged_imports L = host_imports (host_type_number L) 0 (hosts_of L)
 
 -- ---- functions
 
@@ -155,16 +209,10 @@ merged_codes L n x =
     ++ (of_members L (stub_codes L)
     ++ (of_members L (phase_codes L n x) ++ plain_code (entry_code L n x) ∷ with_loader L (loader_codes L n x)))
 
--- ---- tables and memory
-
-abbrev pub shared_table_type : LinkedSet → TableType
-shared_table_type L = record { elem = FuncRef; limits = record { min = table_entries L; max = Some (table_most L) } }
+-- ---- tables
 
 abbrev pub merged_tables : LinkedSet → List TableType
 merged_tables L = shared_table_type L ∷ of_members L (λ m wasm. wasm.tables)
-
-abbrev pub shared_memory_type : LinkedSet → Limits
-shared_memory_type L = record { min = (linked_plan L).pages; max = Some (linked_plan L).pages_max }
 
 -- ---- globals
 
@@ -198,12 +246,6 @@ guard_globals L = map (λ m. number_global true 0) L.set.members ++ with_loader 
 
 abbrev pub merged_globals : LinkedSet → Numbers → List GlobalDef
 merged_globals L n = number_global true (linked_plan L).stack_top ∷ (of_members L (member_globals L n) ++ guard_globals L)
-
--- ---- exports
-
--- the entry function and the memory
-abbrev pub entry_exports : ℕ → List Export
-entry_exports entry = record { name = codes "_start"; desc = exported.Func entry } ∷ record { name = codes "memory"; desc = exported.Space 0 } ∷ []
 
 -- ---- element segments
 

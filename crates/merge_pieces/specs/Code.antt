@@ -3,6 +3,7 @@ use Rattle.std.specs.Prelude.{ℕ, All, ◌+◌, ◌*◌, ◌<◌, ◌^◌, List
 use Rattle.std.specs.Int.{cast_signed, w32}
 use Rattle.wasm_form.specs.declared.instr.BlockType.TheVariants.{Empty}
 use Rattle.wasm_form.specs.declared.instr.Instr.{Instr, Plain, Index, If, I32Const}
+use Rattle.merge_pieces.specs.Opcodes as op
 
 -- a number as a constant
 abbrev pub number : ℕ → Instr
@@ -11,11 +12,12 @@ number k = I32Const (cast_signed w32 k)
 -- where the guard is below the stage it is raised to it, and then the work is done
 unfoldable pub guarded : ℕ → ℕ → List Instr → List Instr
 guarded guard stage work =
-    Index 0x23 guard ∷ number stage ∷ Plain 0x49 ∷ If Empty (record { list = number stage ∷ Index 0x24 guard ∷ work }) None ∷ []
+    Index op.global_get guard ∷ number stage ∷ Plain op.i32_lt_u
+    ∷ If Empty (record { list = number stage ∷ Index op.global_set guard ∷ work }) None ∷ []
 
 -- the functions of the phase after so many are called for some members, in order, where each has four from a first one on
 abbrev pub phase_calls : ℕ → ℕ → List ℕ → List Instr
-phase_calls first before ms = map (λ m. Index 0x10 (first + 4 * m + before)) ms
+phase_calls first before ms = map (λ m. Index op.call (first + 4 * m + before)) ms
 
 -- the functions of the phases of some members, the last of them in an order of its own
 abbrev pub phases_code : ℕ → List ℕ → List ℕ → List Instr

@@ -1,7 +1,15 @@
--- Numbers of members, in lists.
-use Rattle.std.specs.Prelude.{ℕ, List, slice_get}
+-- The numbers that addresses get, and those of members, in lists.
+use Rattle.std.specs.Prelude.{ℕ, List, slice_get, Option, Some, None}
 use Rattle.spec_binary.specs.Options.{◌>>=◌}
-use Rattle.merge_match.specs.Parts.{number_of}
+
+-- what a number out of range becomes: no module has so many of anything
+abbrev pub nowhere : ℕ
+nowhere = 4294967295
+
+-- The addresses of the store are numbers of the module.
+abbrev pub number_of : Option ℕ → ℕ
+number_of None = nowhere
+number_of (Some a) = a
 
 -- item i of the list of member m
 abbrev pub number_at : List (List ℕ) → ℕ → ℕ → ℕ

@@ -2,6 +2,7 @@
 ghost use Rattle.std.specs.Prelude.{◌≡◌, ◌+◌, ◌<◌, ◌^◌, ◌++◌, IfOk, OnOk};
 ghost use Rattle.merge_pieces.specs.Code.{number, guarded, phase_calls, phases_code, opening_code, AreFew};
 
+use crate::opcodes;
 use std::alloc::Global;
 use wasm_form::{BlockType, Expr, Instr, List, Memory};
 
@@ -28,15 +29,15 @@ pub fn guarded(
 {
     let guard = guards + m;
     let mut work = work;
-    let mut body = vec![in alloc; number(stage), Instr::Index(0x24, guard)]?;
+    let mut body = vec![in alloc; number(stage), Instr::Index(opcodes::GLOBAL_SET, guard)]?;
     body.append(&mut work)?;
     let body = Expr {
         list: List::of(body),
     };
     Ok(vec![in alloc;
-        Instr::Index(0x23, guard),
+        Instr::Index(opcodes::GLOBAL_GET, guard),
         number(stage),
-        Instr::Plain(0x49),
+        Instr::Plain(opcodes::I32_LT_U),
         Instr::If(BlockType::Empty, body, None),
     ]?)
 }
@@ -49,7 +50,7 @@ fn push_phase(code: &mut Vec<Instr>, first: u32, before: u32, members: &[u32]) -
     ensures { OnOk result (code.new.items ≡ code.old.items ++ phase_calls first before members.now) }
 {
     for m in members {
-        code.push(Instr::Index(0x10, first + 4 * *m + before))?;
+        code.push(Instr::Index(opcodes::CALL, first + 4 * *m + before))?;
     }
     Ok(())
 }

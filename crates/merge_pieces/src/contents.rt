@@ -3,7 +3,9 @@ ghost use Rattle.std.specs.Prelude.{◌≡◌, ◌∷◌, [], Some, IfOk};
 ghost use Rattle.wasm_form.specs.declared.instr.Instr.{roll-Instr};
 ghost use Rattle.wasm_form.specs.declared.instr.Instr.TheOpen as Open;
 ghost use Rattle.wasm_form.specs.declared.module.DataMode.TheVariants.{Passive};
+ghost use Rattle.merge_pieces.specs.Opcodes.{unreachable};
 
+use crate::opcodes;
 use std::alloc::Global;
 use wasm_form::{Code, Data, DataMode, Expr, Instr, Limits, List, Memory};
 
@@ -30,10 +32,10 @@ pub fn memory_type(pages: u32, most: u32) -> Limits
 
 /// The body of what stands for a function that nothing defines: it traps. `Memory` where no memory could be had.
 pub fn trap(alloc: Global) -> Result<Code, Memory>
-    ensures { IfOk result (λ c. c ≡ record { locals = []; body = record { list = roll-Instr (Open.Plain 0) ∷ [] } }) }
+    ensures { IfOk result (λ c. c ≡ record { locals = []; body = record { list = roll-Instr (Open.Plain unreachable) ∷ [] } }) }
 {
     let mut list = Vec::new(alloc);
-    list.push(Instr::Plain(0))?;
+    list.push(Instr::Plain(opcodes::UNREACHABLE))?;
     Ok(Code {
         locals: List::of(Vec::new(alloc)),
         body: Expr {

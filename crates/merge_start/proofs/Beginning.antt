@@ -1,6 +1,7 @@
 -- What is the same in the beginning.
-use Rattle.std.proofs.Common.{◌≡◌, ℕ, zero, suc, ◌<◌, ◌≤◌, List, [], ◌∷◌, ◌++◌, length, map, slice_get, Some, refl, ap, ◌∙◌, arith}
+use Rattle.std.proofs.Common.{◌≡◌, ℕ, zero, suc, ◌<◌, ◌≤◌, List, [], ◌∷◌, ◌++◌, length, map, slice_get, Some, refl, ap, ◌∙◌, subst, arith}
 use Rattle.std.proofs.lemmas.List.{length-map}
+use Rattle.std.proofs.lemmas.Option.{slice_get_within}
 use Rattle.wasm_form.specs.declared.runtime.Value.{Value}
 use Rattle.wasm_form.specs.declared.runtime.Value.TheVariants.{Num}
 use Rattle.spec_loading.specs.spec_linking.LinkedSets.{LinkedSet}
@@ -39,7 +40,7 @@ opened_same L n x parts is = record {
       guards = is.guards ∙ ap (λ (l : List Value). l ++ is.others) (zeros L.set.members);
       error = is.error;
       few = omega arith;
-      slots = is.slots;
+      slots = λ m held. is.slots m (subst (λ k. m < k) (length-map L.set.members (λ m. 0)) (slice_get_within (map (λ m. 0) L.set.members) m 0 held));
     };
     inside = opening_is_inside L;
     few = is.few;

@@ -36,12 +36,14 @@ use Rattle.merge_match.specs.Renumbering.{Numbers, reference, activation}
 use Rattle.merge_match.specs.Matching.{gives_back, Below, system_of, Answered}
 use Rattle.merge_match.specs.Endings.{at_end}
 use Rattle.merge_match.specs.Laws.{HasParts}
+use Rattle.merge_pieces.specs.Opcodes as op
 use Rattle.merge_start.specs.Words.{Starts, member_call, phase_code, work_code}
 use Rattle.merge_start.specs.Running.{Around, at, Reaches, goes, Does}
-use Rattle.merge_start.specs.Started.{IsWord, Same, MemberReady, IsReady}
-use Rattle.merge_start.specs.Points.{before_code, before_tasks, behind_call, HandsOn, IsOuter, AreOf, places, Matched}
+use Rattle.merge_start.specs.Started.{IsWord, Same, HoldsSlots, MemberReady, IsReady}
+use Rattle.dyl_addresses.specs.Sets.{AreOf}
+use Rattle.merge_start.specs.Points.{before_code, before_tasks, behind_call, HandsOn, IsOuter, places, Matched}
 use Rattle.merge_start.proofs.Reaching.{reaches_then, one_step, silent_of, of_silent, does_nothing, does_passed, does_guarded, reaches_work, reaches_under, inside}
-use Rattle.merge_start.proofs.Keeping.{guard_there, stage_same}
+use Rattle.merge_start.proofs.Keeping.{guard_there, slots_there, stage_same}
 use Rattle.merge_start.proofs.Placing.{changing, place_law}
 use Rattle.merge_start.proofs.Returning.{marked, standing}
 use Rattle.merge_start.proofs.Calling.{code, Comes, called, called_own}
@@ -51,6 +53,12 @@ small_stage Place = omega arith
 small_stage Start = omega arith
 small_stage Relocate = omega arith
 small_stage Construct = omega arith
+
+some_stage : (p : Phase) → 0 < stage_of p
+some_stage Place = omega arith
+some_stage Start = omega arith
+some_stage Relocate = omega arith
+some_stage Construct = omega arith
 
 module _ (L : LinkedSet) where
   -- the state after a step of the set
@@ -63,7 +71,7 @@ module _ (L : LinkedSet) where
 
 module _ (merged : Module) where
   pub calls_at : (t : ModuleState) (k : ℕ) (b : Activation) (gs : List (Frame Starting)) {r : Ref}
-      → t.stack ≡ frames.Active (record b { rest = Index 0x10 k ∷ b.rest }) ∷ gs → module_target merged k ≡ Some r
+      → t.stack ≡ frames.Active (record b { rest = Index op.call k ∷ b.rest }) ∷ gs → module_target merged k ≡ Some r
       → module_step merged t ≡ (call (module_view merged) t.units t.memory (calling b gs) b.values r >>= became (module_hosts merged) t)
   unfolding out-Instr out
   calls_at t k b gs {r} top target =
@@ -166,7 +174,7 @@ module _ (L : LinkedSet) (n : Numbers) (x : Starts) (merged : Module) (is : HasP
         changed = record parts { globals = slice_set parts.globals (x.guards + m) (Num (stage_of p)) }
 
         raised_same : Same L n x up.loader s.run.units changed
-        raised_same = stage_same L n x s.loader s.run.units parts same m stage (stage_of p) held (small_stage p)
+        raised_same = stage_same L n x s.loader s.run.units parts same m stage (stage_of p) held (small_stage p) (some_stage p)
 
         through : (o : Option Trap) (memory : MemoryInstance) (result : ModuleParts)
             → Does merged work (changing changed s.run.memory) [] (changing result memory) [] o → Does merged body (changing parts s.run.memory) [] (changing result memory) [] o
@@ -194,8 +202,8 @@ module _ (L : LinkedSet) (n : Numbers) (x : Starts) (merged : Module) (is : HasP
         call_done is_call (Some f) q =
             let r = member.callable p f q in
             let k = n.named m f in
-            let one_call : work ≡ Index 0x10 k ∷ [] = is_call ∙ ap (member_call n m) q in
-            let point : ModuleState = at (changing changed s.run.memory) (inside around []) [] (Index 0x10 k ∷ []) in
+            let one_call : work ≡ Index op.call k ∷ [] = is_call ∙ ap (member_call n m) q in
+            let point : ModuleState = at (changing changed s.run.memory) (inside around []) [] (Index op.call k ∷ []) in
             let reached : Reaches merged (at (changing parts s.run.memory) around [] body) point =
             subst (λ (w : List Instr). Reaches merged (at (changing parts s.run.memory) around [] body) (at (changing changed s.run.memory) (inside around []) [] w)) one_call
             (reaches_work (x.guards + m) stage (stage_of p) small new_small guard around work less) in
@@ -224,8 +232,10 @@ module _ (L : LinkedSet) (n : Numbers) (x : Starts) (merged : Module) (is : HasP
         (module_step merged (before parts s.run.memory (record { phase = Place; member = m } ∷ ts)))
     placed_through m ts inside_set of stage held less =
         let changed : ModuleParts = record parts { globals = slice_set parts.globals (x.guards + m) (Num 1) } in
-        let is_same = stage_same L n x s.loader s.run.units parts same m stage 1 held (omega arith) in
-        let placed = place_law L n x merged is (raised s m 1).loader m inside_set (ready.members m inside_set) s.run.units changed s.run.memory is_same in
+        let is_same = stage_same L n x s.loader s.run.units parts same m stage 1 held (omega arith) (omega arith) in
+        let first : stage ≡ 0 = grind (arith, nat_tests) in
+        let slots : HoldsSlots L n x parts m = slots_there L n x s.loader s.run.units parts same m (held ∙ ap Some first) in
+        let placed = place_law L n x merged is (raised s m 1).loader m inside_set (ready.members m inside_set) s.run.units changed s.run.memory is_same slots in
         subst (λ (o : Option (Performed Store)). Reached (outcome L (o >>= place_next (raised s m 1) (marks ts))) (module_step merged (before parts s.run.memory (record { phase = Place; member = m } ∷ ts))))
         (sym placed.is_placed)
         (place_done Place m ts inside_set of stage held less placed.placed.trap placed.placed.units placed.placed.memory placed.parts placed.same placed.runs)
@@ -268,7 +278,7 @@ module _ (L : LinkedSet) (n : Numbers) (x : Starts) (merged : Module) (is : HasP
   entry_law s parts same fs below =
       let e = ready.entry in
       let b : Activation = at_end x.starting in
-      let t : ModuleState = record { units = parts; memory = s.run.memory; stack = frames.Active (record b { rest = Index 0x10 (n.named 0 e.function) ∷ [] }) ∷ []; status = Moving } in
+      let t : ModuleState = record { units = parts; memory = s.run.memory; stack = frames.Active (record b { rest = Index op.call (n.named 0 e.function) ∷ [] }) ∷ []; status = Moving } in
       let t_is : standing L n x (frame_of CallEntry []) [] parts s.run.memory ≡ t =
       ap (λ o. record t { stack = frames.Active (record b { rest = member_call n 0 o }) ∷ [] }) e.entry in
       let come = called_own L n x merged is s t (record { units = same; memory = refl }) fs b [] refl below 0 e.function e.callable in

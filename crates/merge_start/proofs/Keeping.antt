@@ -21,7 +21,7 @@ use Rattle.merge_match.proofs.Lists.{slice_set-map, length-slice_set, slice_set-
 use Rattle.merge_match.proofs.Addresses.{length-set_at, read, written}
 use Rattle.merge_match.proofs.Merged.{follows_code, follows}
 use Rattle.merge_start.specs.Words.{Starts}
-use Rattle.merge_start.specs.Started.{slot_items, Started, Same}
+use Rattle.merge_start.specs.Started.{Started, Same, HoldsSlots}
 
 -- ---- lists
 
@@ -45,9 +45,24 @@ module _ {A : Type 0} where
   all_set P (x ∷ xs) (suc i) new is all zero y e = all zero y e
   all_set P (x ∷ xs) (suc i) new is all (suc k) y e = all_set P xs i new is (λ j z h. all (suc j) z h) k y e
 
+  -- what stands behind what is set is as before
+  pub get_past : (xs : List A) (i j : ℕ) (y : A) → i < j → slice_get (slice_set xs i y) j ≡ slice_get xs j
+  get_past [] i j y lt = refl
+  get_past (x ∷ xs) i zero y lt = absurd (omega arith)
+  get_past (x ∷ xs) zero (suc j) y lt = refl
+  get_past (x ∷ xs) (suc i) (suc j) y lt = get_past xs i j y (omega arith)
+
   set_first : (xs : List A) (old new : A) → slice_get xs 0 ≡ Some old → slice_get (slice_set xs 0 new) 0 ≡ Some new
   set_first [] old new e = absurd cc
   set_first (x ∷ xs) old new e = refl
+
+-- what is 0 was so before another number was set
+zero_before : (xs : List ℕ) (i k new : ℕ) → 0 < new → slice_get (slice_set xs i new) k ≡ Some 0 → slice_get xs k ≡ Some 0
+zero_before [] i k new up e = e
+zero_before (x ∷ xs) zero zero new up e = (let none : new ≡ 0 = cc in absurd (omega (arith, none)))
+zero_before (x ∷ xs) zero (suc k) new up e = e
+zero_before (x ∷ xs) (suc i) zero new up e = e
+zero_before (x ∷ xs) (suc i) (suc k) new up e = zero_before xs i k new up e
 
 module _ (L : LinkedSet) (n : Numbers) (x : Starts) where
   abbrev I : Instances
@@ -84,7 +99,7 @@ module _ (L : LinkedSet) (n : Numbers) (x : Starts) where
             store = by.drop_elem m d old e;
             sized = record {
               globals = same.sized.globals;
-              elems = length-set_at us.elems (I.elem_at m d) [] ∙ same.sized.elems;
+              elems = λ k lt. same.sized.elems k lt ∙ ap (λ c. c + k) (sym (length-set_at us.elems (I.elem_at m d) []));
               tables = same.sized.tables;
             };
           };
@@ -117,13 +132,15 @@ module _ (L : LinkedSet) (n : Numbers) (x : Starts) where
         ∙ slice_get-map Num loader.stages m
         ∙ ap (option_map Num) held
 
-    pub slots_there : (m : ℕ) → m < length L.set.members → slice_get parts.elems (x.slots + m) ≡ Some (slot_items L n m)
-    slots_there m lt =
+    pub slots_there : (m : ℕ) → stage_in loader m ≡ Some 0 → HoldsSlots L n x parts m
+    slots_there m held =
         let whole : parts.elems ≡ map (map (entry n)) us.elems ++ more.elems = ap (λ (p : ModuleParts). p.elems) same.store.whole in
-        let number : length (map (map (entry n)) us.elems) ≡ x.slots = length-map us.elems (map (entry n)) ∙ same.sized.elems in
-        ap (λ l. slice_get l (x.slots + m)) whole
-        ∙ get_behind (map (map (entry n)) us.elems) more.elems m (x.slots + m) (ap (λ k. k + m) (sym number))
-        ∙ same.store.kept.slots m lt
+        let lt : m < length L.set.members = subst (λ k. m < k) same.store.kept.sized (slice_get_within loader.stages m 0 held) in
+        let number : x.slots m ≡ length (map (map (entry n)) us.elems) + m =
+        same.sized.elems m lt ∙ ap (λ k. k + m) (sym (length-map us.elems (map (entry n)))) in
+        ap (λ l. slice_get l (x.slots m)) whole
+        ∙ get_behind (map (map (entry n)) us.elems) more.elems m (x.slots m) number
+        ∙ same.store.kept.slots m held
 
     only_first : (a : ℕ) → Some 0 ≡ Some a → a < length us.tables
     only_first a e = (let first : a ≡ 0 = cc in subst (λ k. k < length us.tables) (sym first) same.sized.tables)
@@ -174,10 +191,10 @@ module _ (L : LinkedSet) (n : Numbers) (x : Starts) where
 
     -- ---- a stage is raised, with its guard
 
-    pub stage_same : (m stage new : ℕ) → stage_in loader m ≡ Some stage → new ≤ 4
+    pub stage_same : (m stage new : ℕ) → stage_in loader m ≡ Some stage → new ≤ 4 → 0 < new
         → Same L n x (record loader { stages = slice_set loader.stages m new }) us
         (record parts { globals = slice_set parts.globals (x.guards + m) (Num new) })
-    stage_same m stage new held small =
+    stage_same m stage new held small up =
         let whole : parts.globals ≡ map (value n) us.globals ++ more.globals = ap (λ (p : ModuleParts). p.globals) same.store.whole in
         let number : length (map (value n) us.globals) ≡ x.guards = length-map us.globals (value n) ∙ same.sized.globals in
         let globals : slice_set parts.globals (x.guards + m) (Num new) ≡ map (value n) us.globals ++ slice_set more.globals m (Num new) =
@@ -201,7 +218,7 @@ module _ (L : LinkedSet) (n : Numbers) (x : Starts) where
                   ∙ ap (λ l. l ++ kept.others) (slice_set-map Num loader.stages m new);
               error = kept.error;
               few = kept.few;
-              slots = kept.slots;
+              slots = λ k here. kept.slots k (zero_before loader.stages m k new up here);
             };
             inside = same.store.inside;
             few = record {

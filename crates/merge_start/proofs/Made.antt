@@ -26,10 +26,12 @@ use Rattle.merge_start.specs.Words.{Starts, effect_code, effects_code, place_cod
 use Rattle.merge_start.specs.declared.numbers.StartNumbers.{StartNumbers}
 use Rattle.merge_start.specs.declared.numbers.Places.{Places}
 use Rattle.merge_start.specs.declared.phases.Slots.{Slots}
-use Rattle.merge_start.specs.declared.part.Part.{Part}
-use Rattle.merge_start.specs.Listed.{AreListed, AreBases, IsAt, numbers_at, spans_at, behind, placed_with, parts_of, phase_parts, call_at, elems_total, module_of, fresh_count, IsMadeOf}
-use Rattle.merge_start.proofs.Offsets.{with_bases}
-use Rattle.merge_start.proofs.Linked.{members_are}
+use Rattle.wasm_form.specs.declared.module.Part.{Part}
+use Rattle.dyl_addresses.specs.Sets.{module_of}
+use Rattle.dyl_addresses.specs.Bases.{AreBases}
+use Rattle.merge_start.specs.Listed.{AreListed, IsAt, numbers_at, spans_at, behind, placed_with, parts_of, phase_parts, call_at, elems_total, fresh_count, IsMadeOf}
+use Rattle.dyl_addresses.proofs.Offsets.{with_bases}
+use Rattle.dyl_addresses.proofs.Linked.{members_are}
 
 -- ---- effects by numbers that agree
 
@@ -71,7 +73,7 @@ total_is start (x ∷ xs) = total_is (start + length (module_of x).elems) xs ∙
 module _ (L : LinkedSet) (k : Kept) (linked : IsLinked L k) (s : StartNumbers) (n : Numbers) (x : Starts) (listed : AreListed L s n x)
     (m : ℕ) (few : m < length L.set.members) (wasm : Module) (found : wasm_of L m ≡ Some wasm) where
   place_is : (at : Places) → IsAt L m at → (bases : List (Option ℕ)) → AreBases L m bases → (segment first count : ℕ)
-      → segment ≡ x.slots + m → first ≡ first_slot L m → count ≡ length (own_functions L m)
+      → segment ≡ x.slots m → first ≡ first_slot L m → count ≡ length (own_functions L m)
       → placed_with s (spans_at at wasm) bases segment first count wasm ≡ place_code L n x m wasm
   place_is at is bases are segment first count p q r =
       let here = numbers_at s (spans_at at wasm) in
@@ -107,7 +109,7 @@ module _ (L : LinkedSet) (k : Kept) (linked : IsLinked L k) (s : StartNumbers) (
       let members : map member_of k.set.members ≡ L.set.members = ap (λ (S : sets.ClosedSet). S.members) linked.set in
       let all : total ≡ sum_before (λ w. length w.elems) L.set.members (length L.set.members) =
       sum ∙ total_is 0 k.set.members ∙ ap (λ ms. 0 + sum_before (λ w. length w.elems) ms (length ms)) members ∙ omega arith in
-      let p : slots.segment ≡ x.slots + m =
+      let p : slots.segment ≡ x.slots m =
       segment ∙ ap (λ t. number_of (slice_get s.elems (t + m))) all ∙ sym (listed.slots m few) in
       let q : slots.first ≡ first_slot L m = some_same _ _ (first ∙ linked.first_slots m few) in
       let r : slots.count ≡ length (own_functions L m) =
@@ -147,7 +149,10 @@ module _ (L : LinkedSet) (k : Kept) (linked : IsLinked L k) (m : ℕ) (x : Membe
     tables = ap (λ n. n + length (table_space (module_of x))) is.tables ∙ sym (sum_next (λ w. length (table_space w)) L.set.members m (member_of x) there);
   }
 
-  pub next_made : (of : ℕ → Module → List Part) (parts four more all : List Part)
+  pub next_sum : (size : Module → ℕ) (at : ℕ) → at ≡ sum_before size L.set.members m → at + size (module_of x) ≡ sum_before size L.set.members (m + 1)
+  next_sum size at is = ap (λ n. n + size (module_of x)) is ∙ sym (sum_next size L.set.members m (member_of x) there)
+
+  pub next_made : {A : Type 0} (of : ℕ → Module → List A) (parts four more all : List A)
       → parts ++ from_members of m (drop m L.set.members) ≡ all → four ≡ of m (module_of x) → more ≡ parts ++ four
       → more ++ from_members of (m + 1) (drop (m + 1) L.set.members) ≡ all
   next_made of parts four more all before made added =

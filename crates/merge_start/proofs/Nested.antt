@@ -5,7 +5,7 @@ use Rattle.spec_loading.specs.spec_execution.Runs as frames
 use Rattle.merge_start.specs.Laws.{calls_opening, MembersOpenAsMerged}
 use Rattle.merge_start.proofs.Frames.{calls_at}
 use Rattle.merge_start.proofs.Returning.{standing}
-use Rattle.merge_start.proofs.Ranges.{of_open}
+use Rattle.dyl_addresses.proofs.Ranges.{of_open}
 use Rattle.spec_loading.specs.Phases.{open_frame}
 
 pub members_open_as_merged : MembersOpenAsMerged

@@ -22,6 +22,7 @@ use Rattle.spec_loading.specs.spec_execution.Runs as frames
 use Rattle.spec_loading.specs.spec_execution.Instances.{ModuleParts, module_view}
 use Rattle.spec_loading.specs.spec_execution.OneModule.{Starting, ModuleState, module_step}
 use Rattle.merge_match.specs.Matching.{system_of}
+use Rattle.merge_pieces.specs.Opcodes as op
 use Rattle.merge_start.specs.Words.{number, effect_code, guarded}
 use Rattle.merge_start.specs.Running.{Changing, Around, at, ends_at, Reaches, there, goes, Does}
 use Rattle.merge_start.specs.Started.{IsWord}
@@ -112,17 +113,17 @@ module _ {wasm : Module} where
   }
 
   pub does_global : {c : Changing} (g : ℕ) (v : Value) (vs : List Value) → slice_get c.units.globals g ≡ Some v
-      → Does wasm (Index 0x23 g ∷ []) c vs c (v ∷ vs) None
+      → Does wasm (Index op.global_get g ∷ []) c vs c (v ∷ vs) None
   unfolding out-Instr out
   does_global g v vs e = record { runs = λ x. one_step refl (rw e refl) }
 
   pub does_set : {c : Changing} (g : ℕ) (v old : Value) (vs : List Value) → slice_get c.units.globals g ≡ Some old
-      → Does wasm (Index 0x24 g ∷ []) c (v ∷ vs) (with_global c g v) vs None
+      → Does wasm (Index op.global_set g ∷ []) c (v ∷ vs) (with_global c g v) vs None
   unfolding out-Instr out
   does_set g v old vs e = record { runs = λ x. one_step refl (rw e refl) }
 
   pub does_less : {c : Changing} (a b : ℕ) (vs : List Value)
-      → Does wasm (Plain 0x49 ∷ []) c (Num b ∷ Num a ∷ vs) c (Num (one_if (nat_lt (low W32 a) (low W32 b))) ∷ vs) None
+      → Does wasm (Plain op.i32_lt_u ∷ []) c (Num b ∷ Num a ∷ vs) c (Num (one_if (nat_lt (low W32 a) (low W32 b))) ∷ vs) None
   unfolding out-Instr out
   does_less a b vs = record { runs = λ x. one_step refl refl }
 
@@ -158,7 +159,7 @@ module _ {wasm : Module} where
       does_then (does_number to [] far) (does_then (does_number from (Num to ∷ []) off) (does_number count (Num from ∷ Num to ∷ []) many))
 
   init_table : (e t to from count : ℕ) → IsWord to → IsWord from → IsWord count
-      → Performs wasm (TableInit e t to from count) (Prefixed 12 e t ∷ []) (Num count ∷ Num from ∷ Num to ∷ [])
+      → Performs wasm (TableInit e t to from count) (Prefixed op.table_init e t ∷ []) (Num count ∷ Num from ∷ Num to ∷ [])
   unfolding out-Instr out
   init_table e t to from count far off many c (Gives vs us memory) q =
       record { runs = λ x. one_step refl (rw (low_small to far, low_small from off, low_small count many, q) refl) }
@@ -166,7 +167,7 @@ module _ {wasm : Module} where
       record { runs = λ x. one_step refl (rw (low_small to far, low_small from off, low_small count many, q) refl) }
 
   init_memory : (d to from count : ℕ) → IsWord to → IsWord from → IsWord count
-      → Performs wasm (MemoryInit d to from count) (Prefixed 8 d 0 ∷ []) (Num count ∷ Num from ∷ Num to ∷ [])
+      → Performs wasm (MemoryInit d to from count) (Prefixed op.memory_init d 0 ∷ []) (Num count ∷ Num from ∷ Num to ∷ [])
   unfolding out-Instr out
   init_memory d to from count far off many c (Gives vs us memory) q =
       record { runs = λ x. one_step refl (rw (low_small to far, low_small from off, low_small count many, q) refl) }
@@ -189,18 +190,18 @@ module _ {wasm : Module} where
 
   module _ {c : Changing} (g stage new : ℕ) (small : IsWord stage) (less : IsWord new) (held : slice_get c.units.globals g ≡ Some (Num stage)) where
     -- the guard is read, and whether it is below the stage
-    tested : (b : Bool) → nat_lt stage new ≡ b → Does wasm (Index 0x23 g ∷ number new ∷ Plain 0x49 ∷ []) c [] c (Num (one_if b) ∷ []) None
+    tested : (b : Bool) → nat_lt stage new ≡ b → Does wasm (Index op.global_get g ∷ number new ∷ Plain op.i32_lt_u ∷ []) c [] c (Num (one_if b) ∷ []) None
     tested b q =
         let same : one_if (nat_lt (low W32 stage) (low W32 new)) ≡ one_if b = rw (low_small stage small, low_small new less, q) refl in
-        subst (λ k. Does wasm (Index 0x23 g ∷ number new ∷ Plain 0x49 ∷ []) c [] c (Num k ∷ []) None) same
+        subst (λ k. Does wasm (Index op.global_get g ∷ number new ∷ Plain op.i32_lt_u ∷ []) c [] c (Num k ∷ []) None) same
         (does_then (does_global g (Num stage) [] held) (does_then (does_number new (Num stage ∷ []) less) (does_less stage new [])))
 
     -- what has the stage already is passed over
     pub does_passed : (work : List Instr) → nat_lt stage new ≡ false → Does wasm (guarded g new work) c [] c [] None
     unfolding guarded
-    does_passed work q = does_then (tested false q) (does_skip (number new ∷ Index 0x24 g ∷ work) [])
+    does_passed work q = does_then (tested false q) (does_skip (number new ∷ Index op.global_set g ∷ work) [])
 
-    raises : Does wasm (number new ∷ Index 0x24 g ∷ []) c [] (with_global c g (Num new)) [] None
+    raises : Does wasm (number new ∷ Index op.global_set g ∷ []) c [] (with_global c g (Num new)) [] None
     raises = does_then (does_number new [] less) (does_set g (Num new) (Num stage) [] held)
 
     -- else the stage is raised, and the work done
@@ -214,9 +215,9 @@ module _ {wasm : Module} where
         → Reaches wasm (at c x [] (guarded g new work)) (at (with_global c g (Num new)) (inside x []) [] work)
     unfolding guarded
     reaches_work x work q =
-        let test = (tested true q).runs (record x { more = If Empty (record { list = number new ∷ Index 0x24 g ∷ work }) None ∷ x.more }) in
+        let test = (tested true q).runs (record x { more = If Empty (record { list = number new ∷ Index op.global_set g ∷ work }) None ∷ x.more }) in
         let raise = raises.runs (record (inside x []) { more = work ++ [] }) in
-        reaches_then test (reaches_then (into_if x (number new ∷ Index 0x24 g ∷ work) []) raise)
+        reaches_then test (reaches_then (into_if x (number new ∷ Index op.global_set g ∷ work) []) raise)
 
   -- a function without results comes to its end
   pub reaches_under : {c : Changing} (f : ℕ) (b : Activation) (gs : List (Frame Starting))

@@ -9,18 +9,19 @@ use Rattle.spec_loading.specs.declared.task.Task.{Task}
 use Rattle.spec_loading.specs.declared.task.Phase.TheVariants.{Place, Start, Relocate, Construct}
 use Rattle.spec_loading.specs.Phases.{stage_of, tasks_of, opening_tasks}
 use Rattle.merge_match.specs.Renumbering.{Numbers}
+use Rattle.merge_pieces.specs.Opcodes as op
 use Rattle.merge_start.specs.Words.{Starts, number, tasks_code, member_call, entry_code, open_code}
 use Rattle.merge_start.specs.declared.numbers.StartNumbers.{StartNumbers}
 use Rattle.merge_start.specs.Listed.{AreListed, phase_calls, opening_with}
 
 tasks_append : (x : Starts) (ts us : List Task) → tasks_code x (ts ++ us) ≡ tasks_code x ts ++ tasks_code x us
 tasks_append x [] us = refl
-tasks_append x (t ∷ ts) us = ap (λ l. Index 0x10 (x.phase t.member t.phase) ∷ l) (tasks_append x ts us)
+tasks_append x (t ∷ ts) us = ap (λ l. Index op.call (x.phase t.member t.phase) ∷ l) (tasks_append x ts us)
 
 module _ (L : LinkedSet) (s : StartNumbers) (n : Numbers) (x : Starts) (listed : AreListed L s n x) where
   calls_are : (p : Phase) (ms : List ℕ) → tasks_code x (tasks_of p ms) ≡ phase_calls s (stage_of p - 1) ms
   calls_are p [] = refl
-  calls_are p (m ∷ ms) = ap₂ (λ k l. Index 0x10 k ∷ l) (listed.phases m p) (calls_are p ms)
+  calls_are p (m ∷ ms) = ap₂ (λ k l. Index op.call k ∷ l) (listed.phases m p) (calls_are p ms)
 
   joined : (a b c d e : List Instr) → (a ++ (b ++ (c ++ d))) ++ e ≡ a ++ (b ++ (c ++ (d ++ e)))
   joined a b c d e =
@@ -43,12 +44,12 @@ module _ (L : LinkedSet) (s : StartNumbers) (n : Numbers) (x : Starts) (listed :
       ∙ parts Place breadth (parts Start breadth (parts Relocate breadth (parts Construct post refl)))
 
   pub entry_is : (startup post : List ℕ) → startup ≡ L.set.startup → post ≡ post_order L.set 0 → (f : ℕ) → set_entry L.set.members ≡ Some f
-      → opening_with s startup post (Index 0x10 s.entry) ≡ entry_code L n x
+      → opening_with s startup post (Index op.call s.entry) ≡ entry_code L n x
   entry_is startup post p q f e =
-      let last : Index 0x10 s.entry ∷ [] ≡ member_call n 0 (set_entry L.set.members) =
-      ap (λ k. Index 0x10 k ∷ []) (sym (listed.entry f e)) ∙ ap (λ o. member_call n 0 o) (sym e) in
+      let last : Index op.call s.entry ∷ [] ≡ member_call n 0 (set_entry L.set.members) =
+      ap (λ k. Index op.call k ∷ []) (sym (listed.entry f e)) ∙ ap (λ o. member_call n 0 o) (sym e) in
       rw (p, q)
-      (sym (opening_is L.set.startup (post_order L.set 0) (Index 0x10 s.entry))
+      (sym (opening_is L.set.startup (post_order L.set 0) (Index op.call s.entry))
       ∙ ap (λ l. tasks_code x (opening_tasks L.set.startup (post_order L.set 0)) ++ l) last)
 
   pub open_is : (m : ℕ) (closed post : List ℕ) → closed ≡ closure L.set m → post ≡ post_order L.set m

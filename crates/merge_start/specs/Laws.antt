@@ -22,27 +22,31 @@ use Rattle.spec_loading.specs.Members.{Store, set_view, uses_loader}
 use Rattle.spec_loading.specs.LoadedSet.{SetState, member_placed, set_loading, set_system, set_opening}
 use Rattle.merge_match.specs.Renumbering.{Numbers, activation, reference, values}
 use Rattle.merge_match.specs.Bounded.{IsBounded}
+use Rattle.merge_match.specs.Following.{Sharing}
 use Rattle.merge_match.specs.Matching.{Below, Alike, Met, FramesMatch}
+use Rattle.merge_match.specs.SameCode.{SameCode}
 use Rattle.merge_match.specs.Laws.{HasParts}
+use Rattle.merge_pieces.specs.Opcodes as op
 use Rattle.merge_start.specs.Words.{Starts, place_code}
 use Rattle.merge_start.specs.Running.{Does}
-use Rattle.merge_start.specs.Started.{Same, IsOpened, MemberReady, IsReady, StartReady, OpenReady}
+use Rattle.merge_start.specs.Started.{Same, HoldsSlots, IsOpened, MemberReady, IsReady, StartReady, OpenReady}
 use Rattle.merge_start.specs.Points.{HandsOn, places, Matched}
 
 -- What placing comes to is what the code comes to: the store is the same after both, the memory is equal, and so is the trap.
-pub record PlacedAs (L : LinkedSet) (n : Numbers) (x : Starts) (merged : Module) (loader : LoaderState) (o : Option (Performed Store))
-    (code : List Instr) (before : ModuleParts) (memory : MemoryInstance) : Type 0 where
+pub record PlacedAs (merged : Module) (Shared : Sharing Store ModuleParts) (o : Option (Performed Store)) (code : List Instr)
+    (before : ModuleParts) (memory : MemoryInstance) : Type 0 where
   pub placed : Performed Store
   pub is_placed : o ≡ Some placed
   pub parts : ModuleParts
-  pub same : Same L n x loader placed.units parts
+  pub same : Shared placed.units parts
   pub runs : Does merged code (record { units = before; memory = memory }) [] (record { units = parts; memory = placed.memory }) [] placed.trap
 
+-- The loader has raised the member's stage before it places it; the segment of the fresh slots is still what it was.
 abbrev pub PlacingIsDone : Type 0
 PlacingIsDone = (L : LinkedSet) (n : Numbers) (x : Starts) (merged : Module) → HasParts L n merged → (loader : LoaderState) (m : ℕ)
     → m < length L.set.members → (member : MemberReady L n x merged m) → (us : Store) (parts : ModuleParts) (memory : MemoryInstance)
-    → Same L n x loader us parts
-    → PlacedAs L n x merged loader (member_placed L m us memory) (place_code L n x m member.wasm) parts memory
+    → Same L n x loader us parts → HoldsSlots L n x parts m
+    → PlacedAs merged (Same L n x loader) (member_placed L m us memory) (place_code L n x m member.wasm) parts memory
 
 -- where a frame of the loader is on top, the module steps as it does, and takes the host's answers as it does
 abbrev pub FramesStepAsMerged : Type 0
@@ -56,7 +60,7 @@ abbrev pub calls_opening : Starts → ℕ → Activation → List (Frame Startin
 calls_opening x m b hs parts memory = record {
   units = parts;
   memory = memory;
-  stack = frames.Active (record b { rest = Index 0x10 (x.opening m) ∷ b.rest }) ∷ hs;
+  stack = frames.Active (record b { rest = Index op.call (x.opening m) ∷ b.rest }) ∷ hs;
   status = Moving;
 }
 
@@ -86,13 +90,20 @@ UnusedIsAnswered = (L : LinkedSet) (n : Numbers) (x : Starts) (merged : Module) 
 
 -- ---- the whole
 
--- matching states, over a memory that ends before the last address
+-- Matching states, over a memory that ends before the last address. The definition names no module: t may be a state of any module that has
+-- the code of the merged one.
 abbrev pub MatchedWithin : LinkedSet → Numbers → Starts → SetState → ModuleState → Type 0
 MatchedWithin L n x s t = Matched L n x s t × IsBounded s.run.memory
 
 abbrev pub SetsStepAsMerged : Type 0
 SetsStepAsMerged = (L : LinkedSet) (n : Numbers) (x : Starts) (merged : Module) → HasParts L n merged → IsReady L n x merged
     → CallsAreAnswered L n x merged → StepLaw (set_system L) (module_system merged) (MatchedWithin L n x)
+
+-- The runs from any two matching states agree, in both directions.
+abbrev pub MatchedRunsAgree : Type 0
+MatchedRunsAgree = (L : LinkedSet) (n : Numbers) (x : Starts) (merged : Module) → HasParts L n merged → IsReady L n x merged
+    → CallsAreAnswered L n x merged → (s : SetState) (t : ModuleState) → MatchedWithin L n x s t
+    → Agree (set_system L) (module_system merged) s t
 
 -- The runs agree from the opening states on, where the module has the parts of the members and the generated code, and begins with what
 -- they begin with.
@@ -101,3 +112,24 @@ SetsRunAsMerged = (L : LinkedSet) (n : Numbers) (x : Starts) (merged : Module) �
     → StartReady L n x merged → CallsAreAnswered L n x merged → IsBounded (set_opening L).run.memory → IsSet L.set → (parts : ModuleParts)
     → IsOpened L n x parts
     → Agree (set_system L) (module_system merged) (set_opening L) (opened_state merged x.starting parts (set_opening L).run.memory)
+
+-- ---- a module with the code of the merged one
+
+-- What the laws ask of the merged module holds of each module that has its types, imports, functions and bodies.
+pub record CodeDecides (L : LinkedSet) (n : Numbers) (x : Starts) (merged other : Module) : Type 0 where
+  pub parts : HasParts L n merged → HasParts L n other
+  pub ready : IsReady L n x merged → IsReady L n x other
+  pub calls : CallsAreAnswered L n x merged → CallsAreAnswered L n x other
+
+abbrev pub SameCodeIsReady : Type 0
+SameCodeIsReady = (L : LinkedSet) (n : Numbers) (x : Starts) (merged other : Module) → SameCode merged other → CodeDecides L n x merged other
+
+-- So it steps as the set does from any two matching states, and the runs from them agree.
+abbrev pub SetsStepAsOthers : Type 0
+SetsStepAsOthers = (L : LinkedSet) (n : Numbers) (x : Starts) (merged other : Module) → HasParts L n merged → IsReady L n x merged
+    → CallsAreAnswered L n x merged → SameCode merged other → StepLaw (set_system L) (module_system other) (MatchedWithin L n x)
+
+abbrev pub OtherRunsAgree : Type 0
+OtherRunsAgree = (L : LinkedSet) (n : Numbers) (x : Starts) (merged other : Module) → HasParts L n merged → IsReady L n x merged
+    → CallsAreAnswered L n x merged → SameCode merged other → (s : SetState) (t : ModuleState) → MatchedWithin L n x s t
+    → Agree (set_system L) (module_system other) s t

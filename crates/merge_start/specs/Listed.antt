@@ -1,36 +1,22 @@
 -- The numbers that generated code names, as lists, and what is made by them.
-use Rattle.std.specs.Prelude.{◌≡◌, ℕ, ◌+◌, ◌-◌, ◌*◌, ◌<◌, ◌^◌, IsTrue, List, [], ◌∷◌, ◌++◌, length, map, slice_get, nat_lt, Option, Some, None, option_map, if◌then◌else◌}
+use Rattle.std.specs.Prelude.{◌≡◌, ℕ, ◌+◌, ◌-◌, ◌*◌, ◌<◌, ◌^◌, List, [], ◌∷◌, ◌++◌, length, slice_get, nat_lt, Option, Some, option_map, if◌then◌else◌}
 use Rattle.wasm_form.specs.declared.types.ValType.{ValType}
 use Rattle.wasm_form.specs.declared.types.ValType.TheVariants.{I32}
 use Rattle.wasm_form.specs.declared.instr.Instr.{Instr}
-use Rattle.wasm_form.specs.declared.instr.Instr.TheOpen as Open
-use Rattle.wasm_form.specs.declared.instr.Expr.{Expr}
-use Rattle.wasm_form.specs.declared.module.ElemMode.{ElemMode}
-use Rattle.wasm_form.specs.declared.module.ElemMode.TheVariants as elem_mode
-use Rattle.wasm_form.specs.declared.module.Elem.{Elem}
-use Rattle.wasm_form.specs.declared.module.DataMode.{DataMode}
-use Rattle.wasm_form.specs.declared.module.DataMode.TheVariants as data_mode
-use Rattle.wasm_form.specs.declared.module.Data.{Data}
-use Rattle.wasm_form.specs.declared.module.Import.{Import}
 use Rattle.wasm_form.specs.declared.module.Module.{Module}
-use Rattle.wasm_form.specs.declared.index.IndexForm.{IndexForm}
-use Rattle.wasm_form.specs.declared.index.IndexForm.TheVariants.{GlobalGet}
 use Rattle.spec_loading.specs.spec_binary.Options.{◌>>=◌}
-use Rattle.spec_loading.specs.spec_binary.IndexSpaces.{globals_in, table_space}
-use Rattle.spec_loading.specs.spec_validation.Faults.{is_constant}
-use Rattle.spec_loading.specs.spec_runtime.Constants.{instruction_constant, constant_number, number_in}
+use Rattle.spec_loading.specs.spec_binary.IndexSpaces.{table_space}
 use Rattle.spec_loading.specs.spec_execution.Activations.{TableInit}
 use Rattle.spec_loading.specs.spec_execution.Segments.{segment_effects}
-use Rattle.spec_loading.specs.spec_linking.Imports.{ImportUse, MemoryBase, TableBase, use_of}
 use Rattle.spec_loading.specs.spec_linking.LinkedSets.{LinkedSet, wasm_of}
-use Rattle.spec_loading.specs.spec_linking.Slots.{as_number, imported_base}
 use Rattle.spec_loading.specs.spec_linking.Links.{set_entry}
 use Rattle.spec_loading.specs.declared.task.Phase.{Phase}
 use Rattle.spec_loading.specs.declared.task.Phase.TheVariants.{Place, Start, Relocate, Construct}
 use Rattle.spec_loading.specs.Phases.{stage_of, phase_function}
 use Rattle.spec_loading.specs.Addresses.{sum_before}
-use Rattle.dyl_link.specs.dyl_search.declared.set.Member.{Member}
 use Rattle.dyl_link.specs.Kept.{Kept, fresh_in, IsLinked}
+use Rattle.dyl_addresses.specs.Bases.{AreBases}
+use Rattle.dyl_addresses.specs.Offsets.{number_with}
 use Rattle.merge_match.specs.Renumbering.{Numbers}
 use Rattle.merge_match.specs.Parts.{nowhere, number_of}
 use Rattle.merge_pieces.specs.Code as pieces
@@ -41,11 +27,7 @@ use Rattle.merge_start.specs.declared.numbers.Span.{Span}
 use Rattle.merge_start.specs.declared.numbers.Spans.{Spans}
 use Rattle.merge_start.specs.declared.numbers.Places.{Places}
 use Rattle.merge_start.specs.declared.phases.Slots.{Slots}
-use Rattle.merge_start.specs.declared.part.Part.{Part}
-
--- what is kept is that of a set which links
-abbrev pub IsOfSet : Kept → Type 0
-IsOfSet k = (L : LinkedSet) × IsLinked L k
+use Rattle.wasm_form.specs.declared.module.Part.{Part}
 
 -- ---- lists
 
@@ -74,57 +56,6 @@ numbers_at n at = record {
   segment = λ m d. item n.datas at.datas d;
 }
 
--- ---- offsets
-
--- a constant expression of type i32
-abbrev pub IsOffset : Expr → Type 0
-IsOffset e = (m : Module) × IsTrue (is_constant m I32 e)
-
-abbrev pub IsOffsetOf : Instr → Type 0
-IsOffsetOf i = (m : Module) × IsTrue (is_constant m I32 (record { list = i ∷ [] }))
-
-abbrev pub HasElemMode : ElemMode → Type 0
-HasElemMode (elem_mode.Active t offset) = IsOffset offset
-HasElemMode elem_mode.Passive = Unit {0}
-HasElemMode elem_mode.Declarative = Unit {0}
-
-abbrev pub HasElemOffset : Elem → Type 0
-HasElemOffset e = HasElemMode e.mode
-
-abbrev pub HasDataMode : DataMode → Type 0
-HasDataMode (data_mode.Active memory offset) = IsOffset offset
-HasDataMode data_mode.Passive = Unit {0}
-
-abbrev pub HasDataOffset : Data → Type 0
-HasDataOffset d = HasDataMode d.mode
-
--- the bases that imported globals are, by their numbers
-abbrev pub AreBases : LinkedSet → ℕ → List (Option ℕ) → Type 0
-AreBases L m bases = (g : ℕ) → (slice_get bases g >>= as_number) ≡ imported_base L m g
-
--- that of an instruction with an index
-abbrev pub indexed : List (Option ℕ) → Option IndexForm → ℕ → Option ℕ
-indexed bases (Some GlobalGet) g = slice_get bases g >>= λ base. base
-indexed bases _ g = None
-
--- the number of a constant instruction, and of a constant expression
-abbrev pub instruction_number : List (Option ℕ) → Open.Instr-F Instr Expr → Option ℕ
-instruction_number bases i = instruction_constant (λ f. None) (λ g. slice_get bases g >>= as_number) i >>= number_in
-
-abbrev pub number_with : List (Option ℕ) → Expr → Option ℕ
-number_with bases e = constant_number (λ f. None) (λ g. slice_get bases g >>= as_number) e
-
--- the bases that an import is, by those of its member, where it stands for this
-abbrev pub base_of : ℕ → ℕ → ImportUse → Option ℕ
-base_of memory table MemoryBase = Some memory
-base_of memory table TableBase = Some table
-base_of memory table _ = None
-
--- those of the imported globals, by their numbers
-abbrev pub bases_from : ℕ → ℕ → List Import → List (Option ℕ)
-bases_from memory table [] = []
-bases_from memory table (i ∷ is) = map (λ ty. base_of memory table (use_of i)) (globals_in i.desc) ++ bases_from memory table is
-
 -- ---- where the numbers of members stand
 
 -- those of a member that begin at these places
@@ -148,9 +79,6 @@ pub record IsAt (L : LinkedSet) (m : ℕ) (at : Places) : Type 0 where
   pub elems : at.elems ≡ sum_before (λ w. length w.elems) L.set.members m
   pub datas : at.datas ≡ sum_before (λ w. length w.datas) L.set.members m
   pub tables : at.tables ≡ sum_before (λ w. length (table_space w)) L.set.members m
-
-abbrev pub module_of : Member → Module
-module_of x = x.checked
 
 -- how many element segments there are, beside so many
 abbrev pub elems_total : ℕ → List Module → ℕ
@@ -190,7 +118,7 @@ parts_of n m place =
 -- ---- a set
 
 -- The lists are those of numbers of a set: of each member in set order, those of its element segments, its data segments, its tables, imported
--- ones too; behind the element segments the segment of the fresh slots of each member; and for each phase of each member what it calls.
+-- ones too; behind the element segments the segment of the fresh slots of each member, whatever its number is; and for each phase of each member what it calls.
 pub record AreListed (L : LinkedSet) (s : StartNumbers) (n : Numbers) (x : Starts) : Type 0 where
   pub guards : x.guards ≡ s.guard
   pub phases : (m : ℕ) (p : Phase) → x.phase m p ≡ s.first_function + 4 * m + (stage_of p - 1)
@@ -200,7 +128,7 @@ pub record AreListed (L : LinkedSet) (s : StartNumbers) (n : Numbers) (x : Start
   pub elems : (m e : ℕ) (wasm : Module) → wasm_of L m ≡ Some wasm
       → n.elem m e ≡ in_part s.elems (sum_before (λ w. length w.elems) L.set.members m) (length wasm.elems) e
   pub slots : (m : ℕ) → m < length L.set.members
-      → x.slots + m ≡ number_of (slice_get s.elems (sum_before (λ w. length w.elems) L.set.members (length L.set.members) + m))
+      → x.slots m ≡ number_of (slice_get s.elems (sum_before (λ w. length w.elems) L.set.members (length L.set.members) + m))
   pub datas : (m d : ℕ) (wasm : Module) → wasm_of L m ≡ Some wasm
       → n.segment m d ≡ in_part s.datas (sum_before (λ w. length w.datas) L.set.members m) (length wasm.datas) d
   pub tables : (m t : ℕ) (wasm : Module) → wasm_of L m ≡ Some wasm

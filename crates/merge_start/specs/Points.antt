@@ -1,19 +1,20 @@
 -- The points of generated code that stand for the loader's frames.
-use Rattle.std.specs.Prelude.{◌≡◌, ℕ, ◌+◌, ◌<◌, List, [], ◌∷◌, length, None}
+use Rattle.std.specs.Prelude.{◌≡◌, ℕ, ◌+◌, List, [], ◌∷◌, None}
 use Rattle.wasm_form.specs.declared.instr.Instr.{Instr, Plain}
 use Rattle.spec_loading.specs.spec_execution.Activations.{Activation}
 use Rattle.spec_loading.specs.spec_execution.Runs.{Frame}
 use Rattle.spec_loading.specs.spec_execution.Runs as frames
 use Rattle.spec_loading.specs.spec_execution.OneModule.{Starting, ModuleState}
 use Rattle.spec_loading.specs.spec_linking.LinkedSets.{LinkedSet}
-use Rattle.spec_loading.specs.declared.task.Task.{Task}
 use Rattle.spec_loading.specs.declared.task.After.{After}
 use Rattle.spec_loading.specs.declared.task.After.TheVariants.{CallEntry, GiveHandle}
 use Rattle.spec_loading.specs.Phases.{LoaderFrame}
 use Rattle.spec_loading.specs.LoadedSet.{SetState}
+use Rattle.dyl_addresses.specs.Sets.{AreOf}
 use Rattle.merge_match.specs.Renumbering.{Numbers}
 use Rattle.merge_match.specs.Matching.{Places, gives_back, Matches}
 use Rattle.merge_match.specs.Endings.{at_end, IsBottom}
+use Rattle.merge_pieces.specs.Opcodes as op
 use Rattle.merge_start.specs.Words.{Starts, frame_code}
 use Rattle.merge_start.specs.Started.{Same, IsWord}
 
@@ -37,7 +38,7 @@ behind_call f = record (before_code f 0 []) { levels = record { below = []; arit
 -- an activation that returns the value that it is given
 pub record HandsOn (a : Activation) : Type 0 where
   pub more : List Instr
-  pub rest : a.rest ≡ Plain 0x0F ∷ more
+  pub rest : a.rest ≡ Plain op.return_ ∷ more
   pub results : a.results ≡ 1
 
 -- What stands under the function that goes through the tasks, and under that once the tasks are done. The entry function stands over
@@ -45,11 +46,6 @@ pub record HandsOn (a : Activation) : Type 0 where
 abbrev pub IsOuter : Starts → After → List (Frame Starting) → List (Frame Starting) → Type 0
 IsOuter x CallEntry os hs = (os ≡ []) × (hs ≡ frames.Active (at_end x.starting) ∷ [])
 IsOuter x (GiveHandle m) os hs = (a : Activation) × (os ≡ frames.Active a ∷ hs) × HandsOn a × IsWord (m + 1)
-
--- the tasks are of members of the set
-abbrev pub AreOf : LinkedSet → List Task → Type 0
-AreOf L [] = Unit {0}
-AreOf L (task ∷ tasks) = (task.member < length L.set.members) × AreOf L tasks
 
 pub record IsTop (L : LinkedSet) (n : Numbers) (x : Starts) (frame : LoaderFrame) (gs hs : List (Frame Starting)) : Type 0 where
   pub outer : List (Frame Starting)
@@ -65,6 +61,7 @@ pub record IsUnder (L : LinkedSet) (n : Numbers) (x : Starts) (r : ℕ) (frame :
   pub under : IsOuter x frame.after outer hs
   pub tasks : AreOf L frame.tasks
 
+-- the points that stand for the frames of the loader: on top of the call stack, and under what they called
 abbrev pub places : LinkedSet → Numbers → Starts → Places Starting
 places L n x = record {
   Bottom = IsBottom x.starting;
@@ -72,7 +69,9 @@ places L n x = record {
   Top = λ frame gs hs. IsTop L n x frame gs hs;
 }
 
--- The matching of a state of the set and one of the module: the memories are equal, the store is the same, and the call stacks are, where
--- a frame of the loader is one of these points.
+-- The matching of a state of the set and one of the module (`Matches`): the memories are equal with their maxima, and so is how the states
+-- stand; globals, cells, tables and segments are the same by the numbers, and guards and stages (`Same`); and the activations of the set are
+-- in order those of the module, where a frame of the loader is one of these points (`places`). At the bottom of the module's there may be
+-- the entry function with nothing left but its return.
 abbrev pub Matched : LinkedSet → Numbers → Starts → SetState → ModuleState → Type 0
 Matched L n x s t = Matches n (places L n x) (Same L n x) s t

@@ -29,26 +29,35 @@ use Rattle.merge_start.specs.Words.{Starts, phase_code, entry_code, open_code, n
 abbrev pub slot_items : LinkedSet → Numbers → ℕ → List (Option Ref)
 slot_items L n m = map (entry n) (map Some (own_functions L m))
 
--- What the merger adds: the guards hold the stages, behind them, where the set uses the loader, a global holds the number of the last error,
--- and the first of the segments are those of the fresh slots.
+-- What the merger adds, behind what the store has, by what the loader keeps.
 pub record Started (L : LinkedSet) (n : Numbers) (loader : LoaderState) (more : ModuleParts) : Type 0 where
+  -- each member has a stage, from 0 to 4
   pub sized : length loader.stages ≡ length L.set.members
   pub low : (m stage : ℕ) → stage_in loader m ≡ Some stage → stage ≤ 4
+  -- the first of the globals are the guards, which hold the stages; others follow
   pub others : List Value
   pub guards : more.globals ≡ map Num loader.stages ++ others
+  -- the first of these holds the number of the last error, where the set uses the loader
   pub error : uses_loader L ≡ true → slice_get others 0 ≡ Some (Num loader.error)
   pub few : loader.error ≤ 5
-  pub slots : (m : ℕ) → m < length L.set.members → slice_get more.elems m ≡ Some (slot_items L n m)
+  -- The first of the segments are those of the members' fresh slots. While a member's stage is 0, its segment holds the functions of these
+  -- slots in slot order. Once it is placed, nothing is asked of the segment, which nothing reads again.
+  pub slots : (m : ℕ) → stage_in loader m ≡ Some 0 → slice_get more.elems m ≡ Some (slot_items L n m)
 
 -- what is added has its numbers behind those of the store, which has the shared table
-pub record IsSized (x : Starts) (us : Store) : Type 0 where
+pub record IsSized (L : LinkedSet) (x : Starts) (us : Store) : Type 0 where
   pub globals : length us.globals ≡ x.guards
-  pub elems : length us.elems ≡ x.slots
+  pub elems : (m : ℕ) → m < length L.set.members → x.slots m ≡ length us.elems + m
   pub tables : 0 < length us.tables
 
+-- what is the same of the store of a linked set, of what its loader keeps, and of what changes of the module
 pub record Same (L : LinkedSet) (n : Numbers) (x : Starts) (loader : LoaderState) (us parts : ModuleParts) : Type 0 where
   pub store : SameStore n (set_instances L) (Started L n) loader us parts
-  pub sized : IsSized x us
+  pub sized : IsSized L x us
+
+-- the segment of the fresh slots of member m holds the functions of these slots, in slot order
+abbrev pub HoldsSlots : LinkedSet → Numbers → Starts → ModuleParts → ℕ → Type 0
+HoldsSlots L n x parts m = slice_get parts.elems (x.slots m) ≡ Some (slot_items L n m)
 
 -- what the module's parts are in the beginning: what the members begin with, guards and an error that hold 0, and the segments of fresh slots
 pub record IsOpened (L : LinkedSet) (n : Numbers) (x : Starts) (parts : ModuleParts) : Type 0 where
@@ -60,7 +69,7 @@ pub record IsOpened (L : LinkedSet) (n : Numbers) (x : Starts) (parts : ModulePa
   pub error : uses_loader L ≡ true → slice_get others 0 ≡ Some (Num 0)
   pub slots : (m : ℕ) → m < length L.set.members → slice_get more.elems m ≡ Some (slot_items L n m)
   pub first_guard : length (opening_store L).globals ≡ x.guards
-  pub first_slots : length (opening_store L).elems ≡ x.slots
+  pub first_slots : (m : ℕ) → m < length L.set.members → x.slots m ≡ length (opening_store L).elems + m
 
 -- ---- what members must be
 

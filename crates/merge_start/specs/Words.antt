@@ -19,14 +19,15 @@ use Rattle.spec_loading.specs.Addresses.{shared_table_address}
 use Rattle.spec_loading.specs.LoadedSet.{first_slot, own_functions}
 use Rattle.merge_match.specs.Renumbering.{Numbers}
 use Rattle.merge_match.specs.Moves.{effect}
+use Rattle.merge_pieces.specs.Opcodes as op
 pub use Rattle.merge_pieces.specs.Code.{number}
 unfoldable pub use Rattle.merge_pieces.specs.Code.{guarded}
 
--- The numbers of what the merger adds. The guard of member m is the m-th of some globals, and holds its stage; the segment of its fresh
--- slots is the m-th of some segments; there is a function of each phase of it, and one that opens it. The entry function opens main.
+-- The numbers of what the merger adds. The guard of member m is the m-th of some globals, and holds its stage; there is a segment of its
+-- fresh slots, a function of each phase of it, and one that opens it. The entry function opens main.
 pub record Starts : Type 0 where
   pub guards : ℕ
-  pub slots : ℕ
+  pub slots : ℕ → ℕ
   pub phase : ℕ → Phase → ℕ
   pub starting : ℕ
   pub opening : ℕ → ℕ
@@ -38,10 +39,10 @@ on_three to from count i = number to ∷ number from ∷ number count ∷ i ∷ 
 
 -- what has an effect of segments; the others are of no use to the loader
 abbrev pub effect_code : Effect → List Instr
-effect_code (TableInit e t to from count) = on_three to from count (Prefixed 12 e t)
-effect_code (ElemDrop e) = Prefixed 13 e 0 ∷ []
-effect_code (MemoryInit d to from count) = on_three to from count (Prefixed 8 d 0)
-effect_code (DataDrop d) = Prefixed 9 d 0 ∷ []
+effect_code (TableInit e t to from count) = on_three to from count (Prefixed op.table_init e t)
+effect_code (ElemDrop e) = Prefixed op.elem_drop e 0 ∷ []
+effect_code (MemoryInit d to from count) = on_three to from count (Prefixed op.memory_init d 0)
+effect_code (DataDrop d) = Prefixed op.data_drop d 0 ∷ []
 effect_code _ = []
 
 -- effects of member m in order, by the numbers of the module
@@ -53,7 +54,7 @@ effects_code n m (x ∷ xs) = effect_code (effect n m x) ++ effects_code n m xs
 
 -- the fresh slots of a member are written to the shared table, from the segment that has them
 abbrev pub slots_effect : LinkedSet → Starts → ℕ → Effect
-slots_effect L x m = TableInit (x.slots + m) shared_table_address (first_slot L m) 0 (length (own_functions L m))
+slots_effect L x m = TableInit (x.slots m) shared_table_address (first_slot L m) 0 (length (own_functions L m))
 
 abbrev pub place_code : LinkedSet → Numbers → Starts → ℕ → Module → List Instr
 place_code L n x m wasm = effects_code n m (segment_effects (member_number L m) wasm) ++ effect_code (slots_effect L x m)
@@ -61,7 +62,7 @@ place_code L n x m wasm = effects_code n m (segment_effects (member_number L m) 
 -- a function is called, if there is one
 abbrev pub call_code : Option ℕ → List Instr
 call_code None = []
-call_code (Some f) = Index 0x10 f ∷ []
+call_code (Some f) = Index op.call f ∷ []
 
 -- a function of member m is, if there is one
 abbrev pub member_call : Numbers → ℕ → Option ℕ → List Instr
@@ -82,7 +83,7 @@ phase_code L n x m wasm p = guarded (x.guards + m) (stage_of p) (work_code L n x
 -- the functions of the tasks are called in order
 abbrev pub tasks_code : Starts → List Task → List Instr
 tasks_code x [] = []
-tasks_code x (task ∷ tasks) = Index 0x10 (x.phase task.member task.phase) ∷ tasks_code x tasks
+tasks_code x (task ∷ tasks) = Index op.call (x.phase task.member task.phase) ∷ tasks_code x tasks
 
 -- what follows them: the entry of main is called, or a handle given
 abbrev pub after_code : LinkedSet → Numbers → After → List Instr

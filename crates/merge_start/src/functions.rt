@@ -5,14 +5,13 @@ ghost use Rattle.spec_loading.specs.Members.{from_members};
 ghost use Rattle.dyl_link.specs.Kept.{IsLinked};
 ghost use Rattle.merge_match.specs.Renumbering.{Numbers};
 ghost use Rattle.merge_start.specs.Words.{Starts};
-ghost use Rattle.merge_start.specs.Listed.{IsOfSet, AreListed, phase_parts};
+ghost use Rattle.merge_start.specs.Listed.{AreListed, phase_parts};
 
-use crate::numbers::{Places, StartNumbers, as_number, behind, spans_at};
-use crate::part::Part;
+use crate::numbers::{Places, StartNumbers, behind, spans_at};
 use crate::phases::{elems_total, member_parts, slots_of};
 use dyl_link::Linked;
 use std::alloc::Global;
-use wasm_form::{List, Memory};
+use wasm_form::{List, Memory, Part};
 
 /// The functions of the phases of a linked set, four for each member. `Memory` where no memory could be had.
 pub fn phase_functions(
@@ -20,22 +19,21 @@ pub fn phase_functions(
     linked: &Linked,
     n: &StartNumbers,
 ) -> Result<List<Part>, Memory>
-    requires set { IsOfSet linked.now }
     requires guard { n.now.guard < 2 ^ 31 }
     ensures { IfOk result (λ parts. (L : LinkedSet) (N : Numbers) (x : Starts) → IsLinked L linked.now → AreListed L n.now N x → parts ≡ from_members (phase_parts L N x) 0 L.set.members) }
 {
+    linked.links();
     let members = linked.set().members.items();
-    let total = elems_total(members, 0)?;
-    let count = as_number(members.len())?;
+    let total = elems_total(members);
     let mut parts = Vec::new(alloc);
     let mut at = Places {
         elems: 0,
         datas: 0,
         tables: 0,
     };
-    for m in 0..count {
-        let spans = spans_at(at, members[m as usize].checked.module())?;
-        let slots = slots_of(linked, n, total, m)?;
+    for m in 0..members.len() as u32 {
+        let spans = spans_at(at, members[m as usize].checked.module());
+        let slots = slots_of(linked, n, total, m);
         let mut four = member_parts(alloc, linked, n, m, spans, slots)?;
         parts.append(&mut four)?;
         at = behind(spans);

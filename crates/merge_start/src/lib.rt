@@ -5,24 +5,22 @@
 //! stand for the loader's frames.
 #![tactic(auto)]
 
-mod bases;
 mod functions;
 mod numbers;
 mod openings;
 mod part;
+mod passive;
 mod phases;
 mod segments;
 mod words;
 
-ghost use Rattle.merge_start.specs.Laws.{FramesStepAsMerged, MembersOpenAsMerged, PlacingIsDone, SetsRunAsMerged, SetsStepAsMerged, UnusedIsAnswered};
+ghost use Rattle.merge_start.specs.Laws.{FramesStepAsMerged, MatchedRunsAgree, MembersOpenAsMerged, OtherRunsAgree, PlacingIsDone, SameCodeIsReady, SetsRunAsMerged, SetsStepAsMerged, SetsStepAsOthers, UnusedIsAnswered};
 ghost use Rattle.merge_start.specs.Typed.{GeneratedIsTyped};
 
-pub use bases::{bases_from, bases_of};
 pub use functions::phase_functions;
 pub use numbers::StartNumbers;
 pub use openings::{entry_function, open_functions};
-pub use part::Part;
-pub use segments::offset;
+pub use passive::{PassiveParts, passive_parts};
 
 /// The code that places a member leaves the store and the memory that the loader's placing leaves, where a trap ends both too.
 pub fn generated_code_places()
@@ -45,11 +43,20 @@ pub fn unused_loader_is_not_called()
     ensures { UnusedIsAnswered }
 {}
 
-/// A linked set steps as its merged module does, where this answers calls of the loader's functions as the set does; and the two runs agree
-/// from the opening states on.
+/// A linked set steps as its merged module does, where this answers calls of the loader's functions as the set does; the two runs agree from
+/// any two matching states, and from the opening states on.
 pub fn sets_run_as_merged()
     ensures step { SetsStepAsMerged }
+    ensures matched { MatchedRunsAgree }
     ensures runs { SetsRunAsMerged }
+{}
+
+/// Both laws ask of the merged module only what its types, imports, functions and bodies say. So they hold of each module that has these,
+/// whatever else it has: the set steps as that module does, and the two runs agree from any two matching states.
+pub fn same_code_runs_alike()
+    ensures premises { SameCodeIsReady }
+    ensures step { SetsStepAsOthers }
+    ensures runs { OtherRunsAgree }
 {}
 
 /// The generated code is well typed (WebAssembly Core 2.0, section 3.3), where the module has what it names.

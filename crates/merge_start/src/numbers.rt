@@ -1,10 +1,10 @@
 // The numbers that generated code names.
-ghost use Rattle.std.specs.Prelude.{◌≡◌, ◌+◌, ◌<◌, ◌≤◌, ◌^◌, length, IfOk};
+ghost use Rattle.std.specs.Prelude.{◌≡◌, ◌+◌, ◌<◌, ◌≤◌, ◌^◌, length};
 ghost use Rattle.merge_start.specs.Listed.{item, call_at, spans_at, behind, Fit};
 ghost use Rattle.merge_start.specs.Listed as listed;
 ghost use Rattle.spec_loading.specs.spec_binary.IndexSpaces.{imports_of, tables_in, table_space};
 
-use wasm_form::{Import, ImportDesc, List, Memory, Module};
+use wasm_form::{Import, ImportDesc, List, Module};
 
 /// The numbers that generated code names, in the merged module.
 ///
@@ -12,7 +12,8 @@ use wasm_form::{Import, ImportDesc, List, Memory, Module};
 /// first member; the others follow, four for each member. `calls` has, for each of these, the function that the phase calls, if it calls one,
 /// and `entry` is the function that the program begins with. `elems`, `datas` and `tables` have the numbers of each member's element
 /// segments, data segments and tables, imported tables too, in set order, and `elems` after these the numbers of the segments of the
-/// members' fresh slots. `functions` has the numbers of each member's functions, in set order.
+/// members' fresh slots. `functions` has the numbers of each member's functions, imported ones too, in set order; `passive_parts` alone reads
+/// it.
 #[derive(Drop)]
 pub struct StartNumbers {
     pub guard: u32,
@@ -48,27 +49,6 @@ pub(crate) struct Places {
     pub tables: usize,
 }
 
-// The sum of two lengths. There is no memory for a list that is longer than lengths go.
-pub(crate) fn sum(a: usize, b: usize) -> Result<usize, Memory>
-    ensures { IfOk result (λ n. n ≡ a + b) }
-{
-    if b > usize::MAX - a {
-        return Err(Memory);
-    }
-    Ok(a + b)
-}
-
-// So many items from a place on.
-fn span_of(first: usize, count: usize) -> Result<Span, Memory>
-    ensures is { IfOk result (λ s. s ≡ record { first = first; count = count }) }
-    ensures fits { IfOk result (λ s. listed.fits s) }
-{
-    if count > usize::MAX - first {
-        return Err(Memory);
-    }
-    Ok(Span { first, count })
-}
-
 fn is_table(desc: &ImportDesc) -> usize
     ensures { result ≡ length (tables_in desc.now) }
 {
@@ -97,19 +77,24 @@ fn table_count(wasm: &Module) -> usize
 }
 
 // Where the numbers of a member stand that begin at these places.
-pub(crate) fn spans_at(at: Places, wasm: &Module) -> Result<Spans, Memory>
+pub(crate) fn spans_at(at: Places, wasm: &Module) -> Spans
     requires { length wasm.now.imports + length wasm.now.tables < 2 ^ 64 }
-    ensures is { IfOk result (λ s. s ≡ spans_at at wasm.now) }
-    ensures fit { IfOk result (λ s. Fit s) }
+    ensures { result ≡ spans_at at wasm.now }
 {
-    let elems = span_of(at.elems, wasm.elems.items().len())?;
-    let datas = span_of(at.datas, wasm.datas.items().len())?;
-    let tables = span_of(at.tables, table_count(wasm))?;
-    Ok(Spans {
-        elems,
-        datas,
-        tables,
-    })
+    Spans {
+        elems: Span {
+            first: at.elems,
+            count: wasm.elems.items().len(),
+        },
+        datas: Span {
+            first: at.datas,
+            count: wasm.datas.items().len(),
+        },
+        tables: Span {
+            first: at.tables,
+            count: table_count(wasm),
+        },
+    }
 }
 
 // The places behind these.
@@ -146,14 +131,4 @@ pub(crate) fn call_at(calls: &[Option<u32>], k: u32) -> Option<u32>
         Some(f) => *f,
         None => None,
     }
-}
-
-// A length as a number. There is no memory for lists of 2^32 items.
-pub(crate) fn as_number(count: usize) -> Result<u32, Memory>
-    ensures { IfOk result (λ n. n ≡ count) }
-{
-    if count > u32::MAX as usize {
-        return Err(Memory);
-    }
-    Ok(count as u32)
 }

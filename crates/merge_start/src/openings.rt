@@ -5,24 +5,25 @@ ghost use Rattle.spec_loading.specs.Members.{from_members};
 ghost use Rattle.dyl_link.specs.Kept.{IsLinked};
 ghost use Rattle.merge_match.specs.Renumbering.{Numbers};
 ghost use Rattle.merge_start.specs.Words.{Starts, entry_code, open_code};
-ghost use Rattle.merge_start.specs.Listed.{IsOfSet, AreListed, nullary_part, handle_part, open_parts};
+ghost use Rattle.dyl_addresses.specs.Sets.{IsOfSet};
+ghost use Rattle.merge_start.specs.Listed.{AreListed, nullary_part, handle_part, open_parts};
 
-use crate::numbers::{StartNumbers, as_number};
-use crate::part::{Part, handle_part, nullary_part};
+use crate::numbers::StartNumbers;
+use crate::part::{handle_part, nullary_part};
 use dyl_link::Linked;
-use merge_pieces::{number, opening_code};
+use merge_pieces::{number, opcodes, opening_code};
 use std::alloc::Global;
-use wasm_form::{Instr, List, Memory};
+use wasm_form::{Instr, List, Memory, Part};
 
 /// The function that a merged program begins with: it opens the members that start with the main module, and then calls the entry. `Memory`
 /// where no memory could be had.
 pub fn entry_function(alloc: Global, linked: &Linked, n: &StartNumbers) -> Result<Part, Memory>
-    requires set { IsOfSet linked.now }
     requires first { n.now.first_function < 2 ^ 31 }
     ensures { IfOk result (λ part. (L : LinkedSet) (N : Numbers) (x : Starts) → IsLinked L linked.now → AreListed L n.now N x → part ≡ nullary_part (entry_code L N x)) }
 {
+    linked.links();
     let startup = linked.set().startup.items();
-    let entry = Instr::Index(0x10, n.entry);
+    let entry = Instr::Index(opcodes::CALL, n.entry);
     let code = opening_code(
         alloc,
         n.first_function,
@@ -59,13 +60,12 @@ pub fn open_functions(
     linked: &Linked,
     n: &StartNumbers,
 ) -> Result<List<Part>, Memory>
-    requires set { IsOfSet linked.now }
     requires first { n.now.first_function < 2 ^ 31 }
     ensures { IfOk result (λ parts. (L : LinkedSet) (N : Numbers) (x : Starts) → IsLinked L linked.now → AreListed L n.now N x → parts ≡ from_members (open_parts L N x) 0 L.set.members) }
 {
-    let count = as_number(linked.set().members.items().len())?;
+    linked.links();
     let mut parts = Vec::new(alloc);
-    for m in 0..count {
+    for m in 0..linked.set().members.items().len() as u32 {
         let part = open_function(alloc, linked, n, m)?;
         parts.push(part)?;
     }

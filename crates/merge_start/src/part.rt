@@ -1,16 +1,9 @@
-// A function that is generated.
+// Functions that are generated.
 ghost use Rattle.std.specs.Prelude.{◌≡◌, IfOk};
 ghost use Rattle.merge_start.specs.Listed.{part_of, nullary_part, handle_part};
 
 use std::alloc::Global;
-use wasm_form::{Code, Expr, FuncType, Instr, List, Memory, ValType};
-
-/// A function that is generated: its type and its body.
-#[derive(Drop)]
-pub struct Part {
-    pub ty: FuncType,
-    pub code: Code,
-}
+use wasm_form::{Code, Expr, FuncType, Instr, List, Memory, Part, ValType};
 
 // A function without parameters and locals.
 fn part_of(alloc: Global, results: Vec<ValType>, code: Vec<Instr>) -> Part

@@ -1,19 +1,22 @@
 // The functions of the phases.
-ghost use Rattle.std.specs.Prelude.{◌≡◌, ◌+◌, ◌<◌, ◌^◌, All, length, map, slice_get, Some, IfOk};
+ghost use Rattle.std.specs.Prelude.{◌≡◌, ℕ, ◌+◌, ◌*◌, ◌<◌, ◌≤◌, ◌^◌, All, length, map, slice_get, Some, IfOk};
+ghost use Rattle.spec_loading.specs.spec_binary.WellFormed.{IsWellFormed};
 ghost use Rattle.dyl_link.specs.Kept.{first_slot_in};
 ghost use Rattle.merge_match.specs.Parts.{number_of};
-ghost use Rattle.merge_start.specs.Listed.{numbers_at, number_with, placed_with, calling_part, parts_of, elems_total, fresh_count, module_of, IsOfSet, IsMadeOf, Fit, HasElemOffset, HasDataOffset};
+ghost use Rattle.dyl_addresses.specs.Sets.{module_of, IsOfSet};
+ghost use Rattle.dyl_addresses.specs.Offsets.{number_with, HasElemOffset, HasDataOffset};
+ghost use Rattle.merge_start.specs.Listed.{numbers_at, placed_with, calling_part, parts_of, elems_total, fresh_count, IsMadeOf, Fit};
 
-use crate::bases::bases_of;
-use crate::numbers::{Spans, StartNumbers, as_number, call_at, sum};
-use crate::part::{Part, nullary_part};
+use crate::numbers::{Spans, StartNumbers, call_at};
+use crate::part::nullary_part;
 use crate::segments::{datas_code, elems_code};
 use crate::words::{call, table_init};
+use dyl_addresses::bases_of;
 use dyl_link::Linked;
 use dyl_link::dyl_search::Member;
 use merge_pieces::guarded;
 use std::alloc::Global;
-use wasm_form::{Instr, Memory, Module};
+use wasm_form::{Instr, Memory, Module, Part};
 
 // The slots that are written for a member: the segment that has them, the first of them, and how many they are.
 #[derive(Clone, Copy)]
@@ -34,6 +37,7 @@ fn place_code(
     wasm: &Module,
 ) -> Result<Vec<Instr>, Memory>
     requires fit { Fit at }
+    requires formed { IsWellFormed wasm.now }
     requires elems { All HasElemOffset wasm.now.elems }
     requires datas { All HasDataOffset wasm.now.datas }
     ensures { IfOk result (λ x. x.items ≡ placed_with n.now at bases.now slots.segment slots.first slots.count wasm.now) }
@@ -71,40 +75,37 @@ fn parts_of(alloc: Global, n: &StartNumbers, m: u32, place: Vec<Instr>) -> Resul
     Ok(vec![in alloc; nullary_part(alloc, place), start, relocate, construct]?)
 }
 
-// How many element segments there are, beside so many.
-pub(crate) fn elems_total(members: &[Member], start: usize) -> Result<usize, Memory>
-    ensures { IfOk result (λ n. n ≡ elems_total start (map module_of members.now)) }
+// How many element segments some members have. Each has fewer than 2^32.
+pub(crate) fn elems_total(members: &[Member]) -> usize
+    requires few { length members.now ≤ 256 }
+    ensures told { result ≡ elems_total 0 (map module_of members.now) }
+    ensures bounded { result ≤ 256 * 2 ^ 32 }
 {
-    let mut total = start;
+    let mut total: usize = 0;
     for member in members {
-        total = sum(total, member.checked.module().elems.items().len())?;
+        total += member.checked.module().elems.items().len();
     }
-    Ok(total)
+    total
 }
 
 // The slots that are written for member m, where so many element segments come before those of slots.
-pub(crate) fn slots_of(
-    linked: &Linked,
-    n: &StartNumbers,
-    total: usize,
-    m: u32,
-) -> Result<Slots, Memory>
+pub(crate) fn slots_of(linked: &Linked, n: &StartNumbers, total: usize, m: u32) -> Slots
     requires member { m < length linked.now.members }
-    ensures segment { IfOk result (λ s. s.segment ≡ number_of (slice_get n.now.elems (total + m))) }
-    ensures first { IfOk result (λ s. Some s.first ≡ first_slot_in linked.now m) }
-    ensures count { IfOk result (λ s. fresh_count linked.now m ≡ Some s.count) }
+    requires total { total ≤ 256 * 2 ^ 32 }
+    requires fresh { (count : ℕ) → fresh_count linked.now m ≡ Some count → count < 2 ^ 32 }
+    ensures segment { result.segment ≡ number_of (slice_get n.now.elems (total + m)) }
+    ensures first { Some result.first ≡ first_slot_in linked.now m }
+    ensures count { fresh_count linked.now m ≡ Some result.count }
 {
-    let place = sum(total, m as usize)?;
-    let segment = match n.elems.items().get(place) {
+    let segment = match n.elems.items().get(total + m as usize) {
         Some(e) => *e,
         None => u32::MAX,
     };
-    let count = as_number(linked.fresh(m).len())?;
-    Ok(Slots {
+    Slots {
         segment,
         first: linked.first_slot(m),
-        count,
-    })
+        count: linked.fresh(m).len() as u32,
+    }
 }
 
 // The four functions of member m, whose numbers stand there.

@@ -1,59 +1,24 @@
 // The code that applies the active segments of a member.
 ghost use Rattle.std.specs.Prelude.{◌≡◌, All, IfOk};
-ghost use Rattle.wasm_form.specs.declared.instr.Instr.{out-Instr};
+ghost use Rattle.spec_loading.specs.spec_binary.WellFormed.{IsShort, IsFormedItems, IsFormedElem, IsFormedData};
 ghost use Rattle.spec_loading.specs.spec_execution.Segments as segments;
 ghost use Rattle.merge_start.specs.Words.{effects_code};
-ghost use Rattle.merge_start.specs.Listed.{numbers_at, indexed, instruction_number, number_with, IsOffsetOf, Fit, IsOffset, HasElemOffset, HasDataOffset};
+ghost use Rattle.dyl_addresses.specs.Offsets.{HasElemOffset, HasDataOffset, number_with};
+ghost use Rattle.merge_start.specs.Listed.{numbers_at, Fit};
 
-use crate::numbers::{Spans, StartNumbers, as_number};
+use crate::numbers::{Spans, StartNumbers};
 use crate::words::{data_applied, elem_applied};
+use dyl_addresses::offset;
 use std::alloc::Global;
-use wasm_form::{
-    Data, DataMode, Elem, ElemItems, ElemMode, Expr, IndexForm, Instr, Memory, index_form,
-};
+use wasm_form::{Data, DataMode, Elem, ElemItems, ElemMode, Instr, Memory};
 
-fn global_number(form: Option<IndexForm>, g: u32, bases: &[Option<u32>]) -> Option<u32>
-    ensures { result ≡ indexed bases.now form g }
-{
-    match form {
-        Some(IndexForm::GlobalGet) => match bases.get(g as usize) {
-            Some(base) => *base,
-            None => None,
-        },
-        _ => None,
-    }
-}
-
-// The number of a constant instruction of type i32.
-fn instruction_number(bases: &[Option<u32>], i: &Instr) -> Option<u32>
-    requires { IsOffsetOf i.now }
-    ensures { result ≡ instruction_number bases.now (out-Instr i.now) }
-{
-    match i {
-        Instr::I32Const(n) => Some(n.cast_unsigned()),
-        Instr::I64Const(_) => None,
-        Instr::Index(op, g) => global_number(index_form(*op), *g, bases),
-        _ => None,
-    }
-}
-
-/// The number of a constant expression of type i32, where imported globals are these bases; none where it isn't one constant.
-pub fn offset(bases: &[Option<u32>], e: &Expr) -> Option<u32>
-    requires { IsOffset e.now }
-    ensures { result ≡ number_with bases.now e.now }
-{
-    match e.list.items() {
-        [i] => instruction_number(bases, i),
-        _ => None,
-    }
-}
-
-fn items_count(items: &ElemItems) -> usize
+fn items_count(items: &ElemItems) -> u32
+    requires { IsFormedItems items.now }
     ensures { result ≡ segments.items_count items.now }
 {
     match items {
-        ElemItems::Funcs(list) => list.items().len(),
-        ElemItems::Exprs { elem: _, items } => items.items().len(),
+        ElemItems::Funcs(list) => list.items().len() as u32,
+        ElemItems::Exprs { elem: _, items } => items.items().len() as u32,
     }
 }
 
@@ -67,13 +32,14 @@ fn elem_code(
     elem: &Elem,
 ) -> Result<Vec<Instr>, Memory>
     requires fit { Fit at }
+    requires formed { IsFormedElem elem.now }
     requires offset { HasElemOffset elem.now }
     ensures { IfOk result (λ x. x.items ≡ effects_code (numbers_at n.now at) 0 (segments.elem_effects (number_with bases.now) e elem.now)) }
 {
     match &elem.mode {
         ElemMode::Active { table, offset: o } => match offset(bases, o) {
             Some(index) => {
-                let count = as_number(items_count(&elem.items))?;
+                let count = items_count(&elem.items);
                 elem_applied(alloc, n, at, e, *table, index, count)
             }
             None => Ok(Vec::new(alloc)),
@@ -92,6 +58,7 @@ fn data_code(
     segment: &Data,
 ) -> Result<Vec<Instr>, Memory>
     requires fit { Fit at }
+    requires formed { IsFormedData segment.now }
     requires offset { HasDataOffset segment.now }
     ensures { IfOk result (λ x. x.items ≡ effects_code (numbers_at n.now at) 0 (segments.data_effects (number_with bases.now) d segment.now)) }
 {
@@ -101,7 +68,7 @@ fn data_code(
             offset: o,
         } => match offset(bases, o) {
             Some(address) => {
-                let count = as_number(segment.bytes.items().len())?;
+                let count = segment.bytes.items().len() as u32;
                 data_applied(alloc, n, at, d, address, count)
             }
             None => Ok(Vec::new(alloc)),
@@ -120,12 +87,13 @@ pub(crate) fn elems_code(
     elems: &[Elem],
 ) -> Result<Vec<Instr>, Memory>
     requires fit { Fit at }
+    requires short { IsShort elems.now }
+    requires formed { All IsFormedElem elems.now }
     requires offsets { All HasElemOffset elems.now }
     ensures { IfOk result (λ x. x.items ≡ effects_code (numbers_at n.now at) 0 (segments.all_effects (segments.elem_effects (number_with bases.now)) 0 elems.now)) }
 {
     let mut code = Vec::new(alloc);
-    let count = as_number(elems.len())?;
-    for e in 0..count {
+    for e in 0..elems.len() as u32 {
         let mut one = elem_code(alloc, n, at, bases, e, &elems[e as usize])?;
         code.append(&mut one)?;
     }
@@ -142,12 +110,13 @@ pub(crate) fn datas_code(
     datas: &[Data],
 ) -> Result<Vec<Instr>, Memory>
     requires fit { Fit at }
+    requires short { IsShort datas.now }
+    requires formed { All IsFormedData datas.now }
     requires offsets { All HasDataOffset datas.now }
     ensures { IfOk result (λ x. x.items ≡ effects_code (numbers_at n.now at) 0 (segments.all_effects (segments.data_effects (number_with bases.now)) 0 datas.now)) }
 {
     let mut code = Vec::new(alloc);
-    let count = as_number(datas.len())?;
-    for d in 0..count {
+    for d in 0..datas.len() as u32 {
         let mut one = data_code(alloc, n, at, bases, d, &datas[d as usize])?;
         code.append(&mut one)?;
     }

@@ -6,7 +6,7 @@ ghost use Rattle.merge_start.specs.Words.{effect_code, effects_code, call_code};
 ghost use Rattle.merge_start.specs.Listed.{numbers_at, Fit};
 
 use crate::numbers::{Spans, StartNumbers, item};
-use merge_pieces::number;
+use merge_pieces::{number, opcodes};
 use std::alloc::Global;
 use wasm_form::{Instr, Memory};
 
@@ -16,7 +16,7 @@ pub(crate) fn call(alloc: Global, f: Option<u32>) -> Result<Vec<Instr>, Memory>
 {
     match f {
         None => Ok(Vec::new(alloc)),
-        Some(f) => Ok(vec![in alloc; Instr::Index(0x10, f)]?),
+        Some(f) => Ok(vec![in alloc; Instr::Index(opcodes::CALL, f)]?),
     }
 }
 
@@ -35,7 +35,7 @@ pub(crate) fn table_init(
         number(0),
         number(count),
         Instr::Prefixed {
-            op: 12,
+            op: opcodes::TABLE_INIT,
             a: segment,
             b: table
         },
@@ -62,12 +62,12 @@ pub(crate) fn elem_applied(
         number(0),
         number(count),
         Instr::Prefixed {
-            op: 12,
+            op: opcodes::TABLE_INIT,
             a: segment,
             b: table
         },
         Instr::Prefixed {
-            op: 13,
+            op: opcodes::ELEM_DROP,
             a: segment,
             b: 0
         },
@@ -92,12 +92,12 @@ pub(crate) fn data_applied(
         number(0),
         number(count),
         Instr::Prefixed {
-            op: 8,
+            op: opcodes::MEMORY_INIT,
             a: segment,
             b: 0
         },
         Instr::Prefixed {
-            op: 9,
+            op: opcodes::DATA_DROP,
             a: segment,
             b: 0
         },

@@ -6,16 +6,16 @@ use Rattle.spec_reading.specs.spec_binary.Options.{◌>>=◌}
 use Rattle.dyl_link.specs.dyl_search.declared.set.Member.{Member}
 use Rattle.dyl_link.specs.Kept.{Kept, function_in}
 use Rattle.merge_index.specs.Numbering.{is_stub}
-use Rattle.merge_index.specs.Lists.{module_of}
+use Rattle.dyl_addresses.specs.Sets.{module_of}
 use Rattle.merge_module.specs.MergedModule.{trap_code}
 use Rattle.merge_whole.specs.Built.{joined, stubs_at, HasBodies}
 
-inside : {A : Type 0} (xs : List A) (b : ℕ) → b < length xs → (y : A) × (slice_get xs b ≡ Some y)
+pub inside : {A : Type 0} (xs : List A) (b : ℕ) → b < length xs → (y : A) × (slice_get xs b ≡ Some y)
 inside [] b lt = absurd (omega arith)
 inside (x ∷ xs) zero lt = (x, refl)
 inside (x ∷ xs) (suc b) lt = inside xs b (omega arith)
 
-drop_next : {A : Type 0} (xs : List A) (b : ℕ) (y : A) → slice_get xs b ≡ Some y → drop b xs ≡ y ∷ drop (b + 1) xs
+pub drop_next : {A : Type 0} (xs : List A) (b : ℕ) (y : A) → slice_get xs b ≡ Some y → drop b xs ≡ y ∷ drop (b + 1) xs
 drop_next [] b y e = absurd cc
 drop_next (x ∷ xs) zero y e = (let same : x ≡ y = cc in ap (λ z. z ∷ xs) same)
 drop_next (x ∷ xs) (suc b) y e = (let next : suc b + 1 ≡ suc (b + 1) = omega arith in rw next (drop_next xs b y e))

@@ -15,14 +15,14 @@ use Rattle.dyl_link.specs.Kept.{Kept, IsLinked}
 use Rattle.merge_match.specs.Renumbering.{Numbers}
 use Rattle.merge_start.specs.Words.{Starts, entry_code}
 use Rattle.merge_start.specs.Listed.{phase_parts, open_parts}
-use Rattle.merge_start.specs.declared.part.Part.{Part}
-use Rattle.merge_start.proofs.Linked.{members_count}
+use Rattle.wasm_form.specs.declared.module.Part.{Part}
+use Rattle.dyl_addresses.proofs.Linked.{members_count}
 use Rattle.merge_dl.specs.Words.{length_body}
 use Rattle.merge_dl.specs.Listed.{AreDlNumbers, loader_types, find_parts, call_parts}
 use Rattle.merge_dl.specs.declared.numbers.DlNumbers.{DlNumbers}
 use Rattle.merge_index.specs.Numbering.{is_stub}
-use Rattle.merge_module.specs.MergedModule.{with_loader, generated_functions_types, merged_types, nullary_number, host_imports, merged_imports, stub_types, loader_funcs, generated_types, merged_funcs, trap_code, plain_code, stub_codes, phase_codes, finders_of, open_codes, find_codes, call_codes, loader_codes, merged_codes}
-use Rattle.merge_whole.specs.Built.{joined, types_of, host_type, where_used, generated_in, types_in, nullary_in, imports_in, funcs_of, stubs_at, imported_types, stub_types_of, four_of, one_of, funcs_for_loader, generated_funcs_in, funcs_in, bodies_of, traps_of, code_of, generated_codes}
+use Rattle.merge_module.specs.MergedModule.{with_loader, generated_functions_types, added_types, first_added, merged_types, nullary_number, stub_types, loader_funcs, generated_types, merged_funcs, trap_code, plain_code, stub_codes, phase_codes, finders_of, open_codes, find_codes, call_codes, loader_codes, merged_codes}
+use Rattle.merge_whole.specs.Built.{joined, types_of, where_used, generated_in, types_in, nullary_in, funcs_of, stubs_at, imported_types, stub_types_of, four_of, one_of, funcs_for_loader, generated_funcs_in, funcs_in, bodies_of, traps_of, code_of, generated_codes}
 use Rattle.merge_whole.specs.Given.{HasLoader}
 use Rattle.merge_whole.proofs.Joins.{members_are}
 
@@ -142,16 +142,16 @@ module _ (L : LinkedSet) (k : Kept) (linked : IsLinked L k) where
   generated_are : generated_in k ≡ generated_functions_types L
   generated_are = ap (λ l. nullary ∷ l) (used_are loader_types loader_types refl)
 
-  pub types_are : types_in k ≡ merged_types L
-  types_are =
+  pub types_are : (added : List FuncType) → added ≡ added_types L → types_in k added ≡ merged_types L
+  types_are added is =
       ap₂ (λ (a b : List FuncType). a ++ b) (members_are types_of L k linked)
-      (ap₂ (λ (g : List FuncType) hs. g ++ map host_type hs) generated_are linked.hosts)
+      (ap₂ (λ (g more : List FuncType). g ++ more) generated_are is)
 
   nullary_are : nullary_in k ≡ nullary_number L
   nullary_are = ap length (members_are types_of L k linked)
 
-  pub imports_are : imports_in k ≡ merged_imports L
-  imports_are = ap₂ (λ t hs. host_imports t hs) (ap₂ (λ t (g : List FuncType). t + length g) nullary_are generated_are) linked.hosts
+  pub first_is : nullary_in k + length (generated_in k) ≡ first_added L
+  first_is = ap₂ (λ t (g : List FuncType). t + length g) nullary_are generated_are
 
   -- ---- stubs
 

@@ -16,7 +16,7 @@ use Rattle.spec_loading.specs.declared.task.Phase.TheVariants.{Place}
 use Rattle.dyl_link.specs.Kept.{Kept, IsLinked}
 use Rattle.merge_start.specs.declared.numbers.StartNumbers.{StartNumbers}
 use Rattle.merge_start.specs.Listed.{AreListed}
-use Rattle.merge_start.proofs.Linked.{members_count}
+use Rattle.dyl_addresses.proofs.Linked.{members_count}
 use Rattle.merge_index.specs.Numbering.{first_phase, numbers_of, starts_of}
 use Rattle.merge_module.specs.MergedModule.{merged_types, merged_imports, merged_funcs, merged_tables, shared_memory_type, merged_globals, entry_exports, merged_elems, merged_codes, merged_datas, merged_module}
 

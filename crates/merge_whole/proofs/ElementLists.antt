@@ -1,5 +1,5 @@
 -- The element segments that are made are those of the merged module of a linked set.
-use Rattle.std.proofs.Common.{◌≡◌, ◌<◌, ℕ, suc, ◌+◌, List, [], ◌∷◌, ◌++◌, length, map, slice_get, Option, Some, refl, sym, ap, ap₂, ◌∙◌, arith, length-append}
+use Rattle.std.proofs.Common.{◌≡◌, ◌<◌, ◌≤◌, ℕ, suc, ◌+◌, List, [], ◌∷◌, ◌++◌, length, map, drop, slice_get, Option, Some, refl, sym, ap, ap₂, ◌∙◌, arith, length-append}
 use Rattle.std.specs.Prelude.{unwrap_or}
 use Rattle.std.proofs.lemmas.List.{length-map}
 use Rattle.std.proofs.lemmas.Option.{slice_get_within}
@@ -11,14 +11,32 @@ use Rattle.wasm_form.specs.declared.runtime.Ref.TheVariants.{Own}
 use Rattle.spec_loading.specs.spec_linking.Sets.{Member}
 use Rattle.spec_loading.specs.spec_linking.Plans.{Plan}
 use Rattle.spec_loading.specs.spec_linking.LinkedSets.{LinkedSet}
-use Rattle.spec_loading.specs.spec_linking.Slots.{fresh_of, fresh_from, fresh_functions, linked_plan}
+use Rattle.spec_loading.specs.spec_linking.Slots.{fresh_of, fresh_from, fresh_functions, outside_slots, linked_plan}
 use Rattle.spec_loading.specs.Members.{from_members}
+use Rattle.dyl_link.specs.dyl_search.declared.set.Member as kept
 use Rattle.dyl_link.specs.Kept.{Kept, IsLinked}
 use Rattle.merge_match.specs.Renumbering.{Numbers}
-use Rattle.merge_start.proofs.Linked.{members_are}
+use Rattle.dyl_addresses.proofs.Linked.{members_are}
+use Rattle.merge_dl.proofs.SlotWords.{table_within}
 use Rattle.merge_module.specs.MergedModule.{slots_elem, functions_elem, number_expr, outside_elem, merged_elems}
 use Rattle.merge_whole.specs.Counts.{members_of}
 use Rattle.merge_whole.specs.Elements.{passive_elems, exported_numbers, fresh_by, slots_by, fresh_total, outside_by, declared_by, elems_by}
+use Rattle.merge_whole.proofs.BuiltBodies.{inside, drop_next}
+
+fresh_least : (of : ℕ → List ℕ) (start m : ℕ) (xs : List Member) → start ≤ fresh_total of start m xs
+fresh_least of start m [] = omega arith
+fresh_least of start m (x ∷ xs) = (let later = fresh_least of (start + length (of m)) (m + 1) xs in omega arith)
+
+-- the next number is no more than the last
+pub fresh_room : (of : ℕ → List ℕ) (xs : List kept.Member) (i : ℕ) → i < length xs → (next m all : ℕ)
+    → fresh_total of next m (members_of (drop i xs)) ≡ all → next + length (of m) ≤ all
+fresh_room of xs i lt next m all held =
+    let found = inside xs i lt in
+    let rest = drop_next xs i found.0 found.1 in
+    let least = fresh_least of (next + length (of m)) (m + 1) (members_of (drop (i + 1) xs)) in
+    let same : fresh_total of (next + length (of m)) (m + 1) (members_of (drop (i + 1) xs)) ≡ all =
+    sym (ap (λ l. fresh_total of next m (members_of l)) rest) ∙ held in
+    omega arith
 
 -- what each of some members has may be told in another way
 pub from_same : {X : Type 0} (f g : ℕ → Module → List X) (k : ℕ) (xs : List Member)
@@ -48,10 +66,17 @@ module _ (L : LinkedSet) (k : Kept) (h : IsLinked L k) where
       (λ j lt. (let on : m + 1 + j ≡ m + suc j = omega arith in ap (λ i. fresh_by k i) on ∙ same (suc j) (omega arith) ∙ ap (fresh_of L) (sym on))) in
       later ∙ omega arith
 
-  total_is : fresh_total (fresh_by k) k.plan.table_end 0 (members_of k.set.members) ≡ (linked_plan L).table_end + length (fresh_functions L)
+  pub total_is : fresh_total (fresh_by k) k.plan.table_end 0 (members_of k.set.members) ≡ (linked_plan L).table_end + length (fresh_functions L)
   total_is =
       ap₂ (λ (p : Plan) (ms : List Member). fresh_total (fresh_by k) p.table_end 0 ms) h.plan (members_are L k h)
       ∙ total_from (linked_plan L).table_end 0 L.set.members (λ j lt. fresh_is (0 + j) (omega arith))
+
+  pub fresh_few : fresh_total (fresh_by k) k.plan.table_end 0 (members_of k.set.members) < 4294967296
+  fresh_few =
+      let same = total_is in
+      let both = length-append (fresh_functions L) (outside_slots L) in
+      let entries = table_within L h.links in
+      omega arith
 
   abbrev declared_of : Numbers → List Member → Elem
   declared_of n ms = record { mode = elem_mode.Declarative; items = elem_items.Funcs (from_members (exported_numbers n) 0 ms) }

@@ -1,5 +1,5 @@
 -- The globals that are made are those of the merged module of a linked set.
-use Rattle.std.proofs.Common.{◌≡◌, ◌<◌, ℕ, suc, ◌+◌, Bool, true, false, not, cond, List, [], ◌∷◌, ◌++◌, length, map, drop, get_or, slice_get, Option, Some, None, refl, sym, ap, ap₂, ◌∙◌, arith, append_assoc, length-append}
+use Rattle.std.proofs.Common.{◌≡◌, ◌<◌, ℕ, suc, ◌+◌, Bool, true, false, not, cond, List, [], ◌∷◌, ◌++◌, length, map, drop, get_or, slice_get, Option, Some, None, refl, sym, ap, ap₂, subst, ◌∙◌, arith, append_assoc, length-append}
 use Rattle.std.proofs.Math.Path.{fun_ext}
 use Rattle.std.specs.Prelude.{unwrap_or}
 use Rattle.std.specs.List.{flat_map, list_any}
@@ -27,24 +27,24 @@ use Rattle.spec_loading.specs.spec_linking.Links.{unless, data_cell_fault, slot_
 use Rattle.spec_loading.specs.spec_linking.Slots.{CellName, same_cell, cell_as, cell_of_import, first_cells, cells_of, cell_value, initial_as, initial_number, linked_plan, memory_base, table_base}
 use Rattle.spec_loading.proofs.of_spec_linking.LinkedFacts.{holds_so, or_none, linked_member}
 use Rattle.spec_loading.specs.Addresses.{globals_size}
-use Rattle.spec_loading.specs.Members.{from_members}
+use Rattle.spec_loading.specs.Members.{from_members, opened_global}
 use Rattle.dyl_link.specs.Kept.{Kept, cell_in, IsLinked}
 use Rattle.merge_match.specs.Renumbering.{Numbers}
-use Rattle.merge_start.specs.Listed.{AreBases, bases_from}
-use Rattle.merge_start.proofs.Linked.{members_are, members_count, bases_long, table_bases_long}
-use Rattle.merge_start.proofs.Offsets.{are_bases}
-use Rattle.merge_index.specs.Globals.{CellKey, cell_of_key, cells_in, with_cells}
+use Rattle.dyl_addresses.specs.Bases.{AreBases, bases_from}
+use Rattle.dyl_addresses.proofs.Linked.{members_are, members_count, bases_long, table_bases_long}
+use Rattle.dyl_addresses.proofs.Offsets.{are_bases}
+use Rattle.dyl_addresses.specs.Globals.{CellKey, cell_of_key, cells_in, with_cells}
 use Rattle.merge_index.specs.Numbering.{sum_of}
-use Rattle.merge_index.proofs.Cells.{first_append}
-use Rattle.merge_index.proofs.Keys.{key_eq, key_is, any_same}
+use Rattle.dyl_addresses.proofs.Cells.{first_append}
+use Rattle.dyl_addresses.proofs.Keys.{key_eq, key_is, any_same}
 use Rattle.merge_module.specs.MergedModule.{with_loader, number_global, constant_instr, own_global, member_globals, merged_globals}
-use Rattle.merge_module.proofs.Counted.{joined_length}
+use Rattle.merge_index.proofs.Counted.{joined_length}
 use Rattle.merge_module.proofs.MergedSpaces.{past_front}
 use Rattle.merge_whole.specs.Built.{where_used}
 use Rattle.merge_whole.specs.Counts.{members_of}
 use Rattle.merge_whole.proofs.BuiltParts.{used_are}
 use Rattle.merge_whole.proofs.ElementLists.{from_same}
-use Rattle.merge_whole.specs.GlobalDefs.{own_by, cells_by, globals_by, all_globals}
+use Rattle.merge_whole.specs.GlobalDefs.{bases_by, value_by, own_by, cells_by, globals_by, all_globals}
 
 is_given : (d : ImportDesc) (may : Bool) (i : Import) (rest : List Import) → is_i32_global may d ≡ true → slice_get (map (λ x. i) (globals_in d) ++ rest) 0 ≡ Some i
 is_given (imported.Func t) may i rest e = absurd cc
@@ -184,11 +184,14 @@ module _ (L : LinkedSet) (k : Kept) (h : IsLinked L k) (m : ℕ) (member : Membe
 
   -- ---- own globals
 
+  pub value_is : (bases : List (Option ℕ)) → AreBases L m bases → (g : GlobalDef) → value_by k bases m g ≡ opened_global L m g
+  value_is bases are g =
+      ap₂ (λ (functions : ℕ → Option Ref) (globals : ℕ → Option Value). unwrap_or (constant_of functions globals g.init) (zero_of g.ty.value))
+      (fun_ext (h.functions m)) (fun_ext are)
+
   own_is : (n : Numbers) (bases : List (Option ℕ)) → AreBases L m bases → (g : GlobalDef) → own_by k n bases m g ≡ own_global L n m g
   own_is n bases are g =
-      ap₂ (λ (functions : ℕ → Option Ref) (globals : ℕ → Option Value).
-      record g { init = record { list = constant_instr n g.ty.value (unwrap_or (constant_of functions globals g.init) (zero_of g.ty.value)) ∷ [] } })
-      (fun_ext (h.functions m)) (fun_ext are)
+      ap (λ (v : Value). record g { init = record { list = constant_instr n g.ty.value v ∷ [] } }) (value_is bases are g)
 
   owns_are : (n : Numbers) (bases : List (Option ℕ)) → AreBases L m bases → (gs : List GlobalDef) → map (own_by k n bases m) gs ≡ map (own_global L n m) gs
   owns_are n bases are [] = refl
@@ -208,8 +211,12 @@ module _ (L : LinkedSet) (k : Kept) (h : IsLinked L k) (m : ℕ) (member : Membe
   table_is : slice_get k.plan.table_bases m ≡ table_base L m
   table_is = ap (λ (p : Plan). slice_get p.table_bases m) h.plan
 
-  member_is : (n : Numbers) → globals_by k n m wasm ≡ member_globals L n m wasm
-  member_is n =
+  -- its bases
+  abbrev bases : List (Option ℕ)
+  bases = bases_from (unwrap_or (memory_base L m) 0) (unwrap_or (table_base L m) 0) wasm.imports
+
+  bases_are : AreBases L m bases
+  bases_are =
       let long = bases_long L k h in
       let table_long = table_bases_long L k h in
       let within = inside in
@@ -217,15 +224,21 @@ module _ (L : LinkedSet) (k : Kept) (h : IsLinked L k) (m : ℕ) (member : Membe
       sym memory_is ∙ some_is k.plan.bases (omega arith) ∙ ap (λ (o : Option ℕ). Some (unwrap_or o 0)) memory_is in
       let table : table_base L m ≡ Some (unwrap_or (table_base L m) 0) =
       sym table_is ∙ some_is k.plan.table_bases (omega arith) ∙ ap (λ (o : Option ℕ). Some (unwrap_or o 0)) table_is in
-      let are = are_bases L m (unwrap_or (memory_base L m) 0) (unwrap_or (table_base L m) 0) memory table wasm here in
-      let bases = bases_from (unwrap_or (memory_base L m) 0) (unwrap_or (table_base L m) 0) wasm.imports in
+      are_bases L m (unwrap_or (memory_base L m) 0) (unwrap_or (table_base L m) 0) memory table wasm here
+
+  pub kept_bases : AreBases L m (bases_by k m wasm)
+  kept_bases =
+      subst (AreBases L m) (sym (ap₂ (λ (a b : Option ℕ). bases_from (unwrap_or a 0) (unwrap_or b 0) wasm.imports) memory_is table_is)) bases_are
+
+  member_is : (n : Numbers) → globals_by k n m wasm ≡ member_globals L n m wasm
+  member_is n =
       ap₂ (λ (a b : Option ℕ).
       number_global false (unwrap_or a 0) ∷ number_global false (unwrap_or b 0)
       ∷ (cells_by k m [] 0 wasm.imports ++ map (own_by k n (bases_from (unwrap_or a 0) (unwrap_or b 0) wasm.imports) m) wasm.globals))
       memory_is table_is
       ∙ ap₂ (λ (cs gs : List GlobalDef).
       number_global false (unwrap_or (memory_base L m) 0) ∷ number_global false (unwrap_or (table_base L m) 0) ∷ (cs ++ gs))
-      cells_are (owns_are n bases are wasm.globals)
+      cells_are (owns_are n bases bases_are wasm.globals)
 
 -- ---- all globals
 

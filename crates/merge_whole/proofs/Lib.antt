@@ -1,11 +1,14 @@
 pub mod CountLists
 pub mod StartLists
+pub mod FewNumbers
 pub mod Joins
 pub mod BuiltParts
-pub mod BuiltBrief
+pub mod HostUses
 pub mod ShortFits
+pub mod Little
 pub mod BuiltBodies
 pub mod BuiltWhole
 pub mod ElementLists
 pub mod GlobalLists
+pub mod GlobalFits
 pub mod LoaderNumbers

@@ -6,11 +6,11 @@ use Rattle.wasm_form.specs.declared.runtime.LoaderCall.TheVariants.{Dlopen, Dlsy
 use Rattle.spec_loading.specs.spec_linking.LinkedSets.{LinkedSet}
 use Rattle.spec_loading.specs.Members.{uses_loader}
 use Rattle.dyl_link.specs.Kept.{Kept, IsLinked}
-use Rattle.merge_start.proofs.Linked.{members_count}
+use Rattle.dyl_addresses.proofs.Linked.{members_count}
 use Rattle.merge_dl.specs.Listed.{AreDlNumbers}
 use Rattle.merge_index.specs.declared.numbers.LoaderNumbers.{LoaderNumbers}
 use Rattle.merge_index.specs.Numbering.{first_opening, length_number, first_find, first_call, call_place, loader_numbers, starts_of}
-use Rattle.merge_index.proofs.Numbered.{range_item}
+use Rattle.dyl_addresses.proofs.Items.{range_item}
 use Rattle.merge_module.specs.MergedModule.{finders_of}
 use Rattle.merge_whole.specs.Counts.{loader_by}
 use Rattle.merge_whole.specs.Given.{HasLoader}

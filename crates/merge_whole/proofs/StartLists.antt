@@ -21,9 +21,9 @@ use Rattle.dyl_link.specs.Kept.{Kept, IsLinked}
 use Rattle.merge_match.specs.Renumbering.{Numbers}
 use Rattle.merge_match.specs.Parts.{nowhere, number_of}
 use Rattle.merge_start.specs.Listed.{AreListed, in_part}
-use Rattle.merge_start.proofs.Linked.{members_are, members_count}
+use Rattle.dyl_addresses.proofs.Linked.{members_are, members_count}
 use Rattle.merge_index.specs.Numbering.{sum_of, first_phase, numbers_of, starts_of}
-use Rattle.merge_index.proofs.Numbered.{range_item}
+use Rattle.dyl_addresses.proofs.Items.{range_item}
 use Rattle.merge_index.proofs.FunctionNumbers.{sum_within}
 use Rattle.merge_whole.specs.declared.built.counts.Space.TheVariants.{Elems}
 use Rattle.merge_whole.specs.Counts.{members_of, size_in, total, tables_by, calls_by, starts_by}

@@ -21,11 +21,11 @@ use Rattle.dyl_link.specs.Kept.{Kept, function_in}
 use Rattle.merge_match.specs.Renumbering.{Numbers}
 use Rattle.merge_match.specs.Joined.{renumbered_code}
 use Rattle.merge_start.specs.Words.{Starts, entry_code}
-use Rattle.merge_start.specs.declared.part.Part.{Part}
+use Rattle.wasm_form.specs.declared.module.Part.{Part}
 use Rattle.merge_dl.specs.Listed.{loader_types}
 use Rattle.merge_index.specs.Numbering.{is_stub}
 use Rattle.merge_index.specs.Lists.{code_in}
-use Rattle.merge_module.specs.MergedModule.{host_imports, plain_code, trap_code, phase_codes, with_loader, loader_codes, passive_data, number_expr}
+use Rattle.merge_module.specs.MergedModule.{plain_code, trap_code, phase_codes, with_loader, loader_codes, passive_data, number_expr}
 use Rattle.merge_whole.specs.Counts.{members_of}
 
 -- what the members have, which are numbered from m on, one after the other
@@ -37,9 +37,6 @@ joined of m xs = from_members of m (members_of xs)
 abbrev pub types_of : ℕ → Module → List FuncType
 types_of m wasm = wasm.types
 
-abbrev pub host_type : HostName → FuncType
-host_type h = h.ty
-
 -- what is there where a member uses the loader
 abbrev pub where_used : {X : Type 0} → Kept → List X → List X
 where_used k xs = if k.uses_loader then xs else []
@@ -48,8 +45,9 @@ where_used k xs = if k.uses_loader then xs else []
 abbrev pub generated_in : Kept → List FuncType
 generated_in k = nullary ∷ where_used k loader_types
 
-abbrev pub types_in : Kept → List FuncType
-types_in k = joined types_of 0 k.set.members ++ (generated_in k ++ map host_type k.hosts)
+-- and those that are added
+abbrev pub types_in : Kept → List FuncType → List FuncType
+types_in k added = joined types_of 0 k.set.members ++ (generated_in k ++ added)
 
 -- the number of the type without parameters and results, the first of those of generated functions
 abbrev pub nullary_in : Kept → ℕ
@@ -57,9 +55,6 @@ nullary_in k = length (joined types_of 0 k.set.members)
 
 abbrev pub import_of : HostName → ℕ → Import
 import_of h t = record { «module» = h.module_name; field = h.name; desc = imported.Func t }
-
-abbrev pub imports_in : Kept → List Import
-imports_in k = host_imports (nullary_in k + length (generated_in k)) k.hosts
 
 -- ---- functions
 

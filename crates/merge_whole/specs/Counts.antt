@@ -2,7 +2,7 @@
 use Rattle.std.specs.Prelude.{ℕ, ◌+◌, List, [], ◌∷◌, length, map, Option, None, option_map}
 use Rattle.std.specs.List.{range_with_len}
 use Rattle.wasm_form.specs.declared.module.Module.{Module}
-use Rattle.spec_reading.specs.spec_binary.IndexSpaces.{table_space}
+use Rattle.spec_reading.specs.spec_binary.IndexSpaces.{table_space, function_space}
 use Rattle.spec_loading.specs.spec_linking.Sets as sets
 use Rattle.spec_loading.specs.declared.task.Phase.TheVariants.{Start, Relocate, Construct}
 use Rattle.spec_loading.specs.Phases.{phase_function}
@@ -20,6 +20,11 @@ use Rattle.merge_whole.specs.declared.built.counts.Space.TheVariants.{Elems, Dat
 abbrev pub members_of : List Member → List sets.Member
 members_of xs = map member_of xs
 
+-- the bytes of the files and of the names of members
+abbrev pub sizes : List sets.Member → ℕ
+sizes [] = 0
+sizes (m ∷ ms) = length m.name + m.size + sizes ms
+
 abbrev pub size_in : Space → Module → ℕ
 size_in Elems wasm = length wasm.elems
 size_in Datas wasm = length wasm.datas
@@ -32,6 +37,10 @@ total size start (x ∷ xs) = total size (start + size x.wasm) xs
 -- the numbers of the tables of member m, imported ones too
 abbrev pub tables_by : Numbers → ℕ → Module → List ℕ
 tables_by n m wasm = map (n.table m) (range_with_len 0 (length (table_space wasm)))
+
+-- those of its functions
+abbrev pub functions_by : Numbers → ℕ → Module → List ℕ
+functions_by n m wasm = map (n.named m) (range_with_len 0 (length (function_space wasm)))
 
 -- what the phases of member m call
 abbrev pub calls_by : Numbers → ℕ → Module → List (Option ℕ)
@@ -51,7 +60,7 @@ starts_by k n guard first =
       elems = range_with_len 0 (total (size_in Elems) (length k.set.members) members);
       datas = range_with_len 0 (total (size_in Datas) 0 members);
       tables = from_members (tables_by n) 0 members;
-      functions = [];
+      functions = from_members (functions_by n) 0 members;
     }
 
 -- the numbers that the functions of the loader name, by those of what there is for them and of the first guard

@@ -1,12 +1,14 @@
 -- The globals of the merged module of a set, by what is kept of the set.
-use Rattle.std.specs.Prelude.{ℕ, ◌+◌, true, false, List, [], ◌∷◌, ◌++◌, length, map, slice_get, Option, Some, unwrap_or}
+use Rattle.std.specs.Prelude.{ℕ, ◌+◌, ◌<◌, ◌^◌, All, true, false, List, [], ◌∷◌, ◌++◌, length, map, slice_get, Option, Some, unwrap_or}
+use Rattle.wasm_form.specs.declared.types.ValType.{ValType}
+use Rattle.wasm_form.specs.declared.types.ValType.TheVariants.{I64}
 use Rattle.wasm_form.specs.declared.instr.Expr.{Expr}
 use Rattle.wasm_form.specs.declared.module.Import.{Import}
 use Rattle.wasm_form.specs.declared.module.GlobalDef.{GlobalDef}
 use Rattle.wasm_form.specs.declared.module.Module.{Module}
 use Rattle.wasm_form.specs.declared.runtime.Ref.{Ref}
 use Rattle.wasm_form.specs.declared.runtime.Value.{Value}
-use Rattle.wasm_form.specs.declared.runtime.Value.TheVariants.{Func}
+use Rattle.wasm_form.specs.declared.runtime.Value.TheVariants.{Num, Func}
 use Rattle.spec_reading.specs.spec_binary.Options.{◌>>=◌}
 use Rattle.spec_reading.specs.spec_binary.IndexSpaces.{globals_in}
 use Rattle.spec_loading.specs.spec_runtime.Constants.{constant_of}
@@ -15,8 +17,8 @@ use Rattle.spec_loading.specs.spec_linking.Slots.{CellName, as_number, cell_of_i
 use Rattle.spec_loading.specs.Members.{from_members}
 use Rattle.dyl_link.specs.Kept.{Kept, function_in, cell_in}
 use Rattle.merge_match.specs.Renumbering.{Numbers}
-use Rattle.merge_start.specs.Listed.{bases_from}
-use Rattle.merge_index.specs.Globals.{with_cells}
+use Rattle.dyl_addresses.specs.Bases.{bases_from}
+use Rattle.dyl_addresses.specs.Globals.{with_cells}
 use Rattle.merge_module.specs.MergedModule.{number_global, constant_instr}
 use Rattle.merge_whole.specs.Counts.{members_of}
 
@@ -34,9 +36,23 @@ constant_by k bases m e = constant_of (function_in k m) (base_value bases) e
 
 -- ---- globals of a member
 
+-- a value that the constant instruction of a type has room for: that of an i64 for 64 bits, each other for 32
+abbrev pub FitsIn : ValType → Value → Type 0
+FitsIn I64 (Num k) = k < 2 ^ 64
+FitsIn _ (Num k) = k < 2 ^ 32
+FitsIn _ (Func r) = Unit {0}
+
+-- the bases that imported globals of member m are
+abbrev pub bases_by : Kept → ℕ → Module → List (Option ℕ)
+bases_by k m wasm = bases_from (unwrap_or (slice_get k.plan.bases m) 0) (unwrap_or (slice_get k.plan.table_bases m) 0) wasm.imports
+
 -- a global of member m begins with its value, where imported globals are these bases
 abbrev pub value_by : Kept → List (Option ℕ) → ℕ → GlobalDef → Value
 value_by k bases m g = unwrap_or (constant_by k bases m g.init) (zero_of g.ty.value)
+
+-- such values fit the types of these globals
+abbrev pub AreFit : Kept → List (Option ℕ) → ℕ → List GlobalDef → Type 0
+AreFit k bases m gs = All (λ (g : GlobalDef). FitsIn g.ty.value (value_by k bases m g)) gs
 
 abbrev pub own_by : Kept → Numbers → List (Option ℕ) → ℕ → GlobalDef → GlobalDef
 own_by k n bases m g = record g { init = record { list = constant_instr n g.ty.value (value_by k bases m g) ∷ [] } }

@@ -1,5 +1,4 @@
 // The parts of the merged module of a linked set.
-pub(crate) mod brief;
 mod codes;
 mod constants;
 mod copies;
@@ -10,6 +9,7 @@ mod exports;
 mod funcs;
 mod given;
 mod globals;
+mod hosts;
 mod imports;
 mod loader;
 mod starts;

@@ -2,6 +2,11 @@
 #![tactic(auto)]
 
 mod built;
+mod made;
+mod making;
 mod sets;
 
-pub use sets::merge_set;
+pub use made::Parts;
+pub use making::parts;
+pub use sets::merge;
+pub use spec_merging::MergeFault;

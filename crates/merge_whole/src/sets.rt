@@ -1,61 +1,139 @@
 // The bytes of the merged module of a linked set.
-ghost use Rattle.std.specs.Prelude.{◌≡◌, ◌^◌, ◌≤◌, ◌⊎◌, ℕ, [], All, IfOk, IfErr, Err};
+ghost use Rattle.std.specs.Prelude.{◌≡◌, ◌+◌, ◌^◌, ◌≤◌, ◌<◌, ◌⊎◌, ◌↔◌, ℕ, min, All, IfOk, OnOk, Err, IsTrue, length};
 ghost use Rattle.spec_merging.specs.declared.fault.MergeFault.TheVariants as faults;
 ghost use Rattle.spec_loading.specs.spec_linking.LinkedSets.{LinkedSet};
 ghost use Rattle.spec_reading.specs.spec_binary.Modules.{SpellsModule};
-ghost use Rattle.spec_reading.specs.spec_binary.WellFormed.{IsWellFormed};
+ghost use Rattle.spec_reading.specs.spec_binary.WellFormed.{IsFormedType, IsWellFormed};
 ghost use Rattle.dyl_link.specs.Kept.{IsLinked};
 ghost use Rattle.wasm_encode.specs.SectionSizes.{IsFirstTooLong};
-ghost use Rattle.merge_module.specs.MergedModule.{merged_module};
-ghost use Rattle.merge_module.specs.Laws.{AreShort, IsSupported};
-ghost use Rattle.merge_whole.specs.Merges.{Merges, bulk};
+ghost use Rattle.merge_module.specs.MergedModule.{added_types, merged_module};
+ghost use Rattle.merge_module.specs.Laws.{types_bulk, IsSupported};
+ghost use Rattle.merge_whole.specs.Counts.{members_of, sizes};
+ghost use Rattle.merge_whole.specs.Merges.{Merges, IsTooLongFor, bulk_of, bulk};
 
-use crate::built::brief::check_brief;
-use crate::built::whole::merged_module;
+use crate::making::parts;
 use dyl_link::Linked;
+use dyl_link::dyl_search::Member;
 use merge_module::{merged_modules_are_formed, spelled_modules_merge};
 use spec_merging::MergeFault;
 use spec_reading::bytes_spell_one_module;
 use std::alloc::Global;
 use wasm_encode::{EncodeFault, encode};
-use wasm_form::Module;
+use wasm_form::{FuncType, Memory, Module};
 
-/// The encoding of a merged module, of which no section is too long.
-fn encoded(alloc: Global, wasm: &Module) -> Result<Vec<u8>, MergeFault>
-    requires formed { IsWellFormed wasm.now }
-    requires short { AreShort wasm.now }
-    requires customs { wasm.now.customs ≡ [] }
-    ensures spelled { IfOk result (λ bytes. SpellsModule wasm.now bytes.items) }
-    ensures fault { IfErr result (λ e. e ≡ faults.Memory) }
+// A set that has so many bytes of files and of names is big, however many members it has.
+const MANY: u64 = 16_777_216;
+
+// A sum, or the bound where it is more.
+fn capped(size: u64, more: u64) -> u64
+    ensures { result ≡ min (size + more) 16777216 }
 {
+    let sum = size.saturating_add(more);
+    if sum > MANY { MANY } else { sum }
+}
+
+// The bytes of files and of names, or the bound where there are more.
+fn capped_size(members: &[Member]) -> u64
+    ensures is { result ≡ min (sizes (members_of members.now)) 16777216 }
+    ensures few { result ≤ 16777216 }
+{
+    let mut size: u64 = 0;
+    for member in members {
+        let named = capped(size, member.name.as_str().len() as u64);
+        let all = capped(named, u64::from(member.size));
+        size = all;
+    }
+    size
+}
+
+#[tactic(auto, using(crate::proofs::Little::square_few))]
+fn square(count: u64) -> u64
+    requires { count ≤ 256 }
+    ensures is { result ≡ count ^ 2 }
+    ensures few { result ≤ 65536 }
+{
+    count.pow(2)
+}
+
+// Whether there is so much of a set that a section of its merged module may be too long.
+fn is_big(members: &[Member]) -> bool
+    requires { length members.now ≤ 256 }
+    ensures { IsTrue result ↔ (2 ^ 32 ≤ bulk_of (members_of members.now)) }
+{
+    let size = capped_size(members);
+    let square = square(members.len() as u64);
+    256 * size + 64 * square >= 0x1_0000_0000
+}
+
+fn check_type(ty: &FuncType) -> Result<(), Memory>
+    ensures { OnOk result (IsFormedType ty.now) }
+{
+    if ty.params.items().len() > u32::MAX as usize {
+        return Err(Memory);
+    }
+    if ty.results.items().len() > u32::MAX as usize {
+        return Err(Memory);
+    }
+    Ok(())
+}
+
+// Only a host table may bring a type that can't be written, with 2^32 parameters or results. Want of memory stands for it.
+fn check_types(types: &[FuncType]) -> Result<(), Memory>
+    ensures { OnOk result (All IsFormedType types.now) }
+{
+    for ty in types {
+        check_type(ty)?;
+    }
+    Ok(())
+}
+
+// The encoding of a merged module. Where there isn't so much of the set, only types that the host table alone brings can make a section
+// too long, and want of memory stands for that.
+fn encoded(alloc: Global, linked: &Linked, wasm: &Module) -> Result<Vec<u8>, MergeFault>
+    requires few { length linked.now.set.members ≤ 256 }
+    requires formed { All IsFormedType wasm.now.types → IsWellFormed wasm.now }
+    ensures formed { OnOk result (IsWellFormed wasm.now) }
+    ensures spelled { IfOk result (λ bytes. SpellsModule wasm.now bytes.items) }
+    ensures long { (id : ℕ) → result ≡ Err (faults.SectionSize id) → IsFirstTooLong wasm.now id }
+    ensures big { (id : ℕ) → result ≡ Err (faults.SectionSize id) → 2 ^ 32 ≤ bulk_of (members_of linked.now.set.members) }
+    ensures only_long { (id : ℕ) → IsFirstTooLong wasm.now id → (result ≡ Err (faults.SectionSize id)) ⊎ (result ≡ Err faults.Memory) }
+{
+    check_types(wasm.types.items())?;
     match encode(alloc, wasm) {
         Ok(bytes) => Ok(bytes),
-        Err(EncodeFault::SectionSize { .. }) => unreachable!(),
+        Err(EncodeFault::SectionSize { id }) => {
+            if is_big(linked.set().members.items()) {
+                Err(MergeFault::SectionSize { id })
+            } else {
+                Err(MergeFault::Memory)
+            }
+        }
         Err(EncodeFault::Memory) => Err(MergeFault::Memory),
     }
 }
 
-/// Merges a linked set: the bytes spell a valid module that imports the host functions of the set alone, has the planned table and memory,
-/// exports its entry as `_start` and the memory as `memory`, and agrees with the loaded set.
+/// Merges a linked set. The bytes are the encoding of the module that `parts` gives: a valid module that imports the host functions of the
+/// set alone, has the planned table and memory, exports its entry as `_start` and the memory as `memory`, and agrees with the loaded set.
 ///
-/// `SectionSize` comes exactly where a section of that module would take 2^32 bytes or more, with the number of the first such section;
-/// no set is so big whose bulk is below 2^32. `Memory` comes where no memory could be had, and for a set whose host functions' names and types
-/// take more than 32 MiB or whose members' names take more than 16 MiB.
-pub fn merge_set(alloc: Global, linked: &Linked) -> Result<Vec<u8>, MergeFault>
-    requires set { (L : LinkedSet) × IsLinked L linked.now }
-    requires pages { linked.now.plan.pages_max ≤ 16384 }
+/// `SectionSize` comes exactly where a section of that module would take 2^32 bytes or more, with the number of the first such section. No
+/// set has one whose bulk is below 2^32, but for types that the host table alone brings: those of host functions that only `GOT.func` asks
+/// for. Where these make a section too long, and where no memory could be had, comes `Memory`.
+pub fn merge(alloc: Global, linked: &Linked) -> Result<Vec<u8>, MergeFault>
     requires hosts { All IsSupported linked.now.hosts }
     ensures merged { IfOk result (λ bytes. (L : LinkedSet) → IsLinked L linked.now → Merges L bytes.items) }
-    ensures long { (id : ℕ) → result ≡ Err (faults.SectionSize id) → (L : LinkedSet) → IsLinked L linked.now → IsFirstTooLong (merged_module L) id }
-    ensures big { (id : ℕ) → result ≡ Err (faults.SectionSize id) → (L : LinkedSet) → IsLinked L linked.now → 2 ^ 32 ≤ bulk L }
+    ensures spelled { IfOk result (λ bytes. (L : LinkedSet) → IsLinked L linked.now → SpellsModule (merged_module L) bytes.items) }
+    ensures long { (id : ℕ) → result ≡ Err (faults.SectionSize id) → (L : LinkedSet) → IsLinked L linked.now → IsTooLongFor L id }
+    ensures exact { (id : ℕ) → result ≡ Err (faults.SectionSize id) → (L : LinkedSet) → IsLinked L linked.now → IsFirstTooLong (merged_module L) id }
     ensures only_long { (id : ℕ) (L : LinkedSet) → IsLinked L linked.now → IsFirstTooLong (merged_module L) id → (result ≡ Err (faults.SectionSize id)) ⊎ (result ≡ Err faults.Memory) }
+    ensures little { (id : ℕ) (L : LinkedSet) → IsLinked L linked.now → bulk L < 2 ^ 32 → types_bulk (added_types L) ≤ 33554432 → IsFirstTooLong (merged_module L) id → ⊥ }
 {
+    linked.links();
+    linked.has_few_pages();
     spelled_modules_merge();
     merged_modules_are_formed();
     bytes_spell_one_module();
-    check_brief(linked)?;
-    let module = merged_module(alloc, linked)?;
-    let bytes = encoded(alloc, &module);
-    drop(module);
+    let parts = parts(alloc, linked)?;
+    let bytes = encoded(alloc, linked, &parts.module);
+    drop(parts);
     bytes
 }

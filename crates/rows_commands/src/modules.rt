@@ -42,13 +42,19 @@ fn put_section(alloc: Global, to: &mut Vec<u8>, id: u8, contents: &[u8]) -> Resu
     put_sized(alloc, to, contents)
 }
 
-/// Appends an import: the names of a module and of a field, and what it is of.
-fn put_import(alloc: Global, words: &Words, to: &mut Vec<u8>, text: &str) -> Result<(), Memory> {
+/// Appends the imports of the names that a word stands for, behind that of a module, and answers how many these are.
+fn put_imports(alloc: Global, words: &Words, to: &mut Vec<u8>, text: &str) -> Result<u32, Memory> {
     let (from, rest) = text.split_once(' ').unwrap_or((text, ""));
     let (name, of) = rest.split_once(' ').unwrap_or((rest, ""));
-    put_sized(alloc, to, word_of(alloc, from)?.as_bytes())?;
-    put_sized(alloc, to, word_of(alloc, name)?.as_bytes())?;
-    words.put(alloc, to, of)
+    let from = word_of(alloc, from)?;
+    let mut count = 0u32;
+    for name in &names_of(alloc, name)? {
+        count = count.saturating_add(1);
+        put_sized(alloc, to, from.as_bytes())?;
+        put_sized(alloc, to, name.as_bytes())?;
+        words.put(alloc, to, of)?;
+    }
+    Ok(count)
 }
 
 /// Appends the exports of the names that a word stands for, and answers how many these are. A last `#` of what they
@@ -97,7 +103,7 @@ fn put_items(
     match key {
         "exports" => return put_exports(alloc, words, to, text),
         "needed" => return put_names(alloc, to, text),
-        "imports" => put_import(alloc, words, to, text)?,
+        "imports" => return put_imports(alloc, words, to, text),
         _ => put_body(alloc, words, to, text)?,
     }
     Ok(1)

@@ -84,7 +84,7 @@ fn note_order(
             "order",
             String::from_str(alloc, "out of range")?.into_bytes(),
         ),
-        Err(WordFault::Usage(kind)) => came.add("err", usage_line(alloc, kind)?),
+        Err(WordFault::Usage { kind }) => came.add("err", usage_line(alloc, kind)?),
         Err(WordFault::Memory) => Err(Memory),
     }
 }

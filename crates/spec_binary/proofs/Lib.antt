@@ -6,4 +6,6 @@ pub mod Options
 pub mod Lists
 pub mod Locals
 pub mod OneType
+pub mod SpelledItems
+pub mod SpelledParts
 pub use Rattle.wasm_form.proofs as of_wasm_form

@@ -8,9 +8,9 @@ ghost use Rattle.test_units.specs.Runs.{StandsOpen};
 use crate::outside::OutsideTypes;
 use spec_safety::{checked_code_is_in_range, store_is_in_range};
 use std::alloc::Global;
-use wasm_check::Checked;
+use wasm_check::{Checked, exported_function};
 use wasm_form::{Code, FuncType, Import, ImportDesc, LoaderCall, Memory, Ref, Trap, Value};
-use wasm_instance::{Instance, exported_function};
+use wasm_instance::Instance;
 use wasm_space::{Slots, Space};
 use wasm_view::View;
 

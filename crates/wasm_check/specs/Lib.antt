@@ -4,3 +4,4 @@ pub mod Spaces
 pub mod Marks
 pub mod Heights
 pub mod Constants
+pub mod Exports

@@ -4,6 +4,7 @@
 mod bodies;
 mod checked;
 mod evaluation;
+mod exports;
 mod fields;
 mod inside;
 mod names;
@@ -14,5 +15,6 @@ mod value;
 
 pub use checked::{CheckRefused, Checked, check};
 pub use evaluation::constant;
+pub use exports::{exported_function, imported_functions};
 pub use spec_validation::{CheckFault, Field, Place};
 pub use value::Constant;

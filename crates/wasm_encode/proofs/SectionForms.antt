@@ -12,7 +12,7 @@ use Rattle.spec_reading.proofs.of_spec_binary.UnsignedSpelling.{unsigned_length}
 use Rattle.spec_reading.specs.spec_binary.Sections.{IsSection, section as one_section}
 use Rattle.spec_reading.specs.spec_binary.Joined.{IsSized}
 use Rattle.wasm_encode.specs.SectionSizes.{IsTooLongCustom}
-use Rattle.wasm_encode.specs.Written.{AddsSection, section, IsLongList, whole, part, SpellsSome, some, SpellsCustom, custom, IsRun}
+use Rattle.wasm_encode.specs.Written.{AddsSection, section, IsLongList, whole, part, SpellsSome, some, SpellsCustom, custom, IsRankRun}
 use Rattle.spec_reading.proofs.of_spec_binary.Joined.{itself, whole as whole_of, shortest_like, unsigned_below}
 
 -- one section
@@ -96,7 +96,7 @@ module _ (rank : ℕ) (cs : List Custom) where
       let more : take (k + 1) cs ≡ take k cs ++ c ∷ [] = rw (add-one) (take-suc cs k c h ∙ ap (λ y. take k cs ++ y ∷ []) (sym is)) in
       subst Ranked (sym more) (All-append (λ c. c.rank ≡ rank) (take k cs) (c ∷ []) ranked (All-cons (λ c. c.rank ≡ rank) c [] e (All-nil (λ c. c.rank ≡ rank))))
 
-  pub run_broken : (k : ℕ) (c : Custom) → k < length cs → c ≡ get_or cs k c → c.rank ≢ rank → Ranked (take k cs) → IsRun rank cs k
+  pub run_broken : (k : ℕ) (c : Custom) → k < length cs → c ≡ get_or cs k c → c.rank ≢ rank → Ranked (take k cs) → IsRankRun rank cs k
   run_broken k c h is e ranked = record {
     within = omega arith;
     ranked = ranked;
@@ -105,7 +105,7 @@ module _ (rank : ℕ) (cs : List Custom) where
         subst (λ x. x.rank ≢ rank) (first_same (sym here ∙ f)) e;
   }
 
-  pub run_ended : (k : ℕ) → length cs ≤ k → k ≤ length cs → Ranked (take k cs) → IsRun rank cs (length cs)
+  pub run_ended : (k : ℕ) → length cs ≤ k → k ≤ length cs → Ranked (take k cs) → IsRankRun rank cs (length cs)
   run_ended k h l ranked =
       let same : k ≡ length cs = omega arith in
       record { within = omega arith; ranked = subst (λ n. Ranked (take n cs)) same ranked; end = λ d ds f. absurd (let none : drop (length cs) cs ≡ [] = drop_all (length cs) cs (omega arith) in cc) }

@@ -10,6 +10,7 @@ use Rattle.spec_reading.specs.spec_binary.Number.{SpellsUnsigned}
 use Rattle.spec_reading.specs.spec_binary.Sequence.{SpellsEach, SpellsVec, none, next, vec}
 use Rattle.spec_reading.proofs.of_spec_binary.UnsignedSpelling.{unsigned_some, unsigned_few}
 use Rattle.spec_reading.proofs.of_spec_binary.SignedSpelling.{signed_length}
+use Rattle.spec_reading.proofs.of_spec_binary.SpelledItems.{items_within}
 use Rattle.wasm_form.proofs.Levels.{with_inside, fold_rolled}
 use Rattle.spec_reading.specs.spec_binary.Types.{SpellsValType, SpellsRefType}
 use Rattle.spec_reading.specs.spec_binary.Types as types
@@ -73,15 +74,6 @@ value_type_one types.f32 = refl
 value_type_one types.f64 = refl
 value_type_one (types.reference types.func_ref) = refl
 value_type_one (types.reference types.extern_ref) = refl
-
--- there are no more items than bytes
-pub items_within : {A : Type 0} (Spells : A → List ℕ → Type 0) → ((x : A) (w : List ℕ) → Spells x w → 1 ≤ length w) → (xs : List A) (w : List ℕ)
-    → SpellsEach Spells xs w → length xs ≤ length w
-items_within Spells long [] _ none = omega arith
-items_within Spells long (x ∷ xs) _ (next {w = w} {v = v} one rest) =
-    let here = long x w one in
-    let later = items_within Spells long xs v rest in
-    omega (arith, length-append w v)
 
 -- items of no more than k bytes each
 pub items_short : {A : Type 0} (Spells : A → List ℕ → Type 0) (k : ℕ) → ((x : A) (w : List ℕ) → Spells x w → length w ≤ k) → (xs : List A) (w : List ℕ)

@@ -27,7 +27,7 @@ pub data SpellsCustom : Custom → List ℕ → Type 0 where
   custom : {c : Custom} {name w : List ℕ} → SpellsName c.name name → IsSection 0 (name ++ c.bytes) w → SpellsCustom c w
 
 -- so many custom sections of this rank stand first
-pub record IsRun (rank : ℕ) (customs : List Custom) (n : ℕ) : Type 0 where
+pub record IsRankRun (rank : ℕ) (customs : List Custom) (n : ℕ) : Type 0 where
   pub within : n ≤ length customs
   pub ranked : All (λ c. c.rank ≡ rank) (take n customs)
   pub end : (c : Custom) (cs : List Custom) → drop n customs ≡ c ∷ cs → c.rank ≢ rank

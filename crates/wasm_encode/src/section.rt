@@ -23,7 +23,7 @@ ghost use Rattle.wasm_encode.specs.Written.{
   IsLongList,
   SpellsSome,
   SpellsCustom,
-  IsRun,
+  IsRankRun,
   AddsCustoms,
   IsLongCustom,
 };
@@ -117,7 +117,7 @@ impl Part for Custom {
 
 /// How many custom sections of this rank stand first.
 fn count_ranked(rank: u8, customs: &[Custom]) -> usize
-    ensures { IsRun rank customs.now result }
+    ensures { IsRankRun rank customs.now result }
 {
     for i in 0..customs.len() {
         if customs[i].rank != rank {

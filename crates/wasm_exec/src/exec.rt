@@ -123,7 +123,7 @@ fn run_program<I: Source, O: Sink, E: Sink, A: Ambient>(
     requires opened { (o : Origin) × Opens o (names_of table.now) program }
     ensures { IsRunFrom (embedder_of args table.now) most result program.entry (devices (I.seen input.old) (O.seen output.old) (E.seen errors.old) (A.seen ambient.old)) (devices (I.seen input.new) (O.seen output.new) (E.seen errors.new) (A.seen ambient.new)) }
 {
-    match Hosts::bind(alloc, Wasi::new(args), table, program.hosts()) {
+    match Hosts::bind(alloc, Wasi::new(alloc, args), table, program.hosts()) {
         Ok(hosts) => {
             let driver = Driver::new(program);
             let told = drive(alloc, driver, most, &hosts, input, output, errors, ambient);

@@ -21,10 +21,10 @@ pub use list::List;
 pub use memory::Memory;
 pub use module::{
     Code, Custom, Data, DataMode, Elem, ElemItems, ElemMode, Export, ExportDesc, GlobalDef, Group,
-    Import, ImportDesc, Module,
+    Import, ImportDesc, Module, Part,
 };
 pub use plain::{Operator, PlainForm, plain_form};
 pub use runtime::{Answer, Asked, LoaderCall, Ref, Trap, Value, Write};
 pub use second::{SecondForm, second_form};
-pub use text::Text;
+pub use text::{Text, owned};
 pub use types::{FuncType, GlobalType, Limits, TableType, ValType};

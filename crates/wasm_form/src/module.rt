@@ -94,6 +94,13 @@ pub struct Code {
     pub body: Expr,
 }
 
+/// A function with its type, as a module that is made has it: the type goes to the types, the locals and the body to the code section.
+#[derive(Drop)]
+pub struct Part {
+    pub ty: FuncType,
+    pub code: Code,
+}
+
 /// A custom section. Its rank is the greatest rank of a section before it that isn't empty, or 0; the ranks of
 /// the sections 1 to 9 are their numbers, and data count, code and data have 10, 11 and 12.
 #[derive(Drop)]

@@ -1,6 +1,8 @@
 // A text as contracts see it.
-ghost use Rattle.std.specs.Prelude.{◌≡◌, string_bytes};
+ghost use Rattle.std.specs.Prelude.{◌≡◌, IfOk, string_bytes};
 
+use crate::memory::Memory;
+use std::alloc::Global;
 use std::marker::Model;
 
 /// A `String` that contracts see as the list of its bytes.
@@ -25,12 +27,28 @@ impl Text {
         Text { text: s }
     }
 
+    /// The text of a string slice, as a text of its own. `Memory` where no memory could be had.
+    pub fn copied(alloc: Global, s: &str) -> Result<Text, Memory>
+        ensures { IfOk result (λ t. t ≡ s.now) }
+    {
+        let text = owned(alloc, s)?;
+        Ok(Text::of(text))
+    }
+
     /// The text as a string slice.
     pub fn as_str(&self) -> &str
         ensures { result.now ≡ self.now }
     {
         self.text.as_str()
     }
+}
+
+/// A string of its own with the characters of a string slice. `Memory` where no memory could be had.
+pub fn owned(alloc: Global, s: &str) -> Result<String, Memory>
+    ensures { IfOk result (λ text. string_bytes text ≡ s.now) }
+{
+    let text = String::from_str(alloc, s)?;
+    Ok(text)
 }
 
 impl PartialEq for Text {

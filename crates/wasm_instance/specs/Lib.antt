@@ -5,4 +5,3 @@ pub mod Rooms
 pub mod Kept
 pub mod Opening
 pub mod Copies
-pub mod Exports

@@ -3,7 +3,6 @@
 
 mod applying;
 mod constants;
-mod exports;
 mod imports;
 mod instance;
 mod opening;
@@ -13,7 +12,6 @@ mod space;
 mod tables;
 mod view;
 
-pub use exports::exported_function;
 pub use instance::Instance;
 pub use rooms::rooms_of;
 pub use tables::{copy_between, tables_of};

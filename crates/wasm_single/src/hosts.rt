@@ -18,20 +18,12 @@ fn imported_type<'a>(m: &'a Module, desc: &ImportDesc) -> Option<&'a FuncType>
     }
 }
 
-/// A text of its own.
-fn owned(alloc: Global, text: &str) -> Result<Text, Memory>
-    ensures { IfOk result (λ t. t ≡ text.now) }
-{
-    let text = String::from_str(alloc, text)?;
-    Ok(Text::of(text))
-}
-
 /// The module and the name of an import that isn't met.
 fn import_names(alloc: Global, import: &Import) -> Result<(Text, Text), Memory>
     ensures { IfOk result (λ p. (p.0 ≡ import.now.«module») × (p.1 ≡ import.now.field)) }
 {
-    let from = owned(alloc, import.module.as_str())?;
-    let name = owned(alloc, import.field.as_str())?;
+    let from = Text::copied(alloc, import.module.as_str())?;
+    let name = Text::copied(alloc, import.field.as_str())?;
     Ok((from, name))
 }
 

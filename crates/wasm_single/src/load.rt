@@ -11,9 +11,9 @@ use host_table::HostNames;
 use spec_safety::checked_code_is_in_range;
 use spec_safety::spec_execution::SingleFault;
 use std::alloc::Global;
-use wasm_check::Checked;
+use wasm_check::{Checked, exported_function};
 use wasm_form::FuncType;
-use wasm_instance::{Instance, exported_function};
+use wasm_instance::Instance;
 use wasm_machine::Machine;
 
 impl<'m> Single<'m> {

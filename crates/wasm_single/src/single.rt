@@ -159,6 +159,7 @@ impl<'m> Single<'m> {
         ensures left { OnOk result ((r : Ran hosts ModuleState) → Stands self.new r → self.new.steps < most → IsCodeNext self.new.wasm r.state → ⊥) }
         ensures found { OnOk result (self.new.lost ≡ false) }
         ensures lost { OnErr result (self.new.lost ≡ true) }
+        ensures again { self.old.lost ≡ true → result ≡ Err (record {}) }
     {
         if self.lost {
             return Err(Memory);

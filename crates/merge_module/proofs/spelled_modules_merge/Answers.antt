@@ -1,9 +1,9 @@
 use Rattle.merge_module.proofs.Known.{HasLaws, HasCodeLaws, known}
-use Rattle.merge_module.proofs.Headline.{merges}
+use Rattle.merge_module.proofs.Headline.{stands, merges}
 use Rattle.merge_module.proofs.spelled_modules_merge.Goals as goal
 
 pub returns : goal.returns
-returns c L is =
+returns c =
     let laws : HasLaws = record {
       there = c.linked_code_is_there.ensures.code;
       typed = c.linked_functions_are_typed.ensures.functions;
@@ -16,8 +16,13 @@ returns c L is =
     let code : HasCodeLaws = record {
       runs = c.sets_run_as_merged.ensures.runs;
       unused = c.unused_loader_is_not_called.ensures;
+      lengths = c.lengths_are_given.ensures;
+      searches = c.members_are_searched.ensures.searches;
       answered = c.loader_calls_are_answered.ensures;
       generated = c.generated_code_is_typed.ensures;
       loader = c.loader_code_is_typed.ensures;
     } in
-    merges code L (known laws L is.shape is.links) is.pages is.hosts
+    record {
+      stands = λ L is. stands code L (known laws L is.shape is.links) is.pages is.hosts;
+      merges = λ L is. merges code L (known laws L is.shape is.links) is.pages is.hosts;
+    }

@@ -1,28 +1,28 @@
 // The bodies of the merged module.
-ghost use Rattle.std.specs.Prelude.{◌≡◌, ◌++◌, ◌<◌, ◌^◌, map, Some, IfOk, OnOk};
+ghost use Rattle.std.specs.Prelude.{◌≡◌, ◌≤◌, ◌++◌, ◌<◌, ◌^◌, length, map, Some, IfOk, IfSome, OnOk};
 ghost use Rattle.spec_loading.specs.spec_linking.LinkedSets.{LinkedSet};
 ghost use Rattle.dyl_link.specs.Kept.{IsLinked};
 ghost use Rattle.merge_match.specs.Joined.{renumbered_code};
 ghost use Rattle.merge_start.specs.Words.{Starts};
-ghost use Rattle.merge_start.specs.Listed.{IsOfSet, AreListed};
+ghost use Rattle.dyl_addresses.specs.Sets.{IsOfSet};
+ghost use Rattle.merge_start.specs.Listed.{AreListed};
 ghost use Rattle.merge_index.specs.Kept.{numbers_in};
 ghost use Rattle.merge_module.specs.MergedModule.{merged_codes};
 ghost use Rattle.merge_match.specs.Renumbering as renumbering;
 ghost use Rattle.merge_dl.specs.Listed.{AreDlNumbers};
 ghost use Rattle.merge_module.specs.MergedModule.{finders_of, with_loader, loader_codes};
 ghost use Rattle.merge_whole.specs.Built.{joined, HasBodies, bodies_of, traps_of, code_of, generated_codes};
-ghost use Rattle.merge_whole.specs.Given.{HasLoader};
+ghost use Rattle.merge_whole.specs.Given.{HasLoader, AreSmall};
 
 use crate::built::copies::copied_code;
-use crate::built::counts::end_of;
 use crate::built::stubs::{imported_types, put_traps};
 use dyl_link::Linked;
 use dyl_link::dyl_search::Member;
-use merge_dl::{DlNumbers, find_functions, length_function, loader_functions};
+use merge_dl::{DlNumbers, dl_functions, find_functions, length_function};
 use merge_index::Numbers;
-use merge_start::{Part, StartNumbers, entry_function, open_functions, phase_functions};
+use merge_start::{StartNumbers, entry_function, open_functions, phase_functions};
 use std::alloc::Global;
-use wasm_form::{Code, List, Memory};
+use wasm_form::{Code, List, Memory, Part};
 
 fn put_bodies(
     alloc: Global,
@@ -32,12 +32,12 @@ fn put_bodies(
     m: u32,
     codes: &[Code],
 ) -> Result<(), Memory>
-    requires { HasBodies linked.now m codes.now }
+    requires bodies { HasBodies linked.now m codes.now }
+    requires few { length codes.now < 2 ^ 32 }
     ensures { OnOk result (to.new.items ≡ to.old.items ++ map (renumbered_code (numbers_in n.now) m) codes.now) }
 {
-    let count = end_of(0, codes.len())?;
-    for b in 0..count {
-        let code = n.rename_body(alloc, linked, m, b)?;
+    for b in 0..codes.len() {
+        let code = n.rename_body(alloc, linked, m, b as u32)?;
         to.push(code)?;
     }
     Ok(())
@@ -49,13 +49,13 @@ fn put_members(
     linked: &Linked,
     n: &Numbers,
 ) -> Result<(), Memory>
+    requires few { length linked.now.set.members ≤ 256 }
     ensures { OnOk result (to.new.items ≡ to.old.items ++ joined (bodies_of (numbers_in n.now)) 0 linked.now.set.members) }
 {
     let members = linked.set().members.items();
-    let count = end_of(0, members.len())?;
-    for m in 0..count {
-        let codes = members[m as usize].checked.module().codes.items();
-        put_bodies(alloc, to, linked, n, m, codes)?;
+    for m in 0..members.len() {
+        let codes = members[m].checked.module().codes.items();
+        put_bodies(alloc, to, linked, n, m as u32, codes)?;
     }
     Ok(())
 }
@@ -66,13 +66,14 @@ fn put_stubs(
     linked: &Linked,
     members: &[Member],
 ) -> Result<(), Memory>
+    requires few { length members.now ≤ 256 }
     ensures { OnOk result (to.new.items ≡ to.old.items ++ joined (traps_of linked.now) 0 members.now) }
 {
     let mut m: u32 = 0;
     for member in members {
         let types = imported_types(alloc, member.checked.module().imports.items())?;
         put_traps(alloc, to, linked, m, types.as_slice())?;
-        m = end_of(m, 1)?;
+        m += 1;
     }
     Ok(())
 }
@@ -88,6 +89,7 @@ fn put_parts(alloc: Global, to: &mut Vec<Code>, parts: &[Part]) -> Result<(), Me
 
 // Those of the members and of the stubs.
 fn own_codes(alloc: Global, linked: &Linked, n: &Numbers) -> Result<Vec<Code>, Memory>
+    requires few { length linked.now.set.members ≤ 256 }
     ensures { IfOk result (λ x. x.items ≡ joined (bodies_of (numbers_in n.now)) 0 linked.now.set.members ++ joined (traps_of linked.now) 0 linked.now.set.members) }
 {
     let mut codes = Vec::new(alloc);
@@ -105,6 +107,7 @@ fn loader_codes(
 ) -> Result<Vec<Code>, Memory>
     requires set { IsOfSet linked.now }
     requires first { s.now.first_function < 2 ^ 31 }
+    requires numbers { AreSmall d.now }
     ensures { IfOk result (λ c. (L : LinkedSet) (N : renumbering.Numbers) (x : Starts) → IsLinked L linked.now → AreListed L s.now N x → AreDlNumbers L d.now x (finders_of L x) → c.items ≡ loader_codes L N x) }
 {
     let mut codes = Vec::new(alloc);
@@ -113,7 +116,7 @@ fn loader_codes(
     codes.push(length_function(alloc)?.code)?;
     let finds = find_functions(alloc, linked, d)?;
     put_parts(alloc, &mut codes, finds.items())?;
-    let calls = loader_functions(alloc, linked, d)?;
+    let calls = dl_functions(alloc, linked, d)?;
     put_parts(alloc, &mut codes, calls.items())?;
     Ok(codes)
 }
@@ -128,6 +131,7 @@ fn put_loader(
 ) -> Result<(), Memory>
     requires set { IsOfSet linked.now }
     requires first { s.now.first_function < 2 ^ 31 }
+    requires numbers { IfSome loader.now AreSmall }
     ensures { OnOk result ((L : LinkedSet) (N : renumbering.Numbers) (x : Starts) → IsLinked L linked.now → AreListed L s.now N x → HasLoader L x loader.now → to.new.items ≡ to.old.items ++ with_loader L (loader_codes L N x)) }
 {
     match loader {
@@ -151,6 +155,7 @@ fn put_generated(
     requires set { IsOfSet linked.now }
     requires guard { s.now.guard < 2 ^ 31 }
     requires first { s.now.first_function < 2 ^ 31 }
+    requires numbers { IfSome loader.now AreSmall }
     ensures { OnOk result ((L : LinkedSet) (N : renumbering.Numbers) (x : Starts) → IsLinked L linked.now → AreListed L s.now N x → HasLoader L x loader.now → to.new.items ≡ to.old.items ++ generated_codes L N x) }
 {
     let phases = phase_functions(alloc, linked, s)?;
@@ -172,6 +177,7 @@ pub(crate) fn merged_codes(
     requires set { IsOfSet linked.now }
     requires guard { s.now.guard < 2 ^ 31 }
     requires first { s.now.first_function < 2 ^ 31 }
+    requires numbers { IfSome loader.now AreSmall }
     ensures { IfOk result (λ c. (L : LinkedSet) (x : Starts) → IsLinked L linked.now → AreListed L s.now (numbers_in n.now) x → HasLoader L x loader.now → c ≡ merged_codes L (numbers_in n.now) x) }
 {
     let mut codes = own_codes(alloc, linked, n)?;

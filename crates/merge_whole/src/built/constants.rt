@@ -1,5 +1,5 @@
 // The values of constant expressions of a member, and constants with these values.
-ghost use Rattle.std.specs.Prelude.{◌≡◌, IfOk};
+ghost use Rattle.std.specs.Prelude.{◌≡◌, ◌<◌, ◌^◌};
 ghost use Rattle.wasm_form.specs.declared.instr.Instr.{out-Instr};
 ghost use Rattle.wasm_form.specs.declared.runtime.Value.TheVariants as values;
 ghost use Rattle.spec_loading.specs.spec_runtime.Constants.{index_constant, instruction_constant};
@@ -9,11 +9,11 @@ ghost use Rattle.merge_match.specs.Renumbering as renumbering;
 ghost use Rattle.merge_index.specs.Kept.{numbers_in};
 ghost use Rattle.merge_start.specs.Words.{number};
 ghost use Rattle.merge_module.specs.MergedModule.{constant_instr};
-ghost use Rattle.merge_whole.specs.GlobalDefs.{function_value, base_value, constant_by};
+ghost use Rattle.merge_whole.specs.GlobalDefs.{function_value, base_value, constant_by, FitsIn};
 
 use dyl_link::Linked;
 use merge_index::Numbers;
-use wasm_form::{Expr, IndexForm, Instr, Memory, Ref, ValType, Value, index_form};
+use wasm_form::{Expr, IndexForm, Instr, Ref, ValType, Value, index_form};
 
 fn function_value(found: Option<Ref>) -> Option<Value>
     ensures { result ≡ function_value found }
@@ -85,38 +85,32 @@ pub(crate) fn zero_of(ty: ValType) -> Value
     }
 }
 
-// A number of 32 bits. Valid constants of other types than i64 have no more.
-fn short_instr(k: u64) -> Result<Instr, Memory>
-    ensures { IfOk result (λ i. i ≡ number k) }
+// A number of 32 bits.
+fn short_instr(k: u64) -> Instr
+    requires { k < 2 ^ 32 }
+    ensures { result ≡ number k }
 {
-    match u32::try_from(k) {
-        Ok(k) => Ok(Instr::I32Const(k.cast_signed())),
-        Err(_) => Err(Memory),
-    }
+    Instr::I32Const((k as u32).cast_signed())
 }
 
-fn number_instr(ty: ValType, k: u64) -> Result<Instr, Memory>
-    ensures { IfOk result (λ i. (n : renumbering.Numbers) → i ≡ constant_instr n ty (values.Num k)) }
+fn number_instr(ty: ValType, k: u64) -> Instr
+    requires { FitsIn ty (values.Num k) }
+    ensures { (n : renumbering.Numbers) → result ≡ constant_instr n ty (values.Num k) }
 {
     match ty {
-        ValType::I64 => Ok(Instr::I64Const(k.cast_signed())),
-        _ => {
-            let i = short_instr(k)?;
-            Ok(i)
-        }
+        ValType::I64 => Instr::I64Const(k.cast_signed()),
+        _ => short_instr(k),
     }
 }
 
 // A constant of a type.
-pub(crate) fn constant_instr(n: &Numbers, ty: ValType, value: Value) -> Result<Instr, Memory>
-    ensures { IfOk result (λ i. i ≡ constant_instr (numbers_in n.now) ty value) }
+pub(crate) fn constant_instr(n: &Numbers, ty: ValType, value: Value) -> Instr
+    requires { FitsIn ty value }
+    ensures { result ≡ constant_instr (numbers_in n.now) ty value }
 {
     match value {
-        Value::Num(k) => {
-            let i = number_instr(ty, k)?;
-            Ok(i)
-        }
-        Value::Func(None) => Ok(Instr::RefNull(ValType::FuncRef)),
-        Value::Func(Some(r)) => Ok(Instr::Index(0xD2, n.function(r))),
+        Value::Num(k) => number_instr(ty, k),
+        Value::Func(None) => Instr::RefNull(ValType::FuncRef),
+        Value::Func(Some(r)) => Instr::Index(0xD2, n.function(r)),
     }
 }

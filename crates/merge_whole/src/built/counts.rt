@@ -1,10 +1,11 @@
 // How much there is of a linked set.
-ghost use Rattle.std.specs.Prelude.{◌≡◌, ◌+◌, length, IfOk};
-ghost use Rattle.spec_reading.specs.spec_binary.IndexSpaces.{imports_of, tables_in, table_space};
+ghost use Rattle.std.specs.Prelude.{◌≡◌, ◌≤◌, ◌<◌, ◌^◌, ◌+◌, length};
+ghost use Rattle.spec_reading.specs.spec_binary.IndexSpaces.{imports_of, tables_in, table_space, function_space};
 ghost use Rattle.merge_whole.specs.Counts.{members_of, size_in, total};
 
 use dyl_link::dyl_search::Member;
-use wasm_form::{Import, ImportDesc, Memory, Module};
+use dyl_link::wasm_check::imported_functions;
+use wasm_form::{Import, ImportDesc, Module};
 
 // What members define, one kind of it.
 #[derive(Clone, Copy)]
@@ -24,28 +25,20 @@ impl Space {
     }
 }
 
-// A number and so many. There is no memory for lists of 2^32 items.
-pub(crate) fn end_of(start: u32, count: usize) -> Result<u32, Memory>
-    ensures { IfOk result (λ end. end ≡ start + count) }
-{
-    if count > (u32::MAX - start) as usize {
-        return Err(Memory);
-    }
-    Ok(start + count as u32)
-}
-
 // How much members have, beside so much.
-pub(crate) fn total(members: &[Member], space: Space, start: u32) -> Result<u32, Memory>
-    ensures { IfOk result (λ n. n ≡ total (size_in space) start (members_of members.now)) }
+pub(crate) fn total(members: &[Member], space: Space, start: u32) -> u32
+    requires { total (size_in space) start (members_of members.now) < 2 ^ 32 }
+    ensures { result ≡ total (size_in space) start (members_of members.now) }
 {
     let mut next = start;
     for member in members {
-        next = end_of(next, space.size(member.checked.module()))?;
+        let size = space.size(member.checked.module()) as u32;
+        next += size;
     }
-    Ok(next)
+    next
 }
 
-fn is_table(desc: &ImportDesc) -> usize
+fn is_table(desc: &ImportDesc) -> u32
     ensures { result ≡ length (tables_in desc.now) }
 {
     match desc {
@@ -54,20 +47,32 @@ fn is_table(desc: &ImportDesc) -> usize
     }
 }
 
-fn imported_tables(imports: &[Import]) -> Result<u32, Memory>
-    ensures { IfOk result (λ n. n ≡ length (imports_of tables_in imports.now)) }
+fn imported_tables(imports: &[Import]) -> u32
+    requires { length imports.now < 2 ^ 32 }
+    ensures told { result ≡ length (imports_of tables_in imports.now) }
+    ensures few { result ≤ length imports.now }
 {
     let mut count: u32 = 0;
     for import in imports {
-        count = end_of(count, is_table(&import.desc))?;
+        count += is_table(&import.desc);
     }
-    Ok(count)
+    count
 }
 
 // How many tables a module has, imported ones too.
-pub(crate) fn table_count(wasm: &Module) -> Result<u32, Memory>
-    ensures { IfOk result (λ n. n ≡ length (table_space wasm.now)) }
+pub(crate) fn table_count(wasm: &Module) -> u32
+    requires { length wasm.now.imports + length wasm.now.tables < 2 ^ 32 }
+    ensures { result ≡ length (table_space wasm.now) }
 {
-    let imported = imported_tables(wasm.imports.items())?;
-    end_of(imported, wasm.tables.items().len())
+    let imported = imported_tables(wasm.imports.items());
+    imported + wasm.tables.items().len() as u32
+}
+
+// How many functions a module has, imported ones too.
+pub(crate) fn function_count(wasm: &Module) -> u32
+    requires { length wasm.now.imports + length wasm.now.funcs < 2 ^ 32 }
+    ensures { result ≡ length (function_space wasm.now) }
+{
+    let imported = imported_functions(wasm.imports.items()) as u32;
+    imported + wasm.funcs.items().len() as u32
 }

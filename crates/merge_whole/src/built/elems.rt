@@ -1,17 +1,16 @@
 // The element segments.
-ghost use Rattle.std.specs.Prelude.{◌≡◌, ◌++◌, map, IfOk, OnOk};
+ghost use Rattle.std.specs.Prelude.{◌≡◌, ◌≤◌, ◌<◌, ◌^◌, ◌++◌, length, map, IfOk, OnOk};
 ghost use Rattle.spec_loading.specs.spec_linking.LinkedSets.{LinkedSet};
 ghost use Rattle.spec_loading.specs.Members.{from_members};
 ghost use Rattle.dyl_link.specs.Kept.{IsLinked};
 ghost use Rattle.merge_match.specs.Renumbering.{expr};
 ghost use Rattle.merge_index.specs.Kept.{numbers_in};
 ghost use Rattle.merge_index.specs.Numbering.{numbers_of};
-ghost use Rattle.merge_start.specs.Listed.{IsOfSet};
+ghost use Rattle.dyl_addresses.specs.Sets.{IsOfSet};
 ghost use Rattle.merge_module.specs.MergedModule.{passive_mode, renumbered_items, passive_elem, functions_elem, number_expr, merged_elems};
 ghost use Rattle.merge_whole.specs.Counts.{members_of};
 ghost use Rattle.merge_whole.specs.Elements.{passive_elems, fresh_by, fresh_elem, slots_by, fresh_total, outside_by, export_numbers, exported_numbers, declared_by, elems_by};
 
-use crate::built::counts::end_of;
 use dyl_link::Linked;
 use dyl_link::dyl_search::Member;
 use merge_index::Numbers;
@@ -94,6 +93,7 @@ fn put_passive(
 
 // The segments of the members.
 fn passive_elems(alloc: Global, members: &[Member], n: &Numbers) -> Result<Vec<Elem>, Memory>
+    requires few { length members.now ≤ 256 }
     ensures { IfOk result (λ x. x.items ≡ from_members (passive_elems (numbers_in n.now)) 0 (members_of members.now)) }
 {
     let mut list = Vec::new(alloc);
@@ -106,7 +106,7 @@ fn passive_elems(alloc: Global, members: &[Member], n: &Numbers) -> Result<Vec<E
             m,
             member.checked.module().elems.items(),
         )?;
-        m = end_of(m, 1)?;
+        m += 1;
     }
     Ok(list)
 }
@@ -159,29 +159,33 @@ fn fresh_of(linked: &Linked, m: u32) -> &[u32]
 // The segments of fresh slots.
 fn slots_elems(alloc: Global, linked: &Linked, n: &Numbers) -> Result<Vec<Elem>, Memory>
     requires set { IsOfSet linked.now }
+    requires few { length linked.now.set.members ≤ 256 }
     ensures { IfOk result (λ x. x.items ≡ from_members (slots_by linked.now (numbers_in n.now)) 0 (members_of linked.now.set.members)) }
 {
     let mut list = Vec::new(alloc);
     let mut m: u32 = 0;
     for _member in linked.set().members.items() {
         list.push(fresh_elem(alloc, n, m, fresh_of(linked, m))?)?;
-        m = end_of(m, 1)?;
+        m += 1;
     }
     Ok(list)
 }
 
 // How many fresh slots members have, beside so many.
-fn fresh_total(linked: &Linked, start: u32) -> Result<u32, Memory>
+fn fresh_total(linked: &Linked, start: u32) -> u32
     requires set { IsOfSet linked.now }
-    ensures { IfOk result (λ t. t ≡ fresh_total (fresh_by linked.now) start 0 (members_of linked.now.set.members)) }
+    requires few { length linked.now.set.members ≤ 256 }
+    requires total { fresh_total (fresh_by linked.now) start 0 (members_of linked.now.set.members) < 2 ^ 32 }
+    ensures { result ≡ fresh_total (fresh_by linked.now) start 0 (members_of linked.now.set.members) }
 {
     let mut next = start;
     let mut m: u32 = 0;
     for _member in linked.set().members.items() {
-        next = end_of(next, fresh_of(linked, m).len())?;
-        m = end_of(m, 1)?;
+        let count = fresh_of(linked, m).len() as u32;
+        next += count;
+        m += 1;
     }
-    Ok(next)
+    next
 }
 
 // A number as a constant expression.
@@ -196,9 +200,10 @@ pub(crate) fn number_expr(alloc: Global, k: u32) -> Result<Expr, Memory>
 // The segment of the host functions that have slots.
 fn outside_elem(alloc: Global, linked: &Linked, n: &Numbers) -> Result<Elem, Memory>
     requires set { IsOfSet linked.now }
+    requires few { length linked.now.set.members ≤ 256 }
     ensures { IfOk result (λ x. x ≡ outside_by linked.now (numbers_in n.now)) }
 {
-    let first = fresh_total(linked, linked.plan().table_end())?;
+    let first = fresh_total(linked, linked.plan().table_end());
     let offset = number_expr(alloc, first)?;
     let mode = ElemMode::Active { table: 0, offset };
     functions_elem(alloc, n, mode, linked.outside())
@@ -224,13 +229,14 @@ fn put_exports(to: &mut Vec<u32>, n: &Numbers, m: u32, wasm: &Module) -> Result<
 
 // The segment that declares what members export.
 fn declared_elem(alloc: Global, linked: &Linked, n: &Numbers) -> Result<Elem, Memory>
+    requires few { length linked.now.set.members ≤ 256 }
     ensures { IfOk result (λ x. x ≡ declared_by linked.now (numbers_in n.now)) }
 {
     let mut list = Vec::new(alloc);
     let mut m: u32 = 0;
     for member in linked.set().members.items() {
         put_exports(&mut list, n, m, member.checked.module())?;
-        m = end_of(m, 1)?;
+        m += 1;
     }
     Ok(Elem {
         mode: ElemMode::Declarative,
@@ -240,6 +246,7 @@ fn declared_elem(alloc: Global, linked: &Linked, n: &Numbers) -> Result<Elem, Me
 
 fn elems_by(alloc: Global, linked: &Linked, n: &Numbers) -> Result<List<Elem>, Memory>
     requires set { IsOfSet linked.now }
+    requires few { length linked.now.set.members ≤ 256 }
     ensures { IfOk result (λ x. x ≡ elems_by linked.now (numbers_in n.now)) }
 {
     let mut list = passive_elems(alloc, linked.set().members.items(), n)?;

@@ -1,12 +1,11 @@
 // The functions of the merged module, by the numbers of their types.
-ghost use Rattle.std.specs.Prelude.{◌≡◌, ◌++◌, ◌∷◌, [], map, IfOk, OnOk};
+ghost use Rattle.std.specs.Prelude.{◌≡◌, ◌≤◌, ◌<◌, ◌^◌, ◌++◌, ◌∷◌, [], length, map, IfOk, OnOk};
 ghost use Rattle.spec_loading.specs.spec_linking.LinkedSets.{LinkedSet};
 ghost use Rattle.dyl_link.specs.Kept.{IsLinked};
 ghost use Rattle.merge_index.specs.Kept.{numbers_in};
 ghost use Rattle.merge_module.specs.MergedModule.{merged_funcs};
-ghost use Rattle.merge_whole.specs.Built.{joined, funcs_of, stub_types_of, four_of, one_of, funcs_for_loader, generated_funcs_in, funcs_in};
+ghost use Rattle.merge_whole.specs.Built.{nullary_in, joined, funcs_of, stub_types_of, four_of, one_of, funcs_for_loader, generated_funcs_in, funcs_in};
 
-use crate::built::counts::end_of;
 use crate::built::imports::nullary_number;
 use crate::built::stubs::{imported_types, put_stub_types};
 use dyl_link::Linked;
@@ -25,12 +24,13 @@ fn put_funcs(to: &mut Vec<u32>, n: &Numbers, m: u32, funcs: &[u32]) -> Result<()
 }
 
 fn put_members(to: &mut Vec<u32>, n: &Numbers, members: &[Member]) -> Result<(), Memory>
+    requires few { length members.now ≤ 256 }
     ensures { OnOk result (to.new.items ≡ to.old.items ++ joined (funcs_of (numbers_in n.now)) 0 members.now) }
 {
     let mut m: u32 = 0;
     for member in members {
         put_funcs(to, n, m, member.checked.module().funcs.items())?;
-        m = end_of(m, 1)?;
+        m += 1;
     }
     Ok(())
 }
@@ -42,13 +42,14 @@ fn put_stubs(
     n: &Numbers,
     members: &[Member],
 ) -> Result<(), Memory>
+    requires few { length members.now ≤ 256 }
     ensures { OnOk result (to.new.items ≡ to.old.items ++ joined (stub_types_of linked.now (numbers_in n.now)) 0 members.now) }
 {
     let mut m: u32 = 0;
     for member in members {
         let types = imported_types(alloc, member.checked.module().imports.items())?;
         put_stub_types(to, linked, n, m, types.as_slice())?;
-        m = end_of(m, 1)?;
+        m += 1;
     }
     Ok(())
 }
@@ -95,12 +96,13 @@ fn put_calls(to: &mut Vec<u32>, binary: u32, unary: u32, handle: u32) -> Result<
 
 // The functions of the loader and what they call, where the types of generated functions have the numbers from one on.
 fn put_loader(to: &mut Vec<u32>, nullary: u32, members: &[Member]) -> Result<(), Memory>
+    requires { nullary < 2 ^ 31 }
     ensures { OnOk result (to.new.items ≡ to.old.items ++ funcs_for_loader nullary members.now) }
 {
-    let handle = end_of(nullary, 1)?;
-    let unary = end_of(nullary, 2)?;
-    let binary = end_of(nullary, 3)?;
-    let search = end_of(nullary, 4)?;
+    let handle = nullary + 1;
+    let unary = nullary + 2;
+    let binary = nullary + 3;
+    let search = nullary + 4;
     put_each(to, handle, members)?;
     to.push(unary)?;
     put_each(to, search, members)?;
@@ -109,10 +111,11 @@ fn put_loader(to: &mut Vec<u32>, nullary: u32, members: &[Member]) -> Result<(),
 }
 
 fn put_generated(to: &mut Vec<u32>, linked: &Linked) -> Result<(), Memory>
+    requires types { nullary_in linked.now < 2 ^ 31 }
     ensures { OnOk result (to.new.items ≡ to.old.items ++ generated_funcs_in linked.now) }
 {
     let members = linked.set().members.items();
-    let nullary = nullary_number(linked)?;
+    let nullary = nullary_number(linked);
     put_phases(to, nullary, members)?;
     to.push(nullary)?;
     if linked.uses_loader() {
@@ -122,6 +125,8 @@ fn put_generated(to: &mut Vec<u32>, linked: &Linked) -> Result<(), Memory>
 }
 
 fn funcs(alloc: Global, linked: &Linked, n: &Numbers) -> Result<Vec<u32>, Memory>
+    requires few { length linked.now.set.members ≤ 256 }
+    requires types { nullary_in linked.now < 2 ^ 31 }
     ensures { IfOk result (λ x. x.items ≡ funcs_in linked.now (numbers_in n.now)) }
 {
     let members = linked.set().members.items();
@@ -134,6 +139,8 @@ fn funcs(alloc: Global, linked: &Linked, n: &Numbers) -> Result<Vec<u32>, Memory
 
 // Those of the members, the stubs, the phases of each member, the entry function and those of the loader.
 pub(crate) fn merged_funcs(alloc: Global, linked: &Linked, n: &Numbers) -> Result<List<u32>, Memory>
+    requires few { length linked.now.set.members ≤ 256 }
+    requires types { nullary_in linked.now < 2 ^ 31 }
     ensures { IfOk result (λ x. (L : LinkedSet) → IsLinked L linked.now → x ≡ merged_funcs L (numbers_in n.now)) }
 {
     let funcs = funcs(alloc, linked, n)?;

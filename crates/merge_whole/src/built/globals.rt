@@ -1,27 +1,28 @@
 // The globals.
-ghost use Rattle.std.specs.Prelude.{◌≡◌, ◌+◌, ◌<◌, ◌++◌, ◌∷◌, [], true, cond, length, map, slice_get, unwrap_or, IfOk, OnOk};
+ghost use Rattle.std.specs.Prelude.{◌≡◌, ℕ, Some, ◌+◌, ◌≤◌, ◌<◌, ◌^◌, ◌++◌, ◌∷◌, [], true, cond, length, map, slice_get, unwrap_or, IfOk, OnOk};
 ghost use Rattle.spec_reading.specs.spec_binary.IndexSpaces.{globals_in};
 ghost use Rattle.spec_loading.specs.spec_linking.LinkedSets.{LinkedSet};
 ghost use Rattle.spec_loading.specs.spec_linking.Slots.{cell_of_import, first_cells};
 ghost use Rattle.dyl_link.specs.Kept.{IsLinked, cell_in};
 ghost use Rattle.merge_index.specs.Numbering.{numbers_of, starts_of};
-ghost use Rattle.merge_index.specs.Globals.{cell_named, cells_in, with_cells};
+ghost use Rattle.dyl_addresses.specs.Globals.{cell_named, cells_in, with_cells};
 ghost use Rattle.merge_index.specs.Kept.{numbers_in};
-ghost use Rattle.merge_start.specs.Listed.{IsOfSet};
+ghost use Rattle.dyl_addresses.specs.Sets.{IsOfSet, module_of};
+ghost use Rattle.dyl_link.specs.dyl_search.declared.set.Member as declared;
 ghost use Rattle.merge_module.specs.MergedModule.{number_global, merged_globals};
 ghost use Rattle.merge_whole.specs.Counts.{members_of};
 ghost use Rattle.merge_whole.specs.Built.{where_used};
-ghost use Rattle.merge_whole.specs.GlobalDefs.{value_by, own_by, cells_by, globals_by, all_globals};
+ghost use Rattle.merge_whole.specs.GlobalDefs.{FitsIn, AreFit, bases_by, value_by, own_by, cells_by, globals_by, all_globals};
 
 use crate::built::constants::{constant, constant_instr, zero_of};
-use crate::built::counts::end_of;
 use crate::built::elems::number_expr;
+use dyl_addresses::bases_from;
 use dyl_link::Linked;
 use dyl_link::dyl_imports::{Use, use_of};
 use dyl_link::dyl_search::Member;
 use indexmap::IndexSet;
 use merge_index::Numbers;
-use merge_start::bases_from;
+use spec_loading::{linked_code_is_there, linked_functions_are_typed, slots_fit};
 use std::alloc::Global;
 use wasm_form::{
     Expr, GlobalDef, GlobalType, Import, ImportDesc, List, Memory, Module, ValType, Value,
@@ -59,10 +60,11 @@ fn own_global(
     m: u32,
     g: &GlobalDef,
 ) -> Result<GlobalDef, Memory>
+    requires { FitsIn g.now.ty.value (value_by linked.now bases.now m g.now) }
     ensures { IfOk result (λ x. x ≡ own_by linked.now (numbers_in n.now) bases.now m g.now) }
 {
     let value = own_value(linked, m, bases, g);
-    let init = constant_instr(n, g.ty.value, value)?;
+    let init = constant_instr(n, g.ty.value, value);
     Ok(GlobalDef {
         ty: g.ty,
         init: Expr {
@@ -80,6 +82,7 @@ fn put_own(
     m: u32,
     globals: &[GlobalDef],
 ) -> Result<(), Memory>
+    requires { AreFit linked.now bases.now m globals.now }
     ensures { OnOk result (to.new.items ≡ to.old.items ++ map (own_by linked.now (numbers_in n.now) bases.now m) globals.now) }
 {
     for g in globals {
@@ -138,8 +141,9 @@ fn put_import<'a>(
     }
 }
 
-fn is_global(desc: &ImportDesc) -> usize
-    ensures { result ≡ length (globals_in desc.now) }
+fn is_global(desc: &ImportDesc) -> u32
+    ensures is { result ≡ length (globals_in desc.now) }
+    ensures few { result ≤ 1 }
 {
     match desc {
         ImportDesc::Global(_) => 1,
@@ -164,6 +168,7 @@ fn put_cells(
     m: u32,
     imports: &[Import],
 ) -> Result<(), Memory>
+    requires { length imports.now < 2 ^ 32 }
     ensures { OnOk result (to.new.items ≡ to.old.items ++ cells_by linked.now m [] 0 imports.now) }
 {
     let mut cells = IndexSet::new(alloc);
@@ -171,7 +176,7 @@ fn put_cells(
     for i in imports {
         let value = cell_or_zero(linked, m, g);
         put_import(to, alloc, &mut cells, i, value)?;
-        let end = end_of(g, is_global(&i.desc))?;
+        let end = g + is_global(&i.desc);
         g = end;
     }
     Ok(())
@@ -204,6 +209,8 @@ fn put_member(
 ) -> Result<(), Memory>
     requires set { IsOfSet linked.now }
     requires member { m < length linked.now.set.members }
+    requires short { length wasm.now.imports < 2 ^ 32 }
+    requires fit { AreFit linked.now (bases_by linked.now m wasm.now) m wasm.now.globals }
     ensures { OnOk result (to.new.items ≡ to.old.items ++ globals_by linked.now (numbers_in n.now) m wasm.now) }
 {
     let memory = memory_base(linked, m);
@@ -227,6 +234,8 @@ fn put_member(
 // The stack pointer, and then the globals of the members.
 fn all_globals(alloc: Global, linked: &Linked, n: &Numbers) -> Result<Vec<GlobalDef>, Memory>
     requires set { IsOfSet linked.now }
+    requires few { length linked.now.set.members ≤ 256 }
+    requires fit { (m : ℕ) (x : declared.Member) → slice_get linked.now.set.members m ≡ Some x → AreFit linked.now (bases_by linked.now m (module_of x)) m (module_of x).globals }
     ensures { IfOk result (λ v. v.items ≡ all_globals linked.now (numbers_in n.now)) }
 {
     let mut list = Vec::new(alloc);
@@ -234,7 +243,7 @@ fn all_globals(alloc: Global, linked: &Linked, n: &Numbers) -> Result<Vec<Global
     list.push(number_global(alloc, true, linked.plan().stack_top())?)?;
     for member in linked.set().members.items() {
         put_member(&mut list, alloc, linked, n, m, member.checked.module())?;
-        m = end_of(m, 1)?;
+        m += 1;
     }
     Ok(list)
 }
@@ -267,10 +276,15 @@ pub(crate) fn merged_globals(
 ) -> Result<(List<GlobalDef>, u32), Memory>
     requires set { IsOfSet linked.now }
     ensures globals { IfOk result (λ x. (L : LinkedSet) → IsLinked L linked.now → numbers_in n.now ≡ numbers_of L → x.0 ≡ merged_globals L (numbers_of L)) }
+    ensures few { IfOk result (λ x. x.1 < 2 ^ 31) }
     ensures guards { IfOk result (λ x. (L : LinkedSet) → IsLinked L linked.now → numbers_in n.now ≡ numbers_of L → x.1 ≡ (starts_of L).guards) }
 {
+    linked.has_few_pages();
+    linked_code_is_there();
+    linked_functions_are_typed();
+    slots_fit();
     let mut list = all_globals(alloc, linked, n)?;
-    let guard = end_of(0, list.len())?;
+    let guard = list.len() as u32;
     put_guards(&mut list, alloc, linked.set().members.items())?;
     put_error(&mut list, alloc, linked)?;
     Ok((List::of(list), guard))

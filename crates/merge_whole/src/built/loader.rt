@@ -1,13 +1,12 @@
 // The numbers that the functions of the loader name.
-ghost use Rattle.std.specs.Prelude.{◌≡◌, IfOk};
+ghost use Rattle.std.specs.Prelude.{◌≡◌, ◌≤◌, ◌<◌, ◌^◌, length, IfOk, IfSome};
 ghost use Rattle.spec_loading.specs.spec_linking.LinkedSets.{LinkedSet};
 ghost use Rattle.dyl_link.specs.Kept.{IsLinked};
 ghost use Rattle.merge_index.specs.Numbering as numbering;
 ghost use Rattle.merge_index.specs.Numbering.{starts_of};
 ghost use Rattle.merge_whole.specs.Counts.{loader_by};
-ghost use Rattle.merge_whole.specs.Given.{HasLoader};
+ghost use Rattle.merge_whole.specs.Given.{HasLoader, AreSmall};
 
-use crate::built::counts::end_of;
 use crate::built::starts::range;
 use dyl_link::Linked;
 use merge_dl::DlNumbers;
@@ -21,11 +20,16 @@ fn loader_by(
     guard: u32,
     n: LoaderNumbers,
 ) -> Result<DlNumbers, Memory>
-    ensures { IfOk result (λ d. d ≡ loader_by linked.now guard n) }
+    requires few { length linked.now.set.members ≤ 256 }
+    requires guard { guard < 2 ^ 31 }
+    requires first { n.first_opening < 2 ^ 31 }
+    requires length { n.length < 2 ^ 31 }
+    ensures is { IfOk result (λ d. d ≡ loader_by linked.now guard n) }
+    ensures small { IfOk result AreSmall }
 {
-    let count = linked.set().members.items().len();
-    let error = end_of(guard, count)?;
-    let end = end_of(n.first_opening, count)?;
+    let count = linked.set().members.items().len() as u32;
+    let error = guard + count;
+    let end = n.first_opening + count;
     let opens = range(alloc, n.first_opening, end)?;
     Ok(DlNumbers {
         error,
@@ -42,7 +46,12 @@ pub(crate) fn loader_numbers(
     n: &Numbers,
     guard: u32,
 ) -> Result<Option<DlNumbers>, Memory>
-    ensures { IfOk result (λ d. (L : LinkedSet) → IsLinked L linked.now → n.now.loader ≡ numbering.loader_numbers L → guard ≡ (starts_of L).guards → HasLoader L (starts_of L) d) }
+    requires few { length linked.now.set.members ≤ 256 }
+    requires guard { guard < 2 ^ 31 }
+    requires first { IfSome n.now.loader (λ l. l.first_opening < 2 ^ 31) }
+    requires length { IfSome n.now.loader (λ l. l.length < 2 ^ 31) }
+    ensures small { IfOk result (λ d. IfSome d AreSmall) }
+    ensures loader { IfOk result (λ d. (L : LinkedSet) → IsLinked L linked.now → n.now.loader ≡ numbering.loader_numbers L → guard ≡ (starts_of L).guards → HasLoader L (starts_of L) d) }
 {
     let Some(loader) = n.loader() else {
         return Ok(None);

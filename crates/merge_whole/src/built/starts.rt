@@ -1,5 +1,5 @@
 // The numbers that generated code names.
-ghost use Rattle.std.specs.Prelude.{◌≡◌, ◌-◌, ◌<◌, ◌^◌, ◌++◌, map, option_map, IfOk, OnOk};
+ghost use Rattle.std.specs.Prelude.{◌≡◌, ◌≤◌, ◌-◌, ◌<◌, ◌^◌, ◌++◌, ℕ, ◌+◌, Some, slice_get, length, map, option_map, IfOk, OnOk};
 ghost use Rattle.std.specs.List.{range_with_len};
 ghost use Rattle.spec_loading.specs.declared.task.Phase.TheVariants as phases;
 ghost use Rattle.spec_loading.specs.Phases.{phase_function};
@@ -8,17 +8,20 @@ ghost use Rattle.spec_loading.specs.spec_linking.LinkedSets.{LinkedSet};
 ghost use Rattle.dyl_link.specs.Kept.{IsLinked};
 ghost use Rattle.merge_index.specs.Kept.{numbers_in};
 ghost use Rattle.merge_index.specs.Numbering.{first_phase, numbers_of, starts_of};
+ghost use Rattle.dyl_link.specs.dyl_search.declared.set.Member as declared;
+ghost use Rattle.dyl_addresses.specs.Sets.{IsOfSet};
 ghost use Rattle.merge_start.specs.Listed.{AreListed};
-ghost use Rattle.merge_whole.specs.Counts.{members_of, tables_by, calls_by, starts_by};
+ghost use Rattle.dyl_addresses.specs.Sets.{module_of};
+ghost use Rattle.merge_whole.specs.Counts.{members_of, tables_by, functions_by, calls_by, starts_by};
 
-use crate::built::counts::{Space, end_of, table_count, total};
+use crate::built::counts::{Space, function_count, table_count, total};
 use dyl_link::Linked;
 use dyl_link::dyl_search::Member;
+use dyl_link::wasm_check::exported_function;
 use merge_index::Numbers;
 use merge_start::StartNumbers;
 use std::alloc::Global;
 use wasm_form::{List, Memory, Module};
-use wasm_instance::exported_function;
 
 // The numbers from one on, up to another.
 #[tactic(auto, using(crate::proofs::CountLists::range_end))]
@@ -43,14 +46,41 @@ fn put_tables(to: &mut Vec<u32>, n: &Numbers, m: u32, count: u32) -> Result<(), 
 }
 
 fn tables(alloc: Global, members: &[Member], n: &Numbers) -> Result<List<u32>, Memory>
+    requires few { length members.now ≤ 256 }
+    requires short { (i : ℕ) (x : declared.Member) → slice_get members.now i ≡ Some x → length (module_of x).imports + length (module_of x).tables < 2 ^ 32 }
     ensures { IfOk result (λ list. list ≡ from_members (tables_by (numbers_in n.now)) 0 (members_of members.now)) }
 {
     let mut list = Vec::new(alloc);
     let mut m: u32 = 0;
     for member in members {
-        let count = table_count(member.checked.module())?;
+        let count = table_count(member.checked.module());
         put_tables(&mut list, n, m, count)?;
-        m = end_of(m, 1)?;
+        m += 1;
+    }
+    Ok(List::of(list))
+}
+
+#[tactic(auto, using(crate::proofs::CountLists::range_end))]
+fn put_functions(to: &mut Vec<u32>, n: &Numbers, m: u32, count: u32) -> Result<(), Memory>
+    ensures { OnOk result (to.new.items ≡ to.old.items ++ map ((numbers_in n.now).named m) (range_with_len 0 count)) }
+{
+    for f in 0..count {
+        to.push(n.named(m, f))?;
+    }
+    Ok(())
+}
+
+fn functions(alloc: Global, members: &[Member], n: &Numbers) -> Result<List<u32>, Memory>
+    requires few { length members.now ≤ 256 }
+    requires short { (i : ℕ) (x : declared.Member) → slice_get members.now i ≡ Some x → length (module_of x).imports + length (module_of x).funcs < 2 ^ 32 }
+    ensures { IfOk result (λ list. list ≡ from_members (functions_by (numbers_in n.now)) 0 (members_of members.now)) }
+{
+    let mut list = Vec::new(alloc);
+    let mut m: u32 = 0;
+    for member in members {
+        let count = function_count(member.checked.module());
+        put_functions(&mut list, n, m, count)?;
+        m += 1;
     }
     Ok(List::of(list))
 }
@@ -86,13 +116,14 @@ fn put_calls(to: &mut Vec<Option<u32>>, n: &Numbers, m: u32, wasm: &Module) -> R
 }
 
 fn calls(alloc: Global, members: &[Member], n: &Numbers) -> Result<List<Option<u32>>, Memory>
+    requires few { length members.now ≤ 256 }
     ensures { IfOk result (λ list. list ≡ from_members (calls_by (numbers_in n.now)) 0 (members_of members.now)) }
 {
     let mut list = Vec::new(alloc);
     let mut m: u32 = 0;
     for member in members {
         put_calls(&mut list, n, m, member.checked.module())?;
-        m = end_of(m, 1)?;
+        m += 1;
     }
     Ok(List::of(list))
 }
@@ -104,14 +135,19 @@ fn starts_by(
     n: &Numbers,
     guard: u32,
 ) -> Result<StartNumbers, Memory>
+    requires set { IsOfSet linked.now }
+    requires few { length linked.now.set.members ≤ 256 }
     ensures { IfOk result (λ s. s ≡ starts_by linked.now (numbers_in n.now) guard n.now.first_phase) }
 {
     let members = linked.set().members.items();
     let calls = calls(alloc, members, n)?;
-    let slots = end_of(0, members.len())?;
-    let elems = range(alloc, 0, total(members, Space::Elems, slots)?)?;
-    let datas = range(alloc, 0, total(members, Space::Datas, 0)?)?;
+    let slots = members.len() as u32;
+    let elem_end = total(members, Space::Elems, slots);
+    let elems = range(alloc, 0, elem_end)?;
+    let data_end = total(members, Space::Datas, 0);
+    let datas = range(alloc, 0, data_end)?;
     let tables = tables(alloc, members, n)?;
+    let functions = functions(alloc, members, n)?;
     Ok(StartNumbers {
         guard,
         first_function: n.first_phase(),
@@ -120,25 +156,26 @@ fn starts_by(
         elems,
         datas,
         tables,
-        functions: List::of(Vec::new(alloc)),
+        functions,
     })
 }
 
-// The numbers that the generated code of a linked set names, where the guards come from a number on. It names none of the members' functions
-// but by its calls. There is no memory for 2^31 globals or functions.
+// The numbers that the generated code of a linked set names, where the guards come from a number on.
 pub(crate) fn set_starts(
     alloc: Global,
     linked: &Linked,
     n: &Numbers,
     guard: u32,
 ) -> Result<StartNumbers, Memory>
+    requires set { IsOfSet linked.now }
+    requires few { length linked.now.set.members ≤ 256 }
+    requires guard { guard < 2 ^ 31 }
+    requires first { n.now.first_phase < 2 ^ 31 }
     ensures listed { IfOk result (λ s. (L : LinkedSet) → IsLinked L linked.now → numbers_in n.now ≡ numbers_of L → n.now.first_phase ≡ first_phase L → guard ≡ (starts_of L).guards → AreListed L s (numbers_of L) (starts_of L)) }
+    ensures functions { IfOk result (λ s. (L : LinkedSet) → IsLinked L linked.now → numbers_in n.now ≡ numbers_of L → s.functions ≡ from_members (functions_by (numbers_of L)) 0 L.set.members) }
     ensures guard { IfOk result (λ s. s.guard < 2 ^ 31) }
     ensures first { IfOk result (λ s. s.first_function < 2 ^ 31) }
 {
     let starts = starts_by(alloc, linked, n, guard)?;
-    if guard >= 0x8000_0000 || starts.first_function >= 0x8000_0000 {
-        return Err(Memory);
-    }
     Ok(starts)
 }

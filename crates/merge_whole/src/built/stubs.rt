@@ -1,5 +1,5 @@
 // What stands for imports that nothing defines.
-ghost use Rattle.std.specs.Prelude.{◌≡◌, ◌++◌, ◌∷◌, [], ◌<◌, Some, IfOk, OnOk, if◌then◌else◌};
+ghost use Rattle.std.specs.Prelude.{◌≡◌, ◌++◌, ◌∷◌, [], ◌<◌, ◌^◌, length, Some, IfOk, OnOk, if◌then◌else◌};
 ghost use Rattle.spec_reading.specs.spec_binary.IndexSpaces.{functions_in, imports_of};
 ghost use Rattle.dyl_link.specs.Kept.{function_in};
 ghost use Rattle.merge_index.specs.Kept.{numbers_in};
@@ -7,7 +7,6 @@ ghost use Rattle.merge_index.specs.Numbering as numbering;
 ghost use Rattle.merge_module.specs.MergedModule.{trap_code};
 ghost use Rattle.merge_whole.specs.Built.{stubs_at};
 
-use crate::built::counts::end_of;
 use dyl_link::Linked;
 use merge_index::Numbers;
 use merge_pieces::trap;
@@ -67,12 +66,13 @@ pub(crate) fn put_stub_types(
     m: u32,
     types: &[u32],
 ) -> Result<(), Memory>
+    requires { length types.now < 2 ^ 32 }
     ensures { OnOk result (to.new.items ≡ to.old.items ++ stubs_at linked.now m ((numbers_in n.now).ty m) 0 types.now) }
 {
     let mut f: u32 = 0;
     for t in types {
         put_stub_type(to, linked, n, m, f, *t)?;
-        f = end_of(f, 1)?;
+        f += 1;
     }
     Ok(())
 }
@@ -100,12 +100,13 @@ pub(crate) fn put_traps(
     m: u32,
     types: &[u32],
 ) -> Result<(), Memory>
+    requires { length types.now < 2 ^ 32 }
     ensures { OnOk result (to.new.items ≡ to.old.items ++ stubs_at linked.now m (λ t. trap_code) 0 types.now) }
 {
     let mut f: u32 = 0;
     for _type in types {
         put_trap(alloc, to, linked, m, f)?;
-        f = end_of(f, 1)?;
+        f += 1;
     }
     Ok(())
 }

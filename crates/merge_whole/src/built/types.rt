@@ -1,16 +1,14 @@
 // The types of the merged module.
-ghost use Rattle.std.specs.Prelude.{◌≡◌, ◌++◌, ◌∷◌, [], map, IfOk, OnOk};
+ghost use Rattle.std.specs.Prelude.{◌≡◌, ◌++◌, ◌∷◌, [], IfOk, OnOk};
 ghost use Rattle.spec_reading.specs.spec_binary.Indices.{nullary};
-ghost use Rattle.dyl_link.specs.host_table.Names.{host_name_of};
 ghost use Rattle.spec_loading.specs.spec_linking.LinkedSets.{LinkedSet};
 ghost use Rattle.dyl_link.specs.Kept.{IsLinked};
-ghost use Rattle.merge_module.specs.MergedModule.{merged_types};
-ghost use Rattle.merge_whole.specs.Built.{joined, types_of, host_type, generated_in, types_in};
+ghost use Rattle.merge_module.specs.MergedModule.{added_types, merged_types};
+ghost use Rattle.merge_whole.specs.Built.{joined, types_of, generated_in, types_in};
 
 use crate::built::copies::copied_type;
 use dyl_link::Linked;
 use dyl_link::dyl_search::Member;
-use dyl_link::host_table::HostName;
 use merge_dl::loader_types;
 use std::alloc::Global;
 use wasm_form::{FuncType, List, Memory};
@@ -29,15 +27,6 @@ fn put_members(alloc: Global, to: &mut Vec<FuncType>, members: &[Member]) -> Res
 {
     for member in members {
         put_types(alloc, to, member.checked.module().types.items())?;
-    }
-    Ok(())
-}
-
-fn put_hosts(alloc: Global, to: &mut Vec<FuncType>, hosts: &[HostName]) -> Result<(), Memory>
-    ensures { OnOk result (to.new.items ≡ to.old.items ++ map host_type (map host_name_of hosts.now)) }
-{
-    for host in hosts {
-        to.push(copied_type(alloc, &host.ty)?)?;
     }
     Ok(())
 }
@@ -64,20 +53,25 @@ fn put_generated(alloc: Global, to: &mut Vec<FuncType>, linked: &Linked) -> Resu
     Ok(())
 }
 
-fn types(alloc: Global, linked: &Linked) -> Result<Vec<FuncType>, Memory>
-    ensures { IfOk result (λ x. x.items ≡ types_in linked.now) }
+fn types(alloc: Global, linked: &Linked, mut added: Vec<FuncType>) -> Result<Vec<FuncType>, Memory>
+    ensures { IfOk result (λ x. x.items ≡ types_in linked.now added.items) }
 {
     let mut types = Vec::new(alloc);
     put_members(alloc, &mut types, linked.set().members.items())?;
     put_generated(alloc, &mut types, linked)?;
-    put_hosts(alloc, &mut types, linked.hosts())?;
+    let mut more = added;
+    types.append(&mut more)?;
     Ok(types)
 }
 
-// Those of the members, of generated functions, and of the host functions.
-pub(crate) fn merged_types(alloc: Global, linked: &Linked) -> Result<List<FuncType>, Memory>
-    ensures { IfOk result (λ x. (L : LinkedSet) → IsLinked L linked.now → x ≡ merged_types L) }
+// Those of the members, of generated functions, and those that are added for host functions.
+pub(crate) fn merged_types(
+    alloc: Global,
+    linked: &Linked,
+    added: Vec<FuncType>,
+) -> Result<List<FuncType>, Memory>
+    ensures { IfOk result (λ x. (L : LinkedSet) → IsLinked L linked.now → added.items ≡ added_types L → x ≡ merged_types L) }
 {
-    let types = types(alloc, linked)?;
+    let types = types(alloc, linked, added)?;
     Ok(List::of(types))
 }

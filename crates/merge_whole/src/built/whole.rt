@@ -1,13 +1,13 @@
-// The merged module of a linked set.
-ghost use Rattle.std.specs.Prelude.{◌≡◌, ◌+◌, ◌*◌, ◌<◌, ◌^◌, [], length, Some, None, IfOk, OnOk};
+// The parts of a linked set.
+ghost use Rattle.std.specs.Prelude.{◌≡◌, ◌≤◌, ◌+◌, ◌*◌, ◌<◌, ◌^◌, [], length, Some, None, IfOk, IfSome, OnOk};
 ghost use Rattle.spec_loading.specs.spec_linking.LinkedSets.{LinkedSet};
 ghost use Rattle.dyl_link.specs.Kept.{IsLinked};
-ghost use Rattle.merge_start.specs.Listed.{IsOfSet};
+ghost use Rattle.dyl_addresses.specs.Sets.{IsOfSet};
 ghost use Rattle.merge_module.specs.MergedModule.{merged_module};
-ghost use Rattle.merge_whole.specs.Given.{IsGiven};
+ghost use Rattle.merge_whole.specs.Given.{IsGiven, AreSmall};
+ghost use Rattle.merge_whole.specs.Parts.{ArePartsOf};
 
 use crate::built::codes::merged_codes;
-use crate::built::counts::end_of;
 use crate::built::datas::merged_datas;
 use crate::built::exports::entry_exports;
 use crate::built::funcs::merged_funcs;
@@ -15,6 +15,7 @@ use crate::built::given::{Given, make_given};
 use crate::built::imports::merged_imports;
 use crate::built::tables::{merged_memories, merged_tables};
 use crate::built::types::merged_types;
+use crate::made::Parts;
 use dyl_link::Linked;
 use merge_dl::DlNumbers;
 use merge_index::Numbers;
@@ -23,14 +24,13 @@ use std::alloc::Global;
 use wasm_form::{List, Memory, Module};
 
 // The entry function comes behind the four of each member.
-fn starting(linked: &Linked, first: u32) -> Result<u32, Memory>
-    ensures { IfOk result (λ n. n ≡ first + 4 * length linked.now.set.members) }
+fn starting(linked: &Linked, first: u32) -> u32
+    requires few { length linked.now.set.members ≤ 256 }
+    requires first { first < 2 ^ 31 }
+    ensures { result ≡ first + 4 * length linked.now.set.members }
 {
-    let count = end_of(0, linked.set().members.items().len())?;
-    if count > 0x1000_0000 {
-        return Err(Memory);
-    }
-    end_of(first, 4 * count as usize)
+    let count = linked.set().members.items().len() as u32;
+    first + 4 * count
 }
 
 // The sections of a module that has the globals and the element segments, but for these.
@@ -45,15 +45,16 @@ fn put_sections(
     requires set { IsOfSet linked.now }
     requires guard { starts.now.guard < 2 ^ 31 }
     requires first { starts.now.first_function < 2 ^ 31 }
+    requires numbers { IfSome loader.now AreSmall }
     requires start { to.old.start ≡ None }
     requires customs { to.old.customs ≡ [] }
     ensures { OnOk result ((L : LinkedSet) → IsLinked L linked.now → IsGiven L (record { numbers = numbers.now; starts = starts.now; loader = loader.now; globals = to.old.globals; elems = to.old.elems }) → to.new ≡ merged_module L) }
 {
-    let starting = starting(linked, starts.first_function)?;
-    let types = merged_types(alloc, linked)?;
-    to.types = types;
-    let imports = merged_imports(alloc, linked)?;
+    let starting = starting(linked, starts.first_function);
+    let (imports, added) = merged_imports(alloc, linked, numbers)?;
     to.imports = imports;
+    let types = merged_types(alloc, linked, added)?;
+    to.types = types;
     let funcs = merged_funcs(alloc, linked, numbers)?;
     to.funcs = funcs;
     let tables = merged_tables(alloc, linked)?;
@@ -66,16 +67,18 @@ fn put_sections(
     to.codes = codes;
     let datas = merged_datas(alloc, linked)?;
     to.datas = datas;
-    let count = end_of(0, to.datas.items().len())?;
+    let count = to.datas.items().len() as u32;
     to.data_count = Some(count);
     Ok(())
 }
 
-fn module_with(alloc: Global, linked: &Linked, given: Given) -> Result<Module, Memory>
+// The parts, where all but most sections of the module is given.
+fn parts_with(alloc: Global, linked: &Linked, given: Given) -> Result<Parts, Memory>
     requires set { IsOfSet linked.now }
     requires guard { given.starts.guard < 2 ^ 31 }
     requires first { given.starts.first_function < 2 ^ 31 }
-    ensures { IfOk result (λ w. (L : LinkedSet) → IsLinked L linked.now → IsGiven L given → w ≡ merged_module L) }
+    requires numbers { IfSome given.loader AreSmall }
+    ensures { IfOk result (λ p. (L : LinkedSet) → IsLinked L linked.now → IsGiven L given → ArePartsOf L p) }
 {
     let Given {
         numbers,
@@ -84,7 +87,7 @@ fn module_with(alloc: Global, linked: &Linked, given: Given) -> Result<Module, M
         globals,
         elems,
     } = given;
-    let mut wasm = Module {
+    let mut module = Module {
         types: List::of(Vec::new(alloc)),
         imports: List::of(Vec::new(alloc)),
         funcs: List::of(Vec::new(alloc)),
@@ -99,24 +102,29 @@ fn module_with(alloc: Global, linked: &Linked, given: Given) -> Result<Module, M
         datas: List::of(Vec::new(alloc)),
         customs: List::of(Vec::new(alloc)),
     };
-    let told = put_sections(alloc, linked, &numbers, &starts, &loader, &mut wasm);
-    drop(numbers);
-    drop(starts);
-    drop(loader);
+    let told = put_sections(alloc, linked, &numbers, &starts, &loader, &mut module);
+    let entry = starts.entry;
+    let parts = Parts {
+        module,
+        numbers,
+        start: starts,
+        entry,
+        dl: loader,
+    };
     match told {
-        Ok(()) => Ok(wasm),
+        Ok(()) => Ok(parts),
         Err(memory) => {
-            drop(wasm);
+            drop(parts);
             Err(memory)
         }
     }
 }
 
-pub(crate) fn merged_module(alloc: Global, linked: &Linked) -> Result<Module, Memory>
+pub(crate) fn merged_parts(alloc: Global, linked: &Linked) -> Result<Parts, Memory>
     requires { IsOfSet linked.now }
-    ensures { IfOk result (λ w. (L : LinkedSet) → IsLinked L linked.now → w ≡ merged_module L) }
+    ensures { IfOk result (λ p. (L : LinkedSet) → IsLinked L linked.now → ArePartsOf L p) }
 {
     let given = make_given(alloc, linked)?;
-    let module = module_with(alloc, linked, given)?;
-    Ok(module)
+    let parts = parts_with(alloc, linked, given)?;
+    Ok(parts)
 }

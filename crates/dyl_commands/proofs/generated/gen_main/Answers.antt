@@ -3,7 +3,7 @@ use Rattle.host_calls.specs.Embedders.{names_of, embedder_of}
 use Rattle.dyl_commands.specs.Linking.{linked}
 use Rattle.dyl_commands.specs.Generated.{with_pages}
 use Rattle.dyl_commands.specs.Runs.{guest_arguments}
-use Rattle.dyl_commands.proofs.Linking.{pages_below, hosts_supported}
+use Rattle.dyl_commands.proofs.Linking.{hosts_supported}
 use Rattle.dyl_commands.proofs.Generating.{little, gen_works, gen_serves, gen_refused, gen_idle}
 use Rattle.dyl_commands.proofs.generated.gen_main.Goals as goal
 
@@ -13,7 +13,6 @@ run_both-outcome-requires g c =
     record {
       names = (linked (names_of c.args.host.now) (with_pages c.args.pages) made.set, made.linked, refl);
       integers = made.integers;
-      pages = pages_below (with_pages c.args.pages) made.set (names_of c.args.host.now) c.in-Ok.linked made.linked c.requires.few;
       hosts = hosts_supported (with_pages c.args.pages) made.set (names_of c.args.host.now) c.in-Ok.linked made.linked made.integers;
       little = little (names_of c.args.host.now) c.args.n c.args.pages c.in-Ok.linked c.generated_set_links.ensures.small made;
       steps = c.requires.steps;

@@ -21,4 +21,4 @@ returns-in_ok-wasm-in-Ok c =
 pub unreachable-requires : goal.unreachable-requires
 unreachable-requires c =
     never_big c.args.linked.now c.requires.set.0 c.requires.set.1 c.requires.little
-    (c.in-Err-SectionSize.ensures.big c.in-Err-SectionSize.field-0-0 (ap Err c.in-Err-SectionSize.field-0-is) c.requires.set.0 c.requires.set.1)
+    (c.in-Err-SectionSize.ensures.long c.in-Err-SectionSize.field-0-0 (ap Err c.in-Err-SectionSize.field-0-is) c.requires.set.0 c.requires.set.1).big

@@ -1,7 +1,7 @@
 use Rattle.host_calls.specs.Embedders.{names_of}
 use Rattle.dyl_link.specs.Kept as links
 use Rattle.dyl_commands.specs.Linking.{linked}
-use Rattle.dyl_commands.proofs.Linking.{pages_below, hosts_supported}
+use Rattle.dyl_commands.proofs.Linking.{hosts_supported}
 use Rattle.dyl_commands.proofs.Merging.{merge_serves}
 use Rattle.dyl_commands.proofs.Refusing.{merge_refused}
 use Rattle.dyl_commands.proofs.merge.merge_main.Goals as goal
@@ -10,9 +10,6 @@ pub write_merged-outcome-requires-clause-set : goal.write_merged-outcome-require
 write_merged-outcome-requires-clause-set g c =
     let got = c.in-Ok.ensures.got in
     (linked (names_of c.args.host.now) (links.options_of c.args.link.now) got.set, got.linked)
-
-pub write_merged-outcome-requires-clause-pages : goal.write_merged-outcome-requires-clause-pages
-write_merged-outcome-requires-clause-pages g c = let got = c.in-Ok.ensures.got in pages_below (links.options_of c.args.link.now) got.set (names_of c.args.host.now) c.in-Ok.linked got.linked c.requires.1
 
 pub write_merged-outcome-requires-clause-hosts : goal.write_merged-outcome-requires-clause-hosts
 write_merged-outcome-requires-clause-hosts g c = let got = c.in-Ok.ensures.got in hosts_supported (links.options_of c.args.link.now) got.set (names_of c.args.host.now) c.in-Ok.linked got.linked got.integers

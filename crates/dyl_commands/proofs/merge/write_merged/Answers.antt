@@ -9,4 +9,4 @@ returns-in-Ok g c =
 pub returns-in-Err : goal.returns-in-Err
 returns-in-Err g c =
     rw c.unmerged.ensures
-    (not_merged c.args.linked.now c.args.out.now c.in-Err.fault (g.F.Files.seen c.args.files.now) (λ id is. c.in-Err.ensures.long id (ap Err is)) (λ id is. c.in-Err.ensures.big id (ap Err is)))
+    (not_merged c.args.linked.now c.args.out.now c.in-Err.fault (g.F.Files.seen c.args.files.now) (λ id is. c.in-Err.ensures.long id (ap Err is)))

@@ -5,7 +5,7 @@ use Rattle.dyl_front.proofs.Listings.{listing_is, has_members}
 use Rattle.dyl_front.proofs.list.listing.Goals as goal
 
 pub put_listing-requires : goal.put_listing-requires
-put_listing-requires c = has_members c.requires.0 c.args.linked.now c.requires.1
+put_listing-requires c = has_members c.links.ensures.0 c.args.linked.now c.links.ensures.1
 
 pub returns : goal.returns
 returns c = λ L h.

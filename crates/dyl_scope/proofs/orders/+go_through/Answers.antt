@@ -17,7 +17,7 @@ returns t c =
     let items = c.needed_in-k-items.result.now in
     let some : 0 < depth = omega arith in
     let new : is_among m w.entered ≡ false = sym c.contains.ensures ∙ c.if-contains.false in
-    let first : mid ≡ entering m w = ap (λ (e : List ℕ). record w { entered = e }) (c.in_ok-add.ensures ∙ with_new w.entered m new) in
+    let first : mid ≡ entering m w = ap (λ (e : List ℕ). record w { entered = e }) (c.in_ok-add.ensures.added ∙ with_new w.entered m new) in
     let all : drop c.loop-k.k-index items ≡ [] = drop_all c.loop-k.k-index items c.loop-k-test.false in
     let gone : after ≡ walk_each (walk_by needs (depth - 1)) items mid = sym (ap (λ l. walk_each (walk_by needs (depth - 1)) l after) all) ∙ c.loop-k.invariant in
     ap (λ (l : List ℕ). record after { left = l }) c.in_ok-push.ensures.items

@@ -2,14 +2,13 @@ use Rattle.std.proofs.Common.{◌≡◌, List, get_or, ap, ◌∙◌}
 use Rattle.spec_loading.specs.Phases.{phase_function}
 use Rattle.dyl_link.specs.dyl_search.declared.set.Member.{Member}
 use Rattle.dyl_link.specs.dyl_search.declared.set.ClosedSet.{ClosedSet}
-use Rattle.dyl_frames.specs.Tasks.{phase_value}
 use Rattle.dyl_store.proofs.Called.{function_there, one_called, one_nullary, none_called}
 use Rattle.dyl_store.proofs.callees.callee.Goals as goal
 
 pub function-requires : goal.function-requires
 function-requires c =
     let k = c.args.linked.now in
-    let phase = phase_value c.args.task.phase in
+    let phase = c.args.task.phase in
     let m = c.args.task.member in
     let x = c.index-items-task.result in
     let read : x ≡ get_or k.set.members m x = c.index-items-task.is ∙ ap (λ (xs : List Member). get_or xs m x) (c.items.ensures ∙ ap (λ (s : ClosedSet). s.members) c.set.ensures) in
@@ -20,7 +19,7 @@ function-requires c =
 pub returns-in-Some-clause-found : goal.returns-in-Some-clause-found
 returns-in-Some-clause-found c = λ L linked.
     let k = c.args.linked.now in
-    let phase = phase_value c.args.task.phase in
+    let phase = c.args.task.phase in
     let m = c.args.task.member in
     let x = c.index-items-task.result in
     let read : x ≡ get_or k.set.members m x = c.index-items-task.is ∙ ap (λ (xs : List Member). get_or xs m x) (c.items.ensures ∙ ap (λ (s : ClosedSet). s.members) c.set.ensures) in
@@ -31,7 +30,7 @@ returns-in-Some-clause-found c = λ L linked.
 pub returns-in-Some-clause-nullary : goal.returns-in-Some-clause-nullary
 returns-in-Some-clause-nullary c =
     let k = c.args.linked.now in
-    let phase = phase_value c.args.task.phase in
+    let phase = c.args.task.phase in
     let m = c.args.task.member in
     let x = c.index-items-task.result in
     let read : x ≡ get_or k.set.members m x = c.index-items-task.is ∙ ap (λ (xs : List Member). get_or xs m x) (c.items.ensures ∙ ap (λ (s : ClosedSet). s.members) c.set.ensures) in
@@ -42,7 +41,7 @@ returns-in-Some-clause-nullary c =
 pub returns-in-None-clause-found : goal.returns-in-None-clause-found
 returns-in-None-clause-found c = λ L linked.
     let k = c.args.linked.now in
-    let phase = phase_value c.args.task.phase in
+    let phase = c.args.task.phase in
     let m = c.args.task.member in
     let x = c.index-items-task.result in
     let read : x ≡ get_or k.set.members m x = c.index-items-task.is ∙ ap (λ (xs : List Member). get_or xs m x) (c.items.ensures ∙ ap (λ (s : ClosedSet). s.members) c.set.ensures) in

@@ -3,7 +3,7 @@ use Rattle.std.specs.List.{slice_get}
 use Rattle.wasm_form.specs.declared.runtime.Value.{Value}
 use Rattle.wasm_form.specs.declared.runtime.Value.TheVariants.{Num}
 use Rattle.spec_loading.specs.spec_linking.Plans.{Plan}
-use Rattle.merge_start.proofs.Linked.{bases_long, table_bases_long}
+use Rattle.dyl_addresses.proofs.Linked.{bases_long, table_bases_long}
 use Rattle.dyl_store.proofs.Beginning.{adds_bases}
 use Rattle.dyl_store.proofs.contents.put_bases.Goals as goal
 

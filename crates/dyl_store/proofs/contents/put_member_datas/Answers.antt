@@ -3,7 +3,7 @@ use Rattle.std.specs.List.{slice_get}
 use Rattle.wasm_form.specs.declared.module.Module.{Module}
 use Rattle.dyl_link.specs.dyl_search.declared.set.Member.{Member}
 use Rattle.dyl_link.specs.dyl_search.declared.set.ClosedSet.{ClosedSet}
-use Rattle.merge_start.proofs.Linked.{at_index}
+use Rattle.dyl_addresses.proofs.Linked.{at_index}
 use Rattle.dyl_store.proofs.Beginning.{adds_part, on_ok}
 use Rattle.dyl_store.proofs.contents.put_member_datas.Goals as goal
 

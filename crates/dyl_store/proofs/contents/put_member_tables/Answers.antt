@@ -9,7 +9,7 @@ use Rattle.spec_loading.proofs.of_spec_validation.Parts.{parts_fit}
 use Rattle.spec_loading.specs.spec_execution.OneModule.{opened_table}
 use Rattle.dyl_link.specs.dyl_search.declared.set.Member.{Member}
 use Rattle.dyl_link.specs.dyl_search.declared.set.ClosedSet.{ClosedSet}
-use Rattle.merge_start.proofs.Linked.{at_index}
+use Rattle.dyl_addresses.proofs.Linked.{at_index}
 use Rattle.dyl_store.proofs.Beginning.{adds_part}
 use Rattle.dyl_store.proofs.contents.put_member_tables.Goals as goal
 

@@ -3,9 +3,9 @@ use Rattle.std.specs.List.{slice_get}
 use Rattle.wasm_form.specs.declared.module.Module.{Module}
 use Rattle.dyl_link.specs.dyl_search.declared.set.Member.{Member}
 use Rattle.dyl_link.specs.dyl_search.declared.set.ClosedSet.{ClosedSet}
-use Rattle.merge_start.specs.Listed.{AreBases}
-use Rattle.merge_start.proofs.Linked.{at_index}
-use Rattle.dyl_store.specs.declared.names.Names.{Names}
+use Rattle.dyl_addresses.specs.Bases.{AreBases}
+use Rattle.dyl_addresses.proofs.Linked.{at_index}
+use Rattle.dyl_store.specs.declared.constants.Names.{Names}
 use Rattle.dyl_store.proofs.Beginning.{adds_globals, on_ok}
 use Rattle.dyl_store.proofs.contents.put_own_globals.Goals as goal
 

@@ -1,8 +1,9 @@
-use Rattle.std.proofs.Common.{◌≡◌, ◌<◌, ℕ, length, refl, sym, ap, subst, ◌∙◌}
+use Rattle.std.proofs.Common.{◌≡◌, ◌<◌, ℕ, length, refl, sym, ap, subst, ◌∙◌, arith}
 use Rattle.std.specs.List.{All}
 use Rattle.spec_loading.specs.LoadedSet.{set_loading}
 use Rattle.dyl_link.specs.dyl_search.declared.set.ClosedSet.{ClosedSet}
-use Rattle.dyl_frames.specs.declared.task.Task.{Task}
+use Rattle.spec_loading.specs.declared.task.Task.{Task}
+use Rattle.dyl_addresses.proofs.Linked.{members_count}
 use Rattle.dyl_store.proofs.Opened.{whole_over, holds_over, some_members, startup_opens, core_at}
 use Rattle.dyl_store.proofs.opening.core_of.Goals as goal
 
@@ -20,7 +21,9 @@ new-requires c κs =
     let holds = holds_over L k h w opened c.linked_code_is_there.ensures.opening in
     let many : length c.items.result.now ≡ length k.set.members = ap length (c.items.ensures ∙ ap (λ (S : ClosedSet). S.members) c.set.ensures) in
     let tasks = subst (λ (n : ℕ). All (λ (t : Task). t.member < n) c.in_ok-tasks.tasks.items) (sym many) c.in_ok-tasks.ensures.members in
-    ((refl, tt), (whole, (holds, tasks)))
+    let most = h.shape.few in
+    let count = members_count L k h in
+    ((refl, tt), (whole, (holds, (omega (arith, most, count, many), tasks))))
 
 pub returns-clause-core : goal.returns-clause-core
 returns-clause-core c = c.in_ok-core.ensures.core

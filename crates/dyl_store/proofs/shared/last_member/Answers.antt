@@ -1,7 +1,7 @@
 use Rattle.std.proofs.Common.{◌≡◌, List, length, ap, ◌∙◌, arith}
 use Rattle.dyl_link.specs.dyl_search.declared.set.Member.{Member}
 use Rattle.dyl_link.specs.dyl_search.declared.set.ClosedSet.{ClosedSet}
-use Rattle.merge_start.proofs.Linked.{members_count}
+use Rattle.dyl_addresses.proofs.Linked.{members_count}
 use Rattle.dyl_store.proofs.shared.last_member.Goals as goal
 
 pub overflow_sub-result : goal.overflow_sub-result

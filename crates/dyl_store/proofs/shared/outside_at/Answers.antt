@@ -1,5 +1,5 @@
 use Rattle.std.proofs.Common.{arith}
-use Rattle.merge_start.proofs.Linked.{members_count}
+use Rattle.dyl_addresses.proofs.Linked.{members_count}
 use Rattle.dyl_store.proofs.SharedTable.{ends, outside_small}
 use Rattle.dyl_store.proofs.shared.outside_at.Goals as goal
 

@@ -4,7 +4,7 @@ use Rattle.dyl_world.proofs.Known.{text_fits, text_there}
 use Rattle.dyl_world.proofs.answers.error_answer.Goals as goal
 
 pub text_address-requires : goal.text_address-requires
-text_address-requires c = text_fits c.requires.0 _ c.requires.1 c.plan.result.now _ c.text_offset.result c.plan.ensures c.text_offset.ensures
+text_address-requires c = text_fits c.links.ensures.0 _ c.links.ensures.1 c.plan.result.now _ c.text_offset.result c.plan.ensures c.text_offset.ensures
 
 pub returns-in_default-clause-value : goal.returns-in_default-clause-value
 returns-in_default-clause-value c = λ L is.

@@ -6,5 +6,5 @@ pub returns : goal.returns
 returns c =
     c.in_ok-push.ensures.items
     ∙ ap (λ l. c.args.to.now.items ++ l)
-    (ap (λ i. i ∷ []) c.in_ok-named_code.ensures.code
-    ∙ named_made c.args.local c.args.name.now c.args.code.items c.in_ok-named_code.ensures.short (λ i. omega (arith, c.type_inv.name i)))
+    (ap (λ i. i ∷ []) c.in_ok-named_code.ensures
+    ∙ named_made c.args.local c.args.name.now c.args.code.items (omega (arith, c.if-name.false)) (λ i. omega (arith, c.type_inv.name i)))

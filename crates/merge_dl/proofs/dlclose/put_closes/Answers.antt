@@ -1,4 +1,4 @@
-use Rattle.std.proofs.Common.{◌<◌, ◌≤◌, length, map, refl, arith}
+use Rattle.std.proofs.Common.{map, refl, arith}
 use Rattle.std.proofs.lemmas.List.{length-map}
 use Rattle.dyl_link.specs.dyl_search.Gathers.{member_of}
 use Rattle.merge_dl.specs.Words.{close_code, closes_code}
@@ -12,7 +12,7 @@ loop-m-preserved c =
     let members = map member_of c.args.members.now in
     let many = length-map c.args.members.now member_of in
     put_next (close_code x) (closes_code x) (λ m y ys. refl) c.loop-m.m members
-    (omega (arith, c.loop-m-test.true, c.in_ok-count.ensures, many))
+    (omega (arith, c.loop-m-test.true, many))
     _ _ _ _ c.in_ok-one.ensures c.in_ok-append.ensures.items c.loop-m.invariant
 
 pub returns : goal.returns
@@ -20,4 +20,4 @@ returns c =
     let x = starts_in c.args.n.now in
     let members = map member_of c.args.members.now in
     let many = length-map c.args.members.now member_of in
-    put_last (closes_code x) (λ m. refl) c.loop-m.m members (omega (arith, c.loop-m-test.false, c.in_ok-count.ensures, many)) _ _ c.loop-m.invariant
+    put_last (closes_code x) (λ m. refl) c.loop-m.m members (omega (arith, c.loop-m-test.false, many)) _ _ c.loop-m.invariant

@@ -1,10 +1,18 @@
-use Rattle.std.proofs.Common.{◌++◌, map, ap, ◌∙◌}
+use Rattle.std.proofs.Common.{◌++◌, length, map, ap, ◌∙◌, arith}
 use Rattle.dyl_link.specs.dyl_search.declared.set.ClosedSet.{ClosedSet}
 use Rattle.dyl_link.specs.dyl_search.Gathers.{member_of}
-use Rattle.merge_start.proofs.Linked.{members_are}
+use Rattle.dyl_addresses.proofs.Linked.{members_are}
+use Rattle.merge_start.proofs.Linked.{few_members}
 use Rattle.merge_dl.specs.Listed.{starts_in, finders_in}
 use Rattle.merge_dl.proofs.Making.{open_made}
 use Rattle.merge_dl.proofs.dlopen.open_call_code.Goals as goal
+
+pub put_members-requires : goal.put_members-requires
+put_members-requires c =
+    let set = c.requires in
+    let few = few_members set.0 c.args.linked.now set.1 in
+    let items = ap length (c.items.ensures ∙ ap (λ (S : ClosedSet). S.members) c.set.ensures) in
+    omega arith
 
 pub returns : goal.returns
 returns c = λ L h.

@@ -7,6 +7,8 @@ use Rattle.merge_dl.specs.Listed.{find_parts}
 use Rattle.merge_dl.proofs.finding.find_functions.Given as goal
 
 abbrev pub invariant-loop-member : goal.invariant-loop-member
-invariant-loop-member l =
-    (L : LinkedSet) → IsLinked L l.linked
-    → l.parts.items ++ from_members (find_parts L) l.m (map member_of (drop l.member-index l.member-items)) ≡ from_members (find_parts L) 0 L.set.members
+invariant-loop-member l = record {
+  put : (L : LinkedSet) → IsLinked L l.linked
+      → l.parts.items ++ from_members (find_parts L) l.m (map member_of (drop l.member-index l.member-items)) ≡ from_members (find_parts L) 0 L.set.members;
+  at : l.m ≡ l.member-index;
+}

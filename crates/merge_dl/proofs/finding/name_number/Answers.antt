@@ -1,7 +1,7 @@
-use Rattle.std.proofs.Common.{[], ◌∷◌, ap, ◌∙◌}
+use Rattle.std.proofs.Common.{ap, ◌∙◌}
 use Rattle.spec_loading.specs.spec_linking.Definitions.{member_definition}
 use Rattle.spec_loading.specs.spec_linking.Slots.{cell_number}
-use Rattle.merge_start.proofs.Linked.{bases_long}
+use Rattle.dyl_addresses.proofs.Linked.{bases_long}
 use Rattle.merge_dl.proofs.Making.{or_nothing}
 use Rattle.merge_dl.proofs.finding.name_number.Goals as goal
 

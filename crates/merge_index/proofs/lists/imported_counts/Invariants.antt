@@ -1,6 +1,6 @@
 use Rattle.std.proofs.Common.{◌≡◌, ◌++◌, drop, map}
 use Rattle.spec_loading.specs.spec_binary.IndexSpaces.{imported_count}
-use Rattle.merge_index.specs.Lists.{module_of}
+use Rattle.dyl_addresses.specs.Sets.{module_of}
 use Rattle.merge_index.proofs.lists.imported_counts.Given as goal
 
 abbrev pub invariant-loop-member : goal.invariant-loop-member

@@ -7,12 +7,12 @@ use Rattle.merge_start.proofs.openings.entry_function.Goals as goal
 
 pub opening_code-requires-clause-breadth : goal.opening_code-requires-clause-breadth
 opening_code-requires-clause-breadth c =
-    let set = c.requires.set in
+    let set = c.links.ensures in
     subst AreFew (sym (c.items-startup.ensures ∙ ap (λ (S : ClosedSet). S.startup) c.set.ensures)) (startup_few set.0 c.args.linked.now set.1)
 
 pub opening_code-requires-clause-post : goal.opening_code-requires-clause-post
 opening_code-requires-clause-post c =
-    let set = c.requires.set in
+    let set = c.links.ensures in
     subst AreFew (sym (c.construct_order.ensures ∙ set.1.symbols.orders 0 set.1.shape.some))
     (post_few set.0 c.args.linked.now set.1 0 set.1.shape.some)
 

@@ -1,7 +1,8 @@
 use Rattle.std.proofs.Common.{◌<◌, length, sym, ap, subst, ◌∙◌, arith}
 use Rattle.dyl_link.specs.dyl_scope.Scopes.{Scopes, AreOf}
 use Rattle.merge_start.specs.Listed.{AreFew, opening_with, handle_part}
-use Rattle.merge_start.proofs.Linked.{members_count, closure_few, post_few}
+use Rattle.dyl_addresses.proofs.Linked.{members_count}
+use Rattle.merge_start.proofs.Linked.{closure_few, post_few}
 use Rattle.merge_start.proofs.Tasks.{open_is}
 use Rattle.merge_start.proofs.openings.open_function.Goals as goal
 

@@ -4,9 +4,10 @@ use Rattle.wasm_form.specs.declared.module.Module.{Module}
 use Rattle.dyl_link.specs.dyl_search.declared.set.Member.{Member}
 use Rattle.dyl_link.specs.dyl_search.declared.set.ClosedSet.{ClosedSet}
 use Rattle.spec_loading.specs.spec_validation.Faults.{fault}
-use Rattle.merge_start.specs.Listed.{module_of, placed_with, parts_of}
-use Rattle.merge_start.proofs.Linked.{wasm_at, at_index, one_module}
-use Rattle.merge_start.proofs.Valid.{elem_offsets, data_offsets}
+use Rattle.dyl_addresses.specs.Sets.{module_of}
+use Rattle.merge_start.specs.Listed.{placed_with, parts_of}
+use Rattle.dyl_addresses.proofs.Linked.{wasm_at, at_index, one_module}
+use Rattle.dyl_addresses.proofs.Valid.{elem_offsets, data_offsets}
 use Rattle.merge_start.proofs.phases.member_parts.Goals as goal
 
 pub place_code-requires-clause-elems : goal.place_code-requires-clause-elems

@@ -1,7 +1,8 @@
 use Rattle.std.proofs.Common.{◌≡◌, ◌++◌, drop}
 use Rattle.spec_loading.specs.spec_execution.Segments.{data_effects, all_effects}
 use Rattle.merge_start.specs.Words.{effects_code}
-use Rattle.merge_start.specs.Listed.{numbers_at, number_with}
+use Rattle.dyl_addresses.specs.Offsets.{number_with}
+use Rattle.merge_start.specs.Listed.{numbers_at}
 use Rattle.merge_start.proofs.segments.datas_code.Given as goal
 
 abbrev pub invariant-loop-d : goal.invariant-loop-d

@@ -9,9 +9,6 @@ use Rattle.wasm_exec.proofs.Proceeding.{course_fronts}
 use Rattle.wasm_exec.proofs.Sets.{set_begins, set_opens, set_executes}
 use Rattle.wasm_exec.proofs.exec.execute_set.Goals as goal
 
-pub load-requires : goal.load-requires
-load-requires g c = (c.requires.names.0, c.requires.names.1)
-
 pub run_program-requires-clause-fresh : goal.run_program-requires-clause-fresh
 run_program-requires-clause-fresh g c = ap recorded_of c.in-Ok.ensures
 

@@ -17,7 +17,7 @@ returns-in-Some c =
     on_ok c.add.result
     (λ added. definer_noted c.args.name.now c.args.m c.self.inside.members.entries (c.get_mut.follows.lender w).entries w c.in-Some.members.now c.args.self.now
     c.self.view_is (c.get_mut.follows.holds w).0 (sym c.in-Some.ensures.value) added)
-    c.add.ensures
+    c.add.ensures.added
 
 pub returns-in-None : goal.returns-in-None
 returns-in-None c =

@@ -1,6 +1,6 @@
 use Rattle.std.proofs.Common.{◌≡◌, ◌∙◌, ap, sym, subst, map, length}
 use Rattle.std.proofs.lemmas.List.{length-map}
-use Rattle.dyl_scope.specs.Scopes.{Scopes, AreOf, told_value}
+use Rattle.dyl_scope.specs.Scopes.{Scopes, AreOf, IsTold, told_value}
 use Rattle.dyl_scope.specs.Kept.{names_by}
 use Rattle.dyl_scope.proofs.Told.{kept_is}
 use Rattle.dyl_scope.proofs.maker.Maker.finish.Goals as goal
@@ -9,7 +9,7 @@ members : (c : goal.In_ok-symbols) → map told_value c.as_slice.result.now ≡ 
 members c = ap (map told_value) c.as_slice.ensures.value ∙ c.self.view_is
 
 pub returns-clause-exact : goal.returns-clause-exact
-returns-clause-exact c = λ S is same. subst (AreOf S) (sym c.in_ok-symbols.ensures) (kept_is c.as_slice.result.now S is (members c ∙ same))
+returns-clause-exact c = λ S is. subst (AreOf S) (sym c.in_ok-symbols.ensures) (kept_is c.as_slice.result.now S (subst (IsTold S) (sym (members c)) is))
 
 pub returns-clause-count : goal.returns-clause-count
 returns-clause-count c =

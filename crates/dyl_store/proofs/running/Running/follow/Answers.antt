@@ -1,16 +1,15 @@
-use Rattle.std.proofs.Common.{refl, sym, ap, ◌∙◌}
+use Rattle.std.proofs.Common.{refl, sym, ◌∙◌}
 use Rattle.spec_loading.specs.LoadedSet.{set_loading}
-use Rattle.dyl_frames.specs.Tasks.{after_value}
 use Rattle.dyl_store.specs.declared.running.Running.{Running}
 use Rattle.dyl_store.proofs.Loads.{running_after}
 use Rattle.dyl_store.proofs.running.Running.follow.Goals as goal
 
 pub enter-requires-clause-entry : goal.enter-requires-clause-entry
-enter-requires-clause-entry c = sym c.follows.ensures ∙ ap after_value c.in-CallEntry.is
+enter-requires-clause-entry c = sym c.follows.ensures ∙ c.in-CallEntry.is
 
 pub hand_over-requires : goal.hand_over-requires
 hand_over-requires c κs =
-    let handle = sym c.follows.ensures ∙ ap after_value c.in-GiveHandle.is in
+    let handle = sym c.follows.ensures ∙ c.in-GiveHandle.is in
     ((refl, tt), (c.requires.running.core, (c.requires.marked, (c.requires.last, handle))))
 
 pub returns-in-GiveHandle-clause-stepped : goal.returns-in-GiveHandle-clause-stepped

@@ -1,7 +1,7 @@
 use Rattle.std.proofs.Common.{◌<◌, ℕ, subst}
 use Rattle.std.proofs.lemmas.Result.{IfOk-weaker}
 use Rattle.spec_loading.specs.declared.answers.Opening.TheVariants as opening
-use Rattle.merge_start.proofs.Linked.{members_count}
+use Rattle.dyl_addresses.proofs.Linked.{members_count}
 use Rattle.dyl_store.proofs.Calling.{opens_by, opened_range}
 use Rattle.dyl_store.proofs.running.Running.open_module.Goals as goal
 

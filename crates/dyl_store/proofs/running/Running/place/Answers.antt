@@ -2,7 +2,6 @@ use Rattle.std.proofs.Common.{◌≡◌, true, rules, ◌<◌, ℕ, length, refl
 use Rattle.std.proofs.lemmas.Option.{slice_get_read}
 use Rattle.spec_loading.specs.LoadedSet.{set_loading}
 use Rattle.dyl_link.specs.Kept.{Kept}
-use Rattle.dyl_frames.specs.Tasks.{task_value}
 use Rattle.dyl_frames.specs.Cores.{IsCore, is_behind}
 use Rattle.dyl_store.specs.Worlds.{kept_view, seen_of}
 use Rattle.dyl_store.specs.declared.running.Running.{Running}
@@ -45,5 +44,5 @@ pub placed-requires : goal.placed-requires
 placed-requires c κs =
     let world = c.place-outcome.new.self in
     let core = placed_core c.linked_code_is_there.ensures.placed c.args.self.now c.requires.running c.args.task.member c.place-outcome.result world c.place-outcome.ensures.placed in
-    let behind : is_behind c.args.self.now.core (task_value c.args.task) ≡ true = search rules in
+    let behind : is_behind c.args.self.now.core c.args.task ≡ true = search rules in
     ((refl, tt), (subst (λ (k : Kept). IsCore (kept_view k) world.store c.args.self.now.core) (sym c.place-outcome.ensures.linked) core, (c.requires.marked, (c.requires.task, (c.requires.member, (behind, c.requires.places))))))

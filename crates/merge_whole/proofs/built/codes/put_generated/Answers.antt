@@ -1,4 +1,4 @@
-use Rattle.std.proofs.Common.{◌++◌, map, ap, ◌∙◌}
+use Rattle.std.proofs.Common.{ap, ◌∙◌}
 use Rattle.merge_whole.specs.Built.{code_of}
 use Rattle.merge_whole.proofs.BuiltParts.{generated_put}
 use Rattle.merge_whole.proofs.built.codes.put_generated.Goals as goal

@@ -6,4 +6,7 @@ use Rattle.merge_index.specs.Kept.{numbers_in}
 use Rattle.merge_whole.proofs.built.elems.declared_elem.Given as goal
 
 abbrev pub invariant-loop-member : goal.invariant-loop-member
-invariant-loop-member l = l.list.items ++ from_members (exported_numbers (numbers_in l.n)) l.m (members_of (drop l.member-index l.member-items)) ≡ from_members (exported_numbers (numbers_in l.n)) 0 (members_of l.linked.set.members)
+invariant-loop-member l = record {
+  put : l.list.items ++ from_members (exported_numbers (numbers_in l.n)) l.m (members_of (drop l.member-index l.member-items)) ≡ from_members (exported_numbers (numbers_in l.n)) 0 (members_of l.linked.set.members);
+  at : l.m ≡ l.member-index;
+}

@@ -5,7 +5,7 @@ use Rattle.spec_reading.specs.spec_binary.Options.{◌>>=◌}
 use Rattle.dyl_link.specs.dyl_search.declared.set.Member.{Member}
 use Rattle.dyl_link.specs.dyl_search.declared.set.ClosedSet.{ClosedSet}
 use Rattle.dyl_link.specs.Kept.{KeptMember}
-use Rattle.merge_start.proofs.Linked.{members_count}
+use Rattle.dyl_addresses.proofs.Linked.{members_count}
 use Rattle.merge_whole.proofs.built.elems.fresh_of.Goals as goal
 
 pub fresh-requires : goal.fresh-requires

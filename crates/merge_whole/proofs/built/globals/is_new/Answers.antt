@@ -1,6 +1,6 @@
 use Rattle.std.proofs.Common.{ap, ◌∙◌}
-use Rattle.merge_index.specs.Globals.{CellKey, cells_in}
-use Rattle.merge_index.proofs.Keys.{key_eq, key_is, keys_are}
+use Rattle.dyl_addresses.specs.Globals.{CellKey, cells_in}
+use Rattle.dyl_addresses.proofs.Keys.{key_eq, key_is, keys_are}
 use Rattle.merge_whole.proofs.GlobalLists.{new_first}
 use Rattle.merge_whole.proofs.built.globals.is_new.Goals as goal
 

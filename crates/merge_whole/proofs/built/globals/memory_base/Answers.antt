@@ -1,7 +1,7 @@
 use Rattle.std.proofs.Common.{ℕ, length, slice_get, Option, sym, ap, ◌∙◌, arith}
 use Rattle.std.specs.Prelude.{unwrap_or}
 use Rattle.spec_loading.specs.spec_linking.Plans.{Plan}
-use Rattle.merge_start.proofs.Linked.{bases_long}
+use Rattle.dyl_addresses.proofs.Linked.{bases_long}
 use Rattle.merge_whole.proofs.built.globals.memory_base.Goals as goal
 
 pub base-requires : goal.base-requires

@@ -6,7 +6,11 @@ use Rattle.merge_index.specs.Kept.{numbers_in}
 use Rattle.merge_index.specs.Numbering.{starts_of}
 use Rattle.merge_module.specs.MergedModule.{number_global, merged_globals}
 use Rattle.merge_whole.specs.Counts.{members_of}
+use Rattle.merge_start.proofs.Linked.{few_members}
 use Rattle.merge_whole.proofs.GlobalLists.{many_are, globals_are}
+use Rattle.merge_whole.proofs.FewNumbers.{guards_few}
+use Rattle.merge_module.proofs.Known.{HasLaws}
+use Rattle.merge_whole.proofs.GlobalFits.{own_fit}
 use Rattle.merge_whole.proofs.built.globals.merged_globals.Goals as goal
 
 pub returns-clause-globals : goal.returns-clause-globals
@@ -23,7 +27,40 @@ returns-clause-globals c = λ L h numbers.
 
 pub returns-clause-guards : goal.returns-clause-guards
 returns-clause-guards c = λ L h numbers.
-    let len = c.len.ensures in
+    let len = c.len-guard.ensures in
     let many : length c.in_ok-list.list.items ≡ (starts_of L).guards =
     ap length c.in_ok-list.ensures ∙ many_are L c.args.linked.now h (numbers_in c.args.n.now) in
-    c.in_ok-guard.ensures ∙ omega arith
+    omega arith
+
+pub overflow_cast-guard : goal.overflow_cast-guard
+overflow_cast-guard c =
+    let set = c.requires.set in
+    let len = c.len-guard.ensures in
+    let many = ap length c.in_ok-list.ensures ∙ many_are set.0 c.args.linked.now set.1 (numbers_in c.args.n.now) in
+    let few = guards_few set.0 c.args.linked.now set.1 in
+    omega arith
+
+pub returns-clause-few : goal.returns-clause-few
+returns-clause-few c =
+    let set = c.requires.set in
+    let len = c.len-guard.ensures in
+    let many = ap length c.in_ok-list.ensures ∙ many_are set.0 c.args.linked.now set.1 (numbers_in c.args.n.now) in
+    let few = guards_few set.0 c.args.linked.now set.1 in
+    omega arith
+
+pub all_globals-requires-clause-few : goal.all_globals-requires-clause-few
+all_globals-requires-clause-few c = (let set = c.requires.set in few_members set.0 c.args.linked.now set.1)
+
+pub all_globals-requires-clause-fit : goal.all_globals-requires-clause-fit
+all_globals-requires-clause-fit c =
+    let set = c.requires.set in
+    let laws : HasLaws = record {
+      there = c.linked_code_is_there.ensures.code;
+      typed = c.linked_functions_are_typed.ensures.functions;
+      callees = c.linked_functions_are_typed.ensures.callees;
+      entry = c.linked_functions_are_typed.ensures.entry;
+      holds = c.linked_code_is_there.ensures.opening;
+      sizes = c.slots_fit.ensures.sizes;
+      slots = c.slots_fit.ensures.slots;
+    } in
+    own_fit laws set.0 c.args.linked.now set.1 c.has_few_pages.ensures

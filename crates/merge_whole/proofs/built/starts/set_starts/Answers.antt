@@ -1,7 +1,9 @@
-use Rattle.std.proofs.Common.{◌<◌, sym, ap, subst, ◌∙◌}
+use Rattle.std.proofs.Common.{◌<◌, sym, ap, ap₂, subst, ◌∙◌}
+use Rattle.spec_loading.specs.Members.{from_members}
+use Rattle.dyl_addresses.proofs.Linked.{members_are}
 use Rattle.merge_start.specs.Listed.{AreListed}
 use Rattle.merge_index.specs.Numbering.{numbers_of, starts_of}
-use Rattle.merge_whole.specs.Counts.{starts_by}
+use Rattle.merge_whole.specs.Counts.{functions_by, starts_by}
 use Rattle.merge_whole.proofs.StartLists.{are_listed}
 use Rattle.merge_whole.proofs.built.starts.set_starts.Goals as goal
 
@@ -14,6 +16,9 @@ returns c =
           subst (λ z. AreListed L z (numbers_of L) (starts_of L))
           (sym (c.in_ok-starts.ensures ∙ ap (λ n. starts_by k n c.args.guard c.args.n.now.first_phase) numbers))
           (are_listed L k h c.args.guard c.args.n.now.first_phase guard phase);
-      guard = subst (λ z. z.guard < 2147483648) (sym c.in_ok-starts.ensures) c.if-guard-ge2147483648.false;
-      first = c.if-starts-ge2147483648.false;
+      functions = λ L h numbers.
+          ap (λ z. z.functions) c.in_ok-starts.ensures
+          ∙ ap₂ (λ n ms. from_members (functions_by n) 0 ms) numbers (members_are L k h);
+      guard = subst (λ z. z.guard < 2147483648) (sym c.in_ok-starts.ensures) c.requires.guard;
+      first = subst (λ z. z.first_function < 2147483648) (sym c.in_ok-starts.ensures) c.requires.first;
     }

@@ -5,6 +5,7 @@ use Rattle.merge_whole.specs.Counts.{members_of, tables_by}
 use Rattle.merge_whole.proofs.built.starts.tables.Given as goal
 
 abbrev pub invariant-loop-member : goal.invariant-loop-member
-invariant-loop-member l =
-    l.list.items ++ from_members (tables_by (numbers_in l.n)) l.m (members_of (drop l.member-index l.members))
-    ≡ from_members (tables_by (numbers_in l.n)) 0 (members_of l.members)
+invariant-loop-member l = record {
+  put : l.list.items ++ from_members (tables_by (numbers_in l.n)) l.m (members_of (drop l.member-index l.members)) ≡ from_members (tables_by (numbers_in l.n)) 0 (members_of l.members);
+  at : l.m ≡ l.member-index;
+}

@@ -1,0 +1,12 @@
+pub mod Offsets
+pub mod Valid
+pub mod Ranges
+pub mod Linked
+pub mod Items
+pub mod Bytes
+pub mod Cells
+pub mod Keys
+pub mod GlobalAddresses
+pub mod TableAddresses
+pub mod Whole
+pub mod Ends

@@ -1,0 +1,15 @@
+-- The members of a linked set.
+use Rattle.std.specs.Prelude.{◌<◌, List, [], ◌∷◌, length}
+use Rattle.wasm_form.specs.declared.module.Module.{Module}
+use Rattle.spec_loading.specs.spec_linking.LinkedSets.{LinkedSet}
+use Rattle.spec_loading.specs.declared.task.Task.{Task}
+use Rattle.dyl_link.specs.dyl_search.declared.set.Member.{Member}
+pub use Rattle.dyl_link.specs.Kept.{IsOfSet}
+
+abbrev pub module_of : Member → Module
+module_of x = x.checked
+
+-- the tasks are of members of the set
+abbrev pub AreOf : LinkedSet → List Task → Type 0
+AreOf L [] = Unit {0}
+AreOf L (task ∷ tasks) = (task.member < length L.set.members) × AreOf L tasks

@@ -1,0 +1,108 @@
+-- The code for the length of a string, and for the search of a member, does what is said of it, at whatever number of a module it stands.
+use Rattle.std.proofs.Common.{◌≡◌, ℕ, zero, suc, ◌+◌, List, [], ◌∷◌, length, slice_get, Option, Some, None, refl, sym, ap, ◌∙◌, subst, arith}
+use Rattle.wasm_form.specs.declared.module.Module.{Module}
+use Rattle.wasm_form.specs.declared.runtime.Trap.TheVariants.{MemoryBounds}
+use Rattle.wasm_form.specs.declared.runtime.Value.{Value}
+use Rattle.wasm_form.specs.declared.runtime.Value.TheVariants.{Num}
+use Rattle.spec_loading.specs.spec_binary.Options.{◌>>=◌}
+use Rattle.spec_loading.specs.spec_runtime.Numerics.{W32}
+use Rattle.spec_loading.specs.spec_execution.Values.{low}
+use Rattle.spec_loading.specs.spec_linking.Sets.{Member}
+use Rattle.spec_loading.specs.spec_linking.LinkedSets.{LinkedSet}
+use Rattle.spec_loading.specs.spec_linking.Links.{Links}
+use Rattle.spec_loading.specs.LoaderAnswers.{string_at}
+use Rattle.spec_loading.specs.Members.{from_members}
+use Rattle.merge_match.specs.Bounded.{IsBounded}
+use Rattle.merge_start.specs.Words.{Starts}
+use Rattle.merge_start.specs.Running.{Changing}
+use Rattle.wasm_form.specs.declared.module.Part.{Part}
+use Rattle.merge_dl.specs.Words.{unary_type, name_numbers, length_code, find_code, length_body}
+use Rattle.merge_dl.specs.Called.{HasFunction, CallGives, GivesLength, defined_number, search_value, IsLengthPart, IsSearchPart, AreSearchParts}
+use Rattle.merge_dl.specs.Listed.{starts_in, length_part, find_part, find_parts}
+use Rattle.merge_dl.specs.Laws.{LengthsAreGiven, MembersAreSearched, DefinedIsNumbered}
+use Rattle.merge_dl.proofs.Sites.{Gives, Answers}
+use Rattle.merge_dl.proofs.Calls.{call_gives, call_traps}
+use Rattle.merge_dl.proofs.Lengths.{measured, measures}
+use Rattle.merge_dl.proofs.Names.{string_begins, string_short}
+use Rattle.merge_dl.proofs.Defined.{definition_numbered}
+use Rattle.merge_dl.proofs.Searches.{searches, finds_defined, all_small}
+use Rattle.merge_dl.proofs.Typed.{length_height, find_height}
+
+-- the code opens no member
+abbrev no_starts : Starts
+no_starts = starts_in (record { error = 0; guard = 0; first_function = 0; opens = [] })
+
+-- ---- the length of a string
+
+module _ (merged : Module) (f : ℕ) (has : HasFunction merged f unary_type length_body) (c : Changing) (a : ℕ) where
+  length_given : (o : Option (List ℕ)) → Answers merged no_starts length_code c (Num a ∷ Num 0 ∷ []) (measured c o)
+      → GivesLength merged f c a o
+  length_given None r = call_traps has (Num a ∷ []) (refl, λ rest. refl) MemoryBounds r
+  length_given (Some s) r = call_gives has (Num a ∷ []) (refl, λ rest. refl) (Num (length s)) r
+
+pub lengths_given : LengthsAreGiven
+lengths_given merged f has = record {
+  calls = λ c bounded a. length_given merged f has c a (string_at c.memory (low W32 a)) (measures merged no_starts c bounded a);
+}
+
+-- ---- the search of a member
+
+pub members_searched : MembersAreSearched
+members_searched L links m wasm found merged f has = record { calls = calls }
+  where
+    calls : (c : Changing) → IsBounded c.memory → (a : ℕ) (s : List ℕ) → string_at c.memory (low W32 a) ≡ Some s
+        → CallGives merged f c (Num (length s) ∷ Num a ∷ []) (Num (search_value (defined_number L m s)))
+    calls c bounded a s known =
+        let short = string_short c.memory (low W32 a) s known bounded in
+        let begins = string_begins c.memory (low W32 a) s known in
+        let ls : List Value = Num a ∷ Num (length s) ∷ [] in
+        let given : Answers merged no_starts (find_code L m wasm) c ls (Gives c (Num (search_value (defined_number L m s)))) =
+        subst (λ o. Answers merged no_starts (find_code L m wasm) c ls (Gives c (Num (search_value o)))) (finds_defined L m wasm found s)
+        (searches merged no_starts c a s short begins (name_numbers L m wasm) (all_small L m links wasm.exports)) in
+        call_gives has (Num (length s) ∷ Num a ∷ []) (refl, λ rest. refl) (Num (search_value (defined_number L m s))) given
+
+pub defined_numbered : DefinedIsNumbered
+defined_numbered L links m name = definition_numbered L links m name
+
+-- ---- functions to be put into a module
+
+pub length_works : IsLengthPart length_part
+length_works = record {
+  ty = refl;
+  typed = λ c memory. length_height c memory;
+  works = λ merged f has. lengths_given merged f has;
+}
+
+module _ (L : LinkedSet) where
+  -- there is one for each member
+  parts_many : (k : ℕ) (ms : List Member) → length (from_members (find_parts L) k ms) ≡ length ms
+  parts_many k [] = refl
+  parts_many k (y ∷ ms) = ap suc (parts_many (k + 1) ms)
+
+  part_at : (k : ℕ) (ms : List Member) (m : ℕ) (p : Part) → slice_get (from_members (find_parts L) k ms) m ≡ Some p
+      → (y : Member) × (slice_get ms m ≡ Some y) × (p ≡ find_part L (k + m) y.wasm)
+  part_at k [] m p e = absurd cc
+  part_at k (y ∷ ms) zero p e =
+      let first : k ≡ k + 0 = omega arith in
+      let same : p ≡ find_part L k y.wasm = cc in
+      (y, refl, same ∙ ap (λ j. find_part L j y.wasm) first)
+  part_at k (y ∷ ms) (suc m) p e =
+      let next : k + 1 + m ≡ k + suc m = omega arith in
+      let later = part_at (k + 1) ms m p e in
+      (later.0, later.1, later.2 ∙ ap (λ j. find_part L j later.0.wasm) next)
+
+  search_works : Links L → (m : ℕ) (y : Member) → slice_get L.set.members m ≡ Some y → IsSearchPart L m (find_part L m y.wasm)
+  search_works links m y at = record {
+    ty = refl;
+    typed = λ c memory. find_height L m y.wasm c memory;
+    works = λ merged f has. members_searched L links m y.wasm (ap (λ (o : Option Member). o >>= λ x. Some x.wasm) at) merged f has;
+  }
+
+  pub searches_work : Links L → (parts : List Part) → parts ≡ from_members (find_parts L) 0 L.set.members → AreSearchParts L parts
+  searches_work links parts is = record {
+    count = ap length is ∙ parts_many 0 L.set.members;
+    each = λ m p at.
+        let first : 0 + m ≡ m = omega arith in
+        let here = part_at 0 L.set.members m p (ap (λ (l : List Part). slice_get l m) (sym is) ∙ at) in
+        subst (IsSearchPart L m) (sym (here.2 ∙ ap (λ j. find_part L j here.0.wasm) first)) (search_works links m here.0 here.1);
+  }

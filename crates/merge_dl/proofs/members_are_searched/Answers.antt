@@ -1,0 +1,9 @@
+-- Members are searched, and what they define has a number.
+use Rattle.merge_dl.proofs.Called.{members_searched, defined_numbered}
+use Rattle.merge_dl.proofs.members_are_searched.Goals as goal
+
+pub returns-clause-searches : goal.returns-clause-searches
+returns-clause-searches c = members_searched
+
+pub returns-clause-numbers : goal.returns-clause-numbers
+returns-clause-numbers c = defined_numbered

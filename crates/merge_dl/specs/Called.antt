@@ -1,0 +1,90 @@
+-- What the functions do that the functions of the loader call: one that gives the length of a string, and for each member one that searches the
+-- names which it defines. Each is said of a call, from wherever it is made, over any store, and over any memory that ends before the last address.
+-- Nothing is said of their code: other code may do the same.
+use Rattle.std.specs.Prelude.{◌≡◌, ℕ, List, [], ◌∷◌, length, Option, Some, None, true, slice_get}
+use Rattle.wasm_form.specs.declared.types.FuncType.{FuncType}
+use Rattle.wasm_form.specs.declared.instr.Instr.{Index}
+use Rattle.wasm_form.specs.declared.module.Code.{Code}
+use Rattle.wasm_form.specs.declared.module.Module.{Module}
+use Rattle.wasm_form.specs.declared.runtime.Ref.TheVariants.{Own}
+use Rattle.wasm_form.specs.declared.runtime.Trap.{Trap}
+use Rattle.wasm_form.specs.declared.runtime.Trap.TheVariants.{MemoryBounds}
+use Rattle.wasm_form.specs.declared.runtime.Value.{Value}
+use Rattle.wasm_form.specs.declared.runtime.Value.TheVariants.{Num}
+use Rattle.spec_loading.specs.spec_binary.Indices.{function_with, function_at}
+use Rattle.spec_loading.specs.spec_validation.Context.{Context}
+use Rattle.spec_loading.specs.spec_runtime.Numerics.{W32}
+use Rattle.spec_loading.specs.spec_execution.Values.{low}
+use Rattle.spec_loading.specs.spec_execution.Instances.{module_target}
+use Rattle.spec_loading.specs.spec_linking.Definitions.{member_definition}
+use Rattle.spec_loading.specs.spec_linking.LinkedSets.{LinkedSet}
+use Rattle.spec_loading.specs.spec_linking.Slots.{cell_number}
+use Rattle.spec_loading.specs.LoaderAnswers.{string_at}
+use Rattle.merge_match.specs.Bounded.{IsBounded}
+use Rattle.merge_pieces.specs.Opcodes as op
+use Rattle.merge_start.specs.Running.{Changing, Does}
+use Rattle.wasm_form.specs.declared.module.Part.{Part}
+use Rattle.merge_dl.specs.Words.{found_value, unary_type, search_type}
+use Rattle.merge_dl.specs.Typed.{HasHeight}
+
+-- ---- calls
+
+-- the module itself defines a function of this number, type and code
+pub record HasFunction (merged : Module) (f : ℕ) (ty : FuncType) (body : Code) : Type 0 where
+  pub target : module_target merged f ≡ Some (Own 0 f)
+  pub code : function_at merged f ≡ Some (function_with ty body)
+
+-- A call of the function with these numbers, the last argument first, gives this value, and changes nothing else.
+abbrev pub CallGives : Module → ℕ → Changing → List Value → Value → Type 0
+CallGives wasm f c args v = Does wasm (Index op.call f ∷ []) c args c (v ∷ []) None
+
+-- A call of the function with these numbers traps, and changes nothing.
+abbrev pub CallTraps : Module → ℕ → Changing → List Value → Trap → Type 0
+CallTraps wasm f c args why = Does wasm (Index op.call f ∷ []) c args c [] (Some why)
+
+-- ---- the length of a string
+
+-- With an address, the function gives the length of the string there. Where no zero byte follows inside the memory, it traps as a load past
+-- the end of the memory does.
+abbrev pub GivesLength : Module → ℕ → Changing → ℕ → Option (List ℕ) → Type 0
+GivesLength wasm f c a None = CallTraps wasm f c (Num a ∷ []) MemoryBounds
+GivesLength wasm f c a (Some s) = CallGives wasm f c (Num a ∷ []) (Num (length s))
+
+-- The function gives the length of the string at each address, or its trap. Of the number on the stack the low 32 bits are the address.
+pub record GivesLengths (wasm : Module) (f : ℕ) : Type 0 where
+  pub calls : (c : Changing) → IsBounded c.memory → (a : ℕ) → GivesLength wasm f c a (string_at c.memory (low W32 a))
+
+-- ---- the search of a member
+
+-- the slot of the function, or the address of the data, that member m defines a name as, if it defines it
+abbrev pub defined_number : LinkedSet → ℕ → List ℕ → Option ℕ
+defined_number L m name = cell_number L name (member_definition L.set m name)
+
+-- what a search gives: 2^32 with the number that it has found, or 0 where the name isn't defined
+abbrev pub search_value : Option ℕ → ℕ
+search_value None = 0
+search_value (Some k) = found_value k
+
+-- With the address of a string and its length, the function gives what member m defines the name as, or 0.
+pub record SearchesMember (L : LinkedSet) (m : ℕ) (wasm : Module) (f : ℕ) : Type 0 where
+  pub calls : (c : Changing) → IsBounded c.memory → (a : ℕ) (s : List ℕ) → string_at c.memory (low W32 a) ≡ Some s
+      → CallGives wasm f c (Num (length s) ∷ Num a ∷ []) (Num (search_value (defined_number L m s)))
+
+-- ---- functions to be put into a module
+
+-- A function that is well typed in any module with a memory, and gives lengths of strings at whatever number it stands.
+pub record IsLengthPart (p : Part) : Type 0 where
+  pub ty : p.ty ≡ unary_type
+  pub typed : (c : Context) → c.memory ≡ true → HasHeight c p.ty p.code
+  pub works : (wasm : Module) (f : ℕ) → HasFunction wasm f p.ty p.code → GivesLengths wasm f
+
+-- A function that is well typed in any module with a memory, and searches member m at whatever number it stands.
+pub record IsSearchPart (L : LinkedSet) (m : ℕ) (p : Part) : Type 0 where
+  pub ty : p.ty ≡ search_type
+  pub typed : (c : Context) → c.memory ≡ true → HasHeight c p.ty p.code
+  pub works : (wasm : Module) (f : ℕ) → HasFunction wasm f p.ty p.code → SearchesMember L m wasm f
+
+-- one for each member of the set, in order
+pub record AreSearchParts (L : LinkedSet) (parts : List Part) : Type 0 where
+  pub count : length parts ≡ length L.set.members
+  pub each : (m : ℕ) (p : Part) → slice_get parts m ≡ Some p → IsSearchPart L m p

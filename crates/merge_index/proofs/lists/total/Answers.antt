@@ -1,0 +1,20 @@
+use Rattle.std.proofs.Common.{arith, ap}
+use Rattle.dyl_addresses.specs.Lists.{size_in}
+use Rattle.merge_index.proofs.FewNumbers.{total_room}
+use Rattle.merge_index.proofs.lists.total.Goals as goal
+
+pub overflow_cast-size : goal.overflow_cast-size
+overflow_cast-size c =
+    let room = total_room (size_in c.args.space) c.args.members.now c.loop-member.member-index c.member-item.result c.loop-member-test.true c.member-item.is
+    c.loop-member.next _ c.loop-member.invariant in
+    let size = c.size-size.ensures in
+    let same = ap (size_in c.args.space) c.module.ensures.same in
+    omega arith
+
+pub overflow_add-next : goal.overflow_add-next
+overflow_add-next c =
+    let room = total_room (size_in c.args.space) c.args.members.now c.loop-member.member-index c.member-item.result c.loop-member-test.true c.member-item.is
+    c.loop-member.next _ c.loop-member.invariant in
+    let size = c.size-size.ensures in
+    let same = ap (size_in c.args.space) c.module.ensures.same in
+    omega arith

@@ -1,0 +1,124 @@
+-- What is so of a linked set makes that its merged module can be written, and where there is little of it, no section of that is too long.
+use Rattle.std.proofs.Common.{◌≡◌, ℕ, ◌+◌, ◌*◌, ◌^◌, ◌≤◌, ◌<◌, min, Ok, List, [], ◌∷◌, ◌++◌, length, take, drop, get_or, refl, sym, ap, ◌∙◌, subst, arith}
+use Rattle.std.specs.Prelude.{sum_by, ◌↔◌}
+use Rattle.std.proofs.Math.Nat.{pow-le-pow_left}
+use Rattle.std.specs.List.{All}
+use Rattle.std.proofs.lemmas.List.{take_more, drop_more}
+use Rattle.std.proofs.lemmas.List.Elements.{All-nil, All-cons, All-tail, All-append}
+use Rattle.std.proofs.lemmas.List.Sums.{sum_by-append}
+use Rattle.wasm_form.specs.declared.types.FuncType.{FuncType}
+use Rattle.wasm_form.specs.declared.module.Module.{Module}
+use Rattle.spec_reading.specs.spec_binary.Modules.{SpellsModule}
+use Rattle.spec_reading.specs.spec_binary.WellFormed.{IsFormedType, IsWellFormed}
+use Rattle.spec_reading.specs.spec_binary.DecodeAnswers as answers
+use Rattle.spec_reading.specs.spec_binary.DecodeAnswers.{DecodeAnswer}
+use Rattle.spec_reading.specs.Laws.{OneModule}
+use Rattle.spec_loading.specs.spec_linking.Sets.{Member}
+use Rattle.spec_loading.specs.spec_linking.Gathering.{total_size}
+use Rattle.spec_loading.specs.spec_linking.Plans.{Plan}
+use Rattle.spec_loading.specs.spec_linking.LinkedSets.{LinkedSet}
+use Rattle.dyl_link.specs.dyl_search.declared.set.Member as kept
+use Rattle.dyl_link.specs.Kept.{Kept, IsLinked}
+use Rattle.wasm_encode.specs.SectionSizes.{IsFirstTooLong}
+use Rattle.merge_module.specs.MergedModule.{members_types, generated_functions_types, added_types, merged_module}
+use Rattle.merge_module.specs.Shape.{HasShape}
+use Rattle.merge_module.specs.Laws.{IsSupported, IsMergeable, MergedStands, SpelledMerges, MergedIsFormed, MergedHasShape, types_bulk, names_bulk, IsBrief, MergedIsShort}
+use Rattle.merge_index.proofs.FewItems.{total_cons}
+use Rattle.merge_whole.specs.Counts.{members_of, sizes}
+use Rattle.merge_whole.specs.Merges.{Merges, bulk_of, bulk, IsTooLongFor}
+use Rattle.merge_whole.proofs.ShortFits.{never_first_long}
+
+all_later : {A : Type 0} (P : A → Type 0) (xs ys : List A) → All P (xs ++ ys) → All P ys
+all_later P [] ys all = all
+all_later P (x ∷ xs) ys all = all_later P xs ys (All-tail P x (xs ++ ys) all)
+
+-- bytes are decoded to a well formed module that they spell
+is_decoded : (m : Module) (bytes : List ℕ) → SpellsModule m bytes → IsWellFormed m → DecodeAnswer bytes (Ok m)
+is_decoded m bytes spelled formed = answers.spelled spelled (λ k c here. (formed.codes.1 k c here).limits) formed.counts
+
+-- ---- how much there is
+
+abbrev named_size : List Member → ℕ
+named_size ms = sum_by (λ (m : Member). length m.name) ms
+
+names_cons : (x : Member) (xs : List Member) → named_size (x ∷ xs) ≡ length x.name + named_size xs
+names_cons x xs =
+    let none : 0 + length x.name ≡ length x.name = omega arith in
+    sum_by-append (λ (m : Member). length m.name) (x ∷ []) xs ∙ ap (λ k. k + named_size xs) none
+
+names_are : (ms : List Member) → names_bulk ms ≡ named_size ms
+names_are [] = refl
+names_are (m ∷ ms) = (let later = names_are ms in let sum = names_cons m ms in omega arith)
+
+pub sizes_are : (ms : List Member) → sizes ms ≡ total_size ms + named_size ms
+sizes_are [] = refl
+sizes_are (m ∷ ms) = (let later = sizes_are ms in let one = names_cons m ms in let two = total_cons m ms in omega arith)
+
+-- a bound keeps what matters: whether there is so much or more
+pub capped_next : (size name file rest named next : ℕ) → named ≡ min (size + name) 16777216 → next ≡ min (named + file) 16777216
+    → min (next + rest) 16777216 ≡ min (size + (name + file + rest)) 16777216
+capped_next size name file rest named next one two = omega arith
+
+pub capped_more : (xs : List kept.Member) (i : ℕ) (x : kept.Member) → i < length xs → x ≡ get_or xs i x → (size named next total : ℕ)
+    → named ≡ min (size + length x.name) 16777216 → next ≡ min (named + x.size) 16777216
+    → min (size + sizes (members_of (drop i xs))) 16777216 ≡ total → min (next + sizes (members_of (drop (i + 1) xs))) 16777216 ≡ total
+capped_more xs i x lt is size named next total one two held =
+    let rest : drop i xs ≡ x ∷ drop (i + 1) xs = drop_more xs i x lt ∙ ap (λ y. y ∷ drop (i + 1) xs) (sym is) in
+    capped_next size (length x.name) x.size (sizes (members_of (drop (i + 1) xs))) named next one two
+    ∙ ap (λ l. min (size + sizes (members_of l)) 16777216) (sym rest) ∙ held
+
+pub square_few : (n : ℕ) → n ≤ 256 → n ^ 2 ≤ 65536
+square_few n le = (let squared = pow-le-pow_left le 2 in omega arith)
+
+-- so whether there is so much of a set can be seen by the bounded sum
+pub big_is : (ms : List Member) (size square : ℕ) → size ≡ min (sizes ms) 16777216 → square ≡ length ms ^ 2
+    → (2 ^ 32 ≤ 256 * size + 64 * square) ↔ (2 ^ 32 ≤ bulk_of ms)
+big_is ms size square one two = (let all = sizes_are ms in ((λ h. omega arith), (λ h. omega arith)))
+
+-- ---- a set
+
+module _ (L : LinkedSet) (k : Kept) (linked : IsLinked L k) (pages : k.plan.pages_max ≤ 16384) (hosts : All IsSupported k.hosts) where
+  pub mergeable : IsMergeable L
+  mergeable = record {
+    shape = linked.shape;
+    links = linked.links;
+    pages = subst (λ (p : Plan). p.pages_max ≤ 16384) linked.plan pages;
+    hosts = subst (All IsSupported) linked.hosts hosts;
+  }
+
+  pub formed : MergedIsFormed → (m : Module) → m ≡ merged_module L → All IsFormedType m.types → IsWellFormed m
+  formed law m same types =
+      let all = subst (λ (w : Module). All IsFormedType w.types) same types in
+      let behind = all_later IsFormedType (members_types L) (generated_functions_types L ++ added_types L) all in
+      subst IsWellFormed (sym same) (law L mergeable (all_later IsFormedType (generated_functions_types L) (added_types L) behind))
+
+  pub merges : OneModule → SpelledMerges → MergedHasShape → (m : Module) → m ≡ merged_module L → IsWellFormed m → (bytes : List ℕ) → SpellsModule m bytes
+      → Merges L bytes
+  merges one law shape m same form bytes spelled =
+      let written : SpellsModule (merged_module L) bytes = subst (λ w. SpellsModule w bytes) same spelled in
+      let whole = law L mergeable bytes written in
+      let is = one (merged_module L) whole.wasm bytes written whole.spelled in
+      record {
+        merged = whole;
+        shape = subst (HasShape L) is (shape L mergeable);
+        decoded = is_decoded whole.wasm bytes whole.spelled (subst IsWellFormed (same ∙ is) form);
+      }
+
+  -- where a section is too long, it is that of a module that stands for the set
+  pub too_long : MergedStands → MergedHasShape → (id : ℕ) → IsFirstTooLong (merged_module L) id → 2 ^ 32 ≤ bulk L → IsTooLongFor L id
+  too_long stands shape id first big = record { wasm = merged_module L; stands = stands L mergeable; shape = shape L mergeable; first = first; big = big }
+
+  -- no section is too long where there is little of the set
+  pub little_fits : MergedIsShort → bulk L < 2 ^ 32 → types_bulk (added_types L) ≤ 33554432 → (id : ℕ) → IsFirstTooLong (merged_module L) id → ⊥
+  little_fits law little few id too =
+      let named = names_are L.set.members in
+      let brief : IsBrief L = record { types = few; names = omega arith } in
+      never_first_long (merged_module L) (law L mergeable brief) refl id too
+
+-- ---- types that can be written
+
+pub types_next : (tys : List FuncType) (i : ℕ) (ty : FuncType) → i < length tys → ty ≡ get_or tys i ty → IsFormedType ty
+    → All IsFormedType (take i tys) → All IsFormedType (take (i + 1) tys)
+types_next tys i ty lt is here before =
+    subst (All IsFormedType) (sym (take_more tys i ty lt ∙ ap (λ (x : FuncType). take i tys ++ x ∷ []) (sym is)))
+    (All-append IsFormedType (take i tys) (ty ∷ []) before (All-cons IsFormedType ty [] here (All-nil IsFormedType)))

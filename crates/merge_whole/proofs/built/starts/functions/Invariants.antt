@@ -1,0 +1,11 @@
+use Rattle.std.proofs.Common.{◌≡◌, ◌++◌, drop}
+use Rattle.spec_loading.specs.Members.{from_members}
+use Rattle.merge_index.specs.Kept.{numbers_in}
+use Rattle.merge_whole.specs.Counts.{members_of, functions_by}
+use Rattle.merge_whole.proofs.built.starts.functions.Given as goal
+
+abbrev pub invariant-loop-member : goal.invariant-loop-member
+invariant-loop-member l = record {
+  put : l.list.items ++ from_members (functions_by (numbers_in l.n)) l.m (members_of (drop l.member-index l.members)) ≡ from_members (functions_by (numbers_in l.n)) 0 (members_of l.members);
+  at : l.m ≡ l.member-index;
+}

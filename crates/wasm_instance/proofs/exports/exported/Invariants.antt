@@ -1,6 +1,0 @@
-use Rattle.std.proofs.Common.{◌≡◌, drop}
-use Rattle.spec_safety.specs.spec_binary.Exports.{exported_as}
-use Rattle.wasm_instance.proofs.exports.exported.Given as goal
-
-abbrev pub invariant-loop-export : goal.invariant-loop-export
-invariant-loop-export l = exported_as l.name (drop l.export-index l.m.exports) ≡ exported_as l.name l.m.exports

@@ -1,9 +1,0 @@
-use Rattle.std.proofs.Common.{◌≡◌, ◌+◌, ◌≤◌, drop, length}
-use Rattle.spec_safety.specs.spec_binary.IndexSpaces.{functions_in, imports_of}
-use Rattle.wasm_instance.proofs.exports.imported_functions.Given as goal
-
-abbrev pub invariant-loop-import : goal.invariant-loop-import
-invariant-loop-import l = record {
-  counted : l.count + length (imports_of functions_in (drop l.import-index l.imports)) ≡ length (imports_of functions_in l.imports);
-  few : l.count ≤ l.import-index;
-}
