@@ -1,14 +1,18 @@
 #!/bin/sh
 # Builds the modules of the programs again, from their sources, with clang and wasm-ld.
 #
-#     sh examples/programs/build.sh [FOLDER]
+#     sh examples/programs/build.sh [FOLDER [OPTION ..]]
 #
-# FOLDER is examples/programs/modules where none is given. CLANG and WASM_LD name other tools than `clang` and `wasm-ld`. The modules
-# in the repository were made by clang-19 and wasm-ld-19, both 19.1.7, as Debian 12 has them.
+# FOLDER is examples/programs/modules where none is given; further words are further options of the compiler. CLANG and WASM_LD name
+# other tools than `clang` and `wasm-ld`. The modules in the repository were made by clang-19 and wasm-ld-19, both 19.1.7, as Debian 12
+# has them: those in `modules` without further options, those in `extended` with `-mextended-const`, by which segments begin behind a
+# base.
 set -eu
 
 source=$(cd "$(dirname "$0")" && pwd)
 to=${1:-$source/modules}
+[ $# -eq 0 ] || shift
+options=$*
 mkdir -p "$to"
 to=$(cd "$to" && pwd)
 work=$(mktemp -d)
@@ -21,7 +25,7 @@ compile() {
     name=${file##*/}
     shift
     "${CLANG:-clang}" --target=wasm32-unknown-emscripten -O2 -fPIC -fvisibility=default -ffreestanding -mbulk-memory \
-        "$@" -c "$file" -o "${name%.*}.o"
+        $options "$@" -c "$file" -o "${name%.*}.o"
 }
 for file in "$source"/*.c; do compile "$file"; done
 for file in "$source"/*.cpp; do compile "$file" -fno-exceptions -fno-rtti -fno-threadsafe-statics; done

@@ -76,11 +76,23 @@ modules=$source/modules
 programs
 
 is_native=no
+echo "-- the same, built with -mextended-const"
+modules=$source/extended
+programs
+
 if has clang wasm-ld; then
     echo "-- modules built by $(clang --version | head -n 1) and $(wasm-ld --version)"
     sh "$source/build.sh" "$work/built"
     modules=$work/built
     programs
+    if clang --target=wasm32 -mextended-const -x c -c /dev/null -o "$work/empty.o" 2>/dev/null; then
+        echo "-- and with -mextended-const"
+        sh "$source/build.sh" "$work/built-extended" -mextended-const
+        modules=$work/built-extended
+        programs
+    else
+        echo "clang doesn't know -mextended-const"
+    fi
 else
     echo "the modules aren't built again"
 fi

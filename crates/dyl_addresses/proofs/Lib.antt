@@ -1,3 +1,4 @@
+pub mod Numbers
 pub mod Offsets
 pub mod Valid
 pub mod Ranges

@@ -24,7 +24,7 @@ use Rattle.wasm_machine.proofs.Under.{step_over}
 use Rattle.spec_loading.specs.Phases.{LoaderFrame}
 use Rattle.spec_loading.specs.Loading.{Loading, LoadedState, comes_to, loaded_next}
 use Rattle.dyl_frames.specs.declared.frames.Core.{Core}
-use Rattle.dyl_frames.specs.Steps.{IsCodeNext}
+use Rattle.dyl_frames.specs.Next.{IsCodeNext}
 use Rattle.dyl_frames.specs.Cores.{frame_at, stack_of, LiesUnder, loader_arguments, IsStacked, IsLive, IsLoaded, IsSound, IsState, StandsAs, Steps, QuickSteps, StepsFrom, QuickStepsFrom, IsMarkTold, is_made, is_mark}
 use Rattle.dyl_frames.proofs.Loads.{IsLoad, step_load}
 use Rattle.dyl_frames.proofs.Telling.{ComesFrom, steps_told, stuck_told, loader_told, deep_told, live_told, leaves_moving}

@@ -24,7 +24,8 @@ use Rattle.spec_loading.specs.Phases.{LoaderFrame}
 use Rattle.spec_loading.specs.Loading.{Loading, LoaderState, LoadedState, LoaderAnswer, Traps, Comes, comes_by_itself, with_run, goes_on, gives, answered, after_next, came_to, loaded_next, loaded_step, loaded_too_deep}
 use Rattle.dyl_frames.specs.declared.frames.Pending.{Pending}
 use Rattle.dyl_frames.specs.declared.frames.Core.{Core}
-use Rattle.dyl_frames.specs.Steps.{TellsStatus, answer_of, next_answer}
+use Rattle.wasm_machine.specs.Steps.{TellsStatus}
+use Rattle.dyl_frames.specs.Next.{answer_of, next_answer}
 use Rattle.dyl_frames.specs.Cores.{frame_in, frame_at, stack_of, LiesOver, LiesUnder, IsHandle, IsPending, IsStacked, IsLive, IsSound, IsState, IsCalling, Steps, AnsweredFrom, gives_number, opens_member, top_frame, Drops}
 use Rattle.dyl_frames.proofs.CodeSteps.{with_machine, state_moving}
 use Rattle.dyl_frames.proofs.Telling.{stays_at}

@@ -28,7 +28,7 @@ use Rattle.spec_loading.specs.Loading.{Loading, LoadedState, LoaderAnswer, Comes
 use Rattle.dyl_frames.specs.declared.frames.Core.{Core}
 use Rattle.spec_loading.specs.wasm_form.declared.runtime.LoaderCall.{LoaderCall}
 use Rattle.dyl_frames.specs.declared.frames.Pending.{Pending}
-use Rattle.dyl_frames.specs.Steps.{answer_of, next_answer}
+use Rattle.dyl_frames.specs.Next.{answer_of, next_answer}
 use Rattle.dyl_frames.specs.Cores.{frame_at, LiesUnder, loader_arguments, IsLive, IsState, StandsAs, Steps, is_made}
 use Rattle.dyl_frames.proofs.Loads.{IsLoad}
 

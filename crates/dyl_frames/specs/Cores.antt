@@ -30,7 +30,8 @@ use Rattle.spec_loading.specs.Phases.{LoaderFrame, stage_of}
 use Rattle.spec_loading.specs.Loading.{Loading, LoadedState, LoaderAnswer, Gives, Opens, with_run, comes_to, loaded_next, loaded_step, loaded_too_deep}
 use Rattle.dyl_frames.specs.declared.frames.Pending.{Pending}
 use Rattle.dyl_frames.specs.declared.frames.Core.{Core}
-use Rattle.dyl_frames.specs.Steps.{TellsStatus, next_answer, IsCodeNext}
+use Rattle.wasm_machine.specs.Steps.{TellsStatus}
+use Rattle.dyl_frames.specs.Next.{next_answer, IsCodeNext}
 
 -- ---- the frames
 

@@ -1,12 +1,20 @@
 -- The modules of the set are valid.
-use Rattle.std.proofs.Common.{◌≡◌, ℕ, Bool, true, false, List, [], ◌∷◌, ◌++◌, cond, None, refl, sym, ap, ◌∙◌}
-use Rattle.std.specs.Prelude.{codes}
-use Rattle.wasm_form.specs.declared.instr.Instr.{Index, I32Const, out-Instr, out-roll-Instr}
+use Rattle.std.proofs.Common.{◌≡◌, ℕ, Bool, true, false, List, [], ◌∷◌, ◌++◌, cond, Option, Some, None, refl, sym, ap, ◌∙◌}
+use Rattle.std.specs.Prelude.{codes, is_some, ◌&&◌}
+use Rattle.std.specs.List.{list_all}
+use Rattle.std.proofs.lemmas.Bool.{and_parts}
+use Rattle.wasm_form.specs.declared.types.ValType.TheVariants.{I32}
+use Rattle.wasm_form.specs.declared.instr.Instr.{Instr, Index, I32Const, out-Instr, out-roll-Instr}
 use Rattle.wasm_form.specs.declared.instr.Instr.TheOpen as Open
 use Rattle.wasm_form.specs.declared.instr.Instr.TheVariants.{rolls-Index, rolls-I32Const}
 use Rattle.wasm_form.specs.declared.module.ExportDesc.TheVariants as exported
 use Rattle.wasm_form.specs.declared.module.Module.{Module}
-use Rattle.spec_linking.specs.spec_validation.Faults.{first_in, support_fault, module_fault, body_typed, body_context, fault}
+use Rattle.spec_linking.specs.spec_binary.Options.{◌>>=◌}
+use Rattle.spec_linking.specs.spec_binary.Counted.{after_step, is_one}
+use Rattle.spec_linking.specs.spec_validation.Counted.{step_at, kind_of}
+use Rattle.spec_linking.specs.spec_validation.Faults.{first_in, support_fault, module_fault, body_typed, body_context, fault, may_be_constant, constant_context}
+use Rattle.spec_linking.specs.spec_validation.Typing.{height}
+use Rattle.spec_linking.proofs.of_spec_validation.Constants.{constant_is_counted}
 use Rattle.dyl_gen.specs.Generated as made
 use Rattle.dyl_gen.specs.Generated.{is_main, next, function_name, value_name, base, number, code_of, function_code, relocation_code, constructor_code, start_code, member}
 use Rattle.dyl_gen.proofs.Typed.{HasShared, function_height, relocation_height, constructor_height, start_height}
@@ -33,6 +41,20 @@ out_index op k = ap out-Instr (sym (rolls-Index op k)) ∙ out-roll-Instr (Open.
 out_number : (c : _) → out-Instr (I32Const c) ≡ Open.I32Const c
 out_number c = ap out-Instr (sym (rolls-I32Const c)) ∙ out-roll-Instr (Open.I32Const c)
 
+counted : (o : Option ℕ) → is_one o ≡ true → is_one (o >>= λ n. Some n) ≡ true
+counted None e = absurd cc
+counted (Some n) e = e
+
+-- an instruction that puts a number is a constant expression
+one_height : (m : Module) (i : Instr) → is_one (after_step (step_at I32 (kind_of m (out-Instr i))) 0) ≡ true
+    → is_some (height (constant_context m I32) (i ∷ [])) ≡ true
+one_height m i e =
+    let all = list_all (λ j. may_be_constant m (out-Instr j)) (i ∷ []) in
+    (and_parts all (is_some (height (constant_context m I32) (i ∷ []))) (constant_is_counted m I32 (record { list = i ∷ [] }) ∙ counted (after_step (step_at I32 (kind_of m (out-Instr i))) 0) e)).1
+
+number_height : (m : Module) → is_some (height (constant_context m I32) (made.number 0 ∷ [])) ≡ true
+number_height m = one_height m (made.number 0) (ap (λ j. is_one (after_step (step_at I32 (kind_of m j)) 0)) (out_number _))
+
 module _ (n k x : ℕ) (note : List ℕ) where
   abbrev main : Module
   main = member_by true n k x note
@@ -46,11 +68,17 @@ module _ (n k x : ℕ) (note : List ℕ) where
   library_supports : support_fault library ≡ None
   library_supports = simp (function_supported library 0 refl, relocation_supported library 1, constructor_supported library 2)
 
+  main_base : is_some (height (constant_context main I32) (base ∷ [])) ≡ true
+  main_base = one_height main base (ap (λ j. is_one (after_step (step_at I32 (kind_of main j)) 0)) (out_index _ _))
+
+  library_base : is_some (height (constant_context library I32) (base ∷ [])) ≡ true
+  library_base = one_height library base (ap (λ j. is_one (after_step (step_at I32 (kind_of library j)) 0)) (out_index _ _))
+
   main_parts : module_fault main ≡ None
-  main_parts = simp (out_index, out_number)
+  main_parts = simp (out_index, out_number, number_height main, main_base)
 
   library_parts : module_fault library ≡ None
-  library_parts = simp (out_index, out_number)
+  library_parts = simp (out_index, out_number, number_height library, library_base)
 
   shared_by : (b : Bool) (f : _) (c : _) → HasShared (body_context (member_by b n k x note) f c)
   shared_by true f c = record { base = refl; value = refl; slot = refl; memory = refl }

@@ -3,6 +3,7 @@ mod ByLoader
 mod ByNumber
 mod Counted
 mod EachOnce
+mod FewMembers
 mod Names
 mod Noted
 mod Steps

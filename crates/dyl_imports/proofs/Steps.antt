@@ -1,5 +1,5 @@
 -- Loops over members and imports, one step on.
-use Rattle.std.proofs.Common.{◌≡◌, ℕ, ◌+◌, ◌<◌, ◌≤◌, Bool, true, false, ◌||◌, List, [], ◌∷◌, ◌++◌, map, length, take, drop, Option, Some, None, slice_get, get_or, refl, ap, ap₂, sym, ◌∙◌, arith}
+use Rattle.std.proofs.Common.{◌≡◌, ℕ, ◌+◌, ◌<◌, ◌≤◌, Bool, ◌||◌, List, [], ◌∷◌, ◌++◌, map, length, take, drop, Some, None, slice_get, get_or, refl, ap, ap₂, sym, subst, ◌∙◌, arith}
 use Rattle.std.specs.List.{flat_map, list_any, range_with_len}
 use Rattle.std.specs.Option.{option_map}
 use Rattle.std.proofs.lemmas.List.{drop_more, at_drop_all, map_more, length-map, length-take-le}
@@ -16,9 +16,10 @@ use Rattle.spec_loading.specs.spec_linking.Definitions.{is_one_of, is_weak}
 use Rattle.spec_loading.specs.spec_linking.Imports.{use_of, importing}
 use Rattle.spec_loading.specs.spec_linking.LinkedSets.{LinkedSet, host_of_import, hosts_from, hosts_of, first_names, function_ref, is_weak_in}
 use Rattle.spec_loading.specs.spec_linking.Links.{members_fault}
-use Rattle.spec_loading.specs.Members.{loader_as, loader_from, uses_loader}
+use Rattle.spec_loading.specs.Members.{loader_as, loader_from}
 use Rattle.dyl_search.specs.declared.set.Member.{Member}
 use Rattle.dyl_search.specs.Gathers.{member_of}
+use Rattle.dyl_imports.specs.Few.{AreFew}
 use Rattle.dyl_imports.specs.Hosts.{with_hosts}
 use Rattle.dyl_imports.specs.Refs.{imported_refs}
 use Rattle.dyl_imports.specs.Weak.{AreWeakOf, weak_in}
@@ -28,6 +29,10 @@ use Rattle.dyl_imports.proofs.ByNumber.{functions_listed, count_of_refs}
 
 item_at : {A : Type 0} (xs : List A) (i : ℕ) (x : A) → i < length xs → x ≡ get_or xs i x → drop i xs ≡ x ∷ drop (i + 1) xs
 item_at xs i x less at = drop_more xs i x less ∙ ap (λ y. y ∷ drop (i + 1) xs) (sym at)
+
+-- what a member imports and defines is little
+pub few_here : (xs : List Member) (m : ℕ) (x : Member) (wasm : Module) → AreFew xs → m < length xs → x ≡ get_or xs m x → wasm ≡ x.checked → length wasm.imports + length wasm.funcs ≤ 16777216
+few_here xs m x wasm few less at same = subst (λ (w : Module). length w.imports + length w.funcs ≤ 16777216) (sym same) (few m x (slice_get_read xs (length xs) m x refl less at))
 
 -- ---- host functions
 

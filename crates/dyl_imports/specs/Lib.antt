@@ -1,3 +1,4 @@
+pub mod Few
 pub mod Hosts
 pub mod Kept
 pub mod Refs

@@ -1,5 +1,5 @@
 // The host functions that the imports of a set stand for, in order.
-ghost use Rattle.std.specs.Prelude.{◌≡◌, ◌<◌, ◌≤◌, [], length, IfOk, OnOk};
+ghost use Rattle.std.specs.Prelude.{◌≡◌, ◌<◌, ◌≤◌, ◌+◌, ◌^◌, [], length, IfOk, OnOk};
 ghost use Rattle.std.specs.List.{flat_map};
 ghost use Rattle.std.specs.Option.{option_copied};
 ghost use Rattle.spec_loading.specs.spec_linking.Definitions.{env_name};
@@ -25,7 +25,9 @@ fn add_typed(
     name: &str,
     ty: Option<&FuncType>,
 ) -> Result<(), Memory>
-    ensures { OnOk result (hosts.new ≡ with_hosts hosts.old (linked.host_named from.now name.now (option_copied ty.entry))) }
+    requires { length hosts.old < 2 ^ 32 }
+    ensures exact { OnOk result (hosts.new ≡ with_hosts hosts.old (linked.host_named from.now name.now (option_copied ty.entry))) }
+    ensures few { OnOk result (length hosts.new ≤ length hosts.old + 1) }
 {
     match ty {
         Some(ty) => hosts.add(alloc, from, name, ty),
@@ -41,7 +43,9 @@ fn add_defined(
     name: &str,
     ty: Option<&FuncType>,
 ) -> Result<(), Memory>
-    ensures { OnOk result (hosts.new ≡ with_hosts hosts.old (linked.host_defined (meaning_of found) (linked.host_named env_name name.now (option_copied ty.entry)))) }
+    requires { length hosts.old < 2 ^ 32 }
+    ensures exact { OnOk result (hosts.new ≡ with_hosts hosts.old (linked.host_defined (meaning_of found) (linked.host_named env_name name.now (option_copied ty.entry)))) }
+    ensures few { OnOk result (length hosts.new ≤ length hosts.old + 1) }
 {
     match found {
         Def::Host(_) => add_typed(alloc, hosts, "env", name, ty),
@@ -63,7 +67,9 @@ fn add_declared(
     i: &Import,
     ty: Option<&FuncType>,
 ) -> Result<(), Memory>
-    ensures { OnOk result (hosts.new ≡ with_hosts hosts.old (linked.where_declared (linked.is_declared known.now.declared.now i.now.«module» i.now.field) (linked.host_named i.now.«module» i.now.field (option_copied ty.entry)))) }
+    requires { length hosts.old < 2 ^ 32 }
+    ensures exact { OnOk result (hosts.new ≡ with_hosts hosts.old (linked.where_declared (linked.is_declared known.now.declared.now i.now.«module» i.now.field) (linked.host_named i.now.«module» i.now.field (option_copied ty.entry)))) }
+    ensures few { OnOk result (length hosts.new ≤ length hosts.old + 1) }
 {
     if known.is_declared(i.module.as_str(), i.field.as_str()) {
         add_typed(alloc, hosts, i.module.as_str(), i.field.as_str(), ty)
@@ -81,8 +87,10 @@ fn add_import(
     wasm: &Module,
     i: &Import,
 ) -> Result<(), Memory>
-    requires { m < length known.now.symbols.now.names }
-    ensures { OnOk result ((L : LinkedSet) → IsKnownOf L known.now → hosts.new ≡ with_hosts hosts.old (linked.host_of_import L m wasm.now i.now)) }
+    requires inside { m < length known.now.symbols.now.names }
+    requires few { length hosts.old < 2 ^ 32 }
+    ensures exact { OnOk result ((L : LinkedSet) → IsKnownOf L known.now → hosts.new ≡ with_hosts hosts.old (linked.host_of_import L m wasm.now i.now)) }
+    ensures few { OnOk result (length hosts.new ≤ length hosts.old + 1) }
 {
     let name = i.field.as_str();
     match use_of(i) {
@@ -120,8 +128,10 @@ fn add_imports(
     m: u32,
     wasm: &Module,
 ) -> Result<(), Memory>
-    requires { m < length known.now.symbols.now.names }
-    ensures { OnOk result ((L : LinkedSet) → IsKnownOf L known.now → hosts.new ≡ with_hosts hosts.old (flat_map (linked.host_of_import L m wasm.now) wasm.now.imports)) }
+    requires inside { m < length known.now.symbols.now.names }
+    requires few { length hosts.old + length wasm.now.imports ≤ 2 ^ 32 }
+    ensures exact { OnOk result ((L : LinkedSet) → IsKnownOf L known.now → hosts.new ≡ with_hosts hosts.old (flat_map (linked.host_of_import L m wasm.now) wasm.now.imports)) }
+    ensures few { OnOk result (length hosts.new ≤ length hosts.old + length wasm.now.imports) }
 {
     for i in wasm.imports.items() {
         add_import(alloc, hosts, known, m, wasm, i)?;

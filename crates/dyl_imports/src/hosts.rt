@@ -1,5 +1,5 @@
 // The host functions that imports name.
-ghost use Rattle.std.specs.Prelude.{◌≡◌, ◌<◌, ◌++◌, ◌∷◌, [], map, length, find, slice_get, vec_capacity, OnOk, OnErr, None};
+ghost use Rattle.std.specs.Prelude.{◌≡◌, ◌<◌, ◌≤◌, ◌+◌, ◌^◌, ◌++◌, ◌∷◌, [], map, length, find, slice_get, vec_capacity, OnOk, OnErr, None};
 ghost use Rattle.std.specs.List.{position_from};
 ghost use Rattle.std.specs.Option.{option_copied, option_map};
 ghost use Rattle.spec_loading.specs.spec_linking.LinkedSets.{is_named};
@@ -7,7 +7,6 @@ ghost use Rattle.host_table.specs.Names.{host_name_of};
 ghost use Rattle.host_table.specs.Numbers.{number_of, with_number};
 ghost use Rattle.dyl_imports.specs.Hosts.{with_host};
 
-use crate::numbers::as_number;
 use host_table::{HostName, HostNumbers};
 use std::alloc::Global;
 use std::marker::Model;
@@ -81,7 +80,9 @@ impl Hosts {
         name: &str,
         ty: &FuncType,
     ) -> Result<(), Memory>
-        ensures { OnOk result (self.new ≡ with_host self.old (record { module_name = from.now; name = name.now; ty = ty.now })) }
+        requires { length self.old < 2 ^ 32 }
+        ensures exact { OnOk result (self.new ≡ with_host self.old (record { module_name = from.now; name = name.now; ty = ty.now })) }
+        ensures few { OnOk result (length self.new ≤ length self.old + 1) }
     {
         match self.find(from, name) {
             Some(_) => Ok(()),
@@ -91,6 +92,7 @@ impl Hosts {
 
     fn push(&mut self, alloc: Global, from: &str, name: &str, ty: &FuncType) -> Result<(), Memory>
         requires new { position_from (is_named from.now name.now) 0 self.old ≡ None }
+        requires few { length self.old < 2 ^ 32 }
         ensures { OnOk result (self.new ≡ self.old ++ record { module_name = from.now; name = name.now; ty = ty.now } ∷ []) }
     {
         let host = HostName::new(alloc, from, name, ty)?;
@@ -110,13 +112,14 @@ fn prepare(
     numbers: &mut HostNumbers,
 ) -> Result<(), Memory>
     requires new { number_of numbers.old host.now.«module» host.now.name ≡ None }
+    requires few { length list.old.items < 2 ^ 32 }
     ensures list { list.new.items ≡ list.old.items }
     ensures room { OnOk result (length list.new.items < vec_capacity list.new) }
     ensures ok { OnOk result (numbers.new ≡ with_number host.now.«module» host.now.name (length list.old.items) numbers.old) }
     ensures err { OnErr result (numbers.new ≡ numbers.old) }
 {
     list.reserve(1)?;
-    let number = as_number(list.len())?;
+    let number = list.len() as u32;
     numbers.add(alloc, host.module.as_str(), host.name.as_str(), number)
 }
 

@@ -19,11 +19,14 @@ pub struct Imports<'a> {
 impl<'a> Imports<'a> {
     ghost use Rattle.std.specs.Prelude.{◌≡◌, ◌<◌, ◌≤◌, ℕ, length, map, find, unwrap_or, IfOk};
     ghost use Rattle.std.specs.Option.{option_copied, option_map};
+    ghost use Rattle.spec_loading.specs.spec_linking.Sets.{ClosedSet};
+    ghost use Rattle.spec_loading.specs.spec_linking.Gathering.{IsSet};
     ghost use Rattle.spec_loading.specs.spec_linking.Definitions.{env_name};
     ghost use Rattle.spec_loading.specs.spec_linking.LinkedSets as linked;
     ghost use Rattle.spec_loading.specs.spec_linking.LinkedSets.{LinkedSet, is_named, host_entry};
     ghost use Rattle.spec_loading.specs.spec_linking.Links.{type_in};
     ghost use Rattle.host_table.specs.Names.{host_name_of};
+    ghost use Rattle.dyl_search.specs.Gathers.{member_of};
     ghost use Rattle.dyl_scope.specs.Scopes.{meaning_of};
     ghost use Rattle.dyl_names.specs.declared.def.Def.TheVariants as def;
     ghost use Rattle.dyl_imports.specs.Kept.{AreImportsOf, AreOver};
@@ -36,6 +39,7 @@ impl<'a> Imports<'a> {
         declared: &'a HostNames,
     ) -> Result<Imports<'a>, Memory>
         requires few { length members.now ≤ 256 }
+        requires set { (S : ClosedSet) × IsSet S × (S.members ≡ map member_of members.now) }
         requires count { length symbols.now.names ≡ length members.now }
         ensures members { IfOk result (λ i. i.known.members.now ≡ members.now) }
         ensures symbols { IfOk result (λ i. i.known.symbols.now ≡ symbols.now) }

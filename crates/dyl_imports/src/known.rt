@@ -1,6 +1,7 @@
 // What is known of a set before its host functions are numbered.
 ghost use Rattle.std.specs.Prelude.{◌≡◌, map};
 ghost use Rattle.dyl_search.specs.Gathers.{member_of};
+ghost use Rattle.dyl_imports.specs.Few.{AreFew};
 ghost use Rattle.dyl_imports.specs.Weak.{function_counts};
 
 use crate::declared::{is_declared, is_host_for};
@@ -23,6 +24,7 @@ pub struct Known<'a> {
     weak: Vec<WeakNames>,
     counts: Vec<usize>,
     any: FuncType,
+    ghost few: { AreFew members.now },
     ghost counted: { counts.items ≡ function_counts (map member_of members.now) },
 }
 
@@ -45,6 +47,7 @@ impl<'a> Known<'a> {
         symbols: &'a Symbols,
         declared: &'a HostNames,
     ) -> Result<Known<'a>, Memory>
+        requires { AreFew members.now }
         ensures members { IfOk result (λ k. k.members.now ≡ members.now) }
         ensures symbols { IfOk result (λ k. k.symbols.now ≡ symbols.now) }
         ensures exact { IfOk result (λ k. (L : LinkedSet) → AreOver L members.now symbols.now declared.now → IsKnownOf L k) }

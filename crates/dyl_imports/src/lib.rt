@@ -9,7 +9,6 @@ mod functions;
 mod hosts;
 mod imports;
 mod known;
-mod numbers;
 mod own;
 mod refs;
 mod uses;

@@ -1,6 +1,5 @@
 // The functions that the numbers of a member name.
 use crate::imports::Imports;
-use crate::numbers::as_number;
 use crate::own::{add_own, is_loader_name, shares_function};
 use crate::uses::{Use, use_of};
 use dyl_scope::Def;
@@ -9,7 +8,7 @@ use std::alloc::Global;
 use wasm_form::{Import, ImportDesc, List, Memory, Ref};
 
 impl<'a> Imports<'a> {
-    ghost use Rattle.std.specs.Prelude.{◌≡◌, ◌<◌, ◌≤◌, ◌++◌, ◌∷◌, [], ℕ, length, slice_get, None, IfOk, OnOk};
+    ghost use Rattle.std.specs.Prelude.{◌≡◌, ◌<◌, ◌≤◌, ◌+◌, ◌^◌, ◌++◌, ◌∷◌, [], ℕ, length, slice_get, None, IfOk, OnOk};
     ghost use Rattle.std.specs.List.{list_any};
     ghost use Rattle.spec_loading.specs.spec_binary.IndexSpaces.{functions_in};
     ghost use Rattle.spec_loading.specs.spec_linking.Imports.{importing, use_of};
@@ -66,12 +65,14 @@ impl<'a> Imports<'a> {
 
     // What an imported function is, after those before it; one that is nothing is a stub, since no member has a fault.
     fn add_imported(&self, refs: &mut Vec<Ref>, m: u32, i: &Import) -> Result<(), Memory>
-        requires { m < length self.now.known.symbols.now.names }
-        ensures { OnOk result ((L : LinkedSet) → AreImportsOf L self.now → refs.new.items ≡ refs.old.items ++ imported_refs L m (length refs.old.items) (importing functions_in (i.now ∷ []))) }
+        requires inside { m < length self.now.known.symbols.now.names }
+        requires few { length refs.old.items < 2 ^ 32 }
+        ensures exact { OnOk result ((L : LinkedSet) → AreImportsOf L self.now → refs.new.items ≡ refs.old.items ++ imported_refs L m (length refs.old.items) (importing functions_in (i.now ∷ []))) }
+        ensures few { OnOk result (length refs.new.items ≤ length refs.old.items + 1) }
     {
         match i.desc {
             ImportDesc::Func(_) => {
-                let f = as_number(refs.len())?;
+                let f = refs.len() as u32;
                 let found = self.imported_ref(m, f, i);
                 refs.push(found.unwrap_or(Ref::Stub { unit: m, func: f }))?;
                 Ok(())
@@ -82,8 +83,10 @@ impl<'a> Imports<'a> {
 
     // What the imported functions of member m are.
     fn imported(&self, alloc: Global, m: u32, imports: &[Import]) -> Result<Vec<Ref>, Memory>
-        requires { m < length self.now.known.symbols.now.names }
-        ensures { IfOk result (λ refs. (L : LinkedSet) → AreImportsOf L self.now → refs.items ≡ imported_refs L m 0 (importing functions_in imports.now)) }
+        requires inside { m < length self.now.known.symbols.now.names }
+        requires few { length imports.now < 2 ^ 32 }
+        ensures exact { IfOk result (λ refs. (L : LinkedSet) → AreImportsOf L self.now → refs.items ≡ imported_refs L m 0 (importing functions_in imports.now)) }
+        ensures few { IfOk result (λ refs. length refs.items ≤ length imports.now) }
     {
         let mut refs = Vec::new(alloc);
         for i in imports {

@@ -212,7 +212,8 @@ module _ (L : LinkedSet) where
         let there : list_any (same_ref (Loader call)) (outside_slots L) ≡ true =
         list_any-append (same_ref (Loader call)) loaders hosts
         ∙ or_left (list_any (same_ref (Loader call)) loaders) (list_any (same_ref (Loader call)) hosts) kept in
-        place_found (same_ref (Loader call)) (linked_plan L).table_end (fresh_slots L) (with_slot (Loader call) there)
+        let slot = place_found (same_ref (Loader call)) (linked_plan L).table_end (fresh_slots L) (with_slot (Loader call) there) in
+        (slot.0, slot.1)
 
     -- hosts among the functions outside the members
     hosts_kept : (n : ℕ) (rs : List Ref) → list_any (same_ref (Host n)) rs ≡ true → list_any (same_ref (Host n)) (filter is_host_ref rs) ≡ true
@@ -237,7 +238,8 @@ module _ (L : LinkedSet) where
         let there : list_any (same_ref (Host n)) (outside_slots L) ≡ true =
         list_any-append (same_ref (Host n)) loaders hosts
         ∙ or_right (list_any (same_ref (Host n)) loaders) (list_any (same_ref (Host n)) hosts) kept in
-        place_found (same_ref (Host n)) (linked_plan L).table_end (fresh_slots L) (with_slot (Host n) there)
+        let slot = place_found (same_ref (Host n)) (linked_plan L).table_end (fresh_slots L) (with_slot (Host n) there) in
+        (slot.0, slot.1)
 
     -- the import stands for a host function
     pub host_there : (from name : List ℕ) → list_any (is_named from name) (host_of_import L m x.wasm i) ≡ true
@@ -245,5 +247,7 @@ module _ (L : LinkedSet) where
     host_there from name passes =
         let all : list_any (is_named from name) (hosts_from L 0 L.set.members) ≡ true =
         hosts_there (is_named from name) 0 L.set.members m j x i at imported (subst (λ (k : ℕ). list_any (is_named from name) (host_of_import L k x.wasm i) ≡ true) (sym same_place) passes) in
+        let entry =
         place_found (is_named from name) 0 (hosts_of L)
-        (firsts_pass first_names is_same_name (λ known h hs. refl) (is_named from name) (name_of_same from name) [] (hosts_from L 0 L.set.members) all)
+        (firsts_pass first_names is_same_name (λ known h hs. refl) (is_named from name) (name_of_same from name) [] (hosts_from L 0 L.set.members) all) in
+        (entry.0, entry.1)

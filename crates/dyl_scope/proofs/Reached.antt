@@ -1,5 +1,5 @@
 -- The orders by what each member needs once are those of a set.
-use Rattle.std.proofs.Common.{◌≡◌, ℕ, zero, suc, ◌+◌, ◌-◌, ◌<◌, ◌≤◌, List, [], ◌∷◌, Option, Some, None, refl, ap, ◌∙◌, cond, slice_get, arith}
+use Rattle.std.proofs.Common.{◌≡◌, ℕ, zero, suc, ◌+◌, ◌-◌, ◌<◌, List, [], ◌∷◌, Option, Some, None, refl, ap, ◌∙◌, cond, slice_get, arith}
 use Rattle.spec_linking.specs.Sets.{ClosedSet}
 use Rattle.spec_linking.specs.Orders.{is_among, with_numbers, needed_by, needs, breadth_from, Walk, walk_each, walk_from, entering, leaving}
 use Rattle.dyl_scope.specs.Orders.{needed_at, reached, walk_by}
@@ -10,10 +10,6 @@ use Rattle.dyl_scope.proofs.Walks.{each_once}
 pub turn : (needed : ℕ → List ℕ) (n k : ℕ) (known : List ℕ) → k < n
     → reached needed (n - k) k known ≡ reached needed (n - (k + 1)) (k + 1) (with_numbers known (needed_at needed (slice_get known k)))
 turn needed n k known lt = let e : n - k ≡ suc (n - (k + 1)) = omega arith in ap (λ turns. reached needed turns k known) e
-
--- no turn is left
-pub no_turn : (needed : ℕ → List ℕ) (n k : ℕ) (known : List ℕ) → n ≤ k → reached needed (n - k) k known ≡ known
-no_turn needed n k known le = let e : n - k ≡ 0 = omega arith in ap (λ turns. reached needed turns k known) e
 
 module _ (S : ClosedSet) (needed : ℕ → List ℕ) (told : (m : ℕ) → needed m ≡ with_numbers [] (needs S m)) where
   one_place : (known : List ℕ) (at : Option ℕ) → with_numbers known (needed_at needed at) ≡ with_numbers known (needed_by S.members at)

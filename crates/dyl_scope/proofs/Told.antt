@@ -11,7 +11,7 @@ use Rattle.std.proofs.lemmas.List.FromFn.{get_or-map-range_with_len}
 use Rattle.spec_linking.specs.spec_binary.Options.{◌>>=◌}
 use Rattle.spec_linking.proofs.of_spec_validation.Parts.{parts_fit}
 use Rattle.spec_linking.specs.Sets.{Member, ClosedSet}
-use Rattle.spec_linking.specs.Orders.{closure, post_order, needs, with_numbers}
+use Rattle.spec_linking.specs.Orders.{with_numbers}
 use Rattle.spec_linking.specs.Orders as orders
 use Rattle.spec_linking.specs.Definitions as defined
 use Rattle.dyl_scope.specs.declared.maker.Told as declared

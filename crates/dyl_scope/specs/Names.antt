@@ -1,9 +1,5 @@
 -- The names that a member defines, in the order of the exports that define them.
 use Rattle.std.specs.Prelude.{◌≡◌, ℕ, List, [], ◌∷◌, ◌++◌, Option, Some, None, slice_get}
-use Rattle.std.specs.Int.{cast_unsigned, w32}
-use Rattle.wasm_form.specs.declared.instr.Instr.{Instr, out-Instr}
-use Rattle.wasm_form.specs.declared.instr.Instr.TheOpen as Open
-use Rattle.wasm_form.specs.declared.instr.Expr.{Expr}
 use Rattle.wasm_form.specs.declared.module.Export.{Export}
 use Rattle.wasm_form.specs.declared.module.Module.{Module}
 use Rattle.spec_linking.specs.spec_binary.Options.{◌>>=◌}
@@ -22,15 +18,6 @@ defined_in m [] = []
 defined_in m (e ∷ es) = defined_as e.name (defined.export_symbol m e) ++ defined_in m es
 
 -- ---- the place of data
-
--- the number of an i32.const
-abbrev pub i32_step : Open.Instr-F Instr Expr → Option ℕ
-i32_step (Open.I32Const n) = Some (cast_unsigned w32 n)
-i32_step _ = None
-
-abbrev pub i32_constant : List Instr → Option ℕ
-i32_constant (i ∷ []) = i32_step (out-Instr i)
-i32_constant _ = None
 
 -- what a global of the module's own is the place of, by its place among these, and by its number
 abbrev pub data_at : Module → ℕ → Option defined.Symbol

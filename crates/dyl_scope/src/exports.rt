@@ -1,7 +1,8 @@
 // The names that the exports of a module define.
 ghost use Rattle.std.specs.Prelude.{◌≡◌, ◌<◌, ◌++◌, map, ◌^◌, length, IsTrue, IfOk, OnOk};
 ghost use Rattle.std.specs.List.{list_all};
-ghost use Rattle.spec_linking.specs.spec_binary.IndexSpaces.{imports_of, imported_count, globals_in};
+ghost use Rattle.wasm_form.specs.declared.module.ExportDesc.TheVariants as desc;
+ghost use Rattle.spec_linking.specs.spec_binary.IndexSpaces.{imported_count};
 ghost use Rattle.spec_linking.specs.spec_validation.Faults.{global_fits};
 ghost use Rattle.spec_linking.specs.Definitions as defined;
 ghost use Rattle.dyl_scope.specs.Names.{maybe_symbol, symbol_value, definition_value, defined_as, defined_in, data_at, own_data, Counts};
@@ -9,22 +10,8 @@ ghost use Rattle.dyl_scope.specs.Names.{maybe_symbol, symbol_value, definition_v
 use crate::globals::data_symbol;
 use dyl_names::{Definition, Symbol};
 use std::alloc::Global;
-use wasm_check::imported_functions;
-use wasm_form::{Export, ExportDesc, Import, ImportDesc, Memory, Module, Text};
-
-fn imported_globals(imports: &[Import]) -> u32
-    requires { length imports.now < 2 ^ 32 }
-    ensures { result ≡ length (imports_of globals_in imports.now) }
-{
-    let mut count = 0;
-    for import in imports {
-        match import.desc {
-            ImportDesc::Global(_) => count += 1,
-            ImportDesc::Table(_) | ImportDesc::Space(_) | ImportDesc::Func(_) => {}
-        }
-    }
-    count
-}
+use wasm_check::{imported_functions, imported_globals};
+use wasm_form::{Export, ExportDesc, Memory, Module, Text};
 
 /// Whether a name is one that no member defines for others: the functions and the handle that the loader itself looks for.
 pub fn is_reserved(name: &str) -> bool
@@ -64,51 +51,73 @@ pub fn own_function(m: &Module, imported: usize, f: u32) -> Option<u32>
 }
 
 // What a global of the module's own defines a name as, by its place among these.
-fn data_at(m: &Module, place: u32) -> Option<Symbol>
+fn data_at(alloc: Global, m: &Module, place: u32) -> Result<Option<Symbol>, Memory>
     requires { IsTrue (list_all (global_fits m.now) m.now.globals) }
-    ensures { maybe_symbol result ≡ data_at m.now place }
+    ensures { IfOk result (λ s. maybe_symbol s ≡ data_at m.now place) }
 {
     match m.globals.items().get(place as usize) {
-        Some(global) => data_symbol(m, global),
+        Some(global) => data_symbol(alloc, m, global),
+        None => Ok(None),
+    }
+}
+
+fn own_global(
+    alloc: Global,
+    m: &Module,
+    imported: Imported,
+    g: u32,
+) -> Result<Option<Symbol>, Memory>
+    requires counted { Counts m.now imported }
+    requires fit { IsTrue (list_all (global_fits m.now) m.now.globals) }
+    ensures { IfOk result (λ s. maybe_symbol s ≡ own_data m.now g) }
+{
+    if g < imported.globals {
+        return Ok(None);
+    }
+    data_at(alloc, m, g - imported.globals)
+}
+
+fn function_symbol(m: &Module, imported: Imported, f: u32) -> Option<Symbol>
+    requires counted { Counts m.now imported }
+    ensures { maybe_symbol result ≡ defined.desc_symbol m.now (desc.Func f) }
+{
+    match own_function(m, imported.functions, f) {
+        Some(own) => Some(Symbol::Function(own)),
         None => None,
     }
 }
 
-fn own_global(m: &Module, imported: Imported, g: u32) -> Option<Symbol>
+fn desc_symbol(
+    alloc: Global,
+    m: &Module,
+    imported: Imported,
+    desc: ExportDesc,
+) -> Result<Option<Symbol>, Memory>
     requires counted { Counts m.now imported }
     requires fit { IsTrue (list_all (global_fits m.now) m.now.globals) }
-    ensures { maybe_symbol result ≡ own_data m.now g }
-{
-    if g < imported.globals {
-        return None;
-    }
-    data_at(m, g - imported.globals)
-}
-
-fn desc_symbol(m: &Module, imported: Imported, desc: ExportDesc) -> Option<Symbol>
-    requires counted { Counts m.now imported }
-    requires fit { IsTrue (list_all (global_fits m.now) m.now.globals) }
-    ensures { maybe_symbol result ≡ defined.desc_symbol m.now desc }
+    ensures { IfOk result (λ s. maybe_symbol s ≡ defined.desc_symbol m.now desc) }
 {
     match desc {
-        ExportDesc::Func(f) => match own_function(m, imported.functions, f) {
-            Some(own) => Some(Symbol::Function(own)),
-            None => None,
-        },
-        ExportDesc::Table(_) | ExportDesc::Space(_) => None,
-        ExportDesc::Global(g) => own_global(m, imported, g),
+        ExportDesc::Func(f) => Ok(function_symbol(m, imported, f)),
+        ExportDesc::Table(_) | ExportDesc::Space(_) => Ok(None),
+        ExportDesc::Global(g) => own_global(alloc, m, imported, g),
     }
 }
 
-fn export_symbol(m: &Module, imported: Imported, e: &Export) -> Option<Symbol>
+fn export_symbol(
+    alloc: Global,
+    m: &Module,
+    imported: Imported,
+    e: &Export,
+) -> Result<Option<Symbol>, Memory>
     requires counted { Counts m.now imported }
     requires fit { IsTrue (list_all (global_fits m.now) m.now.globals) }
-    ensures { maybe_symbol result ≡ defined.export_symbol m.now e.now }
+    ensures { IfOk result (λ s. maybe_symbol s ≡ defined.export_symbol m.now e.now) }
 {
     if is_reserved(e.name.as_str()) {
-        return None;
+        return Ok(None);
     }
-    desc_symbol(m, imported, e.desc)
+    desc_symbol(alloc, m, imported, e.desc)
 }
 
 // A name and what it is defined as, by a copy of the name.
@@ -130,7 +139,7 @@ fn define_export(
     requires fit { IsTrue (list_all (global_fits m.now) m.now.globals) }
     ensures { OnOk result (map definition_value definitions.new.items ≡ map definition_value definitions.old.items ++ defined_as e.now.name (defined.export_symbol m.now e.now)) }
 {
-    match export_symbol(m, imported, e) {
+    match export_symbol(alloc, m, imported, e)? {
         Some(symbol) => {
             let d = definition(alloc, e.name.as_str(), symbol)?;
             definitions.push(d)?;
@@ -148,7 +157,7 @@ pub(crate) fn definitions_of(alloc: Global, m: &Module) -> Result<Vec<Definition
 {
     let imported = Imported {
         functions: imported_functions(m.imports.items()),
-        globals: imported_globals(m.imports.items()),
+        globals: imported_globals(m.imports.items()) as u32,
     };
     let mut definitions = Vec::new(alloc);
     for e in m.exports.items() {

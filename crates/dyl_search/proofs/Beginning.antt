@@ -1,5 +1,5 @@
 -- What is gathered at the beginning and at the end.
-use Rattle.std.proofs.Common.{◌≡◌, ◌≤◌, List, [], ◌∷◌, map, length, Option, Ok, Err, sym, ap, ◌∙◌, subst, arith}
+use Rattle.std.proofs.Common.{◌≡◌, ◌≤◌, List, [], ◌∷◌, map, length, Option, Ok, sym, ap, ◌∙◌, subst, arith}
 use Rattle.std.specs.Option.{ForSome}
 use Rattle.std.specs.FinMap.{get}
 use Rattle.std.proofs.lemmas.List.{length-map}
@@ -8,13 +8,12 @@ use Rattle.spec_linking.specs.Sets as sets
 use Rattle.spec_linking.specs.Sets.{main_name}
 use Rattle.spec_linking.specs.Wanted.{Wanted, wanted}
 use Rattle.spec_linking.specs.Gathering as gathering
-use Rattle.spec_linking.specs.Gathering.{Reaches, start, gathered, IsGathered, gathers, first_in}
-use Rattle.spec_linking.specs.declared.fault.SetFault.{SetFault}
+use Rattle.spec_linking.specs.Gathering.{Reaches, start, gathered, IsGathered, gathers}
 use Rattle.dyl_search.specs.declared.set.SetOptions.{SetOptions}
 use Rattle.dyl_search.specs.declared.set.ClosedSet.{ClosedSet}
 use Rattle.dyl_search.specs.declared.set.Member.{Member}
 use Rattle.dyl_search.specs.declared.progress.Progress.{Progress}
-use Rattle.dyl_search.specs.Gathers.{options_of, set_of, member_of, members_of, known_in, Stands, GathersFrom, Stops}
+use Rattle.dyl_search.specs.Gathers.{options_of, set_of, member_of, members_of, known_in, Stands, GathersFrom}
 use Rattle.dyl_search.proofs.NextFile.{told_reaches}
 
 pub begins : (told : Option FileMap) (o : SetOptions) (g : Progress) → g.members.items ≡ [] → g.names ≡ record { name = main_name o.main; needed_by = 0 } ∷ [] → g.total ≡ 0 → Stands told o g
@@ -34,6 +33,3 @@ pub ends : (told : Option FileMap) (o : SetOptions) (g : Progress) (S : ClosedSe
 ends told o g S s all is m e =
     let P : sets.ClosedSet → Type 0 = λ T. IsGathered (get m) (options_of o) (Ok T) in
     subst P (sym is) (record { tried = _; gathers = gathers (gathered (told_reaches told m (options_of o) (members_of g) e s.reached) (omega (arith, ap (length {A = Wanted}) s.known, length-map g.members.items member_of))) })
-
-pub stops_too : (told now : Option FileMap) (o : SetOptions) (fault : SetFault) → now ≡ told → ForSome now (λ m. Stops (get m) (options_of o) fault) → ForSome told (λ m. GathersFrom (get m) (options_of o) (Err fault))
-stops_too told now o fault same h = let P : Option FileMap → Type 0 = λ x. ForSome x (λ m. Stops (get m) (options_of o) fault) in subst P same h

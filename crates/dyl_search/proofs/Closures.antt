@@ -1,5 +1,5 @@
 -- The closure of a member, turn by turn.
-use Rattle.std.proofs.Common.{◌≡◌, ℕ, suc, ◌+◌, ◌-◌, ◌<◌, ◌≤◌, List, [], ◌∷◌, take, length, get_or, slice_get, sym, ap, ◌∙◌, arith}
+use Rattle.std.proofs.Common.{◌≡◌, ℕ, suc, ◌+◌, ◌-◌, ◌<◌, List, [], ◌∷◌, take, length, get_or, slice_get, sym, ap, ◌∙◌, arith}
 use Rattle.std.proofs.lemmas.List.{take_more}
 use Rattle.std.proofs.lemmas.List.Sums.{fold-append}
 use Rattle.spec_linking.specs.Sets as sets
@@ -12,10 +12,4 @@ with_more_numbers known ns i lt = sym (fold-append with_number known (take i ns)
 pub turn : (members : List sets.Member) (n k : ℕ) (known : List ℕ) → k < n → breadth_from members (n - k) k known ≡ breadth_from members (n - (k + 1)) (k + 1) (with_numbers known (needed_by members (slice_get known k)))
 turn members n k known lt =
     let e : n - k ≡ suc (n - (k + 1)) = omega arith in
-    ap (λ turns. breadth_from members turns k known) e
-
--- no turn is left
-pub no_turn : (members : List sets.Member) (n k : ℕ) (known : List ℕ) → n ≤ k → breadth_from members (n - k) k known ≡ known
-no_turn members n k known le =
-    let e : n - k ≡ 0 = omega arith in
     ap (λ turns. breadth_from members turns k known) e

@@ -1,3 +1,4 @@
+mod FewNames
 mod Known
 mod Loading
 mod Slashes

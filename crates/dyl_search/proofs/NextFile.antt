@@ -11,7 +11,7 @@ use Rattle.spec_linking.specs.Sets.{most_bytes, most_members}
 use Rattle.spec_linking.specs.Wanted.{Wanted, wanted}
 use Rattle.spec_linking.specs.Paths.{first_file}
 use Rattle.spec_linking.specs.Gathering as gathering
-use Rattle.spec_linking.specs.Gathering.{Lookup, first_in, Reaches, start, next, Seeks, Fetches, IsNext, Fails, failed, IsGathered, gathers, Tries, total_size, paths_for}
+use Rattle.spec_linking.specs.Gathering.{Lookup, first_in, Reaches, start, next, Seeks, Fails, failed, IsGathered, gathers, paths_for}
 use Rattle.spec_linking.specs.declared.fault.SetFault.{SetFault}
 use Rattle.spec_linking.specs.declared.fault.SetFault.TheVariants.{Missing, ReadFault, Decode, Record, Check, ModuleCount, SetSize, Memory}
 use Rattle.dyl_search.specs.declared.set.SetOptions.{SetOptions}

@@ -10,7 +10,6 @@ use Rattle.spec_reading.specs.spec_binary.DecodeAnswers.{DecodeAnswer}
 use Rattle.spec_linking.specs.spec_validation.Faults as validation
 use Rattle.spec_linking.specs.Records.{HasRecord}
 use Rattle.spec_linking.specs.Sets as sets
-use Rattle.spec_linking.specs.Sets.{most_bytes}
 use Rattle.spec_linking.specs.Wanted.{Wanted, wanted, with_names, with_later, number_of}
 use Rattle.spec_linking.specs.Gathering.{Lookup, first_in, Reaches, next, Fetches, IsRead, IsNext, Fails, not_decoded, not_recorded, not_valid, failed, IsGathered, gathers, total_size, paths_for}
 use Rattle.dyl_section.specs.Recorded.{record_of}

@@ -1,5 +1,5 @@
 // The file at the first of some paths.
-ghost use Rattle.std.specs.Prelude.{◌≡◌, ◌≤◌, ◌∷◌, [], ℕ, map, length, Some, None, Ok, string_bytes};
+ghost use Rattle.std.specs.Prelude.{◌≡◌, ◌∷◌, [], map, Some, None, Ok, string_bytes};
 ghost use Rattle.dyl_outside.specs.Faults.{Rises};
 ghost use Rattle.std.specs.Prelude.{◌++◌};
 ghost use Rattle.spec_linking.specs.Paths.{in_directory, folder, search_paths};

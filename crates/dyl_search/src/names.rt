@@ -1,5 +1,5 @@
 // The names that have numbers.
-ghost use Rattle.std.specs.Prelude.{◌≡◌, ◌∷◌, [], None, ℕ, ◌<◌, length, slice_get, position, IfOk, OnOk, IfSome, IsSome, ◌↔◌};
+ghost use Rattle.std.specs.Prelude.{◌≡◌, ◌∷◌, [], None, ◌<◌, ◌^◌, length, slice_get, position, IfOk, OnOk};
 ghost use Rattle.std.specs.Option.{option_map};
 ghost use Rattle.spec_linking.specs.Wanted.{Wanted, is_named, number_of, with_name, with_one_of};
 
@@ -7,16 +7,6 @@ use indexmap::IndexMap;
 use std::alloc::Global;
 use std::marker::Model;
 use wasm_form::{Memory, Text, owned};
-
-// A number of 32 bits. There is no memory for more names than such numbers.
-fn as_number(n: usize) -> Result<u32, Memory>
-    ensures { IfOk result (λ k. k ≡ n) }
-{
-    match u32::try_from(n) {
-        Ok(k) => Ok(k),
-        Err(_) => Err(Memory),
-    }
-}
 
 // The names that have numbers, in the order of these, each with the number of the member that first needs it.
 #[derive(Drop)]
@@ -70,17 +60,19 @@ impl Names {
 
     // The number of a name that a member needs. A name that has none gets the next one.
     pub fn number(&mut self, alloc: Global, name: &str, needed_by: u32) -> Result<u32, Memory>
+        requires { length self.old < 2 ^ 32 }
         ensures number { IfOk result (λ n. n ≡ number_of self.new name.now) }
         ensures known { OnOk result (self.new ≡ with_name needed_by self.old name.now) }
     {
         match self.find(name) {
-            Some(n) => as_number(n),
+            Some(n) => Ok(n as u32),
             None => self.add(alloc, name, needed_by),
         }
     }
 
     // The first of some names that has no number gets the next, as if the main module needed it.
     pub fn add_one_of(&mut self, alloc: Global, names: &[Text]) -> Result<(), Memory>
+        requires { length self.old < 2 ^ 32 }
         ensures { OnOk result (self.new ≡ with_one_of names.now self.old) }
     {
         for name in names {
@@ -98,10 +90,11 @@ impl Names {
     // The number of a new name.
     fn add(&mut self, alloc: Global, name: &str, needed_by: u32) -> Result<u32, Memory>
         requires new { position (is_named name.now) self.old ≡ None }
+        requires few { length self.old < 2 ^ 32 }
         ensures number { IfOk result (λ n. n ≡ number_of self.new name.now) }
         ensures known { OnOk result (self.new ≡ with_name needed_by self.old name.now) }
     {
-        let n = as_number(self.entries.len())?;
+        let n = self.entries.len() as u32;
         let key = owned(alloc, name)?;
         self.entries.insert(key, needed_by)?;
         Ok(n)

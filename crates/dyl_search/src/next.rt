@@ -1,9 +1,8 @@
 // The file of the next name.
-ghost use Rattle.std.specs.Prelude.{◌≡◌, ◌≤◌, ◌<◌, ◌⊎◌, List, ℕ, map, length, slice_get, Some, None, Ok, Err, IfOk, IfErr, OnOk, OnErr, string_bytes};
+ghost use Rattle.std.specs.Prelude.{◌≡◌, ◌<◌, List, ℕ, map, length, slice_get, Some, None, Ok, Err, IfOk, IfErr};
 ghost use Rattle.std.specs.Option.{ForSome};
 ghost use Rattle.std.specs.FinMap.{get};
 ghost use Rattle.dyl_outside.specs.Faults.{Rises};
-ghost use Rattle.spec_linking.specs.Sets.{most_bytes};
 ghost use Rattle.spec_linking.specs.Gathering.{paths_from};
 ghost use Rattle.dyl_search.specs.Found.{Finds, Leaves};
 ghost use Rattle.dyl_search.specs.Gathers.{options_of, member_of, Stands, IsNextFile, Stops, OrMissing, IsSearchFault};

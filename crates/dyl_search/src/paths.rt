@@ -1,10 +1,8 @@
 // The parts of paths.
-ghost use Rattle.std.specs.Prelude.{◌≡◌, ◌≢◌, ◌∷◌, ◌++◌, ℕ, ◌+◌, ◌-◌, ◌<◌, length, take, IfOk, OnOk, string_bytes, Option as Maybe};
-ghost use Rattle.std.specs.Str.{IsCharBoundary};
-ghost use Rattle.std.specs.List.{suffix_len};
+ghost use Rattle.std.specs.Prelude.{◌≡◌, ◌++◌, ◌+◌, ◌-◌, ◌<◌, IfOk, OnOk, string_bytes};
 ghost use Rattle.std.specs.Option.{option_copied};
 ghost use Rattle.spec_linking.specs.Sets.{main_name};
-ghost use Rattle.spec_linking.specs.Paths.{has_slash, folder, origin, expanded, in_directory};
+ghost use Rattle.spec_linking.specs.Paths.{has_slash, folder, origin, in_directory};
 ghost use Rattle.dyl_search.specs.Expanded.{expanded_from};
 
 use std::alloc::Global;

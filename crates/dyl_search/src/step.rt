@@ -1,11 +1,11 @@
 // One member more.
-ghost use Rattle.std.specs.Prelude.{◌≡◌, ◌≤◌, ◌<◌, ◌+◌, ◌∷◌, ◌++◌, [], ℕ, List, map, take, length, IfOk, IfErr, OnOk, Ok, Err};
+ghost use Rattle.std.specs.Prelude.{◌≡◌, ◌≤◌, ◌<◌, ◌+◌, ◌^◌, ◌∷◌, ◌++◌, [], ℕ, List, map, length, IfOk, IfErr, OnOk, Ok, Err};
 ghost use Rattle.std.specs.Option.{ForSome};
 ghost use Rattle.std.specs.FinMap.{get};
 ghost use Rattle.dyl_outside.specs.Faults.{Rises};
-ghost use Rattle.spec_linking.specs.Wanted.{with_names, with_one_of, with_later, number_of};
+ghost use Rattle.spec_linking.specs.Wanted.{with_names, with_later, number_of};
 ghost use Rattle.dyl_search.specs.Found.{Leaves};
-ghost use Rattle.dyl_search.specs.Gathers.{options_of, members_of, Stands, IsNextFile, Stops, IsWhole};
+ghost use Rattle.dyl_search.specs.Gathers.{options_of, Stands, Stops, IsWhole};
 ghost use Rattle.dyl_search.specs.Steps.{AreNamed, IsMade};
 ghost use Rattle.spec_linking.specs.declared.fault.SetFault.TheVariants as faults;
 
@@ -28,6 +28,7 @@ fn number_names(
     needed_by: u32,
     needed: &[Text],
 ) -> Result<Vec<u32>, Memory>
+    requires { length names.old + length needed.now < 2 ^ 32 }
     ensures known { OnOk result (names.new ≡ with_names needed_by names.old needed.now) }
     ensures numbers { IfOk result (λ v. v.items ≡ map (number_of names.new) needed.now) }
 {
@@ -46,7 +47,8 @@ fn next_names(
     number: u32,
     dylink: &Dylink,
 ) -> Result<(Text, Listing<u32>), Memory>
-    requires { number < length names.old }
+    requires more { number < length names.old }
+    requires few { length names.old + length dylink.now.needed < 2 ^ 32 }
     ensures named { IfOk result (λ p. AreNamed names.old number dylink.now.needed p.0 p.1) }
     ensures known { OnOk result (names.new ≡ with_names number names.old dylink.now.needed) }
 {
@@ -67,6 +69,7 @@ fn next_member(
     loaded: Loaded,
 ) -> Result<Member, Memory>
     requires more { number < length names.old }
+    requires few { length names.old + length loaded.dylink.needed < 2 ^ 32 }
     requires few_bytes { length found.bytes.items ≤ 16777216 }
     ensures made { IfOk result (IsMade names.old number found loaded) }
     ensures known { OnOk result (names.new ≡ with_names number names.old loaded.dylink.needed) }
@@ -91,6 +94,7 @@ fn next_member(
 // A member is added. Where no name is left to be found, one of those to be opened later gets the next number.
 fn add_member(alloc: Global, o: &SetOptions, g: &mut Progress, member: Member) -> Result<(), Memory>
     requires few { length g.old.members.items < 256 }
+    requires few_names { length g.old.names < 2 ^ 32 }
     requires few_bytes { g.old.total + member.size ≤ 16777216 }
     ensures members { OnOk result (g.new.members.items ≡ g.old.members.items ++ member ∷ []) }
     ensures names { OnOk result (g.new.names ≡ with_later (options_of o.now) (length g.old.members.items + 1) g.old.names) }

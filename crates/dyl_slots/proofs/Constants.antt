@@ -1,5 +1,6 @@
 -- Constant expressions that name the same have the same values.
 use Rattle.std.proofs.Common.{◌≡◌, ℕ, Bool, true, false, List, [], ◌∷◌, ◌++◌, map, Option, Some, None, refl, ap, ap₂, ◌∙◌, slice_get, nat_lt, if◌then◌else◌}
+use Rattle.std.specs.Prelude.{is_some}
 use Rattle.std.specs.List.{list_all, filter_map, cons_option}
 use Rattle.std.proofs.lemmas.Bool.{and_parts}
 use Rattle.wasm_form.specs.declared.types.ValType.{ValType}
@@ -23,8 +24,10 @@ use Rattle.wasm_form.specs.declared.runtime.Value.TheVariants.{Func}
 use Rattle.spec_loading.specs.spec_binary.Options.{◌>>=◌}
 use Rattle.spec_loading.specs.spec_binary.SameTypes.{same_type}
 use Rattle.spec_loading.specs.spec_binary.IndexSpaces.{imports_of, globals_in, table_space}
-use Rattle.spec_loading.specs.spec_validation.Faults.{has_functions, immutable, constant_index, constant_step, constant_type, is_of_type, is_constant, elem_mode_fits, items_fit, elem_fits}
-use Rattle.spec_loading.specs.spec_runtime.Constants.{index_constant, instruction_constant, constant_in, number_in, reference_in, constant_number, constant_entry, constant_entries}
+use Rattle.spec_loading.specs.spec_validation.Faults.{has_functions, immutable, constant_index, may_be_constant, constant_context, is_constant, elem_mode_fits, items_fit, elem_fits}
+use Rattle.spec_loading.specs.spec_runtime.Constants.{index_constant, instruction_constant, constant_of, number_in, reference_in, constant_number, constant_entry, constant_entries}
+use Rattle.spec_loading.specs.spec_validation.Typing.{height}
+use Rattle.spec_loading.proofs.of_spec_runtime.Constants.{same_constant}
 use Rattle.spec_loading.specs.spec_linking.Slots.{Placing}
 use Rattle.dyl_slots.specs.Placings.{placed_at, placed_as, placed_all}
 
@@ -34,36 +37,37 @@ map_same f g same (x ∷ xs) = ap₂ (λ y ys. y ∷ ys) (same x) (map_same f g 
 
 module _ (m : Module) (F E : ℕ → Option Ref) (functions : (f : ℕ) → F f ≡ E f) (G H : ℕ → Option Value)
     (globals : (g : ℕ) (ty : GlobalType) → slice_get (imports_of globals_in m.imports) g ≡ Some ty → ty.mutable ≡ false → G g ≡ H g) where
-  fixed_global : (t : ValType) (g : ℕ) (o : Option GlobalType) → slice_get (imports_of globals_in m.imports) g ≡ o → is_of_type t (o >>= immutable) ≡ true → G g ≡ H g
-  fixed_global t g None q h = absurd cc
-  fixed_global t g (Some ty) q h = by ty.mutable refl h
+  fixed_global : (g : ℕ) (o : Option GlobalType) → slice_get (imports_of globals_in m.imports) g ≡ o → is_some (o >>= immutable) ≡ true → G g ≡ H g
+  fixed_global g None q h = absurd cc
+  fixed_global g (Some ty) q h = by ty.mutable refl h
     where
-      by : (b : Bool) → ty.mutable ≡ b → is_of_type t (if b then None else Some ty.value) ≡ true → G g ≡ H g
+      by : (b : Bool) → ty.mutable ≡ b → is_some (if b then None else Some ty.value) ≡ true → G g ≡ H g
       by true p k = absurd cc
       by false p k = globals g ty q p
 
-  index_same : (t : ValType) (form : IndexForm) (n : ℕ) → is_of_type t (constant_index m form n) ≡ true → index_constant F G form n ≡ index_constant E H form n
-  index_same t RefFunc n h = ap (λ (o : Option Ref). o >>= λ r. Some (Func (Some r))) (functions n)
-  index_same t GlobalGet n h = fixed_global t n (slice_get (imports_of globals_in m.imports) n) refl h
-  index_same t _ n h = refl
+  index_same : (form : IndexForm) (n : ℕ) → is_some (constant_index m form n) ≡ true → index_constant F G form n ≡ index_constant E H form n
+  index_same RefFunc n h = ap (λ (o : Option Ref). o >>= λ r. Some (Func (Some r))) (functions n)
+  index_same GlobalGet n h = fixed_global n (slice_get (imports_of globals_in m.imports) n) refl h
+  index_same _ n h = refl
 
-  form_same : (t : ValType) (o : Option IndexForm) (n : ℕ) → is_of_type t (o >>= λ f. constant_index m f n) ≡ true → (o >>= λ f. index_constant F G f n) ≡ (o >>= λ f. index_constant E H f n)
-  form_same t None n h = refl
-  form_same t (Some form) n h = index_same t form n h
+  form_same : (o : Option IndexForm) (n : ℕ) → is_some (o >>= λ f. constant_index m f n) ≡ true → (o >>= λ f. index_constant F G f n) ≡ (o >>= λ f. index_constant E H f n)
+  form_same None n h = refl
+  form_same (Some form) n h = index_same form n h
 
-  step_same : (t : ValType) (x : Open.Instr-F Instr Expr) → is_of_type t (constant_step m x) ≡ true → instruction_constant F G x ≡ instruction_constant E H x
-  step_same t (Open.Index op n) h = form_same t (index_form op) n h
-  step_same t _ h = refl
+  step_same : (x : Open.Instr-F Instr Expr) → may_be_constant m x ≡ true → instruction_constant F G x ≡ instruction_constant E H x
+  step_same (Open.Index op n) h = form_same (index_form op) n h
+  step_same _ h = refl
 
-  list_same : (t : ValType) (is : List Instr) → is_of_type t (constant_type m is) ≡ true → constant_in F G is ≡ constant_in E H is
-  list_same t (i ∷ []) h = step_same t (out-Instr i) h
-  list_same t _ h = refl
+  list_same : (t : ValType) (e : Expr) → is_constant m t e ≡ true → constant_of F G e ≡ constant_of E H e
+  list_same t e h =
+      same_constant F E G H (λ i. may_be_constant m (out-Instr i)) (λ i. step_same (out-Instr i)) e.list
+      (and_parts (list_all (λ i. may_be_constant m (out-Instr i)) e.list) (is_some (height (constant_context m t) e.list)) h).0
 
   number_same : (e : Expr) → is_constant m I32 e ≡ true → constant_number F G e ≡ constant_number E H e
-  number_same e h = ap (λ (o : Option Value). o >>= number_in) (list_same I32 e.list h)
+  number_same e h = ap (λ (o : Option Value). o >>= number_in) (list_same I32 e h)
 
   entry_same : (e : Expr) → is_constant m FuncRef e ≡ true → constant_entry F G e ≡ constant_entry E H e
-  entry_same e h = ap (λ (o : Option Value). o >>= reference_in) (list_same FuncRef e.list h)
+  entry_same e h = ap (λ (o : Option Value). o >>= reference_in) (list_same FuncRef e h)
 
   entries_same : (es : List Expr) → list_all (is_constant m FuncRef) es ≡ true → map (constant_entry F G) es ≡ map (constant_entry E H) es
   entries_same [] h = refl

@@ -26,18 +26,10 @@ use Rattle.spec_loading.specs.spec_linking.Imports.{ImportUse, SharedMemory, Sha
 use Rattle.spec_loading.specs.spec_linking.LinkedSets.{LinkedSet, wasm_of, definition}
 use Rattle.spec_loading.specs.spec_linking.Slots.{memory_base, table_base, as_number, base_as, base_value, imported_base}
 use Rattle.spec_loading.specs.spec_linking.Links.{Finding, unless, first_fault, fault_as, import_fault, data_cell_fault, slot_cell_fault}
+use Rattle.spec_loading.proofs.of_spec_binary.OneType.{one_type}
 use Rattle.spec_loading.proofs.of_spec_linking.LinkedFacts.{or_none, holds_so}
 use Rattle.dyl_slots.specs.declared.placings.Bases.{Bases}
 use Rattle.dyl_slots.specs.Placings.{base_number, number_as, base_numbers}
-
-pub one_type : (t u : ValType) → same_type t u ≡ true → t ≡ u
-one_type I32 I32 e = refl
-one_type I64 I64 e = refl
-one_type F32 F32 e = refl
-one_type F64 F64 e = refl
-one_type FuncRef FuncRef e = refl
-one_type ExternRef ExternRef e = refl
-one_type _ _ e = absurd cc
 
 -- ---- what stands for a function is a function
 

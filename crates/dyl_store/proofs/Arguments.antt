@@ -8,17 +8,17 @@ use Rattle.wasm_form.specs.declared.types.FuncType.{FuncType}
 use Rattle.wasm_form.specs.declared.runtime.Ref.{Ref}
 use Rattle.wasm_form.specs.declared.runtime.Trap.{Trap}
 use Rattle.wasm_form.specs.declared.runtime.Asked.{Asked}
-use Rattle.wasm_form.specs.declared.runtime.Value.{Value}
 use Rattle.wasm_form.specs.declared.runtime.Value.TheVariants.{Num}
 use Rattle.spec_loading.specs.spec_runs.Systems.{Status, Moving, Waits, Returned, Exited, Trapped}
 use Rattle.spec_loading.specs.spec_binary.Options.{◌>>=◌}
 use Rattle.spec_loading.proofs.of_spec_binary.Options.{each, either_way, went_on}
 use Rattle.spec_loading.specs.spec_runtime.Names.{HostName, is_integer, has_integers}
 use Rattle.spec_loading.specs.spec_runtime.Hosts.{HostCall, numbers_fit}
+use Rattle.spec_loading.specs.spec_runtime.Recorded.{waits}
 use Rattle.spec_loading.specs.spec_execution.Activations.{move}
 use Rattle.spec_loading.specs.spec_execution.Segments.{Performed}
 use Rattle.spec_loading.specs.spec_execution.Instances.{ModuleParts, host_type}
-use Rattle.spec_loading.specs.spec_execution.Runs.{Frame, Active, Marked, Next, Goes, Asks, Loads, Ends, Traps, State, call, returned, stands}
+use Rattle.spec_loading.specs.spec_execution.Runs.{Frame, Active, Marked, Next, Goes, Asks, Loads, Ends, Traps, call, stands}
 use Rattle.spec_loading.specs.spec_linking.LinkedSets.{LinkedSet, set_hosts}
 use Rattle.spec_loading.specs.declared.task.Phase.{Phase}
 use Rattle.spec_loading.specs.declared.task.Phase.TheVariants.{Place, Start, Relocate, Construct}
@@ -31,12 +31,11 @@ use Rattle.spec_loading.specs.Loading.{LoaderAnswer, Gives, Opens, Comes, with_r
 use Rattle.spec_loading.specs.LoadedSet.{SetState, set_loading}
 use Rattle.wasm_machine.specs.declared.event.Event.{Event}
 use Rattle.wasm_machine.specs.declared.event.Event.TheVariants as event
+use Rattle.wasm_machine.proofs.Steps.{returned_goes}
 use Rattle.wasm_single.proofs.Arguments.{Fit, IsAsked, call_asks, carried_asks}
-use Rattle.dyl_frames.specs.Steps.{TellsStatus}
+use Rattle.wasm_machine.specs.Steps.{TellsStatus, ArgumentsFit, AreNumbers}
 use Rattle.dyl_frames.specs.Cores.{Steps}
 use Rattle.dyl_store.specs.declared.running.Running.{Running}
-use Rattle.dyl_store.specs.Stores.{ArgumentsFit, waits}
-use Rattle.dyl_store.specs.Steps.{AreNumbers}
 
 module _ (L : LinkedSet) where
   -- a state that doesn't wait, or one of which an instruction or a call asks what fits
@@ -75,10 +74,6 @@ module _ (L : LinkedSet) where
       (λ stage.
       either_way IsWell (nat_lt stage goal) (work_next (set_loading L) (raised s task.member goal) frames task.phase task.member) (comes_by_itself (goes_on s frames))
       (well_work (raised s task.member goal) frames task.phase task.member) refl)
-
-  returned_goes : (s : State ModuleParts LoaderFrame) (values : List Value) (frames : List (Frame LoaderFrame)) → waits (returned s values frames).status ≡ false
-  returned_goes s values [] = refl
-  returned_goes s values (f ∷ fs) = refl
 
   well_after : (s : SetState) (under : List (Frame LoaderFrame)) (after : After) → IfSome (after_next (set_loading L) s under after) IsWell
   well_after s under CallEntry = each IsWell (set_loading L).entry (λ r. call_next (set_loading L) s under (Some r)) (λ r. well_call s under (Some r))
@@ -144,7 +139,7 @@ module _ (L : LinkedSet) where
 
   -- the same of what is told of the step
   told_fit : (s t : SetState) (asked : Asked) (status : Status HostCall Trap) → loaded_step (set_loading L) s ≡ Some t → t.run.status ≡ status → TellsStatus (set_hosts L) (event.Waits asked) status
-      → AreNumbers (event.Waits asked) → ArgumentsFit L (event.Waits asked)
+      → AreNumbers (event.Waits asked) → ArgumentsFit (set_hosts L) (event.Waits asked)
   told_fit s t asked Moving made at told numbers = absurd told
   told_fit s t asked (Waits call) made at told numbers =
       let fits : Fit call.host.ty.params asked.args = subst (Fit call.host.ty.params) (sym told.1) (step_arguments s t call made at) in
@@ -154,7 +149,7 @@ module _ (L : LinkedSet) where
   told_fit s t asked (Exited code) made at told numbers = absurd told
   told_fit s t asked (Trapped why) made at told numbers = absurd told
 
-  pub arguments_told : (e : Event) (s : SetState) (new : Running) → Steps (set_loading L) e s new.core new.world.store new.world.memory → AreNumbers e → ArgumentsFit L e
+  pub arguments_told : (e : Event) (s : SetState) (new : Running) → Steps (set_loading L) e s new.core new.world.store new.world.memory → AreNumbers e → ArgumentsFit (set_hosts L) e
   arguments_told (event.Waits asked) s new made numbers = told_fit s made.1.0 asked made.1.0.run.status made.1.1 refl made.1.2 numbers
   arguments_told event.Moved s new made numbers = tt
   arguments_told (event.Loader which first second) s new made numbers = tt

@@ -20,7 +20,7 @@ use Rattle.spec_loading.specs.LoadedSet.{set_loading}
 use Rattle.wasm_machine.specs.declared.event.Event.{Event}
 use Rattle.wasm_machine.specs.declared.event.Event.TheVariants as event
 use Rattle.wasm_machine.specs.declared.machine.Standing.TheVariants as standing
-use Rattle.dyl_frames.specs.Steps.{next_answer}
+use Rattle.dyl_frames.specs.Next.{next_answer}
 use Rattle.dyl_frames.specs.Cores.{loader_arguments}
 use Rattle.dyl_link.specs.Kept.{IsLinked}
 use Rattle.dyl_store.specs.declared.running.Running.{Running}

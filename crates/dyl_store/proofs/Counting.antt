@@ -1,8 +1,7 @@
 -- What a step of code that is told in few bytes makes of the count of steps.
-use Rattle.std.proofs.Common.{◌≡◌, ◌≢◌, ◌⊎◌, Some, None, refl, sym, ◌∙◌, inl, inr, subst, false}
+use Rattle.std.proofs.Common.{◌≡◌, ◌⊎◌, Some, None, refl, sym, ◌∙◌, inl, inr, subst, false}
 use Rattle.wasm_form.specs.declared.runtime.Trap.{Trap}
-use Rattle.spec_loading.specs.spec_runs.Systems.{Status, Moving, Waits, Returned, Exited, Trapped}
-use Rattle.spec_loading.specs.spec_runtime.Hosts.{HostCall}
+use Rattle.spec_loading.specs.spec_runs.Systems.{Moving}
 use Rattle.spec_loading.specs.spec_linking.LinkedSets.{LinkedSet, set_hosts}
 use Rattle.spec_loading.specs.LoadedSet.{SetState, set_loading}
 use Rattle.wasm_step.specs.declared.done.Done.{Done}
@@ -10,20 +9,13 @@ use Rattle.wasm_step.specs.declared.done.Done.TheVariants as done
 use Rattle.wasm_machine.specs.declared.machine.Standing.{Standing}
 use Rattle.wasm_machine.specs.declared.event.Event.{Event}
 use Rattle.wasm_machine.specs.declared.event.Event.TheVariants as event
-use Rattle.dyl_frames.specs.Steps.{TellsStatus}
+use Rattle.wasm_machine.specs.Steps.{TellsStatus}
+use Rattle.wasm_machine.proofs.Steps.{not_waiting}
 use Rattle.dyl_frames.specs.Cores.{StandsAs, Steps, QuickSteps}
 use Rattle.dyl_store.specs.declared.running.Running.{Running}
-use Rattle.dyl_store.specs.Stores.{IsCodeNext, waits}
-use Rattle.dyl_store.specs.Runs.{IsAt}
+use Rattle.dyl_store.specs.Stores.{IsCodeNext}
+use Rattle.dyl_store.specs.Runs.{RunsAt}
 use Rattle.dyl_store.specs.Steps.{IsMade, HasStopped}
-
--- what is told of a run that waits for a host function tells that alone
-not_waiting : (L : LinkedSet) (e : Event) (status : Status HostCall Trap) → ((call : HostCall) → TellsStatus (set_hosts L) e (Waits call) → ⊥) → TellsStatus (set_hosts L) e status → waits status ≡ false
-not_waiting L e Moving none tells = refl
-not_waiting L e (Waits call) none tells = absurd (none call tells)
-not_waiting L e Returned none tells = refl
-not_waiting L e (Exited code) none tells = refl
-not_waiting L e (Trapped why) none tells = refl
 
 module _ (L : LinkedSet) (s : SetState) (new : Running) where
   abbrev QuickSo : Done → Type 0
@@ -33,29 +25,29 @@ module _ (L : LinkedSet) (s : SetState) (new : Running) where
   StepsSo e = Steps (set_loading L) e s new.core new.world.store new.world.memory
 
   pub moved_made : StepsSo event.Moved → IsMade L s new
-  moved_made h = (h.0, (h.1.0, h.1.1, h.1.3, not_waiting L event.Moved h.1.0.run.status (λ call tells. tells) h.1.2))
+  moved_made h = (h.0, (h.1.0, h.1.1, h.1.3, not_waiting (set_hosts L) event.Moved h.1.0.run.status (λ call tells. tells) h.1.2))
 
   -- where a run has ended the machine doesn't go on
-  ended_stops : (t : SetState) → IsAt L new t → (t.run.status ≡ Moving → ⊥) → HasStopped new
+  ended_stops : (t : SetState) → RunsAt L new t → (t.run.status ≡ Moving → ⊥) → HasStopped new
   ended_stops t at ended = λ moving. ended (let k = subst (λ (st : Standing). StandsAs (set_loading L) new.core t st) moving at.standing in k.0)
 
   -- it was the last step
   pub ended_made : (d : Done) → (d ≡ done.Returned) ⊎ ((why : Trap) × (d ≡ done.Trapped why)) → QuickSo d → IsMade L s new × HasStopped new
   ended_made d (inl e) q =
       let h : StepsSo event.Returned = subst QuickSo e q in (
-        (h.0, (h.1.0, h.1.1, h.1.3, not_waiting L event.Returned h.1.0.run.status (λ call tells. tells) h.1.2)),
+        (h.0, (h.1.0, h.1.1, h.1.3, not_waiting (set_hosts L) event.Returned h.1.0.run.status (λ call tells. tells) h.1.2)),
         ended_stops h.1.0 h.1.3 (λ moving. subst (TellsStatus (set_hosts L) event.Returned) moving h.1.2),
       )
   ended_made d (inr e) q =
       let h : StepsSo (event.Trapped e.0) = subst QuickSo e.1 q in (
-        (h.0, (h.1.0, h.1.1, h.1.3, not_waiting L (event.Trapped e.0) h.1.0.run.status (λ call tells. tells) h.1.2)),
+        (h.0, (h.1.0, h.1.1, h.1.3, not_waiting (set_hosts L) (event.Trapped e.0) h.1.0.run.status (λ call tells. tells) h.1.2)),
         ended_stops h.1.0 h.1.3 (λ moving. subst (TellsStatus (set_hosts L) (event.Trapped e.0)) moving h.1.2),
       )
 
   -- none was made
   pub left_state : (d : Done)
       → (d ≡ done.Stuck) ⊎ (d ≡ done.Exited) ⊎ (d ≡ done.Marked) ⊎ (d ≡ done.Deep) ⊎ (d ≡ done.Outside)
-      → QuickSo d → IsAt L new s × (IsCodeNext L s → ⊥)
+      → QuickSo d → RunsAt L new s × (IsCodeNext L s → ⊥)
   left_state d (inl e) q =
       let h : StepsSo event.Stuck = subst QuickSo e q in
       (h.2, (λ code. let clash : None ≡ Some code.3.0 = sym h.0 ∙ code.3.1 in cc))
@@ -63,13 +55,3 @@ module _ (L : LinkedSet) (s : SetState) (new : Running) where
   left_state d (inr (inr (inl e))) q = let h = subst QuickSo e q in (h.1, h.2)
   left_state d (inr (inr (inr (inl e)))) q = let h = subst QuickSo e q in (h.1, h.2)
   left_state d (inr (inr (inr (inr e)))) q = let h = subst QuickSo e q in (h.1, h.2)
-
--- and memory wasn't wanting
-pub left_found : (d : Done)
-    → (d ≡ done.Stuck) ⊎ (d ≡ done.Exited) ⊎ (d ≡ done.Marked) ⊎ (d ≡ done.Deep) ⊎ (d ≡ done.Outside)
-    → d ≢ done.NoMemory
-left_found d (inl e) none = cc
-left_found d (inr (inl e)) none = cc
-left_found d (inr (inr (inl e))) none = cc
-left_found d (inr (inr (inr (inl e)))) none = cc
-left_found d (inr (inr (inr (inr e)))) none = cc

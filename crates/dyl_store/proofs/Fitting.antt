@@ -6,34 +6,27 @@ use Rattle.wasm_form.specs.declared.runtime.Answer.{Answer}
 use Rattle.spec_loading.specs.spec_runs.Systems.{Status, Moving, Waits, Returned, Exited, Trapped}
 use Rattle.spec_loading.specs.spec_runtime.Memories.{MemoryInstance}
 use Rattle.spec_loading.specs.spec_runtime.Hosts.{HostCall, fits_results, answer_fits}
+use Rattle.spec_loading.specs.spec_runtime.Recorded.{FitsWait}
 use Rattle.spec_loading.specs.spec_execution.Views.{View}
 use Rattle.spec_loading.specs.spec_execution.Instances.{ModuleParts, host_type}
 use Rattle.spec_loading.specs.spec_linking.LinkedSets.{LinkedSet, set_hosts}
 use Rattle.spec_loading.specs.LoadedSet.{SetState, set_loading}
 use Rattle.wasm_machine.specs.declared.machine.Standing.{Standing}
 use Rattle.wasm_machine.specs.declared.machine.Standing.TheVariants as standing
+use Rattle.wasm_machine.proofs.Courses.{waited_call}
 use Rattle.dyl_frames.specs.Cores.{StandsAs, FitsHost}
 use Rattle.dyl_frames.proofs.Answering.{asking}
 use Rattle.dyl_link.specs.Kept.{IsLinked}
 use Rattle.dyl_store.specs.Worlds.{kept_view}
 use Rattle.dyl_store.specs.declared.running.Running.{Running}
-use Rattle.dyl_store.specs.Stores.{FitsWait}
-use Rattle.dyl_store.specs.Runs.{IsRunning, IsAt}
+use Rattle.dyl_store.specs.Runs.{IsRunning, RunsAt}
 use Rattle.dyl_store.proofs.Loads.{loaded}
 
 -- an answer fits the results of a type
 abbrev FitsType : MemoryInstance → Answer → Option FuncType → Type 0
 FitsType memory a o = IfSome o (λ ty. IsTrue (fits_results ty.results memory a))
 
--- the call that is waited for
-pub waited_call : (a : Answer) (status : Status HostCall Trap) (memory : MemoryInstance) → FitsWait a status memory → (call : HostCall) × (status ≡ Waits call) × IsTrue (answer_fits call memory a)
-waited_call a Moving memory h = absurd h
-waited_call a (Waits call) memory h = (call, refl, h)
-waited_call a Returned memory h = absurd h
-waited_call a (Exited code) memory h = absurd h
-waited_call a (Trapped why) memory h = absurd h
-
-module _ (x : Running) (h : IsRunning x) (L : LinkedSet) (linked : IsLinked L x.linked.now) (s : SetState) (at : IsAt L x s) where
+module _ (x : Running) (h : IsRunning x) (L : LinkedSet) (linked : IsLinked L x.linked.now) (s : SetState) (at : RunsAt L x s) where
   -- how the run stands where the machine asks
   pub asking_status : (entry count : ℕ) → x.core.machine.standing ≡ standing.Asking entry count → (call : HostCall) × (s.run.status ≡ Waits call) × (set_hosts L entry ≡ Some call.host)
   asking_status entry count e =

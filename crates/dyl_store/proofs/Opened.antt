@@ -29,7 +29,7 @@ use Rattle.spec_loading.specs.Texts.{error_texts}
 use Rattle.spec_loading.proofs.Rows.{texts_length}
 use Rattle.spec_loading.specs.Phases.{opening_tasks, startup_frame, open_frame}
 use Rattle.spec_loading.specs.Members.{set_view, opening_store}
-use Rattle.spec_loading.specs.LoadedSet.{set_loading, set_opening, set_run, opening_memory}
+use Rattle.spec_loading.specs.LoadedSet.{set_loading, set_opening, opening_memory}
 use Rattle.spec_loading.specs.Laws.{LinkedIsThere, OpeningHolds, SizesArePlanned}
 use Rattle.dyl_addresses.specs.Sets.{AreOf}
 use Rattle.dyl_addresses.proofs.Linked.{members_count}
@@ -46,7 +46,7 @@ use Rattle.dyl_addresses.specs.Sets.{IsOfSet}
 use Rattle.dyl_store.specs.Worlds.{WorldState, kept_instances, kept_view, HasSizes}
 use Rattle.dyl_store.specs.Units.{AreUnits, IsWorld, store_of}
 use Rattle.dyl_store.specs.Opened.{IsOpened}
-use Rattle.dyl_store.specs.Runs.{IsRunning, IsAt, ArePlacements}
+use Rattle.dyl_store.specs.Runs.{IsRunning, RunsAt, ArePlacements}
 use Rattle.dyl_store.specs.Kept.{IsStore}
 use Rattle.dyl_store.proofs.Views.{kept_view_is, opening_sizes, all_fit}
 
@@ -199,7 +199,7 @@ core_at L k h w opened count many tasks are c opens =
 
 -- ---- the run
 
-pub running_is : (x : Running) → IsOfSet x.linked.now → IsOpened x.linked.now x.world → IsCore (kept_view x.world.linked) x.world.store x.core → ((L : LinkedSet) → IsLinked L x.linked.now → IsAt L x (set_opening L))
+pub running_is : (x : Running) → IsOfSet x.linked.now → IsOpened x.linked.now x.world → IsCore (kept_view x.world.linked) x.world.store x.core → ((L : LinkedSet) → IsLinked L x.linked.now → RunsAt L x (set_opening L))
     → ArePlacements x.linked.now x.placements.items → IsRunning x
 running_is x set opened core at placements =
     let k = x.linked.now in
@@ -217,8 +217,8 @@ abbrev inside_of : Running → Vec Answer Global → kept.Inside
 inside_of x answers = record { running = x; steps = 0; answers = answers; answered = false; lost = false }
 
 -- no step was made
-pub store_is : (x : Running) (answers : Vec Answer Global) → IsRunning x → ((L : LinkedSet) → IsLinked L x.linked.now → IsAt L x (set_opening L)) → answers.items ≡ [] → IsStore (inside_of x answers)
+pub store_is : (x : Running) (answers : Vec Answer Global) → IsRunning x → ((L : LinkedSet) → IsLinked L x.linked.now → RunsAt L x (set_opening L)) → answers.items ≡ [] → IsStore (inside_of x answers)
 store_is x answers running at none = record {
   running = λ e. running;
-  stands = λ e L h. (set_run L answers.items 0, record { found = refl; run = refl; real = tt; left = none }, at L h);
+  stands = λ e L h. (record { found = refl; run = refl; real = tt; left = none }, at L h);
 }

@@ -1,38 +1,42 @@
 -- What one answer more makes of the run.
-use Rattle.std.proofs.Common.{◌≡◌, List, [], ◌∷◌, ◌++◌, Vec, true, sym, subst}
+use Rattle.std.proofs.Common.{◌≡◌, [], ◌∷◌, ◌++◌, List, Vec, true, sym, subst}
 use Rattle.std.specs.declared.alloc.Global.{Global}
 use Rattle.wasm_form.specs.declared.runtime.Answer.{Answer}
-use Rattle.spec_loading.specs.spec_runs.Systems.{Ran}
-use Rattle.spec_loading.specs.spec_runtime.Hosts.{hosts}
-use Rattle.spec_loading.proofs.of_spec_runtime.Recorded.{stands_same, stands_recorded}
-use Rattle.spec_loading.specs.LoadedSet.{SetState, set_system, set_opening}
+use Rattle.spec_loading.specs.spec_runtime.Recorded.{Recorded}
+use Rattle.spec_loading.specs.spec_linking.LinkedSets.{LinkedSet}
+use Rattle.spec_loading.specs.spec_runtime.Courses.{state_at}
+use Rattle.wasm_machine.specs.Steps.{Awaits}
+use Rattle.wasm_machine.proofs.Courses.{at_recorded}
+use Rattle.dyl_link.specs.Kept.{IsLinked}
 use Rattle.dyl_store.specs.declared.store.Store.TheInside.{Inside}
-use Rattle.dyl_store.specs.Stores.{StoreRun, Stands, recorded_of, FitsWait, Awaits}
-use Rattle.dyl_store.specs.Kept.{run_of, IsStore}
+use Rattle.dyl_store.specs.Stores.{StoreRun, set_course}
+use Rattle.dyl_store.specs.Runs.{RunsAt}
+use Rattle.dyl_store.specs.Kept.{run_of, StandsFrom, IsStore}
 use Rattle.dyl_store.proofs.Fitting.{wait_fits_host, host_fits_call}
 
 -- the parts of a run with these answers, of which the last is still to be taken
 abbrev with_answers : Inside → Vec Answer Global → Inside
 with_answers i answers = record i { answers = answers; answered = true }
 
-pub recorded_store : (a : Answer) (v : StoreRun) (i : Inside) (answers : Vec Answer Global) → run_of i ≡ v → IsStore i → Awaits v a → answers.items ≡ i.answers.items ++ a ∷ []
+-- a run of a set waits for an answer, and this one fits
+abbrev IsAwaiting : Answer → StoreRun → Type 0
+IsAwaiting a s = (L : LinkedSet) × IsLinked L s.linked × Awaits (set_course L) s.run a
+
+pub recorded_store : (a : Answer) (v : StoreRun) (i : Inside) (answers : Vec Answer Global) → run_of i ≡ v → IsStore i → IsAwaiting a v → answers.items ≡ i.answers.items ++ a ∷ []
     → IsStore (with_answers i answers)
 recorded_store a v i answers is h awaits more =
-    let w : Awaits (run_of i) a = subst (λ (s : StoreRun). Awaits s a) (sym is) awaits in
-    let M = w.1.0 in
-    let linked = w.1.1 in
-    let found = w.1.2.1.found in
-    let at = h.stands found M linked in
-    let same = stands_same (set_system M) (set_opening M) (recorded_of (run_of i)) w.1.2.0 at.0 w.1.2.1 at.1 in
-    let waits : FitsWait a at.0.state.run.status at.0.state.run.memory = subst (λ (r : Ran hosts SetState). FitsWait a r.state.run.status r.state.run.memory) same w.1.2.2 in
-    let fits = wait_fits_host i.running (h.running found) M linked at.0.state at.2 a waits in
+    let w : IsAwaiting a (run_of i) = subst (IsAwaiting a) (sym is) awaits in
+    let x = (run_of i).run in
+    let found = w.2.1.found in
+    let running = h.running found in
+    let fits = wait_fits_host i.running running w.0 w.1 (state_at (set_course w.0) x) (h.stands found w.0 w.1).1 a w.2.2 in
     record {
       running = h.running;
       stands = λ _ L of.
-          let q = h.stands found L of in
-          let call = host_fits_call i.running (h.running found) L of q.0.state q.2 a fits in
-          let stands = stands_recorded (set_system L) (set_opening L) (recorded_of (run_of i)) q.0 call.0 a q.1 w.0 call.1 call.2 in
-          let r : Ran hosts SetState = record q.0 { left = a ∷ [] } in
-          let P : List Answer → Type 0 = λ l. Stands L (record (run_of i) { answers = l; answered = true }) r in
-          (r, subst P (sym more) stands, q.2);
+          let C = set_course L in
+          let from = h.stands found L of in
+          let call = host_fits_call i.running running L of (state_at C x) from.1 a fits in
+          let s = at_recorded C x from.0 call.0 a w.2.0 call.1 call.2 in
+          let P : List Answer → Type 0 = λ l. let y : Recorded = record x { answers = l; answered = true } in StandsFrom L y i.running in
+          subst P (sym more) (s.0, subst (RunsAt L i.running) (sym s.1) from.1);
     }

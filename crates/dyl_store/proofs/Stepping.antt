@@ -1,184 +1,127 @@
 -- What a step of a loaded set makes of its run.
-use Rattle.std.proofs.Common.{◌≡◌, ℕ, suc, ◌+◌, ◌-◌, List, [], ◌∷◌, length, reverse, slice_get, Option, Some, None, Bool, true, false, IsTrue, refl, sym, ap, ◌∙◌, subst, map, inl, inr, not, ◌&&◌, arith}
+use Rattle.std.proofs.Common.{◌≡◌, ℕ, ◌+◌, ◌-◌, List, length, slice_get, Option, Some, None, Bool, true, false, IsTrue, refl, sym, ap, ◌∙◌, subst, arith}
 use Rattle.std.specs.Borrow.{Bor}
 use Rattle.std.proofs.lemmas.Option.{same_Some}
-use Rattle.wasm_form.specs.declared.runtime.Trap.{Trap}
-use Rattle.wasm_form.specs.declared.runtime.Value.{Value}
-use Rattle.wasm_form.specs.declared.runtime.Value.TheVariants.{Num}
 use Rattle.wasm_form.specs.declared.runtime.Answer.{Answer}
-use Rattle.wasm_form.specs.declared.runtime.Answer.TheVariants as answer
-use Rattle.spec_loading.specs.spec_runs.Systems.{Status, Moving, Waits, Returned, Exited, Trapped, Ran}
-use Rattle.spec_loading.specs.spec_runtime.Hosts.{HostCall, hosts, all_written, answer_fits}
-use Rattle.spec_loading.proofs.of_spec_runtime.Recorded.{TakesLast, stands_moved, stands_taken}
-use Rattle.spec_loading.specs.spec_execution.Runs.{Frame, State, returned, taken}
-use Rattle.spec_loading.specs.spec_execution.Instances.{ModuleParts}
+use Rattle.spec_loading.specs.spec_runs.Systems.{Moving, Waits}
+use Rattle.spec_loading.specs.spec_runtime.Hosts.{HostCall, answer_fits}
+use Rattle.spec_loading.specs.spec_runtime.Recorded.{Recorded, has_ended, waits}
+use Rattle.spec_loading.specs.spec_execution.Runs.{taken}
 use Rattle.spec_loading.specs.spec_linking.LinkedSets.{LinkedSet, set_hosts}
-use Rattle.spec_loading.specs.Phases.{LoaderFrame}
 use Rattle.spec_loading.specs.Loading.{loaded_step, loaded_too_deep, with_run}
-use Rattle.spec_loading.specs.LoadedSet.{SetState, set_loading, set_opening, set_system}
+use Rattle.spec_loading.specs.LoadedSet.{SetState, set_loading}
 use Rattle.wasm_machine.specs.declared.machine.Standing.{Standing}
 use Rattle.wasm_machine.specs.declared.machine.Standing.TheVariants as standing
 use Rattle.wasm_machine.specs.declared.event.Event.{Event}
 use Rattle.wasm_machine.specs.declared.event.Event.TheVariants as event
-use Rattle.dyl_frames.specs.Steps.{TellsStatus}
+use Rattle.spec_loading.specs.spec_runtime.Courses.{Course, state_at, status_at, memory_at, IsAt, is_waiting}
+use Rattle.wasm_machine.specs.Steps.{TellsStatus, event_of, steps_told, RunStepped, ArgumentsFit}
+use Rattle.wasm_machine.proofs.Courses.{TakesLast, at_taken, answered_wait, read_last}
+use Rattle.wasm_machine.proofs.Steps.{moved, one_told, took, told_again, taken_goes}
 use Rattle.dyl_frames.specs.Cores.{StandsAs, Steps, FitsHost}
 use Rattle.dyl_link.specs.Kept.{Kept, IsLinked}
 use Rattle.dyl_store.specs.Worlds.{kept_view}
 use Rattle.dyl_store.specs.declared.running.Running.{Running}
 use Rattle.dyl_store.specs.declared.store.Store.TheInside.{Inside}
-use Rattle.dyl_store.specs.Stores.{StoreRun, recorded_of, Stands, has_ended, waits, IsAnswered, StepMade, RunStepped, ArgumentsFit}
-use Rattle.dyl_store.specs.Runs.{IsRunning, IsSomewhere, IsAt, StepsTo}
+use Rattle.dyl_store.specs.Stores.{StoreRun, set_course}
+use Rattle.dyl_store.specs.Runs.{IsRunning, IsSomewhere, RunsAt, StepsTo}
 use Rattle.dyl_store.specs.Calls.{is_loader}
-use Rattle.dyl_store.specs.Steps.{event_of, steps_told}
-use Rattle.dyl_store.specs.Kept.{run_of, IsStore}
+use Rattle.dyl_store.specs.Kept.{run_of, StandsFrom, IsStore}
 use Rattle.dyl_store.proofs.Fitting.{asking_status, fits_host}
 
 -- the parts of a run, once another one is running after so many steps
 abbrev pub with_running : Inside → Running → ℕ → Bool → Inside
 with_running i new steps answered = record i { running = new; steps = steps; answered = answered }
 
--- what is told is so of the run of a set, which stands where it is running
-pub record IsStepped (L : LinkedSet) (e : Event) (v : StoreRun) (i : Inside) : Type 0 where
-  pub stands : (r : Ran hosts SetState) × Stands L (run_of i) r × IsAt L i.running r.state
-  pub stepped : (r : Ran hosts SetState) × Stands L v r × RunStepped L e v r (run_of i)
+-- a run of a set that stood after its steps has made one more, as is told
+abbrev pub IsTold : LinkedSet → Event → Recorded → Recorded → Type 0
+IsTold L e x y = IsAt (set_course L) x × RunStepped (set_course L) e x y
 
 pub linked_now : (i : Inside) (new : Running) → new.linked ≡ i.running.linked → new.linked.now ≡ i.running.linked.now
 linked_now i new linked = ap (λ (b : Bor Kept). b.now) linked
 
--- ---- a step that was made
+pub moving_status : (L : LinkedSet) (x : Running) (s : SetState) → RunsAt L x s → x.core.machine.standing ≡ standing.Moving → s.run.status ≡ Moving
+moving_status L x s at moving = let k = subst (λ (st : Standing). StandsAs (set_loading L) x.core s st) moving at.standing in k.0
 
-same_run : (i : Inside) (new : Running) (steps : ℕ) (answered : Bool) → new.linked ≡ i.running.linked → steps ≡ suc i.steps → answered ≡ false
-    → run_of (with_running i new steps answered) ≡ record (run_of i) { steps = suc i.steps; answered = false }
-same_run i new steps answered linked count none = let same : new.linked.now ≡ i.running.linked.now = linked_now i new linked in cc
+-- ---- a step of a moving run
 
-module _ (L : LinkedSet) where
-  -- the run stands where it is running
-  pub stands_at : (i : Inside) (new : Running) (steps : ℕ) (answered : Bool) (t : SetState) → new.linked ≡ i.running.linked → steps ≡ suc i.steps → answered ≡ false → IsAt L new t
-      → (q : Ran hosts SetState) × Stands L (record (run_of i) { steps = suc i.steps; answered = false }) q × (q.state ≡ t)
-      → (q : Ran hosts SetState) × Stands L (run_of (with_running i new steps answered)) q × (q.state ≡ t) × IsAt L new q.state
-  stands_at i new steps answered t linked count none at q =
-      (q.0, subst (λ (s : StoreRun). Stands L s q.0) (sym (same_run i new steps answered linked count none)) q.1, q.2, subst (λ (s : SetState). IsAt L new s) (sym q.2) at)
+module _ (L : LinkedSet) (new : Running) (x : Recorded) (count : ℕ) where
+  abbrev C : Course
+  C = set_course L
 
-  told_made : (e : Event) (old : StoreRun) (r : Ran hosts SetState) (new : StoreRun) → steps_told e ≡ 1 → StepMade L e old r new
-      → (r.state.run.status ≡ Moving → loaded_too_deep (set_loading L) r.state ≡ false) → RunStepped L e old r new
-  told_made event.Moved old r new one made deep = inl (made, deep)
-  told_made (event.Waits asked) old r new one made deep = inl (made, deep)
-  told_made (event.Loader which first second) old r new one made deep = inl (made, deep)
-  told_made (event.Marked tag) old r new one made deep = inl (made, deep)
-  told_made event.Returned old r new one made deep = inl (made, deep)
-  told_made (event.Trapped why) old r new one made deep = inl (made, deep)
-  told_made (event.Exited code) old r new one made deep = inl (made, deep)
-  told_made event.Deep old r new one made deep = absurd cc
-  told_made event.Stuck old r new one made deep = absurd cc
+  abbrev y : Recorded
+  y = record x { steps = x.steps + count }
 
-  -- ---- a step of a moving run
+  -- it is running where a step led that is told so
+  abbrev Stepped : Event → Type 0
+  Stepped e = StandsFrom L y new × RunStepped C e x y
 
-  abbrev MadeSo : Event → SetState → Running → Type 0
-  MadeSo e s new = (loaded_too_deep (set_loading L) s ≡ false) × ((t : SetState) × (loaded_step (set_loading L) s ≡ Some t) × TellsStatus (set_hosts L) e t.run.status × IsAt L new t)
+  module _ (at : IsAt C x) (moving : status_at C x ≡ Moving) where
+    made : (e : Event) → steps_told e ≡ 1 → count ≡ steps_told e
+        → (loaded_too_deep (set_loading L) (state_at C x) ≡ false) × ((t : SetState) × (loaded_step (set_loading L) (state_at C x) ≡ Some t) × TellsStatus (set_hosts L) e t.run.status × RunsAt L new t)
+        → Stepped e
+    made e one told step =
+        let s = moved C e x (x.steps + count) step.1.0 at moving (let k : count ≡ 1 = told ∙ one in omega arith) one step.0 step.1.1 step.1.2 in
+        ((s.stands, subst (RunsAt L new) (sym s.reaches) step.1.3), s.stepped)
 
-  moved : (e : Event) (i : Inside) (new : Running) (steps : ℕ) (r : Ran hosts SetState) → new.linked ≡ i.running.linked → steps ≡ suc i.steps
-      → Stands L (run_of i) r → r.state.run.status ≡ Moving → steps_told e ≡ 1 → MadeSo e r.state new → IsStepped L e (run_of i) (with_running i new steps i.answered)
-  moved e i new steps r linked count stands status one made =
-      let t = made.1.0 in
-      let more = stands_moved (set_system L) (set_opening L) (recorded_of (run_of i)) r t stands status made.1.1 in
-      let q = stands_at i new steps i.answered t linked count more.0 made.1.3 more.1 in
-      let tells : TellsStatus (set_hosts L) e q.0.state.run.status = subst (λ (x : SetState). TellsStatus (set_hosts L) e x.run.status) (sym q.2) made.1.2 in
-      let new_run = run_of (with_running i new steps i.answered) in
-      record {
-        stands = (q.0, q.1, q.3);
-        stepped = (r, stands, told_made e (run_of i) r new_run one (ap has_ended status, same_run i new steps i.answered linked count more.0, (q.0, q.1, tells)) (λ _. made.0));
-      }
+    none_made : count ≡ 0 → y ≡ x
+    none_made none = λ i. record x { steps = let k : x.steps + count ≡ x.steps = omega arith in k i }
 
-  -- no step was made, and the run stands where it stood
-  pub stays : (i : Inside) (new : Running) (steps : ℕ) (r : Ran hosts SetState) → new.linked ≡ i.running.linked → steps ≡ i.steps → Stands L (run_of i) r
-      → (run_of (with_running i new steps i.answered) ≡ run_of i) × Stands L (run_of (with_running i new steps i.answered)) r
-  stays i new steps r linked count stands =
-      let now : new.linked.now ≡ i.running.linked.now = linked_now i new linked in
-      let same : run_of (with_running i new steps i.answered) ≡ run_of i = cc in
-      (same, subst (λ (s : StoreRun). Stands L s r) (sym same) stands)
+    -- no step was made, and the run stands where it stood
+    stayed : (e : Event) → count ≡ 0 → RunsAt L new (state_at C x) → RunStepped C e x x → Stepped e
+    stayed e none state stepped = subst (λ (z : Recorded). StandsFrom L z new × RunStepped C e x z) (sym (none_made none)) ((at, state), stepped)
 
-  module _ (i : Inside) (new : Running) (told : ℕ) (r : Ran hosts SetState) (linked : new.linked ≡ i.running.linked) (stands : Stands L (run_of i) r) (status : r.state.run.status ≡ Moving) where
-    by_one : told ≡ 1 → i.steps + told ≡ suc i.steps
-    by_one one = omega arith
-
-    by_none : told ≡ 0 → i.steps + told ≡ i.steps
-    by_none none = omega arith
-
-    stepped_at : (e : Event) → is_loader e ≡ false → told ≡ steps_told e → Steps (set_loading L) e r.state new.core new.world.store new.world.memory → IsStepped L e (run_of i) (with_running i new (i.steps + told) i.answered)
-    stepped_at event.Moved plain count made = moved event.Moved i new (i.steps + told) r linked (by_one count) stands status refl made
-    stepped_at (event.Waits asked) plain count made = moved (event.Waits asked) i new (i.steps + told) r linked (by_one count) stands status refl made
-    stepped_at (event.Loader which first second) plain count made = absurd cc
-    stepped_at (event.Marked tag) plain count made = moved (event.Marked tag) i new (i.steps + told) r linked (by_one count) stands status refl made
-    stepped_at event.Returned plain count made = moved event.Returned i new (i.steps + told) r linked (by_one count) stands status refl made
-    stepped_at (event.Trapped why) plain count made = moved (event.Trapped why) i new (i.steps + told) r linked (by_one count) stands status refl made
-    stepped_at (event.Exited code) plain count made = moved (event.Exited code) i new (i.steps + told) r linked (by_one count) stands status refl made
-    stepped_at event.Deep plain count stayed =
-        let kept = stays i new (i.steps + told) r linked (by_none count) stands in
-        record { stands = (r, kept.1, stayed.2); stepped = (r, stands, (status, stayed.0, kept.0)) }
-    stepped_at event.Stuck plain count stayed =
-        let kept = stays i new (i.steps + told) r linked (by_none count) stands in
-        record { stands = (r, kept.1, stayed.2); stepped = (r, stands, (status, stayed.0, kept.0)) }
-
-  pub moving_status : (x : Running) (s : SetState) → IsAt L x s → x.core.machine.standing ≡ standing.Moving → s.run.status ≡ Moving
-  moving_status x s at moving = let k = subst (λ (st : Standing). StandsAs (set_loading L) x.core s st) moving at.standing in k.0
-
-  stepped_from : (e : Event) (i : Inside) (new : Running) (told : ℕ) → IsStore i → i.lost ≡ false → i.running.core.machine.standing ≡ standing.Moving → IsLinked L i.running.linked.now
-      → StepsTo L e i.running new → is_loader e ≡ false → new.linked ≡ i.running.linked → told ≡ steps_told e → IsStepped L e (run_of i) (with_running i new (i.steps + told) i.answered)
-  stepped_from e i new told h found moving of steps plain linked count =
-      let r = h.stands found L of in
-      stepped_at i new told r.0 linked r.1 (moving_status i.running r.0.state r.2 moving) e plain count (steps r.0.state r.2)
+    stepped_at : (e : Event) → is_loader e ≡ false → count ≡ steps_told e → Steps (set_loading L) e (state_at C x) new.core new.world.store new.world.memory → Stepped e
+    stepped_at event.Moved plain told step = made event.Moved refl told step
+    stepped_at (event.Waits asked) plain told step = made (event.Waits asked) refl told step
+    stepped_at (event.Loader which first second) plain told step = absurd cc
+    stepped_at (event.Marked tag) plain told step = made (event.Marked tag) refl told step
+    stepped_at event.Returned plain told step = made event.Returned refl told step
+    stepped_at (event.Trapped why) plain told step = made (event.Trapped why) refl told step
+    stepped_at (event.Exited code) plain told step = made (event.Exited code) refl told step
+    stepped_at event.Deep plain told step = stayed event.Deep told step.2 (moving, step.0, refl)
+    stepped_at event.Stuck plain told step = stayed event.Stuck told step.2 (moving, step.0, refl)
 
 -- it stands at a state
 pub somewhere : (i : Inside) → IsStore i → i.lost ≡ false → IsSomewhere i.running
 somewhere i h found =
     let set = (h.running found).set in
-    let r = h.stands found set.0 set.1 in
-    (set.0, set.1, (r.0.state, r.2))
+    (set.0, set.1, (state_at (set_course set.0) (run_of i).run, (h.stands found set.0 set.1).1))
 
 -- a set of what is seen of a run is one of what is kept of it
 pub linked_of : (v : StoreRun) (i : Inside) (L : LinkedSet) → run_of i ≡ v → IsLinked L v.linked → IsLinked L i.running.linked.now
 linked_of v i L is linked = subst (λ (s : StoreRun). IsLinked L s.linked) (sym is) linked
 
+-- what is told of the run, as it was seen before the step
+told_of : (L : LinkedSet) (e : Event) (v : StoreRun) (i : Inside) (y : Recorded) → run_of i ≡ v → IsTold L e (run_of i).run y → IsTold L e v.run y
+told_of L e v i y is told = subst (λ (s : StoreRun). IsTold L e s.run y) is told
+
 -- a step of what is running that goes on
-module _ (e : Event) (v : StoreRun) (i : Inside) (new : Running) (told : ℕ) (is : run_of i ≡ v) (h : IsStore i) (found : i.lost ≡ false) (moving : i.running.core.machine.standing ≡ standing.Moving)
-    (steps : (L : LinkedSet) → IsLinked L i.running.linked.now → StepsTo L e i.running new) (plain : is_loader e ≡ false) (linked : new.linked ≡ i.running.linked) (count : told ≡ steps_told e) where
-  pub moving_store : IsRunning new → IsStore (with_running i new (i.steps + told) i.answered)
+module _ (e : Event) (v : StoreRun) (i : Inside) (new : Running) (count : ℕ) (is : run_of i ≡ v) (h : IsStore i) (found : i.lost ≡ false) (moving : i.running.core.machine.standing ≡ standing.Moving)
+    (steps : (L : LinkedSet) → IsLinked L i.running.linked.now → StepsTo L e i.running new) (plain : is_loader e ≡ false) (linked : new.linked ≡ i.running.linked) (counted : count ≡ steps_told e) where
+  stepped_from : (L : LinkedSet) → IsLinked L i.running.linked.now → Stepped L new (run_of i).run count e
+  stepped_from L of =
+      let x = (run_of i).run in
+      let s = state_at (set_course L) x in
+      let from = h.stands found L of in
+      stepped_at L new x count from.0 (moving_status L i.running s from.1 moving) e plain counted (steps L of s from.1)
+
+  pub moving_store : IsRunning new → IsStore (with_running i new (i.steps + count) i.answered)
   moving_store running = record {
     running = λ _. running;
-    stands = λ _ L of.
-        let before : IsLinked L i.running.linked.now = subst (IsLinked L) (linked_now i new linked) of in
-        (stepped_from L e i new told h found moving before (steps L before) plain linked count).stands;
+    stands = λ _ L of. (stepped_from L (subst (IsLinked L) (linked_now i new linked) of)).0;
   }
 
-  pub moving_stepped : (L : LinkedSet) → IsLinked L v.linked → (r : Ran hosts SetState) × Stands L v r × RunStepped L e v r (run_of (with_running i new (i.steps + told) i.answered))
+  pub moving_stepped : (L : LinkedSet) → IsLinked L v.linked → IsTold L e v.run (run_of (with_running i new (i.steps + count) i.answered)).run
   moving_stepped L of =
       let before = linked_of v i L is of in
-      let P : StoreRun → Type 0 = λ s. (r : Ran hosts SetState) × Stands L s r × RunStepped L e s r (run_of (with_running i new (i.steps + told) i.answered)) in
-      subst P is (stepped_from L e i new told h found moving before (steps L before) plain linked count).stepped
+      told_of L e v i (run_of (with_running i new (i.steps + count) i.answered)).run is ((h.stands found L before).0, (stepped_from L before).1)
 
 -- ---- the answer that is recorded
 
--- it is recorded for a wait
-answered_wait : (answered : Bool) (status : Status HostCall Trap) (call : HostCall) → status ≡ Waits call → not answered && waits status ≡ false → answered ≡ true
-answered_wait true status call e h = refl
-answered_wait false Moving call e h = absurd cc
-answered_wait false (Waits called) call e h = absurd cc
-answered_wait false Returned call e h = absurd cc
-answered_wait false (Exited code) call e h = absurd cc
-answered_wait false (Trapped why) call e h = absurd cc
-
--- what is read at the last place of the answers
-read_last : (o : Option Answer) (answers items : List Answer) → answers ≡ items → o ≡ slice_get answers (length answers - 1) → slice_get items (length items - 1) ≡ o
-read_last o answers items same e = sym (e ∙ ap (λ (l : List Answer). slice_get l (length l - 1)) same)
-
--- no run waits once it has taken an answer
-returned_goes : (s : State ModuleParts LoaderFrame) (values : List Value) (frames : List (Frame LoaderFrame)) → waits (returned s values frames).status ≡ false
-returned_goes s values [] = refl
-returned_goes s values (f ∷ fs) = refl
-
-taken_goes : (a : Answer) (s : State ModuleParts LoaderFrame) → waits (taken a s).status ≡ false
-taken_goes (answer.Reply results writes) s = returned_goes (record s { memory = all_written writes s.memory }) (reverse (map Num results)) s.stack
-taken_goes (answer.Exit code) s = refl
+-- a run doesn't wait for an answer
+abbrev pub IsAnswered : StoreRun → Type 0
+IsAnswered v = (L : LinkedSet) × IsLinked L v.linked × (IsAt (set_course L) v.run → is_waiting (set_course L) v.run ≡ false)
 
 -- what is told of the machine is so of the run
 tells_after : (L : LinkedSet) (x : Running) (t : SetState) (st : Standing) → StandsAs (set_loading L) x.core t st → waits t.run.status ≡ false → TellsStatus (set_hosts L) (event_of st) t.run.status
@@ -191,47 +134,39 @@ tells_after L x t (standing.Exited code) h goes = subst (TellsStatus (set_hosts 
 tells_after L x t standing.Stuck h goes = subst (TellsStatus (set_hosts L) event.Moved) (sym h.0) tt
 tells_after L x t standing.Lost h goes = absurd h
 
-one_told : (st : Standing) → steps_told (event_of st) ≡ 1
-one_told standing.Moving = refl
-one_told (standing.Asking entry count) = refl
-one_told standing.Loading = refl
-one_told standing.Returned = refl
-one_told (standing.Trapped why) = refl
-one_told (standing.Exited code) = refl
-one_told standing.Stuck = refl
-one_told standing.Lost = refl
-
 -- A run of a set waits, and takes the last answer next.
 record TakesNext (L : LinkedSet) (i : Inside) (entry : ℕ) : Type 0 where
-  pub run : Ran hosts SetState
-  pub stands : Stands L (run_of i) run
-  pub at : IsAt L i.running run.state
+  pub from : StandsFrom L (run_of i).run i.running
   pub call : HostCall
-  pub waits : run.state.run.status ≡ Waits call
+  pub waits : status_at (set_course L) (run_of i).run ≡ Waits call
   pub host : set_hosts L entry ≡ Some call.host
-  pub takes : TakesLast (set_system L) (set_opening L) (recorded_of (run_of i)) run call
+  pub takes : TakesLast (set_course L) (run_of i).run call
 
 module _ (v : StoreRun) (i : Inside) (entry count : ℕ) (items : List Answer) (is : run_of i ≡ v) (h : IsStore i) (found : i.lost ≡ false) (asks : i.running.core.machine.standing ≡ standing.Asking entry count)
     (answered : IsAnswered v) (same : items ≡ i.answers.items) where
+  abbrev x : Recorded
+  x = (run_of i).run
+
+  -- the host call that is waited for
+  asked_call : (L : LinkedSet) → IsLinked L i.running.linked.now → (call : HostCall) × (status_at (set_course L) x ≡ Waits call) × (set_hosts L entry ≡ Some call.host)
+  asked_call L of = asking_status i.running (h.running found) L of (state_at (set_course L) x) (h.stands found L of).1 entry count asks
+
   answer_is_there : i.answered ≡ true
   answer_is_there =
-      let w : IsAnswered (run_of i) = subst (λ (s : StoreRun). IsAnswered s) (sym is) answered in
-      let r = h.stands found w.0 w.1 in
-      let call = asking_status i.running (h.running found) w.0 w.1 r.0.state r.2 entry count asks in
-      answered_wait i.answered r.0.state.run.status call.0 call.1 (w.2 r.0 r.1)
+      let w : IsAnswered (run_of i) = subst IsAnswered (sym is) answered in
+      let call = asked_call w.0 w.1 in
+      answered_wait i.answered (status_at (set_course w.0) x) call.0 call.1 (w.2 (h.stands found w.0 w.1).0)
 
   takes_next : (L : LinkedSet) → IsLinked L i.running.linked.now → TakesNext L i entry
   takes_next L of =
-      let r = h.stands found L of in
-      let call = asking_status i.running (h.running found) L of r.0.state r.2 entry count asks in
+      let from = h.stands found L of in
+      let call = asked_call L of in
       record {
-        run = r.0;
-        stands = r.1;
-        at = r.2;
+        from = from;
         call = call.0;
         waits = call.1;
         host = call.2;
-        takes = stands_taken (set_system L) (set_opening L) (recorded_of (run_of i)) r.0 call.0 r.1 answer_is_there call.1;
+        takes = at_taken (set_course L) x from.0 call.0 answer_is_there call.1;
       }
 
   -- the last answer is there
@@ -253,46 +188,37 @@ module _ (v : StoreRun) (i : Inside) (entry count : ℕ) (items : List Answer) (
     last_taken =
         let set = (h.running found).set in
         let w = takes_next set.0 set.1 in
-        fits_host i.running (h.running found) set.0 set.1 w.run.state w.at a entry count w.call asks w.host
-        (subst (λ (x : Answer). IsTrue (answer_fits w.call w.run.state.run.memory x)) (taken_last set.0 set.1) w.takes.fits)
+        let C = set_course set.0 in
+        fits_host i.running (h.running found) set.0 set.1 (state_at C x) w.from.1 a entry count w.call asks w.host
+        (subst (λ (b : Answer). IsTrue (answer_fits w.call (memory_at C x) b)) (taken_last set.0 set.1) w.takes.fits)
 
     module _ (e : Event) (st : Standing) (new : Running) (linked : new.linked ≡ i.running.linked)
-        (takes : (L : LinkedSet) → IsLinked L i.running.linked.now → (s : SetState) → IsAt L i.running s → IsAt L new (with_run s (taken a s.run)))
+        (takes : (L : LinkedSet) → IsLinked L i.running.linked.now → (s : SetState) → RunsAt L i.running s → RunsAt L new (with_run s (taken a s.run)))
         (told : e ≡ event_of st) (at_standing : st ≡ new.core.machine.standing) where
       abbrev after : Inside
       after = with_running i new (i.steps + 1) false
 
       -- the run takes the last answer
-      taken_so : (L : LinkedSet) → IsLinked L i.running.linked.now → IsStepped L e (run_of i) after
+      taken_so : (L : LinkedSet) → IsLinked L i.running.linked.now → StandsFrom L (run_of after).run new × IsTold L e x (run_of after).run
       taken_so L of =
           let w = takes_next L of in
-          let s = w.run.state in
+          let C = set_course L in
+          let s = state_at C x in
           let t = with_run s (taken a s.run) in
-          let reached : w.takes.reached.0.state ≡ t = w.takes.reached.2 ∙ ap (λ (x : Answer). with_run s (taken x s.run)) (taken_last L of) in
-          let at : IsAt L new t = takes L of s w.at in
-          let q = stands_at L i new (i.steps + 1) false t linked (omega arith) refl at (w.takes.reached.0, w.takes.reached.1, reached) in
+          let at : RunsAt L new t = takes L of s w.from.1 in
           let f = event_of new.core.machine.standing in
-          let tells : TellsStatus (set_hosts L) f q.0.state.run.status =
-          subst (λ (x : SetState). TellsStatus (set_hosts L) f x.run.status) (sym q.2) (tells_after L new t new.core.machine.standing at.standing (taken_goes a s.run)) in
-          let made : IsStepped L f (run_of i) after = record {
-            stands = (q.0, q.1, q.3);
-            stepped = (
-              w.run,
-              w.stands,
-              told_made L f (run_of i) w.run (run_of after) (one_told new.core.machine.standing) (ap has_ended w.waits, same_run i new (i.steps + 1) false linked (omega arith) refl, (q.0, q.1, tells))
-                  (λ moving. absurd (let clash : Waits w.call ≡ Moving = sym w.waits ∙ moving in cc)),
-            );
-          } in
-          let same_event : f ≡ e = sym (told ∙ ap event_of at_standing) in
-          subst (λ (x : Event). IsStepped L x (run_of i) after) same_event made
+          let made = took C f x (i.steps + 1) w.call a w.takes (taken_last L of) w.waits (omega arith) (one_told new.core.machine.standing)
+          (tells_after L new t new.core.machine.standing at.standing (taken_goes a s.run)) in
+          let same_event : f ≡ e = sym (told ∙ ap event_of at_standing) in (
+            (made.stands, subst (RunsAt L new) (sym made.reaches) at),
+            (w.from.0, subst (λ (g : Event). RunStepped C g x (run_of after).run) same_event made.stepped),
+          )
 
       pub taken_store : IsRunning new → IsStore after
-      taken_store running = record { running = λ _. running; stands = λ _ L of. (taken_so L (subst (IsLinked L) (linked_now i new linked) of)).stands }
+      taken_store running = record { running = λ _. running; stands = λ _ L of. (taken_so L (subst (IsLinked L) (linked_now i new linked) of)).0 }
 
-      pub taken_stepped : (L : LinkedSet) → IsLinked L v.linked → (r : Ran hosts SetState) × Stands L v r × RunStepped L e v r (run_of after)
-      taken_stepped L of =
-          let P : StoreRun → Type 0 = λ s. (r : Ran hosts SetState) × Stands L s r × RunStepped L e s r (run_of after) in
-          subst P is (taken_so L (linked_of v i L is of)).stepped
+      pub taken_stepped : (L : LinkedSet) → IsLinked L v.linked → IsTold L e v.run (run_of after).run
+      taken_stepped L of = told_of L e v i (run_of after).run is (taken_so L (linked_of v i L is of)).1
 
 -- ---- an end, which is told again
 
@@ -312,28 +238,29 @@ end_so (standing.Exited code) a b c = refl
 end_so standing.Stuck a b c = absurd (c refl)
 end_so standing.Lost a b c = refl
 
-ended_told : (L : LinkedSet) (v : StoreRun) (x : Running) (r : Ran hosts SetState) (st : Standing) → StandsAs (set_loading L) x.core r.state st → is_end st ≡ true → RunStepped L (event_of st) v r v
-ended_told L v x r standing.Moving h end = absurd cc
-ended_told L v x r (standing.Asking entry count) h end = absurd cc
-ended_told L v x r standing.Loading h end = absurd h
-ended_told L v x r standing.Returned h end = inr (ap has_ended h, subst (TellsStatus (set_hosts L) event.Returned) (sym h) tt, refl)
-ended_told L v x r (standing.Trapped why) h end = inr (ap has_ended h, subst (TellsStatus (set_hosts L) (event.Trapped why)) (sym h) refl, refl)
-ended_told L v x r (standing.Exited code) h end = inr (ap has_ended h, subst (TellsStatus (set_hosts L) (event.Exited code)) (sym h) refl, refl)
-ended_told L v x r standing.Stuck h end = absurd cc
-ended_told L v x r standing.Lost h end = absurd h
+ended_told : (L : LinkedSet) (now : Running) (x : Recorded) (st : Standing) → StandsAs (set_loading L) now.core (state_at (set_course L) x) st → is_end st ≡ true → RunStepped (set_course L) (event_of st) x x
+ended_told L now x standing.Moving h end = absurd cc
+ended_told L now x (standing.Asking entry count) h end = absurd cc
+ended_told L now x standing.Loading h end = absurd h
+ended_told L now x standing.Returned h end = told_again (set_course L) event.Returned x refl (ap has_ended h) (subst (TellsStatus (set_hosts L) event.Returned) (sym h) tt)
+ended_told L now x (standing.Trapped why) h end = told_again (set_course L) (event.Trapped why) x refl (ap has_ended h) (subst (TellsStatus (set_hosts L) (event.Trapped why)) (sym h) refl)
+ended_told L now x (standing.Exited code) h end = told_again (set_course L) (event.Exited code) x refl (ap has_ended h) (subst (TellsStatus (set_hosts L) (event.Exited code)) (sym h) refl)
+ended_told L now x standing.Stuck h end = absurd cc
+ended_told L now x standing.Lost h end = absurd h
 
 pub ended_stepped : (e : Event) (st : Standing) (v : StoreRun) (i : Inside) → run_of i ≡ v → IsStore i → i.lost ≡ false → is_end st ≡ true → st ≡ i.running.core.machine.standing → e ≡ event_of st
-    → (L : LinkedSet) → IsLinked L v.linked → (r : Ran hosts SetState) × Stands L v r × RunStepped L e v r v
+    → (L : LinkedSet) → IsLinked L v.linked → IsTold L e v.run v.run
 ended_stepped e st v i is h found end at told L of =
-    let r = h.stands found L (linked_of v i L is of) in
-    let stands : Stands L v r.0 = subst (λ (s : StoreRun). Stands L s r.0) is r.1 in
-    let here : StandsAs (set_loading L) i.running.core r.0.state st = subst (StandsAs (set_loading L) i.running.core r.0.state) (sym at) r.2.standing in
-    (r.0, stands, subst (λ (x : Event). RunStepped L x v r.0 v) (sym told) (ended_told L v i.running r.0 st here end))
+    let x = (run_of i).run in
+    let from = h.stands found L (linked_of v i L is of) in
+    let here : StandsAs (set_loading L) i.running.core (state_at (set_course L) x) st = subst (StandsAs (set_loading L) i.running.core (state_at (set_course L) x)) (sym at) from.1.standing in
+    let stepped : RunStepped (set_course L) e x x = subst (λ (f : Event). RunStepped (set_course L) f x x) (sym told) (ended_told L i.running x st here end) in
+    subst (λ (s : StoreRun). IsTold L e s.run s.run) is (from.0, stepped)
 
-pub end_asks_nothing : (e : Event) (st : Standing) → e ≡ event_of st → (L : LinkedSet) → ArgumentsFit L e
-end_asks_nothing e st told L = subst (ArgumentsFit L) (sym told) (go st)
+pub end_asks_nothing : (e : Event) (st : Standing) → e ≡ event_of st → (L : LinkedSet) → ArgumentsFit (set_hosts L) e
+end_asks_nothing e st told L = subst (ArgumentsFit (set_hosts L)) (sym told) (go st)
   where
-    go : (x : Standing) → ArgumentsFit L (event_of x)
+    go : (x : Standing) → ArgumentsFit (set_hosts L) (event_of x)
     go standing.Moving = tt
     go (standing.Asking entry count) = tt
     go standing.Loading = tt

@@ -1,19 +1,18 @@
 -- Where no step of code is next.
-use Rattle.std.proofs.Common.{◌≡◌, ◌<◌, ℕ, Some, None, Ok, Err, Result, refl, sym, ◌∙◌, subst}
+use Rattle.std.proofs.Common.{◌≡◌, ◌<◌, ℕ, Some, None, Ok, Err, Result, refl, sym, ◌∙◌}
 use Rattle.std.specs.Result.{OnOk}
-use Rattle.spec_loading.specs.spec_runs.Systems.{Moving, Waits, Returned, Exited, Trapped, Ran}
-use Rattle.spec_loading.specs.spec_runtime.Hosts.{hosts}
-use Rattle.spec_loading.proofs.of_spec_runtime.Recorded.{stands_same}
+use Rattle.spec_loading.specs.spec_runs.Systems.{Moving, Waits, Returned, Exited, Trapped}
 use Rattle.spec_loading.specs.spec_linking.LinkedSets.{LinkedSet}
-use Rattle.spec_loading.specs.LoadedSet.{SetState, set_loading, set_opening, set_system}
+use Rattle.spec_loading.specs.LoadedSet.{SetState, set_loading}
 use Rattle.wasm_machine.specs.declared.machine.Standing.{Standing}
 use Rattle.wasm_machine.specs.declared.machine.Standing.TheVariants as standing
+use Rattle.spec_loading.specs.spec_runtime.Courses.{state_at, IsAt}
 use Rattle.dyl_frames.specs.Cores.{StandsAs}
 use Rattle.dyl_link.specs.Kept.{IsLinked}
 use Rattle.dyl_store.specs.declared.running.Running.{Running}
 use Rattle.dyl_store.specs.declared.store.Store.TheInside.{Inside}
-use Rattle.dyl_store.specs.Stores.{StoreRun, Stands, IsCodeNext, recorded_of}
-use Rattle.dyl_store.specs.Runs.{IsAt}
+use Rattle.dyl_store.specs.Stores.{StoreRun, set_course, IsCodeNext}
+use Rattle.dyl_store.specs.Runs.{RunsAt}
 use Rattle.dyl_store.specs.Steps.{HasStopped}
 use Rattle.dyl_store.specs.Kept.{run_of, IsStore}
 
@@ -29,7 +28,7 @@ code_moving L x s standing.Stuck h code = absurd (let clash : None ≡ Some code
 code_moving L x s standing.Lost h code = absurd h
 
 -- the machine doesn't go on
-pub stopped_idle : (L : LinkedSet) (x : Running) (s : SetState) → HasStopped x → IsAt L x s → IsCodeNext L s → ⊥
+pub stopped_idle : (L : LinkedSet) (x : Running) (s : SetState) → HasStopped x → RunsAt L x s → IsCodeNext L s → ⊥
 stopped_idle L x s idle at code = idle (code_moving L x s x.core.machine.standing at.standing code)
 
 -- what is so is so on Ok
@@ -39,14 +38,7 @@ on_either (Err e) P p = tt
 
 -- no step of code is left to the run of a set, of which so many steps may be made in all
 abbrev pub HasNoneLeft : LinkedSet → ℕ → StoreRun → Type 0
-HasNoneLeft L most v = (r : Ran hosts SetState) → Stands L v r → v.steps < most → IsCodeNext L r.state → ⊥
-
--- where none is next at one state of the run
-pub none_left : (L : LinkedSet) (most : ℕ) (v : StoreRun) (q : Ran hosts SetState) → Stands L v q → (IsCodeNext L q.state → ⊥) → HasNoneLeft L most v
-none_left L most v q at none = λ r stands few code.
-    none (subst (λ (x : Ran hosts SetState). IsCodeNext L x.state) (stands_same (set_system L) (set_opening L) (recorded_of v) r q stands at) code)
+HasNoneLeft L most v = IsAt (set_course L) v.run → v.run.steps < most → IsCodeNext L (state_at (set_course L) v.run) → ⊥
 
 pub idle_left : (L : LinkedSet) (most : ℕ) (i : Inside) → IsStore i → HasStopped i.running → IsLinked L i.running.linked.now → HasNoneLeft L most (run_of i)
-idle_left L most i h idle of = λ r stands few code.
-    let q = h.stands stands.found L of in
-    none_left L most (run_of i) q.0 q.1 (stopped_idle L i.running q.0.state idle q.2) r stands few code
+idle_left L most i h idle of = λ at few code. stopped_idle L i.running (state_at (set_course L) (run_of i).run) idle (h.stands at.found L of).1 code

@@ -7,7 +7,7 @@ use Rattle.spec_loading.specs.LoaderAnswers.{loader_answer}
 use Rattle.spec_loading.specs.LoadedSet.{SetState, set_loading}
 use Rattle.wasm_machine.specs.declared.event.Event.{Event}
 use Rattle.wasm_machine.specs.declared.event.Event.TheVariants as event
-use Rattle.dyl_frames.specs.Steps.{next_answer}
+use Rattle.dyl_frames.specs.Next.{next_answer}
 use Rattle.dyl_frames.specs.Cores.{IsAtCall, Steps}
 use Rattle.dyl_store.specs.declared.running.Running.{Running}
 

@@ -1,18 +1,22 @@
 -- What is kept of a run.
 use Rattle.std.specs.Prelude.{◌≡◌, false}
-use Rattle.spec_loading.specs.spec_runs.Systems.{Ran}
-use Rattle.spec_loading.specs.spec_runtime.Hosts.{hosts}
+use Rattle.spec_loading.specs.spec_runtime.Recorded.{Recorded}
 use Rattle.spec_loading.specs.spec_linking.LinkedSets.{LinkedSet}
-use Rattle.spec_loading.specs.LoadedSet.{SetState}
+use Rattle.spec_loading.specs.spec_runtime.Courses.{state_at, IsAt}
 use Rattle.dyl_link.specs.Kept.{IsLinked}
+use Rattle.dyl_store.specs.declared.running.Running.{Running}
 use Rattle.dyl_store.specs.declared.store.Store.TheInside.{Inside}
-use Rattle.dyl_store.specs.Stores.{StoreRun, Stands}
-use Rattle.dyl_store.specs.Runs.{IsRunning, IsAt}
+use Rattle.dyl_store.specs.Stores.{StoreRun, set_course}
+use Rattle.dyl_store.specs.Runs.{IsRunning, RunsAt}
 
 abbrev pub run_of : Inside → StoreRun
-run_of i = record { linked = i.running.linked.now; steps = i.steps; answers = i.answers.items; answered = i.answered; lost = i.lost }
+run_of i = record { linked = i.running.linked.now; run = record { steps = i.steps; answers = i.answers.items; answered = i.answered; lost = i.lost } }
+
+-- it is running where the steps of a run of a set lead
+abbrev pub StandsFrom : LinkedSet → Recorded → Running → Type 0
+StandsFrom L x now = IsAt (set_course L) x × RunsAt L now (state_at (set_course L) x)
 
 -- it stands at the state of the run
 pub record IsStore (i : Inside) : Type 0 where
   pub running : i.lost ≡ false → IsRunning i.running
-  pub stands : i.lost ≡ false → (L : LinkedSet) → IsLinked L i.running.linked.now → (r : Ran hosts SetState) × Stands L (run_of i) r × IsAt L i.running r.state
+  pub stands : i.lost ≡ false → (L : LinkedSet) → IsLinked L i.running.linked.now → StandsFrom L (run_of i).run i.running

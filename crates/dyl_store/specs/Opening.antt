@@ -9,8 +9,7 @@ use Rattle.wasm_form.specs.declared.module.Import.{Import}
 use Rattle.wasm_form.specs.declared.module.Module.{Module}
 use Rattle.wasm_form.specs.declared.runtime.Ref.{Ref}
 use Rattle.wasm_form.specs.declared.runtime.Value.{Value}
-use Rattle.wasm_form.specs.declared.runtime.Value.TheVariants.{Num, Func}
-use Rattle.spec_loading.specs.spec_binary.Options.{◌>>=◌}
+use Rattle.wasm_form.specs.declared.runtime.Value.TheVariants.{Num}
 use Rattle.spec_loading.specs.spec_binary.IndexSpaces.{globals_in}
 use Rattle.spec_loading.specs.spec_runtime.Constants.{constant_of, constant_entry, constant_entries, constant_number}
 use Rattle.spec_loading.specs.spec_runtime.Tables.{TableInstance}
@@ -18,10 +17,11 @@ use Rattle.spec_loading.specs.spec_execution.OneModule.{opened_table}
 use Rattle.spec_loading.specs.spec_execution.Segments.{opened_items}
 use Rattle.spec_loading.specs.spec_execution.Values.{zero_of}
 use Rattle.spec_loading.specs.spec_linking.LinkedSets.{LinkedSet, wasm_of, function_ref}
-use Rattle.spec_loading.specs.spec_linking.Slots.{linked_plan, memory_base, table_base, as_number, member_items, fresh_functions, CellName, cell_of_import, cells_of, cell_value}
+use Rattle.spec_loading.specs.spec_linking.Slots.{linked_plan, memory_base, table_base, member_items, fresh_functions, CellName, cell_of_import, cells_of, cell_value}
 use Rattle.spec_loading.specs.Addresses.{memory_base_address}
 use Rattle.spec_loading.specs.Members.{from_members, opened_global, opened_globals, opening_table}
 use Rattle.dyl_addresses.specs.Bases.{AreBases}
+use Rattle.dyl_addresses.specs.Offsets.{based}
 use Rattle.dyl_addresses.specs.Kept.{KeptAddresses, kept_global, kept_table, kept_elem, kept_data}
 use Rattle.dyl_link.specs.Kept.{Kept, IsLinked}
 use Rattle.dyl_store.specs.declared.constants.Names.{Names}
@@ -33,10 +33,7 @@ abbrev pub functions_of : Names → ℕ → Option Ref
 functions_of names = slice_get names.functions.now
 
 abbrev pub bases_of : Names → ℕ → Option Value
-bases_of names g = slice_get names.bases.now g >>= as_number
-
-abbrev pub function_value : Option Ref → Option Value
-function_value found = found >>= λ r. Some (Func (Some r))
+bases_of names = based names.bases.now
 
 -- they are those of member m
 pub record AreNames (L : LinkedSet) (m : ℕ) (names : Names) : Type 0 where

@@ -13,12 +13,12 @@ use Rattle.dyl_store.specs.declared.place_member.Placement.{Placement}
 use Rattle.dyl_store.specs.declared.running.Running.{Running}
 
 -- the run stands at this state
-abbrev pub IsAt : LinkedSet → Running → SetState → Type 0
-IsAt L x s = IsState (set_loading L) x.core x.world.store x.world.memory s
+abbrev pub RunsAt : LinkedSet → Running → SetState → Type 0
+RunsAt L x s = IsState (set_loading L) x.core x.world.store x.world.memory s
 
 -- it is that of a linked set, and stands at a state
 abbrev pub IsSomewhere : Running → Type 0
-IsSomewhere x = (L : LinkedSet) × IsLinked L x.linked.now × ((s : SetState) × IsAt L x s)
+IsSomewhere x = (L : LinkedSet) × IsLinked L x.linked.now × ((s : SetState) × RunsAt L x s)
 
 -- a step was made from wherever the run stands
 abbrev pub StepsTo : LinkedSet → Event → Running → Running → Type 0

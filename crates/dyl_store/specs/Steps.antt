@@ -1,39 +1,17 @@
 -- What a step changes of a run.
-use Rattle.std.specs.Prelude.{◌≡◌, ◌≢◌, ◌⊎◌, ℕ, suc, ◌^◌, ◌<◌, Some, Bool, true, false}
-use Rattle.std.specs.List.{All}
+use Rattle.std.specs.Prelude.{◌≡◌, ◌≢◌, ◌⊎◌, ℕ, suc, Some, Bool, true, false}
 use Rattle.spec_loading.specs.spec_runtime.Recorded.{waits}
 use Rattle.spec_loading.specs.spec_linking.LinkedSets.{LinkedSet}
 use Rattle.spec_loading.specs.Loading.{loaded_step, loaded_too_deep}
 use Rattle.spec_loading.specs.LoadedSet.{SetState, set_loading}
-use Rattle.wasm_machine.specs.declared.machine.Standing.{Standing}
 use Rattle.wasm_machine.specs.declared.machine.Standing.TheVariants as standing
-use Rattle.wasm_machine.specs.declared.event.Event.{Event}
-use Rattle.wasm_machine.specs.declared.event.Event.TheVariants as event
 use Rattle.dyl_store.specs.declared.running.Running.{Running}
 use Rattle.dyl_store.specs.Stores.{IsCodeNext}
-use Rattle.dyl_store.specs.Runs.{IsAt}
-
--- what is told of a machine after an answer, and of an end again
-abbrev pub event_of : Standing → Event
-event_of standing.Returned = event.Returned
-event_of (standing.Trapped why) = event.Trapped why
-event_of (standing.Exited code) = event.Exited code
-event_of _ = event.Moved
-
--- how many steps were made where this is told of a run that goes on by itself
-abbrev pub steps_told : Event → ℕ
-steps_told event.Deep = 0
-steps_told event.Stuck = 0
-steps_told _ = 1
-
--- what is asked are numbers of 64 bits
-abbrev pub AreNumbers : Event → Type 0
-AreNumbers (event.Waits asked) = All (λ n. n < 2 ^ 64) asked.args
-AreNumbers _ = Unit {0}
+use Rattle.dyl_store.specs.Runs.{RunsAt}
 
 -- a step was made from a state that isn't too deep, and doesn't call a host function
 abbrev pub IsMade : LinkedSet → SetState → Running → Type 0
-IsMade L s new = (loaded_too_deep (set_loading L) s ≡ false) × ((t : SetState) × (loaded_step (set_loading L) s ≡ Some t) × IsAt L new t × (waits t.run.status ≡ false))
+IsMade L s new = (loaded_too_deep (set_loading L) s ≡ false) × ((t : SetState) × (loaded_step (set_loading L) s ≡ Some t) × RunsAt L new t × (waits t.run.status ≡ false))
 
 -- it doesn't go on
 abbrev pub HasStopped : Running → Type 0
@@ -44,5 +22,5 @@ abbrev pub Counted : LinkedSet → Bool → SetState → Running → ℕ → ℕ
 Counted L true s new before steps lost = (steps ≡ suc before) × (lost ≡ false) × (new.core.machine.standing ≡ standing.Moving) × IsMade L s new
 Counted L false s new before steps lost =
     ((steps ≡ suc before) × (lost ≡ false) × IsMade L s new × HasStopped new)
-    ⊎ ((steps ≡ before) × (lost ≡ false) × IsAt L new s × (IsCodeNext L s → ⊥))
+    ⊎ ((steps ≡ before) × (lost ≡ false) × RunsAt L new s × (IsCodeNext L s → ⊥))
     ⊎ ((steps ≡ before) × (lost ≡ true))

@@ -1,15 +1,11 @@
 // The values of constant expressions of a member (WebAssembly Core 2.0, section 3.3.10).
 ghost use Rattle.std.specs.Prelude.{◌≡◌, ◌++◌, map, IfOk, OnOk};
-ghost use Rattle.wasm_form.specs.declared.instr.Instr.{out-Instr};
-ghost use Rattle.spec_loading.specs.spec_runtime.Constants as constants;
 ghost use Rattle.spec_loading.specs.spec_execution.Values.{zero_of};
-ghost use Rattle.dyl_store.specs.Opening.{functions_of, bases_of, function_value, value_with, entry_with, items_with, global_with, elem_with};
+ghost use Rattle.dyl_store.specs.Opening.{functions_of, entry_with, items_with, global_with, elem_with};
 
+use dyl_addresses::value;
 use std::alloc::Global;
-use wasm_form::{
-    Elem, ElemItems, ElemMode, Expr, GlobalDef, IndexForm, Instr, Memory, Ref, ValType, Value,
-    index_form,
-};
+use wasm_form::{Elem, ElemItems, ElemMode, Expr, GlobalDef, Memory, Ref, ValType, Value};
 
 // What the numbers of a member name: its functions, and the bases that its imported globals are.
 #[derive(Clone, Copy)]
@@ -24,66 +20,13 @@ fn function(names: &Names, f: u32) -> Option<Ref>
     names.functions.get(f as usize).copied()
 }
 
-fn function_value(found: Option<Ref>) -> Option<Value>
-    ensures { result ≡ function_value found }
-{
-    match found {
-        Some(r) => Some(Value::Func(Some(r))),
-        None => None,
-    }
-}
-
-fn base_value(names: &Names, g: u32) -> Option<Value>
-    ensures { result ≡ bases_of names.now g }
-{
-    match names.bases.get(g as usize) {
-        Some(Some(base)) => Some(Value::Num(u64::from(*base))),
-        Some(None) | None => None,
-    }
-}
-
-fn index_value(form: IndexForm, n: u32, names: &Names) -> Option<Value>
-    ensures { result ≡ constants.index_constant (functions_of names.now) (bases_of names.now) form n }
-{
-    match form {
-        IndexForm::RefFunc => function_value(function(names, n)),
-        IndexForm::GlobalGet => base_value(names, n),
-        _ => None,
-    }
-}
-
-fn instruction_value(i: &Instr, names: &Names) -> Option<Value>
-    ensures { result ≡ constants.instruction_constant (functions_of names.now) (bases_of names.now) (out-Instr i.now) }
-{
-    match i {
-        Instr::I32Const(n) => Some(Value::Num(u64::from(n.cast_unsigned()))),
-        Instr::I64Const(n) => Some(Value::Num(n.cast_unsigned())),
-        Instr::RefNull(_) => Some(Value::Func(None)),
-        Instr::Index(op, n) => match index_form(*op) {
-            Some(form) => index_value(form, *n, names),
-            None => None,
-        },
-        _ => None,
-    }
-}
-
-// The value of a constant expression, if it is one.
-pub(crate) fn value(names: &Names, e: &Expr) -> Option<Value>
-    ensures { result ≡ value_with names.now e.now }
-{
-    match e.list.items() {
-        [i] => instruction_value(i, names),
-        _ => None,
-    }
-}
-
 // The function, or null, that an expression gives.
-fn entry(names: &Names, e: &Expr) -> Option<Ref>
-    ensures { result ≡ entry_with names.now e.now }
+fn entry(alloc: Global, names: &Names, e: &Expr) -> Result<Option<Ref>, Memory>
+    ensures { IfOk result (λ r. r ≡ entry_with names.now e.now) }
 {
-    match value(names, e) {
-        Some(Value::Func(r)) => r,
-        Some(Value::Num(_)) | None => None,
+    match value(alloc, names.functions, names.bases, e)? {
+        Some(Value::Func(r)) => Ok(r),
+        Some(Value::Num(_)) | None => Ok(None),
     }
 }
 
@@ -104,7 +47,7 @@ fn entries(alloc: Global, names: &Names, items: &[Expr]) -> Result<Vec<Option<Re
 {
     let mut all = Vec::new(alloc);
     for e in items {
-        all.push(entry(names, e))?;
+        all.push(entry(alloc, names, e)?)?;
     }
     Ok(all)
 }
@@ -154,17 +97,18 @@ fn zero_of(ty: ValType) -> Value
     }
 }
 
-fn global(names: &Names, g: &GlobalDef) -> Value
-    ensures { result ≡ global_with names.now g.now }
+fn global(alloc: Global, names: &Names, g: &GlobalDef) -> Result<Value, Memory>
+    ensures { IfOk result (λ v. v ≡ global_with names.now g.now) }
 {
-    match value(names, &g.init) {
-        Some(v) => v,
-        None => zero_of(g.ty.value),
+    match value(alloc, names.functions, names.bases, &g.init)? {
+        Some(v) => Ok(v),
+        None => Ok(zero_of(g.ty.value)),
     }
 }
 
 // Adds the globals that a member defines.
 pub(crate) fn put_globals(
+    alloc: Global,
     to: &mut Vec<Value>,
     names: &Names,
     globals: &[GlobalDef],
@@ -172,7 +116,7 @@ pub(crate) fn put_globals(
     ensures { OnOk result (to.new.items ≡ to.old.items ++ map (global_with names.now) globals.now) }
 {
     for g in globals {
-        to.push(global(names, g))?;
+        to.push(global(alloc, names, g)?)?;
     }
     Ok(())
 }

@@ -1,9 +1,9 @@
 // What the members of a linked set begin with.
-ghost use Rattle.std.specs.Prelude.{◌≡◌, ◌<◌, ◌++◌, ℕ, length, map, slice_get, IfOk, OnOk};
+ghost use Rattle.std.specs.Prelude.{◌≡◌, ◌<◌, ◌++◌, length, map, IfOk, OnOk};
 ghost use Rattle.spec_loading.specs.spec_linking.LinkedSets.{LinkedSet};
 ghost use Rattle.spec_loading.specs.Members.{opening_store};
 ghost use Rattle.dyl_addresses.specs.Kept.{AreAddresses};
-ghost use Rattle.dyl_link.specs.Kept.{IsLinked, function_in};
+ghost use Rattle.dyl_link.specs.Kept.{IsLinked};
 ghost use Rattle.dyl_addresses.specs.Sets.{IsOfSet};
 ghost use Rattle.dyl_store.specs.Opening as opening;
 ghost use Rattle.dyl_store.specs.Opening.{AreGlobals, Adds, base_globals, own_globals};
@@ -12,22 +12,12 @@ ghost use Rattle.spec_loading.specs.Members as members;
 use crate::cells::put_member_cells;
 use crate::constants::{Names, put_elems, put_globals};
 use crate::shared::shared_table;
-use dyl_addresses::{Addresses, bases_of};
+use dyl_addresses::{Addresses, bases_of, functions_of};
 use dyl_link::Linked;
 use std::alloc::Global;
 use wasm_form::{Data, Memory, Ref, Value};
 use wasm_instance::tables_of as own_tables;
 use wasm_space::Slots;
-
-// The functions that the numbers of member m name.
-fn functions_of(linked: &Linked, m: u32) -> &[Ref]
-    ensures { (f : ℕ) → slice_get result.now f ≡ function_in linked.now m f }
-{
-    match linked.functions().get(m as usize) {
-        Some(refs) => refs.items(),
-        None => &[],
-    }
-}
 
 // ---- element segments
 
@@ -164,7 +154,7 @@ fn put_own_globals(
         bases: &bases,
     };
     let member = &linked.set().members.items()[m as usize];
-    put_globals(to, &names, member.checked.module().globals.items())
+    put_globals(alloc, to, &names, member.checked.module().globals.items())
 }
 
 // Adds the bases, the cells and the globals of a member.

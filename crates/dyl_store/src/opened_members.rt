@@ -9,7 +9,7 @@ ghost use Rattle.dyl_store.specs.Opening.{global_place, table_place, elem_place,
 use crate::run_member::Unit;
 use dyl_addresses::Addresses;
 use dyl_link::Linked;
-use dyl_link::wasm_check::imported_functions;
+use dyl_link::wasm_check::{imported_functions, imported_globals};
 use std::alloc::Global;
 use wasm_form::{Import, ImportDesc, Memory, Module};
 use wasm_instance::rooms_of;
@@ -32,19 +32,6 @@ fn is_table(desc: ImportDesc) -> u32
         ImportDesc::Table(_) => 1,
         ImportDesc::Func(_) | ImportDesc::Space(_) | ImportDesc::Global(_) => 0,
     }
-}
-
-// How many globals are imported.
-fn imported_globals(imports: &[Import]) -> u32
-    requires { length imports.now < 2 ^ 32 }
-    ensures told { result ≡ length (imports_of globals_in imports.now) }
-    ensures few { result ≤ length imports.now }
-{
-    let mut count: u32 = 0;
-    for import in imports {
-        count += is_global(import.desc);
-    }
-    count
 }
 
 // How many tables are imported.
@@ -131,7 +118,7 @@ fn global_addresses(
     ensures { IfOk result (λ v. v.items ≡ first_of (global_place addresses.now m) (length (global_space wasm.now))) }
 {
     let own = wasm.globals.items().len() as u32;
-    let count = imported_globals(wasm.imports.items()) + own;
+    let count = imported_globals(wasm.imports.items()) as u32 + own;
     first_globals(alloc, addresses, m, count)
 }
 

@@ -9,7 +9,7 @@ ghost use Rattle.dyl_addresses.specs.Sets.{IsOfSet};
 ghost use Rattle.dyl_addresses.specs.Kept.{AreAddresses};
 ghost use Rattle.dyl_store.specs.Worlds.{kept_view};
 ghost use Rattle.dyl_store.specs.Opened.{IsOpened};
-ghost use Rattle.dyl_store.specs.Runs.{IsRunning, IsAt};
+ghost use Rattle.dyl_store.specs.Runs.{IsRunning, RunsAt};
 
 use crate::contents::{datas_of, elems_of, globals_of, tables_of};
 use crate::opened_members::units_of;
@@ -106,7 +106,7 @@ impl<'m> Running<'m> {
     pub fn open(alloc: Global, linked: &'m Linked) -> Result<Running<'m>, Memory>
         requires set { IsOfSet linked.now }
         ensures running { IfOk result (λ x. IsRunning x) }
-        ensures opened { IfOk result (λ x. (L : LinkedSet) → IsLinked L linked.now → IsAt L x (set_opening L)) }
+        ensures opened { IfOk result (λ x. (L : LinkedSet) → IsLinked L linked.now → RunsAt L x (set_opening L)) }
         ensures linked { IfOk result (λ x. x.linked.now ≡ linked.now) }
     {
         let placements = placements_of(alloc, linked)?;

@@ -14,13 +14,13 @@ use std::alloc::Global;
 use wasm_form::{Data, DataMode, Elem, ElemMode, Memory, Ref};
 
 // Where an element segment goes, if it is active.
-fn elem_at(bases: &[Option<u32>], segment: &Elem) -> Option<u32>
+fn elem_at(alloc: Global, bases: &[Option<u32>], segment: &Elem) -> Result<Option<u32>, Memory>
     requires { HasElemOffset segment.now }
-    ensures { result ≡ elem_offset (number_with bases.now) segment.now }
+    ensures { IfOk result (λ at. at ≡ elem_offset (number_with bases.now) segment.now) }
 {
     match &segment.mode {
-        ElemMode::Active { offset: at, .. } => offset(bases, at),
-        ElemMode::Passive | ElemMode::Declarative => None,
+        ElemMode::Active { offset: at, .. } => offset(alloc, bases, at),
+        ElemMode::Passive | ElemMode::Declarative => Ok(None),
     }
 }
 
@@ -34,19 +34,19 @@ fn elems_at(
 {
     let mut ats = Vec::new(alloc);
     for segment in segments {
-        ats.push(elem_at(bases, segment))?;
+        ats.push(elem_at(alloc, bases, segment)?)?;
     }
     Ok(ats)
 }
 
 // Where a data segment goes, if it is active.
-fn data_at(bases: &[Option<u32>], segment: &Data) -> Option<u32>
+fn data_at(alloc: Global, bases: &[Option<u32>], segment: &Data) -> Result<Option<u32>, Memory>
     requires { HasDataOffset segment.now }
-    ensures { result ≡ data_offset (number_with bases.now) segment.now }
+    ensures { IfOk result (λ at. at ≡ data_offset (number_with bases.now) segment.now) }
 {
     match &segment.mode {
-        DataMode::Active { offset: at, .. } => offset(bases, at),
-        DataMode::Passive => None,
+        DataMode::Active { offset: at, .. } => offset(alloc, bases, at),
+        DataMode::Passive => Ok(None),
     }
 }
 
@@ -60,7 +60,7 @@ fn datas_at(
 {
     let mut ats = Vec::new(alloc);
     for segment in segments {
-        ats.push(data_at(bases, segment))?;
+        ats.push(data_at(alloc, bases, segment)?)?;
     }
     Ok(ats)
 }

@@ -1,14 +1,15 @@
 // The run of a linked set.
-ghost use Rattle.std.specs.Prelude.{◌≡◌, ◌<◌, ◌^◌, ◌++◌, [], ◌∷◌, map, All, true, false, IfOk, OnOk, OnErr, Err};
-ghost use Rattle.spec_loading.specs.spec_runs.Systems.{Ran};
-ghost use Rattle.spec_loading.specs.spec_runtime.Hosts.{hosts};
-ghost use Rattle.spec_loading.specs.spec_linking.LinkedSets.{LinkedSet};
+ghost use Rattle.std.specs.Prelude.{◌≡◌, ◌<◌, map, true, false, IfOk, OnOk, OnErr, Err};
+ghost use Rattle.spec_loading.specs.spec_runtime.Recorded.{has_ended};
+ghost use Rattle.spec_loading.specs.spec_linking.LinkedSets.{LinkedSet, set_hosts};
 ghost use Rattle.spec_loading.specs.LoadedSet.{SetState};
+ghost use Rattle.spec_loading.specs.spec_runtime.Courses.{state_at, status_at, memory_at, IsAt, is_waiting, with_answer, as_lost};
+ghost use Rattle.wasm_machine.specs.Steps.{RunStepped, ArgumentsFit, Advances, AreOfCode, Awaits};
 ghost use Rattle.dyl_link.specs.host_table.Names.{host_name_of};
 ghost use Rattle.dyl_link.specs.Kept.{IsLinked};
-ghost use Rattle.dyl_store.specs.Stores.{Stands, new_run, has_ended, is_waiting, IsAnswered, IsCodeNext, RunStepped, ArgumentsFit, Advances, Awaits};
-ghost use Rattle.dyl_store.specs.Runs.{IsRunning, IsAt};
-ghost use Rattle.dyl_store.specs.Steps.{event_of, steps_told, AreNumbers, Counted};
+ghost use Rattle.dyl_store.specs.Stores.{set_course, new_run, IsCodeNext};
+ghost use Rattle.dyl_store.specs.Runs.{IsRunning, RunsAt};
+ghost use Rattle.dyl_store.specs.Steps.{Counted};
 
 use crate::running::Running;
 use dyl_link::Linked;
@@ -16,7 +17,7 @@ use dyl_link::host_table::HostName;
 use std::alloc::Global;
 use std::marker::Model;
 use wasm_form::{List, Memory};
-use wasm_machine::{Answer, Done, Event, Standing};
+use wasm_machine::{Answer, Done, Event, Standing, are_numbers, event_of, steps_told};
 use wasm_space::Space;
 
 /// The run of a linked set: its steps, and the answers of its host. Contracts see it as a `StoreRun`.
@@ -44,46 +45,6 @@ impl<'m> Model for Store<'m> {
     ghost invariant = { IsStore };
 }
 
-// What is told of how a run stands after an answer, and of an end again.
-fn event_of(standing: Standing) -> Event
-    ensures { result ≡ event_of standing }
-{
-    match standing {
-        Standing::Returned => Event::Returned,
-        Standing::Trapped(trap) => Event::Trapped(trap),
-        Standing::Exited(code) => Event::Exited(code),
-        Standing::Moving
-        | Standing::Asking(..)
-        | Standing::Loading
-        | Standing::Stuck
-        | Standing::Lost => Event::Moved,
-    }
-}
-
-// How many steps were made where this is told of a run that goes on by itself.
-fn steps_told(event: &Event) -> u64
-    ensures { result ≡ steps_told event.now }
-{
-    match event {
-        Event::Deep | Event::Stuck => 0,
-        _ => 1,
-    }
-}
-
-// Numbers of 64 bits are in their range.
-fn are_in_range(numbers: &[u64])
-    ensures { All (λ n. n < 2 ^ 64) numbers.now }
-{}
-
-// The arguments of a call that is told are numbers of 64 bits.
-fn are_numbers(event: &Event)
-    ensures { AreNumbers event.now }
-{
-    if let Event::Waits(asked) = event {
-        are_in_range(asked.args.items());
-    }
-}
-
 // Makes one step of code, if the machine can tell it in few bytes, and counts it. Whether code goes on.
 #[inline(always)]
 fn quick_step(running: &mut Running, alloc: Global, steps: &mut u64, lost: &mut bool) -> bool
@@ -91,7 +52,7 @@ fn quick_step(running: &mut Running, alloc: Global, steps: &mut u64, lost: &mut 
     requires moving { running.old.core.machine.standing ≡ Standing.Moving }
     requires few { steps.old < 18446744073709551615 }
     requires found { lost.old ≡ false }
-    ensures counted { (L : LinkedSet) → IsLinked L running.old.linked.now → (s : SetState) → IsAt L running.old s → Counted L result s running.new steps.old steps.new lost.new }
+    ensures counted { (L : LinkedSet) → IsLinked L running.old.linked.now → (s : SetState) → RunsAt L running.old s → Counted L result s running.new steps.old steps.new lost.new }
     ensures running { lost.new ≡ false → IsRunning running.new }
     ensures linked { running.new.linked ≡ running.old.linked }
 {
@@ -133,12 +94,13 @@ impl<'m> Store<'m> {
     /// `Deep` where the step would pass a limit of depth, and `Stuck` where there is none, with nothing changed. It takes memory
     /// where the next step calls or grows; a run that answered `Memory` answers it from then on.
     pub fn run_step(&mut self, alloc: Global) -> Result<Event, Memory>
-        requires answered { IsAnswered self.old }
-        requires few { self.old.steps < 18446744073709551615 }
-        ensures stepped { (L : LinkedSet) → IsLinked L self.old.linked → IfOk result (λ e. (r : Ran hosts SetState) × Stands L self.old r × RunStepped L e self.old r self.new) }
-        ensures lost { OnErr result (self.new ≡ record self.old { lost = true }) }
-        ensures again { self.old.lost ≡ true → result ≡ Err (record {}) }
-        ensures arguments { (L : LinkedSet) → IsLinked L self.old.linked → IfOk result (λ e. ArgumentsFit L e) }
+        requires answered { (L : LinkedSet) × IsLinked L self.old.linked × (IsAt (set_course L) self.old.run → is_waiting (set_course L) self.old.run ≡ false) }
+        requires few { self.old.run.steps < 18446744073709551615 }
+        ensures stepped { (L : LinkedSet) → IsLinked L self.old.linked → IfOk result (λ e. IsAt (set_course L) self.old.run × RunStepped (set_course L) e self.old.run self.new.run) }
+        ensures lost { OnErr result (self.new.run ≡ as_lost self.old.run) }
+        ensures again { self.old.run.lost ≡ true → result ≡ Err (record {}) }
+        ensures arguments { (L : LinkedSet) → IsLinked L self.old.linked → IfOk result (λ e. ArgumentsFit (set_hosts L) e) }
+        ensures same { self.new.linked ≡ self.old.linked }
     {
         if self.lost {
             return Err(Memory);
@@ -170,11 +132,13 @@ impl<'m> Store<'m> {
     /// Makes steps of code, up to so many in all, until one is left for `run_step`: a step of the loader, a call of a host function, or
     /// one that is too deep; or the run has ended, waits or is stuck.
     pub fn advance(&mut self, alloc: Global, most: u64) -> Result<(), Memory>
-        ensures advances { (L : LinkedSet) → IsLinked L self.old.linked → Advances L most self.old self.new }
-        ensures left { (L : LinkedSet) → IsLinked L self.old.linked → OnOk result ((r : Ran hosts SetState) → Stands L self.new r → self.new.steps < most → IsCodeNext L r.state → ⊥) }
-        ensures found { OnOk result (self.new.lost ≡ false) }
-        ensures lost { OnErr result (self.new.lost ≡ true) }
-        ensures again { self.old.lost ≡ true → result ≡ Err (record {}) }
+        ensures advances { Advances most self.old.run self.new.run }
+        ensures code { (L : LinkedSet) → IsLinked L self.old.linked → AreOfCode (set_course L) self.old.run self.new.run }
+        ensures left { (L : LinkedSet) → IsLinked L self.old.linked → OnOk result (IsAt (set_course L) self.new.run → self.new.run.steps < most → IsCodeNext L (state_at (set_course L) self.new.run) → ⊥) }
+        ensures found { OnOk result (self.new.run.lost ≡ false) }
+        ensures lost { OnErr result (self.new.run.lost ≡ true) }
+        ensures again { self.old.run.lost ≡ true → result ≡ Err (record {}) }
+        ensures same { self.new.linked ≡ self.old.linked }
     {
         if self.lost {
             return Err(Memory);
@@ -190,9 +154,10 @@ impl<'m> Store<'m> {
 
     /// Records the answer that the next step takes.
     pub fn answer(&mut self, alloc: Global, a: Answer) -> Result<(), Memory>
-        requires { Awaits self.old a }
-        ensures recorded { OnOk result (self.new ≡ record self.old { answers = self.old.answers ++ a ∷ []; answered = true }) }
-        ensures lost { OnErr result (self.new ≡ record self.old { lost = true }) }
+        requires { (L : LinkedSet) × IsLinked L self.old.linked × Awaits (set_course L) self.old.run a }
+        ensures recorded { OnOk result (self.new.run ≡ with_answer self.old.run a) }
+        ensures lost { OnErr result (self.new.run ≡ as_lost self.old.run) }
+        ensures same { self.new.linked ≡ self.old.linked }
     {
         let Ok(()) = self.answers.push(a) else {
             self.lost = true;
@@ -204,14 +169,14 @@ impl<'m> Store<'m> {
 
     /// Whether it waits for an answer that isn't recorded.
     pub fn waiting(&self) -> bool
-        ensures { (L : LinkedSet) → IsLinked L self.now.linked → (r : Ran hosts SetState) → Stands L self.now r → result ≡ is_waiting self.now r }
+        ensures { (L : LinkedSet) → IsLinked L self.now.linked → IsAt (set_course L) self.now.run → result ≡ is_waiting (set_course L) self.now.run }
     {
         !self.answered && matches!(self.running.core.standing(), Standing::Asking(..))
     }
 
     /// Whether it has returned, exited or trapped.
     pub fn has_ended(&self) -> bool
-        ensures { (L : LinkedSet) → IsLinked L self.now.linked → (r : Ran hosts SetState) → Stands L self.now r → result ≡ has_ended r.state.run.status }
+        ensures { (L : LinkedSet) → IsLinked L self.now.linked → IsAt (set_course L) self.now.run → result ≡ has_ended (status_at (set_course L) self.now.run) }
     {
         matches!(
             self.running.core.standing(),
@@ -221,22 +186,22 @@ impl<'m> Store<'m> {
 
     /// How many steps were made. The run stands where these lead.
     pub fn steps(&self) -> u64
-        ensures value { result ≡ self.now.steps }
-        ensures stands { (L : LinkedSet) → IsLinked L self.now.linked → self.now.lost ≡ false → (r : Ran hosts SetState) × Stands L self.now r }
+        ensures value { result ≡ self.now.run.steps }
+        ensures stands { (L : LinkedSet) → IsLinked L self.now.linked → self.now.run.lost ≡ false → IsAt (set_course L) self.now.run }
     {
         self.steps
     }
 
     /// The answers that are recorded, in order.
     pub fn answers(&self) -> &[Answer]
-        ensures { result.now ≡ self.now.answers }
+        ensures { result.now ≡ self.now.run.answers }
     {
         &self.answers
     }
 
     /// The answers themselves.
     pub fn into_answers(self) -> List<Answer>
-        ensures { result ≡ self.entry.answers }
+        ensures { result ≡ self.entry.run.answers }
     {
         drop(self.running);
         List::of(self.answers)
@@ -244,7 +209,7 @@ impl<'m> Store<'m> {
 
     /// The memory as the run stands.
     pub fn memory(&self) -> &Space
-        ensures { (L : LinkedSet) → IsLinked L self.now.linked → (r : Ran hosts SetState) → Stands L self.now r → result.now ≡ r.state.run.memory }
+        ensures { (L : LinkedSet) → IsLinked L self.now.linked → IsAt (set_course L) self.now.run → result.now ≡ memory_at (set_course L) self.now.run }
     {
         &self.running.world.memory
     }

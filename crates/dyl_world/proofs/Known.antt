@@ -1,21 +1,24 @@
 -- What is known of what is kept of a linked set.
-use Rattle.std.proofs.Common.{◌≡◌, ℕ, zero, suc, ◌+◌, ◌-◌, ◌<◌, ◌≤◌, List, [], ◌∷◌, length, map, Bool, true, false, Option, Some, None, nat_eq, refl, ap, sym, ◌∙◌, bytes_eq, slice_get, arith}
-use Rattle.std.specs.Prelude.{unwrap_or}
+use Rattle.std.proofs.Common.{◌≡◌, ℕ, zero, suc, ◌+◌, ◌-◌, ◌<◌, ◌≤◌, List, [], ◌∷◌, length, map, Bool, true, false, Option, Some, None, nat_eq, refl, ap, sym, ◌∙◌, subst, bytes_eq, slice_get, arith}
+use Rattle.std.specs.Prelude.{unwrap_or, All}
 use Rattle.std.specs.List.{position_from}
 use Rattle.std.proofs.lemmas.Bool.Decides.{nat_tests}
 use Rattle.std.proofs.lemmas.List.{length-map}
+use Rattle.std.proofs.lemmas.List.Elements.{All-map}
 use Rattle.std.proofs.lemmas.Option.{slice_get_within}
 use Rattle.spec_loading.specs.spec_linking.Sets as sets
 use Rattle.spec_loading.specs.spec_linking.Plans.{Plan, stack_end, texts_size, sizes_of, region_of, regions_of, end_of}
 use Rattle.spec_loading.specs.spec_linking.LinkedSets.{LinkedSet}
-use Rattle.spec_loading.specs.spec_linking.Slots.{linked_plan}
+use Rattle.spec_loading.specs.spec_linking.Slots.{linked_plan, cell_number}
+use Rattle.spec_loading.specs.spec_linking.Definitions.{searched}
 use Rattle.spec_loading.proofs.of_spec_linking.Placing.{above, end_above, bases_length}
 use Rattle.spec_loading.specs.LoaderAnswers.{is_handle, member_named, error_answer, error_offsets}
 use Rattle.dyl_link.specs.dyl_search.declared.set.Member.{Member}
 use Rattle.dyl_link.specs.dyl_search.declared.set.ClosedSet.{ClosedSet}
 use Rattle.dyl_link.specs.dyl_search.Gathers.{member_of, set_of}
 use Rattle.dyl_link.specs.Kept.{Kept, IsLinked}
-use Rattle.dyl_world.specs.Found.{is_named}
+use Rattle.dyl_world.specs.Found.{is_named, AreWithout}
+use Rattle.dyl_world.proofs.Texts.{ExportsNo, none_searched}
 
 -- ---- the texts of the errors
 
@@ -106,3 +109,11 @@ module _ (name : List ℕ) where
 
 pub named_in_set : (S : ClosedSet) (name : List ℕ) → position_from (is_named name) 0 S.members ≡ member_named (set_of S) name
 named_in_set S name = sym (named_from name 0 S.members)
+
+-- ---- a name that no member exports
+
+pub nothing_found : (L : LinkedSet) (k : Kept) → IsLinked L k → (members : List Member) → members ≡ k.set.members → (name : List ℕ) → AreWithout name members → (ms : List ℕ) → None ≡ cell_number L name (searched L.set ms name)
+nothing_found L k h members same name without ms =
+    let here : map member_of members ≡ L.set.members = ap (map member_of) same ∙ ap (λ (S : sets.ClosedSet). S.members) h.set in
+    let none : All (ExportsNo name) L.set.members = subst (All (ExportsNo name)) here (All-map (ExportsNo name) member_of members without) in
+    sym (ap (cell_number L name) (none_searched name L.set none ms))

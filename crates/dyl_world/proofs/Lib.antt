@@ -1,4 +1,5 @@
 mod ZeroBytes
+mod Pieces
 mod Texts
 mod Found
 mod Known

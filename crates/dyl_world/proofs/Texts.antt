@@ -1,7 +1,7 @@
 -- A name that isn't UTF-8 is defined by no member: names of the binary format are UTF-8 (WebAssembly Core 2.0, section 5.2.4).
 use Rattle.std.proofs.Common.{◌≡◌, ℕ, Bool, true, false, List, [], ◌∷◌, IsUtf8, Option, Some, None, slice_get, bytes_eq, refl, ap, sym, ◌∙◌, subst}
 use Rattle.std.specs.Prelude.{All, Result, Ok}
-use Rattle.std.proofs.lemmas.List.Elements.{All-nil, All-head, All-tail}
+use Rattle.std.proofs.lemmas.List.Elements.{All-nil, All-head, All-tail, All-weaker}
 use Rattle.std.proofs.lemmas.Slice.Eq.{bytes_eq-Decides}
 use Rattle.spec_loading.specs.wasm_form.declared.module.Export.{Export}
 use Rattle.spec_loading.specs.wasm_form.declared.module.ExportDesc.{ExportDesc}
@@ -56,6 +56,32 @@ decoded_texts : (bytes : List ℕ) (r : Result Module DecodeFault) → DecodeAns
 decoded_texts bytes _ (spelled {m = n} text within counts) m e = (let same : n ≡ m = cc in subst (λ (x : Module). All HasText x.exports) same (module_texts n bytes text))
 decoded_texts bytes _ _ m e = absurd cc
 
+-- ---- a name that no member exports
+
+undefined : (name : List ℕ) (m : Module) → exported_as name m.exports ≡ None → symbol_of m name ≡ None
+undefined name m none = by (is_one_of name reserved_names) refl
+  where
+    by : (b : Bool) → is_one_of name reserved_names ≡ b → symbol_of m name ≡ None
+    by true p = rw p refl
+    by false p = rw p (ap (λ (o : Option ExportDesc). o >>= desc_symbol m) none)
+
+abbrev pub ExportsNo : List ℕ → Member → Type 0
+ExportsNo name member = exported_as name member.wasm.exports ≡ None
+
+module _ (name : List ℕ) (S : ClosedSet) (without : All (ExportsNo name) S.members) where
+  no_definition : (m : ℕ) → member_definition S m name ≡ Undefined
+  no_definition m = by (slice_get S.members m) refl
+    where
+      by : (o : Option Member) → slice_get S.members m ≡ o → member_definition S m name ≡ Undefined
+      by None p = ap (λ (o : Option Member). defined_by m (o >>= λ member. symbol_of member.wasm name)) p
+      by (Some member) p =
+          ap (λ (o : Option Member). defined_by m (o >>= λ member. symbol_of member.wasm name)) p
+          ∙ ap (defined_by m) (undefined name member.wasm (holds_at (ExportsNo name) S.members m member without p))
+
+  pub none_searched : (ms : List ℕ) → searched S ms name ≡ Undefined
+  none_searched [] = refl
+  none_searched (m ∷ ms) = ap (λ d. or_defined d (searched S ms name)) (no_definition m) ∙ none_searched ms
+
 -- ---- a name that isn't UTF-8
 
 module _ (name : List ℕ) (broken : IsUtf8 name → ⊥) where
@@ -67,24 +93,8 @@ module _ (name : List ℕ) (broken : IsUtf8 name → ⊥) where
       by true p rest = (let same : name ≡ e.name = (bytes_eq-Decides name e.name).0 p in absurd (broken (subst IsUtf8 (sym same) (All-head HasText e es texts))))
       by false p rest = rw p rest
 
-  undefined : (m : Module) → All HasText m.exports → symbol_of m name ≡ None
-  undefined m texts = by (is_one_of name reserved_names) refl
-    where
-      by : (b : Bool) → is_one_of name reserved_names ≡ b → symbol_of m name ≡ None
-      by true p = rw p refl
-      by false p = rw p (ap (λ (o : Option ExportDesc). o >>= desc_symbol m) (not_exported m.exports texts))
-
-  no_definition : (S : ClosedSet) → IsSet S → (m : ℕ) → member_definition S m name ≡ Undefined
-  no_definition S is m = by (slice_get S.members m) refl
-    where
-      by : (o : Option Member) → slice_get S.members m ≡ o → member_definition S m name ≡ Undefined
-      by None p = ap (λ (o : Option Member). defined_by m (o >>= λ member. symbol_of member.wasm name)) p
-      by (Some member) p =
-          let this = holds_at IsMember S.members m member is.members p in
-          let texts = decoded_texts this.bytes (Ok member.wasm) this.read.told member.wasm refl in
-          ap (λ (o : Option Member). defined_by m (o >>= λ member. symbol_of member.wasm name)) p
-          ∙ ap (defined_by m) (undefined member.wasm texts)
+  member_without : (member : Member) → IsMember member → ExportsNo name member
+  member_without member this = not_exported member.wasm.exports (decoded_texts this.bytes (Ok member.wasm) this.read.told member.wasm refl)
 
   pub no_text : (S : ClosedSet) → IsSet S → (ms : List ℕ) → searched S ms name ≡ Undefined
-  no_text S is [] = refl
-  no_text S is (m ∷ ms) = ap (λ d. or_defined d (searched S ms name)) (no_definition S is m) ∙ no_text S is ms
+  no_text S is ms = none_searched name S (All-weaker IsMember (ExportsNo name) member_without S.members is.members) ms

@@ -6,9 +6,9 @@ ghost use Rattle.dyl_link.specs.dyl_search.Gathers.{set_of};
 ghost use Rattle.dyl_link.specs.Kept.{IsLinked};
 
 use crate::errors::Errors;
-use crate::searching::{handle_list, member_named, search};
+use crate::searching::{handle_list, member_named, search_name};
 use crate::stages::Stages;
-use crate::strings::string_at;
+use crate::strings::{Name, name_at};
 use dyl_link::Linked;
 use dyl_link::dyl_plan::Plan;
 use dyl_link::dyl_search::ClosedSet;
@@ -31,7 +31,7 @@ const OTHER_FLAGS: u32 = 4_294_963_196;
 const TEXT_OFFSETS: [u32; 5] = [0, 18, 41, 59, 81];
 
 // What `dlopen` comes to for a name that was read. The flags are tested before the name.
-fn open_named(set: &ClosedSet, name: &[u8], flags: u32) -> Opening
+fn open_named(set: &ClosedSet, name: &Name<'_>, flags: u32) -> Opening
     requires { length set.now.members ≤ 256 }
     ensures { (L : LinkedSet) → set_of set.now ≡ L.set → result ≡ loader.open_named L flags (Some name.now) }
 {
@@ -52,8 +52,8 @@ pub fn open_answer(linked: &Linked, memory: &Space, name: u32, flags: u32) -> Op
     if name == 0 {
         return Opening::Main;
     }
-    match string_at(memory, name) {
-        Some(text) => open_named(linked.set(), text, flags),
+    match name_at(memory, name) {
+        Some(text) => open_named(linked.set(), &text, flags),
         None => Opening::Trapped,
     }
 }
@@ -70,7 +70,7 @@ fn is_handle(stages: &Stages, handle: u32) -> bool
 }
 
 // What `dlsym` comes to for a name that was read. The handle is tested before the name.
-fn find_named(linked: &Linked, stages: &Stages, handle: u32, name: &[u8]) -> Finding
+fn find_named(linked: &Linked, stages: &Stages, handle: u32, name: &Name<'_>) -> Finding
     requires linked { (L : LinkedSet) × IsLinked L linked.now }
     requires stages { length stages.now ≡ length linked.now.set.members }
     ensures { (L : LinkedSet) → IsLinked L linked.now → result ≡ loader.find_named L stages.now handle (Some name.now) }
@@ -78,7 +78,7 @@ fn find_named(linked: &Linked, stages: &Stages, handle: u32, name: &[u8]) -> Fin
     if handle != 0 && !is_handle(stages, handle) {
         return Finding::Refused(BAD_HANDLE);
     }
-    match search(linked, handle_list(linked, handle), name) {
+    match search_name(linked, handle_list(linked, handle), name) {
         Some(n) => Finding::Address(n),
         None => Finding::Refused(NO_SYMBOL),
     }
@@ -96,8 +96,8 @@ pub fn symbol_answer(
     ensures { (L : LinkedSet) → IsLinked L linked.now → result ≡ loader.symbol_answer L stages.now memory.now handle name }
 {
     linked.links();
-    match string_at(memory, name) {
-        Some(text) => find_named(linked, stages, handle, text),
+    match name_at(memory, name) {
+        Some(text) => find_named(linked, stages, handle, &text),
         None => Finding::Trapped,
     }
 }

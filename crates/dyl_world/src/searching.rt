@@ -1,6 +1,7 @@
 // How members and names are found.
-ghost use Rattle.std.specs.Prelude.{◌≡◌, ◌<◌, ◌≤◌, ◌+◌, ℕ, List, Some, length};
+ghost use Rattle.std.specs.Prelude.{◌≡◌, ◌<◌, ◌≤◌, ◌+◌, ℕ, List, Some, None, length, MatchOption};
 ghost use Rattle.std.specs.List.{position_from};
+ghost use Rattle.spec_loading.specs.spec_binary.Exports.{exported_as};
 ghost use Rattle.spec_loading.specs.spec_linking.Definitions.{searched};
 ghost use Rattle.spec_loading.specs.spec_linking.LinkedSets.{LinkedSet};
 ghost use Rattle.spec_loading.specs.spec_linking.Slots as slots;
@@ -8,19 +9,20 @@ ghost use Rattle.spec_loading.specs.LoaderAnswers as loader;
 ghost use Rattle.dyl_link.specs.dyl_search.Gathers.{set_of};
 ghost use Rattle.dyl_link.specs.dyl_scope.Scopes.{meaning_of};
 ghost use Rattle.dyl_link.specs.Kept.{IsLinked, address_in};
-ghost use Rattle.dyl_world.specs.Found.{IsFound, is_named};
+ghost use Rattle.dyl_world.specs.Found.{IsFound, is_named, AreWithout};
 
+use crate::strings::Name;
 use dyl_link::Linked;
 use dyl_link::dyl_scope::Def;
 use dyl_link::dyl_search::{ClosedSet, Member};
-use spec_loading::wasm_form::Ref;
+use spec_loading::wasm_form::{Export, Ref};
 
-fn first_named(members: &[Member], name: &[u8]) -> Option<u32>
+fn first_named(members: &[Member], name: &Name<'_>) -> Option<u32>
     requires { length members.now ≤ 256 }
     ensures { result ≡ position_from (is_named name.now) 0 members.now }
 {
     for (m, member) in members.iter().enumerate() {
-        if name == member.name.as_str().as_bytes() {
+        if name.is(member.name.as_str().as_bytes()) {
             return Some(m as u32);
         }
     }
@@ -29,7 +31,7 @@ fn first_named(members: &[Member], name: &[u8]) -> Option<u32>
 
 // The first member that has a name.
 #[tactic(auto, using(crate::proofs::Known::named_in_set))]
-pub(crate) fn member_named(set: &ClosedSet, name: &[u8]) -> Option<u32>
+pub(crate) fn member_named(set: &ClosedSet, name: &Name<'_>) -> Option<u32>
     requires { length set.now.members ≤ 256 }
     ensures { result ≡ loader.member_named (set_of set.now) name.now }
 {
@@ -90,4 +92,51 @@ pub fn search(linked: &Linked, members: &[u32], name: &[u8]) -> Option<u32>
     ensures { (L : LinkedSet) → IsLinked L linked.now → result ≡ slots.cell_number L name.now (searched L.set members.now name.now) }
 {
     number_of(linked, definition(linked, members, name))
+}
+
+// The name of an export that is this one, if there is one.
+fn exported<'a>(exports: &'a [Export], name: &Name<'_>) -> Option<&'a str>
+    ensures { MatchOption result (exported_as name.now exports.now ≡ None) (λ key. key.now ≡ name.now) }
+{
+    for e in exports {
+        if name.is(e.name.as_str().as_bytes()) {
+            return Some(e.name.as_str());
+        }
+    }
+    None
+}
+
+// The name of an export of a member that is this one, if there is one.
+fn exported_by<'a>(members: &'a [Member], name: &Name<'_>) -> Option<&'a str>
+    ensures { MatchOption result (AreWithout name.now members.now) (λ key. key.now ≡ name.now) }
+{
+    for member in members {
+        if let Some(key) = exported(member.checked.module().exports.items(), name) {
+            return Some(key);
+        }
+    }
+    None
+}
+
+// The same for a name that crosses pages: it is searched by the name of an export that is the same, since it has no slice of its own.
+#[cold]
+fn search_across(linked: &Linked, members: &[u32], name: &Name<'_>) -> Option<u32>
+    requires { length linked.now.plan.bases ≡ length linked.now.set.members }
+    ensures { (L : LinkedSet) → IsLinked L linked.now → result ≡ slots.cell_number L name.now (searched L.set members.now name.now) }
+{
+    match exported_by(linked.set().members.items(), name) {
+        Some(key) => search(linked, members, key.as_bytes()),
+        None => None,
+    }
+}
+
+/// The slot of the function, or the address of the data, that the first of some members defines a name in memory as, if one does.
+pub(crate) fn search_name(linked: &Linked, members: &[u32], name: &Name<'_>) -> Option<u32>
+    requires { length linked.now.plan.bases ≡ length linked.now.set.members }
+    ensures { (L : LinkedSet) → IsLinked L linked.now → result ≡ slots.cell_number L name.now (searched L.set members.now name.now) }
+{
+    match name.in_one_page() {
+        Some(bytes) => search(linked, members, bytes),
+        None => search_across(linked, members, name),
+    }
 }

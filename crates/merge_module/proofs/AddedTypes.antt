@@ -8,23 +8,15 @@ use Rattle.spec_reading.specs.wasm_form.declared.types.ValType.{ValType}
 use Rattle.spec_reading.specs.wasm_form.declared.types.ValType.TheVariants.{I32, I64, F32, F64, FuncRef, ExternRef}
 use Rattle.spec_reading.specs.wasm_form.declared.types.FuncType.{FuncType}
 use Rattle.spec_reading.specs.spec_binary.SameTypes.{same_type, same_function_type}
-use Rattle.spec_reading.proofs.of_spec_binary.OneType.{one_function_type}
+use Rattle.spec_reading.proofs.of_spec_binary.OneType.{itself, one_function_type}
 use Rattle.spec_loading.specs.spec_runtime.Names.{HostName}
 use Rattle.merge_module.specs.MergedModule.{with_type, types_added}
 
 -- ---- a type is itself
 
-type_itself : (t : ValType) → same_type t t ≡ true
-type_itself I32 = refl
-type_itself I64 = refl
-type_itself F32 = refl
-type_itself F64 = refl
-type_itself FuncRef = refl
-type_itself ExternRef = refl
-
 types_itself : (ts : List ValType) → pointwise same_type ts ts ≡ true
 types_itself [] = refl
-types_itself (t ∷ ts) = rw (type_itself t, types_itself ts) refl
+types_itself (t ∷ ts) = rw (itself t, types_itself ts) refl
 
 pub function_itself : (ty : FuncType) → same_function_type ty ty ≡ true
 function_itself ty = rw (types_itself ty.params, types_itself ty.results) refl

@@ -59,7 +59,7 @@ use Rattle.merge_module.proofs.References.{function_typed}
 use Rattle.merge_module.proofs.MergedSpaces.{past_front, in_front}
 use Rattle.merge_module.proofs.HostTypes.{host_typed}
 use Rattle.merge_index.proofs.Counted.{few_bytes, few_of}
-use Rattle.merge_module.proofs.GlobalValues.{one_type}
+use Rattle.spec_reading.proofs.of_spec_binary.OneType.{one_type}
 use Rattle.merge_module.proofs.Applied.{slot_elems, outside_number}
 use Rattle.merge_module.proofs.OwnNumbers.{x}
 use Rattle.merge_module.proofs.LoaderFunctions.{call_there}

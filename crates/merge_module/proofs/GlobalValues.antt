@@ -25,9 +25,10 @@ use Rattle.spec_reading.specs.wasm_form.declared.runtime.Value.TheVariants.{Num,
 use Rattle.spec_reading.specs.spec_binary.Options.{◌>>=◌}
 use Rattle.spec_reading.specs.spec_binary.SameTypes.{same_type}
 use Rattle.spec_reading.specs.spec_binary.IndexSpaces.{imports_of, globals_in, function_space}
-use Rattle.spec_reading.proofs.of_spec_binary.OneType.{same_types}
-use Rattle.spec_loading.specs.spec_validation.Faults.{is_function, immutable, constant_index, constant_step, constant_type, is_of_type, global_fits}
-use Rattle.spec_loading.specs.spec_runtime.Constants.{index_constant, instruction_constant, constant_in}
+use Rattle.spec_reading.proofs.of_spec_binary.OneType.{one_type}
+use Rattle.spec_loading.specs.spec_validation.Faults.{is_function, immutable, constant_index, constant_step, is_constant, global_fits}
+use Rattle.spec_loading.specs.spec_runtime.Constants.{index_constant, instruction_constant, constant_of}
+use Rattle.spec_loading.specs.spec_runtime.Numerics.{Width, W32, W64, bits}
 use Rattle.spec_loading.specs.spec_execution.Values.{zero_of}
 use Rattle.spec_loading.specs.spec_linking.Sets.{Member}
 use Rattle.spec_loading.specs.spec_linking.Imports.{ImportUse, SharedMemory, SharedTable, StackPointer, MemoryBase, TableBase, DataCell, SlotCell, EnvFunction, ModuleFunction, OtherUse, use_of, importing, is_memory, is_function_table, is_i32_global}
@@ -37,6 +38,8 @@ use Rattle.spec_loading.specs.spec_linking.Slots.{linked_plan, memory_base, tabl
 use Rattle.spec_loading.specs.spec_linking.Links.{unless, data_cell_fault, slot_cell_fault, fault_as}
 use Rattle.spec_loading.specs.spec_linking.declared.fault.Kind.TheVariants as kind
 use Rattle.spec_loading.specs.spec_linking.declared.fault.LinkFault.TheVariants.{IllTyped}
+use Rattle.spec_loading.proofs.of_spec_binary.Counted.{Holds, held}
+use Rattle.spec_loading.proofs.of_spec_execution.Constants.{width_type, typed_value}
 use Rattle.spec_loading.proofs.of_spec_linking.LinkedFacts.{holds_so, or_none, linked_member}
 use Rattle.spec_loading.proofs.of_spec_linking.Placing.{bases_length}
 use Rattle.spec_loading.proofs.of_spec_safety.Lookups.{went_on, got}
@@ -46,17 +49,10 @@ use Rattle.spec_loading.specs.Members.{opened_global}
 use Rattle.merge_module.proofs.Known.{IsKnown}
 use Rattle.merge_module.proofs.ImportedGlobals.{global_import, global_no_function}
 use Rattle.merge_module.proofs.SetMembers.{is_sound}
-use Rattle.merge_module.proofs.SpelledConstants.{FitsHere, Fit}
+use Rattle.merge_module.proofs.SpelledConstants.{FitsHere, Fit, each_fits}
 use Rattle.merge_module.proofs.Slots.{base_word, table_base_word}
 
 -- ---- types
-
-pub one_type : (t u : ValType) → same_type t u ≡ true → t ≡ u
-one_type t u e = (let both : pointwise same_type (t ∷ []) (u ∷ []) ≡ true = rw e refl in let same = same_types (t ∷ []) (u ∷ []) both in cc)
-
-pub of_type : (t : ValType) (o : Option ValType) → is_of_type t o ≡ true → o ≡ Some t
-of_type t None e = absurd cc
-of_type t (Some u) e = ap Some (sym (one_type t u e))
 
 -- a value of a type; a reference is to a function that some number of a member names
 abbrev pub IsNamed : LinkedSet → Ref → Type 0
@@ -68,6 +64,23 @@ IsValue L I64 (Num k) = k < 2 ^ 64
 IsValue L FuncRef (Func None) = Unit {0}
 IsValue L FuncRef (Func (Some r)) = IsNamed L r
 IsValue L _ _ = ⊥
+
+-- of a number type they are numbers, and any number of the width is one
+number_value : (L : LinkedSet) (t : ValType) (w : Width) → width_type w ≡ t → (v : Value) → IsValue L t v → (n : ℕ) × (v ≡ Num n)
+number_value L t w e v is = go w v (subst (λ u. IsValue L u v) (sym e) is)
+  where
+    go : (w : Width) (v : Value) → IsValue L (width_type w) v → (n : ℕ) × (v ≡ Num n)
+    go W32 (Num n) is = (n, refl)
+    go W64 (Num n) is = (n, refl)
+    go W32 (Func r) is = absurd is
+    go W64 (Func r) is = absurd is
+
+result_value : (L : LinkedSet) (t : ValType) (w : Width) → width_type w ≡ t → (n : ℕ) → n < 2 ^ bits w → IsValue L t (Num n)
+result_value L t w e n lt = subst (λ u. IsValue L u (Num n)) e (go w lt)
+  where
+    go : (w : Width) → n < 2 ^ bits w → IsValue L (width_type w) (Num n)
+    go W32 lt = lt
+    go W64 lt = lt
 
 -- an imported global that a constant expression may get is a base
 pub flagged : (may : Bool) (ty : GlobalType) → is_i32_global may (imported.Global ty) ≡ true → (t : ValType) → immutable ty ≡ Some t → (t ≡ I32) × (may ≡ false)
@@ -189,14 +202,20 @@ module _ (L : LinkedSet) (K : IsKnown L) (few : (linked_plan L).pages_max ≤ 16
       (given.0, ap (λ (o : Option IndexForm). o >>= λ f. index_constant (function_ref L m) (imported_base L m) f k) form.1 ∙ given.1, given.2)
   step_given _ t fit e = absurd cc
 
-  pub constant_given : (is : List Instr) (t : ValType) → Fit is → constant_type wasm is ≡ Some t → Gives (constant_in (function_ref L m) (imported_base L m) is) t
-  constant_given (i ∷ []) t fit e = step_given (out-Instr i) t fit.0 e
-  constant_given _ t fit e = absurd cc
+  put_held : (i : Instr) (t : ValType) → FitsHere (out-Instr i) → constant_step wasm (out-Instr i) ≡ Some t
+      → Holds ⊥ (IsValue L t) (instruction_constant (function_ref L m) (imported_base L m) (out-Instr i))
+  put_held i t fit e = (let given = step_given (out-Instr i) t fit e in subst (Holds ⊥ (IsValue L t)) (sym given.1) given.2)
+
+  pub constant_given : (e : Expr) (t : ValType) → Fit e.list → is_constant wasm t e ≡ true → Gives (constant_of (function_ref L m) (imported_base L m) e) t
+  constant_given e t fit typed =
+      held (IsValue L t) (constant_of (function_ref L m) (imported_base L m) e)
+      (typed_value wasm t (function_ref L m) (imported_base L m) ⊥ (IsValue L t) (λ i. FitsHere (out-Instr i)) (λ i. put_held i t) (number_value L t) (result_value L t) e
+      (each_fits e.list fit) typed)
 
   -- each global of the member begins with a value of its type
   pub opened_is : (g : GlobalDef) → global_fits wasm g ≡ true → Fit g.init.list → IsValue L g.ty.value (opened_global L m g)
   opened_is g fits fit =
-      let given = constant_given g.init.list g.ty.value fit (of_type g.ty.value (constant_type wasm g.init.list) fits) in
+      let given = constant_given g.init g.ty.value fit fits in
       let is : opened_global L m g ≡ given.0 = ap (λ (o : Option Value). unwrap_or o (zero_of g.ty.value)) given.1 in
       subst (IsValue L g.ty.value) (sym is) given.2
 

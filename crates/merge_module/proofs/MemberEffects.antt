@@ -25,12 +25,13 @@ use Rattle.spec_reading.specs.wasm_form.declared.runtime.Ref.{Ref}
 use Rattle.spec_reading.specs.wasm_form.declared.index.IndexForm.{IndexForm}
 use Rattle.spec_reading.specs.wasm_form.declared.index.IndexForm.TheVariants.{RefFunc, GlobalGet}
 use Rattle.spec_reading.specs.wasm_form.Index.{index_form}
-use Rattle.spec_reading.specs.wasm_form.declared.runtime.Value.TheVariants.{Func}
+use Rattle.spec_reading.specs.wasm_form.declared.runtime.Value.{Value}
+use Rattle.spec_reading.specs.wasm_form.declared.runtime.Value.TheVariants.{Num, Func}
 use Rattle.spec_reading.specs.spec_binary.Options.{◌>>=◌}
 use Rattle.spec_reading.specs.spec_binary.IndexSpaces.{table_space, memory_space, globals_in}
 use Rattle.spec_reading.specs.spec_binary.WellFormed.{IsFormedItems, IsFormedElem, IsFormedData}
-use Rattle.spec_loading.specs.spec_validation.Faults.{constant_type, constant_step, is_of_type, is_constant, has_functions, elem_mode_fits, items_fit, elem_fits, data_mode_fits, data_fits}
-use Rattle.spec_loading.specs.spec_runtime.Constants.{index_constant, instruction_constant, constant_in, number_in}
+use Rattle.spec_loading.specs.spec_validation.Faults.{is_constant, has_functions, elem_mode_fits, items_fit, elem_fits, data_mode_fits, data_fits}
+use Rattle.spec_loading.specs.spec_runtime.Constants.{constant_of, number_in}
 use Rattle.spec_loading.specs.spec_execution.Activations.{Effect, TableInit, ElemDrop, MemoryInit, DataDrop}
 use Rattle.spec_loading.specs.spec_execution.Segments.{items_count, effects_at, elem_effects, data_effects, all_effects, segment_effects}
 use Rattle.spec_loading.specs.spec_linking.Imports.{ImportUse, MemoryBase, TableBase, use_of, importing}
@@ -42,6 +43,7 @@ use Rattle.spec_loading.specs.Addresses.{table_address, elem_address, data_addre
 use Rattle.spec_loading.specs.Members.{Store, counts_of, set_view, opening_store}
 use Rattle.merge_start.specs.Started.{IsWord, HasAddress, AreEffectsReady}
 use Rattle.merge_module.proofs.Known.{IsKnown}
+use Rattle.merge_module.proofs.GlobalValues.{IsValue, constant_given}
 use Rattle.merge_module.proofs.SpelledConstants.{FitsHere, Fit, ModeFits, DataModeFits, ConstantsFit}
 use Rattle.merge_module.proofs.PlannedWords.{memory_base_within, table_base_within}
 
@@ -54,59 +56,21 @@ some_address xs None h = absurd (let q : false ≡ true = h in cc)
 some_address xs (Some a) h = (a, refl)
 
 module _ (L : LinkedSet) (K : IsKnown L) (few : (linked_plan L).pages_max ≤ 16384) (m : ℕ) where
-  -- ---- an offset is a word
-
-  number_word : (o : Option ℕ) (bound k : ℕ) → ((b : ℕ) → o ≡ Some b → b ≤ bound) → bound ≤ 1073741824 → (as_number o >>= number_in) ≡ Some k → IsWord k
-  number_word None bound k within room e = absurd cc
-  number_word (Some b) bound k within room e = (let same : b ≡ k = cc in let low = within b refl in omega arith)
-
-  base_word : (i : Import) (u : ImportUse) (k : ℕ) → (base_as L m i u >>= number_in) ≡ Some k → IsWord k
-  base_word i MemoryBase k e = number_word (memory_base L m) 1073741824 k (memory_base_within L K.links few m) (omega arith) e
-  base_word i TableBase k e = number_word (table_base L m) 983040 k (table_base_within L K.links m) (omega arith) e
-  base_word i _ k e = absurd cc
-
-  imported_word : (g k : ℕ) → (imported_base L m g >>= number_in) ≡ Some k → IsWord k
-  imported_word g k e = go (wasm_of L m) e
-    where
-      found : (o : Option Import) → ((o >>= base_value L m) >>= number_in) ≡ Some k → IsWord k
-      found None h = absurd cc
-      found (Some i) h = base_word i (use_of i) k h
-
-      go : (o : Option Module) → ((o >>= λ wasm. slice_get (importing globals_in wasm.imports) g >>= base_value L m) >>= number_in) ≡ Some k → IsWord k
-      go None h = absurd cc
-      go (Some wasm) h = found (slice_get (importing globals_in wasm.imports) g) h
-
-  no_function : (o : Option Ref) (k : ℕ) → ((o >>= λ r. Some (Func (Some r))) >>= number_in) ≡ Some k → ⊥
-  no_function None k e = cc
-  no_function (Some r) k e = cc
-
-  index_word : (form : IndexForm) (n k : ℕ) → (index_constant (function_ref L m) (imported_base L m) form n >>= number_in) ≡ Some k → IsWord k
-  index_word RefFunc f k e = absurd (no_function (function_ref L m f) k e)
-  index_word GlobalGet g k e = imported_word g k e
-  index_word _ n k e = absurd cc
-
-  formed_word : (o : Option IndexForm) (n k : ℕ) → ((o >>= λ f. index_constant (function_ref L m) (imported_base L m) f n) >>= number_in) ≡ Some k → IsWord k
-  formed_word None n k e = absurd cc
-  formed_word (Some form) n k e = index_word form n k e
-
-  step_word : (wasm : Module) (y : Open.Instr-F Instr Expr) (k : ℕ) → FitsHere y → is_of_type I32 (constant_step wasm y) ≡ true
-      → (instruction_constant (function_ref L m) (imported_base L m) y >>= number_in) ≡ Some k → IsWord k
-  step_word wasm (Open.I32Const z) k fit typed e = (let same : cast_unsigned w32 z ≡ k = cc in subst IsWord same fit)
-  step_word wasm (Open.I64Const z) k fit typed e = absurd cc
-  step_word wasm (Open.RefNull t) k fit typed e = absurd cc
-  step_word wasm (Open.Index op n) k fit typed e = formed_word (index_form op) n k e
-  step_word wasm _ k fit typed e = absurd cc
-
-  offset_word : (wasm : Module) (is : List Instr) (k : ℕ) → Fit is → is_of_type I32 (constant_type wasm is) ≡ true
-      → (constant_in (function_ref L m) (imported_base L m) is >>= number_in) ≡ Some k → IsWord k
-  offset_word wasm (i ∷ []) k fit typed e = step_word wasm (out-Instr i) k fit.0 typed e
-  offset_word wasm _ k fit typed e = absurd cc
-
   -- ---- segments
 
   module _ (member : Member) (at : slice_get L.set.members m ≡ Some member) where
     abbrev wasm : Module
     wasm = member.wasm
+
+    -- an offset is a word
+    offset_word : (e : Expr) (k : ℕ) → Fit e.list → is_constant wasm I32 e ≡ true → (constant_of (function_ref L m) (imported_base L m) e >>= number_in) ≡ Some k → IsWord k
+    offset_word e k fit typed h =
+        let given = constant_given L K few m member at e I32 fit typed in
+        go given.0 given.2 (sym (ap (λ (o : Option Value). o >>= number_in) given.1) ∙ h)
+      where
+        go : (v : Value) → IsValue L I32 v → number_in v ≡ Some k → IsWord k
+        go (Num n) lt q = (let same : n ≡ k = cc in subst IsWord same lt)
+        go (Func r) none q = absurd none
 
     abbrev number : Expr → Option ℕ
     number = member_number L m
@@ -161,7 +125,7 @@ module _ (L : LinkedSet) (K : IsKnown L) (few : (linked_plan L).pages_max ≤ 16
         go (elem_mode.Active t offset) q =
             let mode_fits : elem_mode_fits wasm (elem_mode.Active t offset) ≡ true = ap (elem_mode_fits wasm) (sym q) ∙ (and_parts (elem_mode_fits wasm e.mode) (items_fit wasm e.items) fits).0 in
             let both = and_parts (has_functions (slice_get (table_space wasm) t)) (is_constant wasm I32 offset) mode_fits in
-            rw q (at_ready t (number offset) (table_numbered t both.0) (λ k h. offset_word wasm offset.list k (subst ModeFits q fit) both.1 h))
+            rw q (at_ready t (number offset) (table_numbered t both.0) (λ k h. offset_word offset k (subst ModeFits q fit) both.1 h))
         go elem_mode.Passive q = rw q tt
         go elem_mode.Declarative q = rw q tt
 
@@ -187,7 +151,7 @@ module _ (L : LinkedSet) (K : IsKnown L) (few : (linked_plan L).pages_max ≤ 16
         go : (mode : DataMode) → d.mode ≡ mode → AreEffectsReady L m (data_effects number n d)
         go (data_mode.Active memory offset) q =
             let mode_fits : data_mode_fits wasm (data_mode.Active memory offset) ≡ true = ap (data_mode_fits wasm) (sym q) ∙ fits in
-            rw q (at_ready (number offset) (λ k h. offset_word wasm offset.list k (subst DataModeFits q fit) (and_parts (nat_lt memory (length (memory_space wasm))) (is_constant wasm I32 offset) mode_fits).1 h))
+            rw q (at_ready (number offset) (λ k h. offset_word offset k (subst DataModeFits q fit) (and_parts (nat_lt memory (length (memory_space wasm))) (is_constant wasm I32 offset) mode_fits).1 h))
         go data_mode.Passive q = rw q tt
 
     datas_ready : (n : ℕ) (ds : List Data) → n + length ds ≤ length wasm.datas → list_all (data_fits wasm) ds ≡ true → All IsFormedData ds → All (λ (s : Data). DataModeFits s.mode) ds

@@ -1,6 +1,9 @@
 -- The element segments of the merged module hold at first what those of the members hold, by the numbers.
-use Rattle.std.proofs.Common.{◌≡◌, ℕ, suc, ◌+◌, List, [], ◌∷◌, ◌++◌, map, slice_get, Option, Some, None, option_map, refl, sym, ap₂, ◌∙◌, arith, subst}
+use Rattle.std.proofs.Common.{◌≡◌, ℕ, suc, ◌+◌, true, List, [], ◌∷◌, ◌++◌, map, slice_get, Option, Some, None, option_map, refl, sym, ap, ap₂, ◌∙◌, arith, subst}
+use Rattle.std.specs.List.{list_all}
+use Rattle.std.proofs.lemmas.Bool.{and_parts}
 use Rattle.std.proofs.lemmas.List.{map-append}
+use Rattle.spec_reading.specs.wasm_form.declared.types.ValType.TheVariants.{FuncRef}
 use Rattle.spec_reading.specs.wasm_form.declared.instr.Instr.{Instr, out-Instr}
 use Rattle.spec_reading.specs.wasm_form.declared.instr.Instr.TheOpen as Open
 use Rattle.spec_reading.specs.wasm_form.declared.instr.Expr.{Expr}
@@ -19,7 +22,11 @@ use Rattle.spec_reading.specs.wasm_form.declared.runtime.Value.{Value}
 use Rattle.spec_reading.specs.wasm_form.declared.runtime.Value.TheVariants.{Func}
 use Rattle.spec_reading.specs.spec_binary.Options.{◌>>=◌}
 use Rattle.spec_reading.specs.spec_binary.IndexSpaces.{globals_in}
-use Rattle.spec_loading.specs.spec_runtime.Constants.{instruction_constant, constant_entry, reference_in, no_globals}
+use Rattle.spec_reading.specs.spec_binary.SameTypes.{same_type}
+use Rattle.spec_loading.specs.spec_validation.Faults.{constant_step, is_constant, elem_mode_fits, items_fit, elem_fits}
+use Rattle.spec_loading.proofs.of_spec_runtime.Constants.{put_alone}
+use Rattle.spec_loading.proofs.of_spec_execution.Constants.{reference_value}
+use Rattle.spec_loading.specs.spec_runtime.Constants.{instruction_constant, constant_in, constant_of, constant_entry, reference_in, no_globals}
 use Rattle.spec_loading.specs.spec_execution.Segments.{opened_items}
 use Rattle.spec_loading.specs.spec_execution.Instances.{module_target, segment_items}
 use Rattle.spec_loading.specs.spec_linking.Sets.{Member}
@@ -27,7 +34,7 @@ use Rattle.spec_loading.specs.spec_linking.Imports.{ImportUse, SharedMemory, Sha
 use Rattle.spec_loading.specs.spec_linking.LinkedSets.{LinkedSet, wasm_of, function_ref}
 use Rattle.spec_loading.specs.spec_linking.Slots.{as_number, memory_base, table_base, base_as, base_value, imported_base, member_items}
 use Rattle.spec_loading.specs.Members.{from_members}
-use Rattle.merge_match.specs.Renumbering.{Numbers, reference, entry, expr, renumbered}
+use Rattle.merge_match.specs.Renumbering.{Numbers, reference, entry, instr, expr, renumbered}
 use Rattle.merge_match.proofs.OneLevel.{inside, out_instr}
 use Rattle.merge_module.specs.MergedModule.{renumbered_items, passive_elem}
 
@@ -104,30 +111,56 @@ module _ (L : LinkedSet) (n : Numbers) (merged : Module) (targets : (m f : ℕ) 
   step_item (Open.Index op f) = index_item op f (index_form op) refl
   step_item y = refl
 
-  item_same : (e : Expr) → constant_entry (module_target merged) no_globals (expr n m e) ≡ entry n (constant_entry (function_ref L m) (imported_base L m) e)
-  item_same e = go e.list refl
-    where
-      go : (is : List Instr) → e.list ≡ is → constant_entry (module_target merged) no_globals (expr n m e) ≡ entry n (constant_entry (function_ref L m) (imported_base L m) e)
-      go [] q = rw q refl
-      go (i ∷ []) q = rw (q, out_instr n m i) (step_item (out-Instr i))
-      go (i ∷ j ∷ ks) q = rw q refl
+  -- a reference stays no operator
+  no_operator : (wasm : Module) (y : Open.Instr-F Instr Expr) → constant_step wasm y ≡ Some FuncRef → (op : ℕ) → renumbered n m (inside n m y) ≡ Open.Plain op → ⊥
+  no_operator wasm (Open.Index o k) h op e = cc
+  no_operator wasm (Open.RefNull u) h op e = cc
+  no_operator wasm _ h op e = cc
+
+  item_same : (wasm : Module) (e : Expr) → is_constant wasm FuncRef e ≡ true
+      → constant_entry (module_target merged) no_globals (expr n m e) ≡ entry n (constant_entry (function_ref L m) (imported_base L m) e)
+  item_same wasm e typed =
+      let one = reference_value wasm (function_ref L m) (imported_base L m) e typed in
+      let i = instr n m one.0 in
+      let merged_is : constant_of (module_target merged) no_globals (expr n m e) ≡ merged_value (renumbered n m (inside n m (out-Instr one.0))) =
+      ap (λ l. constant_in (module_target merged) no_globals (map (instr n m) l)) one.1
+      ∙ put_alone (module_target merged) no_globals i (λ op q. no_operator wasm (out-Instr one.0) one.2 op (sym (out_instr n m one.0) ∙ q))
+      ∙ ap merged_value (out_instr n m one.0) in
+      ap (λ (o : Option Value). o >>= reference_in) merged_is
+      ∙ step_item (out-Instr one.0)
+      ∙ ap (λ (o : Option Value). option_map (reference n) (o >>= reference_in)) (sym one.3)
 
   -- ---- segments
 
-  items_same : (items : ElemItems) → segment_items merged (renumbered_items n m items) ≡ map (entry n) (member_items L m items)
-  items_same (elem_items.Funcs []) = refl
-  items_same (elem_items.Funcs (f ∷ fs)) = (let rest = items_same (elem_items.Funcs fs) in let here = targets m f in cc)
-  items_same (elem_items.Exprs ty []) = refl
-  items_same (elem_items.Exprs ty (e ∷ es)) = (let rest = items_same (elem_items.Exprs ty es) in let here = item_same e in cc)
+  exprs_same : (wasm : Module) (es : List Expr) → list_all (is_constant wasm FuncRef) es ≡ true
+      → map (constant_entry (module_target merged) no_globals) (map (expr n m) es) ≡ map (entry n) (map (constant_entry (function_ref L m) (imported_base L m)) es)
+  exprs_same wasm [] h = refl
+  exprs_same wasm (e ∷ es) h =
+      let both = and_parts (is_constant wasm FuncRef e) (list_all (is_constant wasm FuncRef) es) h in
+      ap₂ (λ y ys. y ∷ ys) (item_same wasm e both.0) (exprs_same wasm es both.1)
 
-  elem_same : (e : Elem) → opened_items (segment_items merged) (passive_elem n m e) ≡ map (entry n) (opened_items (member_items L m) e)
-  elem_same e = go e.mode refl
+  items_same : (wasm : Module) (items : ElemItems) → items_fit wasm items ≡ true → segment_items merged (renumbered_items n m items) ≡ map (entry n) (member_items L m items)
+  items_same wasm (elem_items.Funcs fs) h = functions_same fs
     where
+      functions_same : (fs : List ℕ) → segment_items merged (renumbered_items n m (elem_items.Funcs fs)) ≡ map (entry n) (member_items L m (elem_items.Funcs fs))
+      functions_same [] = refl
+      functions_same (f ∷ fs) = (let rest = functions_same fs in let here = targets m f in cc)
+  items_same wasm (elem_items.Exprs ty es) h = exprs_same wasm es (and_parts (same_type ty FuncRef) (list_all (is_constant wasm FuncRef) es) h).1
+
+  elem_same : (wasm : Module) (e : Elem) → elem_fits wasm e ≡ true → opened_items (segment_items merged) (passive_elem n m e) ≡ map (entry n) (opened_items (member_items L m) e)
+  elem_same wasm e fits = go e.mode refl
+    where
+      items : items_fit wasm e.items ≡ true
+      items = (and_parts (elem_mode_fits wasm e.mode) (items_fit wasm e.items) fits).1
+
       go : (mode : ElemMode) → e.mode ≡ mode → opened_items (segment_items merged) (passive_elem n m e) ≡ map (entry n) (opened_items (member_items L m) e)
-      go (elem_mode.Active t offset) q = rw q (items_same e.items)
-      go elem_mode.Passive q = rw q (items_same e.items)
+      go (elem_mode.Active t offset) q = rw q (items_same wasm e.items items)
+      go elem_mode.Passive q = rw q (items_same wasm e.items items)
       go elem_mode.Declarative q = rw q refl
 
-  pub elems_same : (es : List Elem) → map (opened_items (segment_items merged)) (map (passive_elem n m) es) ≡ map (map (entry n)) (map (opened_items (member_items L m)) es)
-  elems_same [] = refl
-  elems_same (e ∷ es) = (let here = elem_same e in let rest = elems_same es in cc)
+  pub elems_same : (wasm : Module) (es : List Elem) → list_all (elem_fits wasm) es ≡ true
+      → map (opened_items (segment_items merged)) (map (passive_elem n m) es) ≡ map (map (entry n)) (map (opened_items (member_items L m)) es)
+  elems_same wasm [] h = refl
+  elems_same wasm (e ∷ es) h =
+      let both = and_parts (elem_fits wasm e) (list_all (elem_fits wasm) es) h in
+      ap₂ (λ y ys. y ∷ ys) (elem_same wasm e both.0) (elems_same wasm es both.1)

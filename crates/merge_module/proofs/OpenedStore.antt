@@ -34,6 +34,7 @@ use Rattle.merge_module.proofs.Known.{IsKnown}
 use Rattle.merge_module.proofs.WithLoader.{with_used, with_few}
 pub use Rattle.spec_loading.proofs.of_spec_linking.FewImports.{cells_few}
 use Rattle.merge_index.proofs.FewItems.{AreFew as AreFewParts, member_few, total_cons}
+use Rattle.spec_loading.proofs.of_spec_validation.Parts.{parts_fit}
 use Rattle.merge_module.proofs.SetMembers.{is_sound}
 use Rattle.merge_index.proofs.Counted.{joined_length, few_bytes, few_members, few_of}
 use Rattle.merge_module.proofs.MergedSpaces.{in_front, one_each, host_many}
@@ -159,7 +160,8 @@ module _ (L : LinkedSet) (K : IsKnown L) (few : (linked_plan L).pages_max ≤ 16
   elems_mapped : map (items_of L K few) (own L K few) ≡ map (map (entry n)) store.elems
   elems_mapped =
       members_mapped (items_of L K few) (map (entry n)) (λ k wasm. map (passive_elem n k) wasm.elems) (λ k wasm. map (opened_items (member_items L k)) wasm.elems) 0 members
-      (λ i y at. elems_same L n m (has_parts L K few).targets (0 + i) y.wasm.elems)
+      (λ i y at. elems_same L n m (has_parts L K few).targets (0 + i) y.wasm y.wasm.elems
+      (parts_fit y.wasm (is_sound L i y.wasm K.set (ap (λ (o : Option Member). o >>= λ z. Some z.wasm) at)).valid).elems)
 
   elems_whole : (opened L K few).elems ≡ map (map (entry n)) store.elems ++ last_elems
   elems_whole =

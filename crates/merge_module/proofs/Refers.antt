@@ -1,5 +1,5 @@
 -- What code of a member may refer to, renumbered code may refer to in the merged module.
-use Rattle.std.proofs.Common.{◌≡◌, ◌≤◌, ℕ, zero, suc, ◌+◌, Bool, true, false, ◌||◌, nat_eq, List, [], ◌∷◌, ◌++◌, length, map, slice_get, Option, Some, None, option_map, refl, sym, ap, ◌∙◌, arith}
+use Rattle.std.proofs.Common.{◌≡◌, ◌≤◌, ℕ, zero, suc, ◌+◌, Bool, true, false, ◌||◌, nat_eq, List, [], ◌∷◌, ◌++◌, length, map, slice_get, Option, Some, None, option_map, refl, sym, ap, ◌∙◌, arith, subst, if◌then◌else◌}
 use Rattle.std.specs.Prelude.{unwrap_or}
 use Rattle.std.specs.List.{list_any, flat_map, list_all}
 use Rattle.std.proofs.lemmas.Bool.{and_parts, and_from, eqb-true, eq-eqb, or_left, or_right, lt-ltb, ltb-true}
@@ -26,9 +26,15 @@ use Rattle.spec_reading.specs.wasm_form.declared.runtime.Value.{Value}
 use Rattle.spec_reading.specs.wasm_form.declared.runtime.Value.TheVariants.{Func}
 use Rattle.spec_reading.specs.spec_binary.Options.{◌>>=◌}
 use Rattle.spec_reading.specs.spec_binary.IndexSpaces.{function_space}
-use Rattle.spec_loading.specs.spec_validation.Faults.{is_function, constant_type, is_of_type, global_fits, refers_step, instr_refers, expr_refers, items_refer, elem_refers, desc_refers, export_refers, global_refers, refers}
+use Rattle.spec_loading.specs.spec_validation.Faults.{is_function, constant_index, is_constant, global_fits, refers_step, instr_refers, expr_refers, items_refer, elem_refers, desc_refers, export_refers, global_refers, refers}
 use Rattle.spec_loading.proofs.of_spec_validation.Parts.{parts_fit}
-use Rattle.spec_loading.specs.spec_runtime.Constants.{instruction_constant, constant_in}
+use Rattle.spec_loading.specs.spec_binary.SameTypes.{same_type}
+use Rattle.spec_loading.specs.spec_binary.Counted.{Step, Puts, Other, after_step, left}
+use Rattle.spec_loading.specs.spec_validation.Counted.{PutsOne, kind_of, step_at, step_of}
+use Rattle.spec_loading.proofs.of_spec_binary.OneType.{one_type}
+use Rattle.spec_loading.proofs.of_spec_validation.Constants.{constant_counts}
+use Rattle.spec_loading.proofs.of_spec_execution.Constants.{reference_value}
+use Rattle.spec_loading.specs.spec_runtime.Constants.{instruction_constant, constant_of}
 use Rattle.spec_loading.specs.spec_execution.Values.{zero_of}
 use Rattle.spec_loading.specs.spec_linking.Sets.{Member}
 use Rattle.spec_loading.specs.spec_linking.LinkedSets.{LinkedSet, wasm_of, function_ref}
@@ -123,6 +129,42 @@ constant_refers n F64 r k e = eq-eqb (n.function r) k e
 constant_refers n FuncRef r k e = eq-eqb (n.function r) k e
 constant_refers n ExternRef r k e = eq-eqb (n.function r) k e
 
+-- ---- a constant expression that refers to a function is a reference
+
+module _ (wasm : Module) (t : ValType) (f : ℕ) where
+  by_type : (b : Bool) → (step_at t ((if b then Some FuncRef else None) >>= λ u. Some (PutsOne u)) ≡ Other → ⊥) → t ≡ FuncRef
+  by_type false counts = absurd (counts refl)
+  by_type true counts = at (same_type t FuncRef) refl counts
+    where
+      at : (b : Bool) → same_type t FuncRef ≡ b → ((if b then Puts else Other) ≡ Other → ⊥) → t ≡ FuncRef
+      at true q c = one_type t FuncRef q
+      at false q c = absurd (c refl)
+
+  form_reference : (op k : ℕ) (form : Option IndexForm) → index_form op ≡ form → refers_step f (Open.Index op k) ≡ true
+      → (step_at t (kind_of wasm (Open.Index op k)) ≡ Other → ⊥) → t ≡ FuncRef
+  form_reference op k (Some index.RefFunc) q e counts =
+      by_type (is_function wasm k) (λ h. counts (ap (λ (o : Option IndexForm). step_at t ((o >>= λ i. constant_index wasm i k) >>= λ u. Some (PutsOne u))) q ∙ h))
+  form_reference op k _ q e counts = (let h = rw q at e in absurd cc)
+
+  step_reference : (x : Open.Instr-F Instr Expr) → refers_step f x ≡ true → (step_at t (kind_of wasm x) ≡ Other → ⊥) → t ≡ FuncRef
+  step_reference (Open.Index op k) e counts = form_reference op k (index_form op) refl e counts
+  step_reference _ e counts = absurd cc
+
+  list_reference : (is : List Instr) (n k : ℕ) → left (step_of wasm t) is n ≡ Some k → list_any (instr_refers f) is ≡ true → t ≡ FuncRef
+  list_reference [] n k e h = absurd cc
+  list_reference (i ∷ is) n k e h = go (after_step (step_of wasm t i) n) refl e (λ j later g. list_reference is j k later g)
+    where
+      go : (o : Option ℕ) → after_step (step_of wasm t i) n ≡ o → (o >>= left (step_of wasm t) is) ≡ Some k
+          → ((j : ℕ) → left (step_of wasm t) is j ≡ Some k → list_any (instr_refers f) is ≡ true → t ≡ FuncRef) → t ≡ FuncRef
+      go None q e later = absurd cc
+      go (Some j) q e later =
+          either (instr_refers f i) (list_any (instr_refers f) is) h
+          (λ g. step_reference (out-Instr i) g (λ z. (let none : None ≡ Some j = ap (λ y. after_step y n) (sym z) ∙ q in cc)))
+          (λ g. later j e g)
+
+  refers_reference : (e : Expr) → is_constant wasm t e ≡ true → expr_refers f e ≡ true → t ≡ FuncRef
+  refers_reference e typed h = list_reference e.list 0 1 (constant_counts wasm t e typed) h
+
 module _ (L : LinkedSet) (K : IsKnown L) (few : (linked_plan L).pages_max ≤ 16384) (m : ℕ) (member : Member)
     (at : slice_get L.set.members m ≡ Some member) where
   abbrev n : Numbers
@@ -185,22 +227,20 @@ module _ (L : LinkedSet) (K : IsKnown L) (few : (linked_plan L).pages_max ≤ 16
     step_value (Open.Index op k) e = form_value op k (index_form op) refl e
     step_value _ e = absurd cc
 
-    init_value : (l : List Instr) (t : ValType) → constant_type wasm l ≡ Some t → list_any (instr_refers f) l ≡ true
-        → constant_in (function_ref L m) (imported_base L m) l ≡ Some (Func (Some function_there.0))
-    init_value (i ∷ []) t typed e = either (instr_refers f i) false e (λ h. step_value (out-Instr i) h) (λ h. absurd cc)
-    init_value _ t typed e = absurd cc
+    init_value : (t : ValType) (e : Expr) → is_constant wasm t e ≡ true → expr_refers f e ≡ true
+        → constant_of (function_ref L m) (imported_base L m) e ≡ Some (Func (Some function_there.0))
+    init_value t e typed h =
+        let is : t ≡ FuncRef = refers_reference wasm t f e typed h in
+        let one = reference_value wasm (function_ref L m) (imported_base L m) e (subst (λ u. is_constant wasm u e ≡ true) is typed) in
+        let here : list_any (instr_refers f) (one.0 ∷ []) ≡ true = subst (λ l. list_any (instr_refers f) l ≡ true) one.1 h in
+        one.3 ∙ step_value (out-Instr one.0) (either (instr_refers f one.0) false here (λ g. g) (λ g. absurd cc))
 
     global_too : (g : GlobalDef) → global_fits wasm g ≡ true → global_refers f g ≡ true → global_refers named (own_global L n m g) ≡ true
     global_too g fits e =
-        let typed = some_type g.ty.value (constant_type wasm g.init.list) fits in
-        let value : opened_global L m g ≡ Func (Some function_there.0) = ap (λ (o : Option Value). unwrap_or o (zero_of g.ty.value)) (init_value g.init.list typed.0 typed.1 e) in
+        let value : opened_global L m g ≡ Func (Some function_there.0) = ap (λ (o : Option Value). unwrap_or o (zero_of g.ty.value)) (init_value g.ty.value g.init fits e) in
         let number : n.function function_there.0 ≡ named = sym (ap (λ (o : Option Ref). number_of (option_map (function_number L) o)) function_there.1) in
         ap (λ v. list_any (instr_refers named) (constant_instr n g.ty.value v ∷ [])) value
         ∙ or_left (instr_refers named (constant_instr n g.ty.value (Func (Some function_there.0)))) false (constant_refers n g.ty.value function_there.0 named number)
-      where
-        some_type : (t : ValType) (o : Option ValType) → is_of_type t o ≡ true → (u : ValType) × (o ≡ Some u)
-        some_type t None h = absurd cc
-        some_type t (Some u) h = (u, refl)
 
     globals_too : (gs : List GlobalDef) → list_all (global_fits wasm) gs ≡ true → list_any (global_refers f) gs ≡ true → list_any (global_refers named) (map (own_global L n m) gs) ≡ true
     globals_too [] fits e = absurd cc

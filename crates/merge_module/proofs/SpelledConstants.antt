@@ -18,6 +18,7 @@ use Rattle.spec_reading.specs.wasm_form.declared.module.Module.{Module}
 use Rattle.spec_reading.proofs.of_spec_binary.SignedSpelling.{signed_range}
 use Rattle.spec_reading.proofs.of_spec_binary.Joined.{each_all}
 use Rattle.std.specs.List.{All}
+use Rattle.std.proofs.lemmas.List.Elements.{All-nil, All-cons}
 use Rattle.spec_reading.proofs.of_spec_binary.SpelledParts.{AreSpelled}
 use Rattle.spec_reading.specs.spec_binary.Instructions.{SpellsInstr, SpellsInstrs}
 use Rattle.spec_reading.specs.spec_binary.Instructions as instructions
@@ -66,6 +67,11 @@ instr_fits (instructions.second op k s) = tt
 instrs_fit : {is : List Instr} {w : List ℕ} → SpellsInstrs is w → Fit is
 instrs_fit instructions.done = tt
 instrs_fit (instructions.next i is) = (instr_fits i, instrs_fit is)
+
+-- each instruction of the list
+pub each_fits : (is : List Instr) → Fit is → All (λ i. FitsHere (out-Instr i)) is
+each_fits [] fit = All-nil (λ i. FitsHere (out-Instr i))
+each_fits (i ∷ is) fit = All-cons (λ i. FitsHere (out-Instr i)) i is fit.0 (each_fits is fit.1)
 
 constant_fits : {e : Expr} {w : List ℕ} → SpellsConstant e w → Fit e.list
 constant_fits (parts.constant flat (instructions.expr is)) = instrs_fit is

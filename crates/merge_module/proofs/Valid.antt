@@ -39,7 +39,11 @@ use Rattle.spec_reading.specs.spec_binary.SameTypes.{same_type}
 use Rattle.spec_reading.specs.spec_binary.Indices.{nullary, function_type}
 use Rattle.spec_reading.specs.spec_binary.IndexSpaces.{imports_of, functions_in, globals_in, function_space, imported_count, table_space}
 use Rattle.spec_loading.specs.spec_runtime.Names.{HostName}
-use Rattle.spec_loading.specs.spec_validation.Faults.{is_supported, is_function_supported, type_supported, desc_supported, item_type, is_type, most_entries, table_bounded, memory_bounded, is_function, immutable, constant_step, constant_type, is_of_type, is_constant, global_fits, is_there, export_fits, elem_mode_fits, items_fit, elem_fits, body_supported, data_fits, fault}
+use Rattle.spec_loading.specs.spec_validation.Faults.{is_supported, is_function_supported, type_supported, desc_supported, item_type, is_type, most_entries, table_bounded, memory_bounded, is_function, immutable, constant_step, is_constant, global_fits, is_there, export_fits, elem_mode_fits, items_fit, elem_fits, body_supported, data_fits, fault}
+use Rattle.spec_loading.specs.spec_binary.Counted.{after_step, left}
+use Rattle.spec_loading.specs.spec_validation.Counted.{PutsOne, kind_of, step_at, step_of}
+use Rattle.spec_loading.proofs.of_spec_binary.OneType.{itself}
+use Rattle.spec_loading.proofs.of_spec_validation.Constants.{counts_constant, reference_alone}
 use Rattle.spec_loading.proofs.of_spec_validation.Parts.{parts_fit}
 use Rattle.spec_loading.specs.spec_execution.Instances.{module_target, function_named}
 use Rattle.spec_loading.specs.spec_linking.Sets.{Member}
@@ -49,10 +53,10 @@ use Rattle.spec_loading.specs.spec_linking.Slots.{linked_plan, memory_base, tabl
 use Rattle.spec_loading.proofs.of_spec_linking.LinkedFacts.{linked_limits}
 use Rattle.spec_loading.proofs.of_spec_safety.Lookups.{went_on, got, holds_at}
 use Rattle.spec_loading.specs.Members.{uses_loader, from_members, opened_global}
-use Rattle.merge_match.specs.Renumbering.{Numbers, index_in, renumbered, expr, reference}
+use Rattle.merge_match.specs.Renumbering.{Numbers, index_in, renumbered, instr, expr, reference}
 use Rattle.merge_match.specs.Joined.{renumbered_code}
 use Rattle.merge_match.proofs.OneLevel.{inside as with_numbers, out_instr}
-use Rattle.merge_start.specs.Words.{Starts}
+use Rattle.merge_start.specs.Words.{Starts, number}
 use Rattle.merge_start.specs.Typed.{GeneratedIsTyped}
 use Rattle.merge_dl.specs.Words.{handle_type, unary_type, binary_type, search_type}
 use Rattle.merge_dl.specs.Typed.{LoaderIsTyped}
@@ -69,7 +73,7 @@ use Rattle.merge_module.proofs.References.{stub_there}
 use Rattle.merge_module.proofs.MergedSpaces.{nullary_there, generated_codes}
 use Rattle.merge_module.proofs.HostTypes.{host_types}
 use Rattle.merge_module.proofs.Generated.{entry_typed}
-use Rattle.merge_module.proofs.GlobalValues.{base_is_number, IsNamed, IsValue, of_type, opened_is}
+use Rattle.merge_module.proofs.GlobalValues.{base_is_number, IsNamed, IsValue, opened_is}
 use Rattle.merge_module.proofs.SpelledConstants.{Fit, constants_fit}
 use Rattle.merge_index.proofs.FewItems.{member_spelled}
 use Rattle.merge_module.proofs.SlotFunctions.{IsOwnIn, fresh_own, IsOutsideSet, slots_outside}
@@ -118,17 +122,31 @@ target_is m f r e = (let ty = went_on (function_type m f) (λ ty. Some (function
 
 -- ---- constants
 
+-- an instruction that puts a value of the type on the stack is a constant expression
+alone_constant : (m : Module) (t : ValType) (e : Expr) (i : Instr) → e.list ≡ i ∷ [] → constant_step m (out-Instr i) ≡ Some t → is_constant m t e ≡ true
+alone_constant m t e i q h = counts_constant m t e (ap (λ l. left (step_of m t) l 0) q ∙ go (out-Instr i) h)
+  where
+    one : (after_step (step_at t (Some (PutsOne t))) 0 >>= left (step_of m t) []) ≡ Some 1
+    one = rw (itself t) refl
+
+    go : (x : Open.Instr-F Instr Expr) → constant_step m x ≡ Some t → (after_step (step_at t (kind_of m x)) 0 >>= left (step_of m t) []) ≡ Some 1
+    go (Open.Plain op) h = absurd cc
+    go x h = ap (λ (o : Option ValType). after_step (step_at t (o >>= λ u. Some (PutsOne u))) 0 >>= left (step_of m t) []) h ∙ one
+
+alone : (m : Module) (t : ValType) (i : Instr) → constant_step m (out-Instr i) ≡ Some t → is_constant m t (record { list = i ∷ [] }) ≡ true
+alone m t i h = alone_constant m t (record { list = i ∷ [] }) i refl h
+
 number_constant : (m : Module) (k : ℕ) → is_constant m I32 (number_expr k) ≡ true
 unfolding out-Instr out
-number_constant m k = refl
+number_constant m k = alone m I32 (number k) refl
 
 value_constant : (m : Module) (L : LinkedSet) (n : Numbers) → ((r : Ref) → IsNamed L r → is_function m (n.function r) ≡ true) → (t : ValType) (v : Value) → IsValue L t v
     → is_constant m t (record { list = constant_instr n t v ∷ [] }) ≡ true
 unfolding out-Instr out
-value_constant m L n there I32 (Num k) is = refl
-value_constant m L n there I64 (Num k) is = refl
-value_constant m L n there FuncRef (Func None) is = refl
-value_constant m L n there FuncRef (Func (Some r)) is = rw (there r is) refl
+value_constant m L n there I32 (Num k) is = alone m I32 (constant_instr n I32 (Num k)) refl
+value_constant m L n there I64 (Num k) is = alone m I64 (constant_instr n I64 (Num k)) refl
+value_constant m L n there FuncRef (Func None) is = alone m FuncRef (constant_instr n FuncRef (Func None)) refl
+value_constant m L n there FuncRef (Func (Some r)) is = alone m FuncRef (constant_instr n FuncRef (Func (Some r))) (rw (there r is) refl)
 value_constant m L n there I32 (Func r) is = absurd is
 value_constant m L n there I64 (Func r) is = absurd is
 value_constant m L n there FuncRef (Num k) is = absurd is
@@ -270,10 +288,10 @@ module _ (L : LinkedSet) (K : IsKnown L) (few : (linked_plan L).pages_max ≤ 16
         and_from (is_function merged (n.named m f)) (list_all (is_function merged) (map (n.named m) fs)) (function_too L K few m member at f both.0) (functions_too fs both.1)
 
     index_too : (op k : ℕ) (form : Option IndexForm) → index_form op ≡ form → constant_step wasm (Open.Index op k) ≡ Some FuncRef
-        → is_of_type FuncRef (constant_step merged (Open.Index op (index_in n m (index_form op) k))) ≡ true
+        → constant_step merged (Open.Index op (index_in n m (index_form op) k)) ≡ Some FuncRef
     index_too op k (Some index.RefFunc) q e = (let h = rw q at e in rw q (function_case (is_function wasm k) refl h))
       where
-        function_case : (b : Bool) → is_function wasm k ≡ b → (if b then Some FuncRef else None) ≡ Some FuncRef → is_of_type FuncRef (if is_function merged (n.named m k) then Some FuncRef else None) ≡ true
+        function_case : (b : Bool) → is_function wasm k ≡ b → (if b then Some FuncRef else None) ≡ Some FuncRef → (if is_function merged (n.named m k) then Some FuncRef else None) ≡ Some FuncRef
         function_case true r h = rw (function_too L K few m member at k r) refl
         function_case false r h = absurd cc
     index_too op k (Some index.GlobalGet) q e =
@@ -296,20 +314,17 @@ module _ (L : LinkedSet) (K : IsKnown L) (few : (linked_plan L).pages_max ≤ 16
     index_too op k (Some index.TableGet) q e = (let h = rw q at e in absurd cc)
     index_too op k (Some index.TableSet) q e = (let h = rw q at e in absurd cc)
 
-    step_too : (y : Open.Instr-F Instr Expr) → constant_step wasm y ≡ Some FuncRef → is_of_type FuncRef (constant_step merged (renumbered n m (with_numbers n m y))) ≡ true
+    step_too : (y : Open.Instr-F Instr Expr) → constant_step wasm y ≡ Some FuncRef → constant_step merged (renumbered n m (with_numbers n m y)) ≡ Some FuncRef
     step_too (Open.Index op k) e = index_too op k (index_form op) refl e
-    step_too (Open.RefNull t) e = rw e refl
+    step_too (Open.RefNull t) e = e
     step_too (Open.I32Const z) e = absurd cc
     step_too (Open.I64Const z) e = absurd cc
     step_too _ e = absurd cc
 
     constant_too : (e : Expr) → is_constant wasm FuncRef e ≡ true → is_constant merged FuncRef (expr n m e) ≡ true
-    constant_too e fits = go e.list refl (of_type FuncRef (constant_type wasm e.list) fits)
-      where
-        go : (l : List Instr) → e.list ≡ l → constant_type wasm e.list ≡ Some FuncRef → is_constant merged FuncRef (expr n m e) ≡ true
-        go [] q h = (let g = rw q at h in absurd cc)
-        go (i ∷ []) q h = (let g : constant_step wasm (out-Instr i) ≡ Some FuncRef = rw q at h in rw (q, out_instr n m i) (step_too (out-Instr i) g))
-        go (i ∷ j ∷ l) q h = (let g = rw q at h in absurd cc)
+    constant_too e fits =
+        let one = reference_alone wasm e fits in
+        alone_constant merged FuncRef (expr n m e) (instr n m one.0) (ap (map (instr n m)) one.1) (ap (constant_step merged) (out_instr n m one.0) ∙ step_too (out-Instr one.0) one.2)
 
     constants_too : (es : List Expr) → list_all (is_constant wasm FuncRef) es ≡ true → list_all (is_constant merged FuncRef) (map (expr n m) es) ≡ true
     constants_too [] e = refl

@@ -59,7 +59,7 @@ use Rattle.merge_module.proofs.MergedSpaces.{past_front, in_front, own_funcs, ow
 use Rattle.merge_module.proofs.OwnNumbers.{own_funcs_many, own_codes_many}
 use Rattle.merge_module.proofs.Generated.{nullary_listed, phase_typed}
 use Rattle.merge_module.proofs.Ready.{callable, entry_ready}
-use Rattle.merge_module.proofs.GlobalValues.{one_type}
+use Rattle.spec_reading.proofs.of_spec_binary.OneType.{one_type}
 use Rattle.merge_module.proofs.Applied.{own_elems, slot_elems}
 use Rattle.merge_module.proofs.Opens.{N, X, M}
 use Rattle.merge_module.proofs.OpenedStore.{member_globals_fit}

@@ -40,6 +40,7 @@ use Rattle.spec_loading.specs.Texts.{error_texts}
 use Rattle.spec_loading.specs.declared.task.Phase.TheVariants.{Place, Start, Relocate, Construct}
 use Rattle.spec_loading.specs.Members.{from_members, uses_loader, opened_global}
 use Rattle.spec_loading.specs.LoadedSet.{own_functions}
+use Rattle.merge_pieces.specs.Opcodes as op
 use Rattle.merge_match.specs.Renumbering.{Numbers, expr}
 use Rattle.merge_match.specs.Parts.{number_of}
 use Rattle.merge_match.specs.Joined.{renumbered_code, type_address}
@@ -171,7 +172,7 @@ plain_code is = record { locals = []; body = record { list = is } }
 
 -- a call of what nothing defines traps
 abbrev pub trap_code : Code
-trap_code = plain_code (roll-Instr (Open.Plain 0) ∷ [])
+trap_code = plain_code (roll-Instr (Open.Plain op.unreachable) ∷ [])
 
 abbrev pub stub_codes : LinkedSet → ℕ → Module → List Code
 stub_codes L m wasm = map (λ f. trap_code) (stubs_of L m wasm)
@@ -228,7 +229,7 @@ abbrev pub constant_instr : Numbers → ValType → Value → Instr
 constant_instr n I64 (Num k) = I64Const (cast_signed w64 k)
 constant_instr n _ (Num k) = number k
 constant_instr n _ (Func None) = RefNull FuncRef
-constant_instr n _ (Func (Some r)) = Index 0xD2 (n.function r)
+constant_instr n _ (Func (Some r)) = Index op.ref_func (n.function r)
 
 -- a global that member m defines begins with its value
 abbrev pub own_global : LinkedSet → Numbers → ℕ → GlobalDef → GlobalDef

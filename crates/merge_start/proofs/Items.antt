@@ -1,5 +1,5 @@
 -- What the element segments of a valid module hold: functions and nulls.
-use Rattle.std.proofs.Common.{◌≡◌, ℕ, ◌^◌, ◌<◌, ◌≤◌, Bool, true, false, ◌&&◌, List, [], ◌∷◌, length, map, get_or, Some, None, refl, arith, length-append}
+use Rattle.std.proofs.Common.{◌≡◌, ℕ, ◌^◌, ◌<◌, ◌≤◌, Bool, true, false, ◌&&◌, List, [], ◌∷◌, length, map, get_or, Some, None, refl, sym, subst, arith, length-append}
 use Rattle.std.specs.List.{All, list_all}
 use Rattle.std.proofs.lemmas.List.Folds.{list_all_at}
 use Rattle.std.proofs.lemmas.List.Elements.{All-nil, All-cons}
@@ -17,13 +17,14 @@ use Rattle.wasm_form.specs.declared.module.Module.{Module}
 use Rattle.spec_loading.specs.spec_binary.SameTypes.{same_type}
 use Rattle.spec_loading.specs.spec_binary.IndexSpaces.{imports_of, functions_in, function_space}
 use Rattle.spec_loading.specs.spec_binary.WellFormed.{IsWellFormed}
-use Rattle.spec_loading.specs.spec_validation.Faults.{fault, is_of_type, constant_step, constant_type, is_constant, items_fit, elem_mode_fits, elem_fits}
+use Rattle.spec_loading.specs.spec_validation.Faults.{fault, constant_step, is_constant, items_fit, elem_mode_fits, elem_fits}
 use Rattle.spec_loading.proofs.of_spec_validation.Parts.{parts_fit}
 use Rattle.spec_loading.specs.spec_linking.LinkedSets.{LinkedSet}
 use Rattle.spec_loading.specs.spec_linking.Slots.{fresh_of}
 use Rattle.spec_loading.specs.Addresses.{sum_before}
 use Rattle.merge_start.specs.declared.numbers.StartNumbers.{StartNumbers}
 use Rattle.merge_start.specs.Passive.{functions_at, passive_elem, functions_elem, own_elems, fresh_elems, IsItem, AreItems}
+use Rattle.spec_loading.proofs.of_spec_validation.Constants.{reference_alone}
 
 second_holds : (a b : Bool) → (a && b) ≡ true → b ≡ true
 second_holds true b h = h
@@ -36,23 +37,24 @@ all_true p xs h k d lt = go (p (get_or xs k d)) refl
     go true e = refl
     go false e = (let not = list_all_at p xs k d lt e in absurd cc)
 
-step_is_item : (m : Module) (x : Open.Instr-F Instr Expr) → is_of_type FuncRef (constant_step m x) ≡ true → IsItem x
+step_is_item : (m : Module) (x : Open.Instr-F Instr Expr) → constant_step m x ≡ Some FuncRef → IsItem x
 step_is_item m (Open.I32Const n) h = absurd cc
 step_is_item m (Open.I64Const n) h = absurd cc
 step_is_item m (Open.RefNull t) h = tt
 step_is_item m (Open.Index op n) h = tt
 step_is_item m _ h = absurd cc
 
-list_is_item : (m : Module) (is : List Instr) → is_of_type FuncRef (constant_type m is) ≡ true → All (λ i. IsItem (out-Instr i)) is
-list_is_item m [] h = absurd cc
-list_is_item m (i ∷ []) h = All-cons (λ i. IsItem (out-Instr i)) i [] (step_is_item m (out-Instr i) h) (All-nil (λ i. IsItem (out-Instr i)))
-list_is_item m (i ∷ j ∷ is) h = absurd cc
+list_is_item : (m : Module) (e : Expr) → is_constant m FuncRef e ≡ true → All (λ i. IsItem (out-Instr i)) e.list
+list_is_item m e h =
+    let one = reference_alone m e h in
+    subst (λ (is : List Instr). All (λ i. IsItem (out-Instr i)) is) (sym one.1)
+    (All-cons (λ i. IsItem (out-Instr i)) one.0 [] (step_is_item m (out-Instr one.0) one.2) (All-nil (λ i. IsItem (out-Instr i))))
 
 items_are : (m : Module) (items : ElemItems) → items_fit m items ≡ true → AreItems items
 items_are m (elem_items.Funcs fs) h = tt
 items_are m (elem_items.Exprs t es) h =
     let all = second_holds (same_type t FuncRef) (list_all (is_constant m FuncRef) es) h in
-    λ k d lt. list_is_item m (get_or es k d).list (all_true (is_constant m FuncRef) es all k d lt)
+    λ k d lt. list_is_item m (get_or es k d) (all_true (is_constant m FuncRef) es all k d lt)
 
 pub elems_are : (m : Module) → fault m ≡ None → All (λ (e : Elem). AreItems e.items) m.elems
 elems_are m valid = λ k d lt.

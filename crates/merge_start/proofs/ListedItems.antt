@@ -22,7 +22,7 @@ use Rattle.spec_loading.proofs.of_wasm_form.Levels.{fold_level}
 use Rattle.spec_loading.specs.spec_binary.Options.{◌>>=◌}
 use Rattle.spec_loading.specs.spec_binary.SameTypes.{same_type}
 use Rattle.spec_loading.specs.spec_binary.IndexSpaces.{imports_of, globals_in}
-use Rattle.spec_loading.specs.spec_validation.Faults.{immutable, constant_index, is_of_type, constant_step, constant_type, is_constant, items_fit, elem_mode_fits, elem_fits}
+use Rattle.spec_loading.specs.spec_validation.Faults.{immutable, constant_index, constant_step, is_constant, items_fit, elem_mode_fits, elem_fits}
 use Rattle.spec_loading.proofs.of_spec_validation.Parts.{parts_fit}
 use Rattle.spec_loading.specs.spec_linking.Sets as sets
 use Rattle.spec_loading.specs.spec_linking.Gathering.{IsMember}
@@ -39,6 +39,7 @@ use Rattle.dyl_addresses.proofs.Linked.{members_count, bases_long, table_bases_l
 use Rattle.merge_match.specs.Renumbering.{Numbers, index_in, rolled, same_expr, instr, code, expr}
 use Rattle.merge_match.proofs.OneLevel.{in_expr, inside}
 use Rattle.merge_start.specs.declared.numbers.StartNumbers.{StartNumbers}
+use Rattle.spec_loading.proofs.of_spec_validation.Constants.{reference_alone}
 use Rattle.merge_start.specs.Passive.{functions_at, functions_span, passive_mode, renumbered_items, passive_elem, own_elems, fresh_elems, AreNamed, renumbered_elems, renumbered_slots, ListedIsRenumbered}
 
 -- ---- imported globals are numbers
@@ -47,9 +48,9 @@ all_none : {A : Type 0} (find : A → Finding) (xs : List A) → ((i : ℕ) (x :
 all_none find [] each = refl
 all_none find (x ∷ xs) each = (let here = each 0 x refl in let later = all_none find xs (λ i y e. each (suc i) y e) in rw (here, later) refl)
 
-no_function : (b : Bool) (v : ValType) → v ≡ I32 → is_of_type FuncRef (if b then None else Some v) ≡ true → ⊥
+no_function : (b : Bool) (v : ValType) → v ≡ I32 → (if b then None else Some v) ≡ Some FuncRef → ⊥
 no_function true v word h = absurd cc
-no_function false v word h = (let q : same_type FuncRef I32 ≡ true = subst (λ (u : ValType). same_type FuncRef u ≡ true) word h in absurd cc)
+no_function false v word h = (let q : Some I32 ≡ Some FuncRef = subst (λ (u : ValType). Some u ≡ Some FuncRef) word h in absurd cc)
 
 some_type : (a b : GlobalType) → Some a ≡ Some b → a ≡ b
 some_type a b e = cc
@@ -73,7 +74,7 @@ module _ (L : LinkedSet) (k : Kept) (h : IsLinked L k) (m : ℕ) (member : sets.
       global_is_word L m wasm here imports_none (record { memory = memory.0; table = table.0 })
       (ap (λ (p : Plan). slice_get p.bases m) (sym h.plan) ∙ memory.1) (ap (λ (p : Plan). slice_get p.table_bases m) (sym h.plan) ∙ table.1) g ty e
 
-  no_global : (g : ℕ) (o : Option GlobalType) → slice_get (imports_of globals_in wasm.imports) g ≡ o → is_of_type FuncRef (o >>= immutable) ≡ true → ⊥
+  no_global : (g : ℕ) (o : Option GlobalType) → slice_get (imports_of globals_in wasm.imports) g ≡ o → (o >>= immutable) ≡ Some FuncRef → ⊥
   no_global g None e fits = absurd cc
   no_global g (Some ty) e fits = no_function ty.mutable ty.value (is_word g ty e) fits
 
@@ -86,7 +87,7 @@ module _ (L : LinkedSet) (k : Kept) (h : IsLinked L k) (m : ℕ) (member : sets.
     name_is : (f : ℕ) → P.named 0 f ≡ n.named m f
     name_is f = sym (named.named m f wasm here)
 
-    index_is : (o : Option IndexForm) (i : ℕ) → is_of_type FuncRef (o >>= λ f. constant_index wasm f i) ≡ true → index_in P 0 o i ≡ index_in n m o i
+    index_is : (o : Option IndexForm) (i : ℕ) → (o >>= λ f. constant_index wasm f i) ≡ Some FuncRef → index_in P 0 o i ≡ index_in n m o i
     index_is None i fits = refl
     index_is (Some RefFunc) i fits = name_is i
     index_is (Some Call) i fits = name_is i
@@ -100,7 +101,7 @@ module _ (L : LinkedSet) (k : Kept) (h : IsLinked L k) (m : ℕ) (member : sets.
     index_is (Some TableGet) i fits = absurd cc
     index_is (Some TableSet) i fits = absurd cc
 
-    level_is : (x : Open.Instr-F Instr Expr) → is_of_type FuncRef (constant_step wasm x) ≡ true
+    level_is : (x : Open.Instr-F Instr Expr) → constant_step wasm x ≡ Some FuncRef
         → rolled P 0 (inside P 0 x) ≡ rolled n m (inside n m x)
     level_is (Open.I32Const c) fits = refl
     level_is (Open.I64Const c) fits = refl
@@ -108,22 +109,22 @@ module _ (L : LinkedSet) (k : Kept) (h : IsLinked L k) (m : ℕ) (member : sets.
     level_is (Open.Index op i) fits = ap (λ j. roll-Instr (Open.Index op j)) (index_is (index_form op) i fits)
     level_is _ fits = absurd cc
 
-    instr_is : (i : Instr) → is_of_type FuncRef (constant_step wasm (out-Instr i)) ≡ true → instr P 0 i ≡ instr n m i
+    instr_is : (i : Instr) → constant_step wasm (out-Instr i) ≡ Some FuncRef → instr P 0 i ≡ instr n m i
     instr_is i fits =
         fold_level (rolled P 0) same_expr (in_expr P 0) (λ is. refl) i
         ∙ level_is (out-Instr i) fits
         ∙ sym (fold_level (rolled n m) same_expr (in_expr n m) (λ is. refl) i)
 
-    list_is : (is : List Instr) → is_of_type FuncRef (constant_type wasm is) ≡ true → code P 0 is ≡ code n m is
-    list_is [] fits = refl
-    list_is (i ∷ []) fits = ap (λ (j : Instr). j ∷ []) (instr_is i fits)
-    list_is (i ∷ j ∷ is) fits = absurd cc
+    list_is : (e : Expr) → is_constant wasm FuncRef e ≡ true → code P 0 e.list ≡ code n m e.list
+    list_is e fits =
+        let one = reference_alone wasm e fits in
+        subst (λ (is : List Instr). code P 0 is ≡ code n m is) (sym one.1) (ap (λ (j : Instr). j ∷ []) (instr_is one.0 one.2))
 
     exprs_are : (es : List Expr) → list_all (is_constant wasm FuncRef) es ≡ true → map (expr P 0) es ≡ map (expr n m) es
     exprs_are [] fits = refl
     exprs_are (e ∷ es) fits =
         let both = and_parts (is_constant wasm FuncRef e) (list_all (is_constant wasm FuncRef) es) fits in
-        ap₂ (λ (x : Expr) (xs : List Expr). x ∷ xs) (ap (λ (is : List Instr). record { list = is }) (list_is e.list both.0)) (exprs_are es both.1)
+        ap₂ (λ (x : Expr) (xs : List Expr). x ∷ xs) (ap (λ (is : List Instr). record { list = is }) (list_is e both.0)) (exprs_are es both.1)
 
     names_are : (fs : List ℕ) → map (P.named 0) fs ≡ map (n.named m) fs
     names_are [] = refl

@@ -37,7 +37,7 @@ fn elem_code(
     ensures { IfOk result (λ x. x.items ≡ effects_code (numbers_at n.now at) 0 (segments.elem_effects (number_with bases.now) e elem.now)) }
 {
     match &elem.mode {
-        ElemMode::Active { table, offset: o } => match offset(bases, o) {
+        ElemMode::Active { table, offset: o } => match offset(alloc, bases, o)? {
             Some(index) => {
                 let count = items_count(&elem.items);
                 elem_applied(alloc, n, at, e, *table, index, count)
@@ -66,7 +66,7 @@ fn data_code(
         DataMode::Active {
             memory: _,
             offset: o,
-        } => match offset(bases, o) {
+        } => match offset(alloc, bases, o)? {
             Some(address) => {
                 let count = segment.bytes.items().len() as u32;
                 data_applied(alloc, n, at, d, address, count)

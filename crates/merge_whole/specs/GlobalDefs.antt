@@ -6,33 +6,25 @@ use Rattle.wasm_form.specs.declared.instr.Expr.{Expr}
 use Rattle.wasm_form.specs.declared.module.Import.{Import}
 use Rattle.wasm_form.specs.declared.module.GlobalDef.{GlobalDef}
 use Rattle.wasm_form.specs.declared.module.Module.{Module}
-use Rattle.wasm_form.specs.declared.runtime.Ref.{Ref}
 use Rattle.wasm_form.specs.declared.runtime.Value.{Value}
 use Rattle.wasm_form.specs.declared.runtime.Value.TheVariants.{Num, Func}
-use Rattle.spec_reading.specs.spec_binary.Options.{◌>>=◌}
 use Rattle.spec_reading.specs.spec_binary.IndexSpaces.{globals_in}
 use Rattle.spec_loading.specs.spec_runtime.Constants.{constant_of}
 use Rattle.spec_loading.specs.spec_execution.Values.{zero_of}
-use Rattle.spec_loading.specs.spec_linking.Slots.{CellName, as_number, cell_of_import, first_cells}
+use Rattle.spec_loading.specs.spec_linking.Slots.{CellName, cell_of_import, first_cells}
 use Rattle.spec_loading.specs.Members.{from_members}
 use Rattle.dyl_link.specs.Kept.{Kept, function_in, cell_in}
 use Rattle.merge_match.specs.Renumbering.{Numbers}
 use Rattle.dyl_addresses.specs.Bases.{bases_from}
+use Rattle.dyl_addresses.specs.Offsets.{based}
 use Rattle.dyl_addresses.specs.Globals.{with_cells}
 use Rattle.merge_module.specs.MergedModule.{number_global, constant_instr}
 use Rattle.merge_whole.specs.Counts.{members_of}
 
 -- ---- constants of a member
 
-abbrev pub function_value : Option Ref → Option Value
-function_value found = found >>= λ r. Some (Func (Some r))
-
--- imported globals are these bases
-abbrev pub base_value : List (Option ℕ) → ℕ → Option Value
-base_value bases g = slice_get bases g >>= as_number
-
 abbrev pub constant_by : Kept → List (Option ℕ) → ℕ → Expr → Option Value
-constant_by k bases m e = constant_of (function_in k m) (base_value bases) e
+constant_by k bases m e = constant_of (function_in k m) (based bases) e
 
 -- ---- globals of a member
 

@@ -8,4 +8,5 @@ pub mod Locals
 pub mod OneType
 pub mod SpelledItems
 pub mod SpelledParts
+pub mod Counted
 pub use Rattle.wasm_form.proofs as of_wasm_form

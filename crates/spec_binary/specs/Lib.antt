@@ -19,4 +19,6 @@ pub mod Indices
 pub mod Exports
 pub mod WellFormed
 pub mod DecodeAnswers
+pub mod Constants
+pub mod Counted
 pub use Rattle.wasm_form.specs as wasm_form

@@ -1,4 +1,5 @@
 pub mod Segments
+pub mod Constants
 pub use Rattle.spec_validation.proofs.of_spec_binary as of_spec_binary
 pub use Rattle.spec_runtime.proofs.of_spec_runs as of_spec_runs
 pub use Rattle.spec_runtime.proofs as of_spec_runtime

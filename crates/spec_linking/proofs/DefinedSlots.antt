@@ -94,15 +94,18 @@ function_known wasm name f e =
 
 -- ---- slots
 
--- where a test passes there is a place
-pub place_found : {A : Type 0} (test : A → Bool) (k : ℕ) (xs : List A) → list_any test xs ≡ true → (n : ℕ) × (position_from test k xs ≡ Some n)
+-- where a test passes, there is a place
+pub place_found : {A : Type 0} (test : A → Bool) (k : ℕ) (xs : List A) → list_any test xs ≡ true → (n : ℕ) × (position_from test k xs ≡ Some n) × (n < k + length xs)
 place_found test k [] e = absurd cc
 place_found test k (x ∷ xs) e = go (test x) e (place_found test (k + 1) xs)
   where
-    go : (b : Bool) → (b || list_any test xs) ≡ true → (list_any test xs ≡ true → (n : ℕ) × (position_from test (k + 1) xs ≡ Some n))
-        → (n : ℕ) × (cond b (Some k) (position_from test (k + 1) xs) ≡ Some n)
-    go true h more = (k, refl)
-    go false h more = more h
+    go : (b : Bool) → (b || list_any test xs) ≡ true → (list_any test xs ≡ true → (n : ℕ) × (position_from test (k + 1) xs ≡ Some n) × (n < k + 1 + length xs))
+        → (n : ℕ) × (cond b (Some k) (position_from test (k + 1) xs) ≡ Some n) × (n < k + suc (length xs))
+    go true h more = (k, refl, omega arith)
+    go false h more =
+        let later = more h in
+        let lt = later.2 in
+        (later.0, later.1, omega arith)
 
 among_kept : (f : ℕ) (keep : ℕ → Bool) (xs : List ℕ) → is_among f xs ≡ true → keep f ≡ true → is_among f (filter keep xs) ≡ true
 among_kept f keep [] e q = absurd cc
@@ -168,7 +171,7 @@ module _ (L : LinkedSet) where
     where
       go : (o : Option ℕ) → segment_slot L m f ≡ o → (k : ℕ) × (or_other o (fresh_slot L (Own m f)) ≡ Some k)
       go (Some k) q = (k, refl)
-      go None q = place_found (same_ref (Own m f)) (linked_plan L).table_end (fresh_slots L) (is_fresh m f wasm lt found defined q)
+      go None q = (let p = place_found (same_ref (Own m f)) (linked_plan L).table_end (fresh_slots L) (is_fresh m f wasm lt found defined q) in (p.0, p.1))
 
   pub memory_base_there : (m : ℕ) → m < length L.set.members → (b : ℕ) × (memory_base L m ≡ Some b)
   memory_base_there m lt =

@@ -3,7 +3,7 @@ use Rattle.std.proofs.Common.{◌≡◌, ℕ, List, [], ◌∷◌, ◌++◌, Som
 use Rattle.std.specs.Prelude.{codes, map, pos}
 use Rattle.spec_execution.specs.wasm_form.declared.types.ValType.TheVariants.{I32, FuncRef}
 use Rattle.spec_execution.specs.wasm_form.declared.types.FuncType.{FuncType}
-use Rattle.spec_execution.specs.wasm_form.declared.instr.Instr.{out-Instr, I32Const}
+use Rattle.spec_execution.specs.wasm_form.declared.instr.Instr.{out-Instr, Plain, Index, I32Const}
 use Rattle.spec_execution.specs.wasm_form.declared.instr.Expr.{Expr}
 use denote.Hole.Carrier.{out}
 use Rattle.spec_execution.specs.wasm_form.declared.module.ImportDesc.TheVariants as imported
@@ -21,7 +21,7 @@ use Rattle.spec_linking.specs.Paths.{search_paths}
 use Rattle.spec_linking.specs.Orders.{closure, scope, post_order}
 use Rattle.spec_linking.specs.Plans.{default_link}
 use Rattle.spec_linking.specs.LinkedSets.{LinkedSet, function_ref}
-use Rattle.spec_linking.specs.Slots.{slot_of, fresh_slots, table_entries, table_most, heap_end, cells_of, cell_value, imported_number}
+use Rattle.spec_linking.specs.Slots.{slot_of, fresh_slots, table_entries, table_most, heap_end, cells_of, cell_value, imported_number, member_number}
 use Rattle.spec_linking.specs.Links.{link_fault, set_entry}
 use Rattle.spec_linking.proofs.Samples.{empty_module, code_of, global_get, function_export, global_export, import_of, i32_global, env_function, got_func, got_mem, memory_base_import, table_base_import, stack_pointer_import, memory_import, table_import, at_base, member_of, with_region, set_with, linked_with, linked, one_function, from_to}
 
@@ -202,6 +202,11 @@ computed_from_base : link_fault (computed (global_get 0)) ≡ Some (Unresolved 0
 unfolding out-Instr out
 computed_from_base = refl
 
+-- the same, where a number is added to the base
+added_to_base : link_fault (computed (record { list = Index 0x23 0 ∷ I32Const (pos 8) ∷ Plain 0x6A ∷ [] })) ≡ Some (Unresolved 0 kind.Mem (codes "g"))
+unfolding out-Instr out
+added_to_base = refl
+
 constant_data : link_fault (computed (record { list = I32Const (pos 6) ∷ [] })) ≡ None
 unfolding out-Instr out
 constant_data = refl
@@ -209,6 +214,24 @@ constant_data = refl
 constant_cell : map (cell_value (computed (record { list = I32Const (pos 6) ∷ [] })) 0) (cells_of computed_main) ≡ 66670 ∷ []
 unfolding out-Instr out
 constant_cell = refl
+
+-- two times three; and seven minus nine, times three, modulo 2^32
+multiplied_data : link_fault (computed (record { list = I32Const (pos 2) ∷ I32Const (pos 3) ∷ Plain 0x6C ∷ [] })) ≡ None
+unfolding out-Instr out
+multiplied_data = refl
+
+multiplied_cell : map (cell_value (computed (record { list = I32Const (pos 2) ∷ I32Const (pos 3) ∷ Plain 0x6C ∷ [] })) 0) (cells_of computed_main) ≡ 66670 ∷ []
+unfolding out-Instr out
+multiplied_cell = refl
+
+subtracted_cell : map (cell_value (computed (record { list = I32Const (pos 7) ∷ I32Const (pos 9) ∷ Plain 0x6B ∷ I32Const (pos 3) ∷ Plain 0x6C ∷ [] })) 0) (cells_of computed_main) ≡ 66658 ∷ []
+unfolding out-Instr out
+subtracted_cell = refl
+
+-- a segment goes to the base and four bytes more
+segment_place : member_number (computed (global_get 0)) 1 (record { list = Index 0x23 0 ∷ I32Const (pos 4) ∷ Plain 0x6A ∷ [] }) ≡ Some 66668
+unfolding out-Instr out
+segment_place = refl
 
 -- ---- both limits
 

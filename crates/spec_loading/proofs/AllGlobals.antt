@@ -19,7 +19,7 @@ use Rattle.spec_loading.specs.RunItems.{RunGlobal, SharedStackPointer, MemberMem
 use Rattle.spec_loading.specs.Laws.{GlobalsAreAll}
 use Rattle.spec_loading.proofs.LinkedCells.{mem_itself, func_itself}
 use Rattle.spec_loading.proofs.MemberItems.{item_of}
-use Rattle.spec_loading.proofs.OpeningValues.{globals_many}
+use Rattle.spec_loading.proofs.LinkedStore.{globals_many}
 
 -- ---- each cell of a member is found where it stands
 

@@ -1,5 +1,5 @@
 -- Each cell of a member of a linked set has a number: the address of data, or the slot of a function.
-use Rattle.std.proofs.Common.{◌≡◌, ℕ, zero, suc, ◌+◌, ◌%◌, ◌^◌, ◌<◌, Bool, true, false, ◌||◌, List, [], ◌∷◌, ◌++◌, slice_get, Option, Some, None, cond, refl, sym, ap, ◌∙◌, subst, arith, if◌then◌else◌}
+use Rattle.std.proofs.Common.{◌≡◌, ℕ, zero, suc, ◌+◌, ◌%◌, ◌^◌, Bool, true, false, ◌||◌, List, [], ◌∷◌, ◌++◌, slice_get, Option, Some, None, cond, refl, sym, ap, ◌∙◌, subst, arith, if◌then◌else◌}
 use Rattle.std.specs.Prelude.{bytes_eq, codes, is_some, ◌&&◌}
 use Rattle.std.specs.List.{All, list_any, filter, filter_map, cons_option, flat_map}
 use Rattle.std.proofs.lemmas.Bool.{or_left, or_right, and_parts, eq-eqb}
@@ -26,6 +26,7 @@ use Rattle.spec_linking.specs.Slots.{linked_plan, CellName, cell_as, cell_of_imp
 use Rattle.spec_linking.specs.Links.{unless, data_cell_fault, slot_cell_fault, fault_as, Links}
 use Rattle.spec_linking.proofs.LinkedFacts.{or_none, linked_member}
 use Rattle.spec_linking.proofs.DefinedSlots.{function_known, place_found, slot_there, memory_base_there}
+use Rattle.spec_loading.proofs.LinkedCells.{regroup}
 use Rattle.spec_loading.proofs.LinkedSlots.{refs_equal}
 
 -- ---- definitions
@@ -129,12 +130,7 @@ any_kept {A} test keep kept (x ∷ xs) e = go (test x) refl e (λ h. any_kept te
     go true q h more = subst (λ b. list_any test (cond b (x ∷ filter keep xs) (filter keep xs)) ≡ true) (sym (kept x q)) (or_left (test x) (list_any test (filter keep xs)) q)
     go false q h more = later (keep x) (more h)
 
--- one of two, or of some more
-regroup : (a b r : Bool) → ((a || (b || false)) || r) ≡ true → (a || (b || r)) ≡ true
-regroup true b r e = refl
-regroup false true r e = refl
-regroup false false r e = e
-
+-- one more at the end of those that are known
 any_pushed : {A : Type 0} (test : A → Bool) (known : List A) (x : A) (r : Bool) → (list_any test (known ++ x ∷ []) || r) ≡ true → (list_any test known || (test x || r)) ≡ true
 any_pushed test known x r e = regroup (list_any test known) (test x) r (ap (λ b. b || r) (sym (list_any-append test known (x ∷ []))) ∙ e)
 
@@ -258,8 +254,9 @@ module _ (L : LinkedSet) where
 
   outside_slot : (r : Ref) → list_any (same_ref r) (outside_slots L) ≡ true → HasSlot r
   outside_slot r e =
-      place_found (same_ref r) (linked_plan L).table_end (fresh_slots L)
-      (list_any-append (same_ref r) (fresh_functions L) (outside_slots L) ∙ or_right (list_any (same_ref r) (fresh_functions L)) (list_any (same_ref r) (outside_slots L)) e)
+      let p = place_found (same_ref r) (linked_plan L).table_end (fresh_slots L)
+      (list_any-append (same_ref r) (fresh_functions L) (outside_slots L) ∙ or_right (list_any (same_ref r) (fresh_functions L)) (list_any (same_ref r) (outside_slots L)) e) in
+      (p.0, p.1)
 
   loader_slot : (call : LoaderCall) → list_any (same_ref (Loader call)) (outside_refs L) ≡ true → HasSlot (Loader call)
   loader_slot call e =
@@ -310,7 +307,8 @@ module _ (L : LinkedSet) where
         ap (λ (z : ImportUse). list_any (is_named env_name i.field) (host_as L m x.wasm i z)) u ∙ defined in
         let same : 0 + m ≡ m = omega arith in
         let all = hosts_there (is_named env_name i.field) 0 L.set.members m x found p i at (ap (λ k. list_any (is_named env_name i.field) (host_of_import L k x.wasm i)) same ∙ given) in
-        place_found (is_named env_name i.field) 0 (hosts_of L) (first_name env_name i.field [] (hosts_from L 0 L.set.members) all)
+        let p = place_found (is_named env_name i.field) 0 (hosts_of L) (first_name env_name i.field [] (hosts_from L 0 L.set.members) all) in
+        (p.0, p.1)
 
     -- what the import has a slot of
     imported_there : (test : Ref → Bool) (r : Ref) → test r ≡ true → use_of i ≡ SlotCell → outside_ref L i.field (definition L m kind.Func i.field) ≡ Some r

@@ -1,5 +1,5 @@
 -- Each global that a member of a linked set defines has a first value: its constant expression gets only what there is.
-use Rattle.std.proofs.Common.{◌≡◌, ℕ, Bool, true, false, List, [], ◌∷◌, length, slice_get, Option, Some, None, refl, ap, ◌∙◌, subst, if◌then◌else◌}
+use Rattle.std.proofs.Common.{◌≡◌, ℕ, Bool, true, false, List, [], ◌∷◌, length, slice_get, is_some, Option, Some, None, refl, ap, ◌∙◌, subst, if◌then◌else◌}
 use Rattle.std.proofs.lemmas.Bool.{ltb-true, and_parts}
 use Rattle.std.proofs.lemmas.Option.{slice_get_within}
 use Rattle.spec_linking.specs.wasm_form.declared.types.ValType.{ValType}
@@ -8,7 +8,6 @@ use Rattle.spec_linking.specs.wasm_form.declared.types.GlobalType.{GlobalType}
 use Rattle.spec_linking.specs.wasm_form.declared.instr.Instr.{Instr, out-Instr}
 use Rattle.spec_linking.specs.wasm_form.declared.instr.Instr.TheOpen as Open
 use Rattle.spec_linking.specs.wasm_form.declared.instr.Expr.{Expr}
-use Rattle.spec_linking.specs.wasm_form.declared.module.ImportDesc.{ImportDesc}
 use Rattle.spec_linking.specs.wasm_form.declared.module.ImportDesc.TheVariants as imported
 use Rattle.spec_linking.specs.wasm_form.declared.module.Import.{Import}
 use Rattle.spec_linking.specs.wasm_form.declared.module.GlobalDef.{GlobalDef}
@@ -22,9 +21,10 @@ use Rattle.spec_linking.specs.wasm_form.declared.runtime.Value.TheVariants.{Num,
 use Rattle.spec_linking.specs.spec_binary.Options.{◌>>=◌}
 use Rattle.spec_linking.specs.spec_binary.SameTypes.{same_type}
 use Rattle.spec_linking.specs.spec_binary.IndexSpaces.{imports_of, globals_in, function_space}
-use Rattle.spec_linking.specs.spec_validation.Faults.{is_function, immutable, constant_index, constant_step, constant_type, is_of_type, global_fits}
+use Rattle.spec_linking.specs.spec_validation.Faults.{is_function, immutable, constant_index, constant_step, global_fits}
 use Rattle.spec_linking.proofs.of_spec_validation.Parts.{parts_fit}
-use Rattle.spec_linking.specs.spec_runtime.Constants.{index_constant, instruction_constant, constant_in}
+use Rattle.spec_linking.specs.spec_runtime.Constants.{index_constant, instruction_constant}
+use Rattle.spec_linking.proofs.of_spec_execution.Constants.{has_value}
 use Rattle.spec_linking.specs.Sets.{Member}
 use Rattle.spec_linking.specs.Gathering.{IsSet}
 use Rattle.spec_linking.specs.Imports.{ImportUse, SharedMemory, SharedTable, StackPointer, MemoryBase, TableBase, DataCell, SlotCell, EnvFunction, ModuleFunction, OtherUse, use_of, importing, is_memory, is_function_table, is_i32_global}
@@ -40,6 +40,7 @@ use Rattle.spec_loading.proofs.NumberedImports.{global_import}
 use Rattle.spec_loading.proofs.LinkedCells.{IsFitting, use_fits}
 use Rattle.spec_loading.proofs.LinkedMembers.{is_sound}
 use Rattle.spec_loading.proofs.LinkedTypes.{function_exists}
+use Rattle.spec_loading.proofs.LinkedStore.{no_function}
 
 abbrev pub Given : Option Value → Type 0
 Given o = (v : Value) × (o ≡ Some v)
@@ -54,8 +55,21 @@ never_set ty t e h = go ty.mutable refl
     go true q = (let none : immutable ty ≡ None = rw q refl in cc)
     go false q = (let both = and_parts (same_type ty.value I32) _ e in let no : false ≡ true = rw q at both.1 in cc)
 
-no_function : (d : ImportDesc) (ty : GlobalType) (t : ℕ) → d ≡ imported.Global ty → d ≡ imported.Func t → ⊥
-no_function d ty t e h = cc
+-- a base is a number
+base_number : (L : LinkedSet) (m g : ℕ) (v : Value) → imported_base L m g ≡ Some v → (n : ℕ) × (v ≡ Num n)
+base_number L m g v e =
+    let w = went_on (wasm_of L m) (λ y. slice_get (importing globals_in y.imports) g >>= base_value L m) v e in
+    let i = went_on (slice_get (importing globals_in w.0.imports) g) (base_value L m) v w.2 in
+    as_use i.0 (use_of i.0) i.2
+  where
+    as_base : (o : Option ℕ) → as_number o ≡ Some v → (n : ℕ) × (v ≡ Num n)
+    as_base None h = absurd cc
+    as_base (Some n) h = (n, cc)
+
+    as_use : (i : Import) (u : ImportUse) → base_as L m i u ≡ Some v → (n : ℕ) × (v ≡ Num n)
+    as_use i MemoryBase h = as_base (memory_base L m) h
+    as_use i TableBase h = as_base (table_base L m) h
+    as_use i _ h = absurd cc
 
 module _ (L : LinkedSet) (m : ℕ) (member : Member) (at : slice_get L.set.members m ≡ Some member) where
   abbrev wasm : Module
@@ -131,17 +145,12 @@ module _ (L : LinkedSet) (m : ℕ) (member : Member) (at : slice_get L.set.membe
         (given.0, ap (λ (o : Option IndexForm). o >>= λ f. index_constant (function_ref L m) (imported_base L m) f k) form.1 ∙ given.1)
     step_given _ t e = absurd cc
 
-    constant_given : (is : List Instr) (t : ValType) → constant_type wasm is ≡ Some t → Given (constant_in (function_ref L m) (imported_base L m) is)
-    constant_given (i ∷ []) t e = step_given (out-Instr i) t e
-    constant_given _ t e = absurd cc
-
-    typed : (t : ValType) (o : Option ValType) → is_of_type t o ≡ true → (u : ValType) × (o ≡ Some u)
-    typed t None e = absurd cc
-    typed t (Some u) e = (u, refl)
+    step_there : (i : Instr) (t : ValType) → constant_step wasm (out-Instr i) ≡ Some t → is_some (instruction_constant (function_ref L m) (imported_base L m) (out-Instr i)) ≡ true
+    step_there i t e = (let given = step_given (out-Instr i) t e in ap is_some given.1)
 
     -- the global that the member defines with this number
     pub own_given : (k : ℕ) (g : GlobalDef) → slice_get wasm.globals k ≡ Some g → Given (member_constant L m g.init)
     own_given k g e =
         let fits = (parts_fit wasm (is_sound L m wasm set here).valid).globals in
-        let t = typed g.ty.value (constant_type wasm g.init.list) (passes_at (global_fits wasm) wasm.globals k g fits e) in
-        constant_given g.init.list t.0 t.1
+        has_value wasm (function_ref L m) (imported_base L m) (base_number L m) g.ty.value (λ i. step_there i g.ty.value) g.init
+        (passes_at (global_fits wasm) wasm.globals k g fits e)

@@ -33,6 +33,7 @@ use Rattle.spec_loading.specs.Laws.{GlobalsBegin, GlobalsHaveValues, ImportsBegi
 use Rattle.spec_loading.proofs.MemberItems.{item_at}
 use Rattle.spec_loading.proofs.DistinctAddresses.{item_is, FoundAt, found_at, cells_equal, of_member, globals_are_numbered}
 use Rattle.spec_loading.proofs.OpeningSizes.{opened_length}
+use Rattle.spec_loading.proofs.LinkedStore.{globals_many}
 use Rattle.spec_loading.proofs.CellNumbers.{HasNumber, cells_numbered}
 use Rattle.spec_loading.proofs.ConstantValues.{Given, own_given}
 
@@ -49,19 +50,12 @@ module _ (L : LinkedSet) where
   abbrev globals : List Value
   globals = (opening_store L).globals
 
-  pub globals_many : (k : ℕ) (wasm : Module) → length (opened_globals L k wasm) ≡ globals_size wasm
-  globals_many k wasm =
-      let cells = length-map (cells_of wasm) (λ c. Num (cell_value L k c)) in
-      let own = length-map wasm.globals (opened_global L k) in
-      let both = length-append (map (λ c. Num (cell_value L k c)) (cells_of wasm)) (map (opened_global L k) wasm.globals) in
-      omega arith
-
   -- what a member has at a place stands in the store
   global_stands : (m a place : ℕ) (x : Member) (v : Value) → slice_get L.set.members m ≡ Some x → place < globals_size x.wasm
       → a ≡ memory_base_address L m + place → slice_get (opened_globals L m x.wasm) place ≡ Some v → slice_get globals a ≡ Some v
   global_stands m a place x v found within is e =
       let next : a ≡ suc (sum_before globals_size L.set.members m + place) = omega arith in
-      ap (slice_get globals) next ∙ item_at (opened_globals L) globals_size globals_many L.set.members m place x found within ∙ e
+      ap (slice_get globals) next ∙ item_at (opened_globals L) globals_size (globals_many L) L.set.members m place x found within ∙ e
 
   cell_stands : (m a : ℕ) (c : CellName) (v : Value) (x : Member) → slice_get L.set.members m ≡ Some x → Num (cell_value L m c) ≡ v
       → FoundAt (same_cell c) (cells_of x.wasm) (memory_base_address L m + 2) a → slice_get globals a ≡ Some v

@@ -1,6 +1,6 @@
 -- What constant expressions and element segments of a valid module refer to is there.
 use Rattle.std.proofs.Common.{◌≡◌, ℕ, Bool, true, false, List, [], ◌∷◌, length, map, Option, Some, None, refl, subst}
-use Rattle.std.specs.Prelude.{if◌then◌else◌, unwrap_or}
+use Rattle.std.specs.Prelude.{if◌then◌else◌, is_some, unwrap_or}
 use Rattle.std.specs.List.{list_all}
 use Rattle.std.proofs.lemmas.Bool.{ltb-true, and_parts}
 use Rattle.std.proofs.lemmas.List.Elements.{All-nil, All-cons}
@@ -24,20 +24,16 @@ use Rattle.spec_execution.specs.wasm_form.declared.runtime.Value.{Value}
 use Rattle.spec_execution.specs.wasm_form.declared.runtime.Value.TheVariants.{Num, Func}
 use Rattle.spec_execution.specs.spec_binary.Options.{◌>>=◌}
 use Rattle.spec_execution.specs.spec_binary.IndexSpaces.{function_space}
-use Rattle.spec_execution.specs.spec_validation.Faults.{is_function, is_of_type, is_constant, global_fits, elem_mode_fits, items_fit, elem_fits}
+use Rattle.spec_execution.specs.spec_validation.Faults.{is_function, may_be_constant, is_constant, global_fits, elem_mode_fits, items_fit, elem_fits}
 use Rattle.spec_execution.specs.spec_validation.Faults as valid
 use Rattle.spec_execution.specs.spec_runtime.Constants.{index_constant, instruction_constant, no_globals, reference_in}
+use Rattle.spec_execution.proofs.of_spec_runtime.Constants.{value_kept}
 use Rattle.spec_execution.specs.Values.{zero_value, zero_of}
 use Rattle.spec_execution.specs.Ranges.{ReferenceExists, ValueExists, AllExist}
 use Rattle.spec_execution.specs.Instances.{module_target, module_view, constant_value, global_value, constant_reference, segment_items}
 use Rattle.spec_execution.specs.Segments.{opened_items}
 use Rattle.spec_safety.specs.Laws.{IsAlone}
 use Rattle.spec_safety.proofs.Functions.{named_exists, target_there}
-
--- there is no type without a function
-needs : (b : Bool) (t u : ValType) → is_of_type t (if b then Some u else None) ≡ true → b ≡ true
-needs true t u e = refl
-needs false t u e = absurd cc
 
 module _ (m : Module) (alone : IsAlone m) where
   function_exists : (f : ℕ) → is_function m f ≡ true → ReferenceExists (module_view m) (module_target m f)
@@ -53,26 +49,28 @@ module _ (m : Module) (alone : IsAlone m) where
   named_value None v h e = absurd cc
   named_value (Some r) v h e = let is : Func (Some r) ≡ v = cc in subst (ValueExists (module_view m)) is h
 
-  index_exists : (t : ValType) (form : Option IndexForm) (f : ℕ) (v : Value) → is_of_type t (form >>= λ i. valid.constant_index m i f) ≡ true
+  index_exists : (form : Option IndexForm) (f : ℕ) (v : Value) → is_some (form >>= λ i. valid.constant_index m i f) ≡ true
       → (form >>= λ i. index_constant (module_target m) no_globals i f) ≡ Some v → ValueExists (module_view m) v
-  index_exists t (Some RefFunc) f v typed e = named_value (module_target m f) v (function_exists f (needs (is_function m f) t FuncRef typed)) e
-  index_exists t _ f v typed e = absurd cc
+  index_exists (Some RefFunc) f v may e = named_value (module_target m f) v (function_exists f (needs (is_function m f) may)) e
+    where
+      needs : (b : Bool) → is_some (if b then Some FuncRef else None) ≡ true → b ≡ true
+      needs true h = refl
+      needs false h = absurd cc
+  index_exists _ f v may e = absurd cc
 
-  step_exists : (t : ValType) (x : Open.Instr-F Instr Expr) (v : Value) → is_of_type t (valid.constant_step m x) ≡ true → instruction_constant (module_target m) no_globals x ≡ Some v → ValueExists (module_view m) v
-  step_exists t (Open.I32Const n) v typed e = number_exists _ v e
-  step_exists t (Open.I64Const n) v typed e = number_exists _ v e
-  step_exists t (Open.RefNull u) v typed e = let is : Func None ≡ v = cc in subst (ValueExists (module_view m)) is tt
-  step_exists t (Open.Index op f) v typed e = index_exists t (index_form op) f v typed e
-  step_exists t _ v typed e = absurd cc
+  -- what an instruction of a constant expression puts on the stack
+  put_exists : (x : Open.Instr-F Instr Expr) (v : Value) → may_be_constant m x ≡ true → instruction_constant (module_target m) no_globals x ≡ Some v → ValueExists (module_view m) v
+  put_exists (Open.I32Const n) v may e = number_exists _ v e
+  put_exists (Open.I64Const n) v may e = number_exists _ v e
+  put_exists (Open.RefNull u) v may e = let is : Func None ≡ v = cc in subst (ValueExists (module_view m)) is tt
+  put_exists (Open.Index op f) v may e = index_exists (index_form op) f v may e
+  put_exists _ v may e = absurd cc
 
   -- the value of a constant expression
   constant_exists : (t : ValType) (e : Expr) (v : Value) → is_constant m t e ≡ true → constant_value m e ≡ Some v → ValueExists (module_view m) v
-  constant_exists t e v typed h = go e.list refl
-    where
-      go : (is : List Instr) → e.list ≡ is → ValueExists (module_view m) v
-      go (i ∷ []) q = step_exists t (out-Instr i) v (rw q at typed) (rw q at h)
-      go [] q = let none = rw q at h in absurd cc
-      go (i ∷ j ∷ is) q = let none = rw q at h in absurd cc
+  constant_exists t e v typed h =
+      value_kept (module_target m) no_globals (λ i. may_be_constant m (out-Instr i)) (ValueExists (module_view m)) (λ n. tt) (λ i u. put_exists (out-Instr i) u) e.list v
+      (and_parts (list_all (λ i. may_be_constant m (out-Instr i)) e.list) _ typed).0 h
 
   reference_exists : (e : Expr) → is_constant m FuncRef e ≡ true → ReferenceExists (module_view m) (constant_reference m e)
   reference_exists e typed = go (constant_value m e) (λ v h. constant_exists FuncRef e v typed h)

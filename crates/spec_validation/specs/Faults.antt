@@ -35,6 +35,7 @@ use Rattle.spec_binary.specs.wasm_form.declared.index.IndexForm.TheVariants.{Ref
 use Rattle.spec_binary.specs.wasm_form.Ranges.{within}
 use Rattle.spec_binary.specs.wasm_form.Index.{index_form}
 use Rattle.spec_binary.specs.Options.{◌>>=◌}
+use Rattle.spec_binary.specs.Constants.{is_constant_operator}
 use Rattle.spec_binary.specs.SameTypes.{same_type}
 use Rattle.spec_binary.specs.IndexSpaces.{imports_of, globals_in, function_space, table_space, memory_space, global_space}
 use Rattle.spec_binary.specs.Indices.{function_type, declared_locals, nullary_at}
@@ -206,7 +207,7 @@ constant_index m RefFunc n = if is_function m n then Some FuncRef else None
 constant_index m GlobalGet n = slice_get (imports_of globals_in m.imports) n >>= immutable
 constant_index m _ n = None
 
--- the type of a constant instruction
+-- the type of an instruction that puts a constant on the stack
 abbrev pub constant_step : Module → Open.Instr-F Instr Expr → Option ValType
 constant_step m (Open.I32Const n) = Some I32
 constant_step m (Open.I64Const n) = Some I64
@@ -214,17 +215,30 @@ constant_step m (Open.RefNull t) = if same_type t FuncRef then Some FuncRef else
 constant_step m (Open.Index op n) = index_form op >>= λ f. constant_index m f n
 constant_step m _ = None
 
--- a constant expression is one constant instruction (section 3.3.10)
-abbrev pub constant_type : Module → List Instr → Option ValType
-constant_type m (i ∷ []) = constant_step m (out-Instr i)
-constant_type m _ = None
+-- whether an instruction may stand in a constant expression: one that puts a constant on the stack, or one of the six operators
+abbrev pub may_be_constant : Module → Open.Instr-F Instr Expr → Bool
+may_be_constant m (Open.Plain op) = is_constant_operator op
+may_be_constant m i = is_some (constant_step m i)
 
-abbrev pub is_of_type : ValType → Option ValType → Bool
-is_of_type t None = false
-is_of_type t (Some u) = same_type t u
+-- what a constant expression of a type may name
+abbrev pub constant_context : Module → ValType → Context
+constant_context m t = record {
+  types = slice_get m.types;
+  functions = function_type m;
+  globals = slice_get (imports_of globals_in m.imports);
+  tables = λ n. None;
+  elems = λ n. None;
+  memory = false;
+  datas = 0;
+  refers = is_function m;
+  locals = [];
+  results = t ∷ [];
+}
 
+-- A constant expression of a type is a list of these instructions, and is typed as a body without parameters and locals whose one result is
+-- of the type (section 3.3.10, with the operators of extended constant expressions).
 abbrev pub is_constant : Module → ValType → Expr → Bool
-is_constant m t e = is_of_type t (constant_type m e.list)
+is_constant m t e = list_all (λ i. may_be_constant m (out-Instr i)) e.list && is_some (height (constant_context m t) e.list)
 
 abbrev pub global_fits : Module → GlobalDef → Bool
 global_fits m g = is_constant m g.ty.value g.init

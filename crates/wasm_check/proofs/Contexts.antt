@@ -12,12 +12,12 @@ use Rattle.wasm_form.specs.declared.instr.Instr.{Instr}
 use Rattle.wasm_form.specs.declared.module.Group.{Group}
 use Rattle.wasm_form.specs.declared.module.Code.{Code}
 use Rattle.wasm_form.specs.declared.module.Module.{Module}
-use Rattle.spec_validation.specs.spec_binary.Options.{◌>>=◌}
-use Rattle.spec_validation.specs.spec_binary.Indices.{declared_locals, function_type}
-use Rattle.spec_validation.specs.spec_binary.IndexSpaces.{function_space, table_space, memory_space, global_space}
-use Rattle.spec_validation.specs.Context.{Context}
-use Rattle.spec_validation.specs.Typing.{height}
-use Rattle.spec_validation.specs.Faults.{refers, elem_of_table, type_of_elem, is_some_memory, body_context}
+use Rattle.spec_execution.specs.spec_binary.Options.{◌>>=◌}
+use Rattle.spec_execution.specs.spec_binary.Indices.{declared_locals, function_type}
+use Rattle.spec_execution.specs.spec_binary.IndexSpaces.{function_space, table_space, memory_space, global_space}
+use Rattle.spec_execution.specs.spec_validation.Context.{Context}
+use Rattle.spec_execution.specs.spec_validation.Typing.{height}
+use Rattle.spec_execution.specs.spec_validation.Faults.{refers, elem_of_table, type_of_elem, is_some_memory, body_context}
 use Rattle.wasm_typing.specs.declared.fault.TypingFault.{TypingFault}
 use Rattle.wasm_typing.specs.Answers.{Obtains}
 use Rattle.wasm_check.specs.Spaces.{entry_type, entries, item_type_of}

@@ -12,9 +12,9 @@ use Rattle.std.proofs.lemmas.List.Folds.{list_any-append}
 use Rattle.std.proofs.lemmas.Map.Text.{is_eq-slice_cmp}
 use Rattle.std.proofs.lemmas.Slice.Eq.{bytes_eq-Decides}
 use Rattle.wasm_form.specs.declared.module.Export.{Export}
-use Rattle.spec_validation.specs.spec_binary.Exports.{AllDistinct, name_of}
-use Rattle.spec_validation.specs.Faults.{names_distinct}
-use Rattle.spec_validation.proofs.Names.{distinct_tested, tested_distinct}
+use Rattle.spec_execution.specs.spec_binary.Exports.{AllDistinct, name_of}
+use Rattle.spec_execution.specs.spec_validation.Faults.{names_distinct}
+use Rattle.spec_execution.proofs.of_spec_validation.Names.{distinct_tested, tested_distinct}
 
 -- how a test of two texts ends
 tells : (x y : List ℕ) → ((bytes_eq x y ≡ true) × (x ≡ y)) ⊎ ((bytes_eq x y ≡ false) × (x ≢ y))

@@ -5,9 +5,9 @@ use Rattle.std.proofs.lemmas.Bool.{cases_lt}
 use Rattle.std.proofs.lemmas.Option.{slice_get-get_or}
 use Rattle.wasm_form.specs.declared.module.Code.{Code}
 use Rattle.wasm_form.specs.declared.module.Module.{Module}
-use Rattle.spec_validation.proofs.of_spec_binary.Lists.{slice_get-append-left, slice_get-append-last}
-use Rattle.spec_validation.specs.Faults.{body_height}
-use Rattle.spec_validation.specs.spec_binary.Saturated.{saturated}
+use Rattle.spec_execution.proofs.of_spec_binary.Lists.{slice_get-append-left, slice_get-append-last}
+use Rattle.spec_execution.specs.spec_validation.Faults.{body_height}
+use Rattle.spec_execution.specs.spec_binary.Saturated.{saturated}
 use Rattle.wasm_check.specs.Heights.{height_of, HaveHeights}
 
 pub have_more : (m : Module) (heights more : List ℕ) (h n : ℕ) (c : Code) → n < length m.codes → c ≡ get_or m.codes n c

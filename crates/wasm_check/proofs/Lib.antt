@@ -5,3 +5,6 @@ pub mod Contexts
 pub mod Heights
 pub mod Valid
 pub mod ConstantTypes
+pub mod ConstantSteps
+pub mod ConstantCounts
+pub mod Numbers

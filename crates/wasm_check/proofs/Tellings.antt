@@ -1,7 +1,7 @@
 -- Findings one after the other.
 use Rattle.std.proofs.Common.{refl}
-use Rattle.spec_validation.specs.declared.fault.CheckFault.{CheckFault}
-use Rattle.spec_validation.specs.Faults.{Finding, ◌or_else◌}
+use Rattle.spec_execution.specs.spec_validation.declared.fault.CheckFault.{CheckFault}
+use Rattle.spec_execution.specs.spec_validation.Faults.{Finding, ◌or_else◌}
 use Rattle.wasm_check.specs.Answers.{IsFirst}
 
 -- what is found first is found before all that comes later

@@ -12,11 +12,11 @@ use Rattle.wasm_form.specs.declared.instr.Instr.TheVariants.{rolls-Plain, rolls-
 use Rattle.wasm_form.specs.declared.instr.Expr.{Expr}
 use Rattle.wasm_form.specs.declared.module.Module.{Module}
 use Rattle.wasm_form.proofs.Levels.{with_inside}
-use Rattle.spec_validation.specs.declared.fault.Place.TheVariants as place
-use Rattle.spec_validation.specs.declared.fault.CheckFault.{CheckFault}
-use Rattle.spec_validation.specs.declared.fault.CheckFault.TheVariants.{UnsupportedOp, UnsupportedType}
-use Rattle.spec_validation.specs.Faults.{Finding, ◌or_else◌, unless, is_supported, is_function_supported, type_supported, is_float_opcode, block_supported, unsupported_here, unsupported, unsupported_of}
-use Rattle.spec_validation.proofs.Levels.{unsupported_rolled}
+use Rattle.spec_execution.specs.spec_validation.declared.fault.Place.TheVariants as place
+use Rattle.spec_execution.specs.spec_validation.declared.fault.CheckFault.{CheckFault}
+use Rattle.spec_execution.specs.spec_validation.declared.fault.CheckFault.TheVariants.{UnsupportedOp, UnsupportedType}
+use Rattle.spec_execution.specs.spec_validation.Faults.{Finding, ◌or_else◌, unless, is_supported, is_function_supported, type_supported, is_float_opcode, block_supported, unsupported_here, unsupported, unsupported_of}
+use Rattle.spec_execution.proofs.of_spec_validation.Levels.{unsupported_rolled}
 use Rattle.wasm_check.specs.Answers.{IsFirst, ChecksTo}
 use Rattle.wasm_check.specs.Inside.{unsupported_else, supported_or, AreSupported}
 use Rattle.wasm_check.proofs.Tellings.{first_stays}

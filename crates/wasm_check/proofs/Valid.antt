@@ -7,10 +7,10 @@ use Rattle.std.proofs.lemmas.List.Folds.{list_all_at}
 use Rattle.std.proofs.lemmas.Option.{slice_get-get_or}
 use Rattle.wasm_form.specs.declared.types.FuncType.{FuncType}
 use Rattle.wasm_form.specs.declared.module.Module.{Module}
-use Rattle.spec_validation.specs.spec_binary.IndexSpaces.{function_space}
-use Rattle.spec_validation.specs.Faults.{is_type}
-use Rattle.spec_validation.specs.spec_binary.Indices.{function_type}
-use Rattle.spec_validation.proofs.Parts.{parts_fit, function_types}
+use Rattle.spec_execution.specs.spec_binary.IndexSpaces.{function_space}
+use Rattle.spec_execution.specs.spec_validation.Faults.{is_type}
+use Rattle.spec_execution.specs.spec_binary.Indices.{function_type}
+use Rattle.spec_execution.proofs.of_spec_validation.Parts.{parts_fit, function_types}
 use Rattle.wasm_check.specs.Heights.{IsChecked}
 
 all_at : {A : Type 0} (p : A → Bool) (xs : List A) (i : ℕ) (d : A) → i < length xs → list_all p xs ≡ true → p (get_or xs i d) ≡ true

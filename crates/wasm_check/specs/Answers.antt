@@ -1,8 +1,8 @@
 -- What a check answers, beside the fault that a module has.
 use Rattle.std.specs.Prelude.{◌≡◌, ◌≢◌, Some, None, Result, Ok, Err}
-use Rattle.spec_validation.specs.declared.fault.CheckFault.{CheckFault}
-use Rattle.spec_validation.specs.declared.fault.CheckFault.TheVariants.{Memory}
-use Rattle.spec_validation.specs.Faults.{Finding}
+use Rattle.spec_execution.specs.spec_validation.declared.fault.CheckFault.{CheckFault}
+use Rattle.spec_execution.specs.spec_validation.declared.fault.CheckFault.TheVariants.{Memory}
+use Rattle.spec_execution.specs.spec_validation.Faults.{Finding}
 
 -- the fault is the one that is found, unless memory ran out
 abbrev pub IsFirst : CheckFault → Finding → Type 0

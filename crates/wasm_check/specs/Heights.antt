@@ -1,11 +1,11 @@
 -- The heights of bodies, as they are kept.
 use Rattle.std.specs.Prelude.{◌≡◌, ℕ, ◌<◌, List, length, slice_get, Option, Some, None}
 use Rattle.wasm_form.specs.declared.module.Module.{Module}
-use Rattle.spec_validation.specs.spec_binary.Saturated.{saturated}
-use Rattle.spec_validation.specs.spec_binary.Options.{◌>>=◌}
-use Rattle.spec_validation.specs.spec_binary.IndexSpaces.{function_space}
-use Rattle.spec_validation.specs.spec_binary.WellFormed.{IsWellFormed}
-use Rattle.spec_validation.specs.Faults.{body_height, fault}
+use Rattle.spec_execution.specs.spec_binary.Saturated.{saturated}
+use Rattle.spec_execution.specs.spec_binary.Options.{◌>>=◌}
+use Rattle.spec_execution.specs.spec_binary.IndexSpaces.{function_space}
+use Rattle.spec_execution.specs.spec_binary.WellFormed.{IsWellFormed}
+use Rattle.spec_execution.specs.spec_validation.Faults.{body_height, fault}
 
 -- the height of a body, by its number
 abbrev pub height_of : Module → ℕ → Option ℕ

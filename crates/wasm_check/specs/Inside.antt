@@ -2,7 +2,7 @@
 use Rattle.std.specs.Prelude.{◌≡◌, ℕ, Bool, true, List, map, Option, Some, None}
 use Rattle.wasm_form.specs.declared.instr.Expr.{Expr}
 use Rattle.wasm_form.specs.declared.module.Module.{Module}
-use Rattle.spec_validation.specs.Faults.{Finding, is_function_supported, unsupported_of}
+use Rattle.spec_execution.specs.spec_validation.Faults.{Finding, is_function_supported, unsupported_of}
 
 -- what is not supported in the second list of an `if`
 abbrev pub unsupported_else : Module → ℕ → Option Expr → Finding

@@ -4,4 +4,5 @@ pub mod Spaces
 pub mod Marks
 pub mod Heights
 pub mod Constants
+pub mod Counts
 pub mod Exports

@@ -3,7 +3,7 @@ use Rattle.std.specs.Prelude.{◌≡◌, ℕ, ◌<◌, Bool, true, false, ◌||�
 use Rattle.wasm_form.specs.declared.module.Module.{Module}
 use Rattle.wasm_form.specs.declared.index.IndexForm.{IndexForm}
 use Rattle.wasm_form.specs.declared.index.IndexForm.TheVariants.{RefFunc}
-use Rattle.spec_validation.specs.Faults.{refers}
+use Rattle.spec_execution.specs.spec_validation.Faults.{refers}
 use Rattle.wasm_typing.specs.Contexts.{is_marked}
 
 -- ref.func

@@ -4,8 +4,8 @@ use Rattle.wasm_form.specs.declared.types.ValType.{ValType}
 use Rattle.wasm_form.specs.declared.types.TableType.{TableType}
 use Rattle.wasm_form.specs.declared.module.Elem.{Elem}
 use Rattle.wasm_form.specs.declared.module.Module.{Module}
-use Rattle.spec_validation.specs.spec_binary.IndexSpaces.{imports_of, globals_in, function_space, table_space, memory_space, global_space}
-use Rattle.spec_validation.specs.Faults.{item_type}
+use Rattle.spec_execution.specs.spec_binary.IndexSpaces.{imports_of, globals_in, function_space, table_space, memory_space, global_space}
+use Rattle.spec_execution.specs.spec_validation.Faults.{item_type}
 use Rattle.wasm_check.specs.declared.spaces.Spaces.{Spaces}
 
 abbrev pub entry_type : TableType → ValType

@@ -1,17 +1,17 @@
 // The bodies of a module: each is well typed.
 ghost use Rattle.std.specs.Prelude.{◌≡◌, ◌++◌, ◌<◌, ◌^◌, ◌∷◌, [], length, Some, IfOk, OnOk};
-ghost use Rattle.spec_validation.specs.spec_binary.IndexSpaces.{memory_space};
-ghost use Rattle.spec_validation.specs.Typing.{height};
+ghost use Rattle.spec_execution.specs.spec_binary.IndexSpaces.{memory_space};
+ghost use Rattle.spec_execution.specs.spec_validation.Typing.{height};
 ghost use Rattle.wasm_typing.specs.Answers.{Obtains};
-ghost use Rattle.spec_validation.specs.Faults as validation;
+ghost use Rattle.spec_execution.specs.spec_validation.Faults as validation;
 ghost use Rattle.wasm_check.specs.Answers.{ChecksTo};
 ghost use Rattle.wasm_check.specs.Spaces.{AreSpaces};
 ghost use Rattle.wasm_check.specs.Marks.{AreMarks};
-ghost use Rattle.spec_validation.specs.spec_binary.Saturated.{saturated};
+ghost use Rattle.spec_execution.specs.spec_binary.Saturated.{saturated};
 ghost use Rattle.wasm_check.specs.Heights.{HaveHeights};
 
 use crate::spaces::Spaces;
-use spec_validation::CheckFault;
+use spec_execution::spec_validation::CheckFault;
 use std::alloc::Global;
 use wasm_form::{Code, FuncType, Memory, Module};
 use wasm_typing::{Env, TypingFault, check_body};

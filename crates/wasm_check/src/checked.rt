@@ -1,9 +1,9 @@
 // Modules without a fault.
 ghost use Rattle.std.specs.Prelude.{◌≡◌, ◌<◌, length, Some, None, IfOk, IfErr, OnOk};
-ghost use Rattle.spec_validation.specs.spec_binary.WellFormed.{IsWellFormed};
-ghost use Rattle.spec_validation.specs.spec_binary.IndexSpaces.{function_space};
-ghost use Rattle.spec_validation.specs.Faults.{support_fault, fault};
-ghost use Rattle.spec_validation.specs.spec_binary.Indices.{function_type};
+ghost use Rattle.spec_execution.specs.spec_binary.WellFormed.{IsWellFormed};
+ghost use Rattle.spec_execution.specs.spec_binary.IndexSpaces.{function_space};
+ghost use Rattle.spec_execution.specs.spec_validation.Faults.{support_fault, fault};
+ghost use Rattle.spec_execution.specs.spec_binary.Indices.{function_type};
 ghost use Rattle.wasm_check.specs.Answers.{ChecksTo, IsFirst};
 ghost use Rattle.wasm_check.specs.Inside.{AreSupported};
 ghost use Rattle.wasm_check.specs.Heights.{height_of, IsChecked};
@@ -17,7 +17,7 @@ use crate::support::{
     elems_supported, functions_supported, globals_supported, imports_supported, supported_types,
     tables_supported,
 };
-use spec_validation::CheckFault;
+use spec_execution::spec_validation::CheckFault;
 use std::alloc::Global;
 use std::marker::Model;
 use wasm_form::{FuncType, Module};

@@ -1,8 +1,8 @@
-// The functions that a module imports, and those of its own that it exports.
+// The functions and globals that a module imports, and the functions of its own that it exports.
 ghost use Rattle.std.specs.Prelude.{◌≡◌, ◌≤◌, length};
-ghost use Rattle.spec_validation.specs.spec_binary.IndexSpaces.{functions_in, imports_of};
-ghost use Rattle.spec_validation.specs.spec_binary.Indices.{is_own};
-ghost use Rattle.spec_validation.specs.spec_binary.Exports.{own_function};
+ghost use Rattle.spec_execution.specs.spec_binary.IndexSpaces.{functions_in, globals_in, imports_of};
+ghost use Rattle.spec_execution.specs.spec_binary.Indices.{is_own};
+ghost use Rattle.spec_execution.specs.spec_binary.Exports.{own_function};
 ghost use Rattle.wasm_check.specs.Exports.{named_function};
 
 use wasm_form::{ExportDesc, Import, ImportDesc, Module};
@@ -15,6 +15,20 @@ pub fn imported_functions(imports: &[Import]) -> usize
     let mut count = 0;
     for import in imports {
         if let ImportDesc::Func(_) = import.desc {
+            count += 1;
+        }
+    }
+    count
+}
+
+/// How many globals are imported.
+pub fn imported_globals(imports: &[Import]) -> usize
+    ensures count { result ≡ length (imports_of globals_in imports.now) }
+    ensures few { result ≤ length imports.now }
+{
+    let mut count = 0;
+    for import in imports {
+        if let ImportDesc::Global(_) = import.desc {
             count += 1;
         }
     }

@@ -1,22 +1,22 @@
 // Which part of a module is not valid (section 3.4).
 ghost use Rattle.std.specs.Prelude.{◌≡◌, ◌&&◌, length, slice_get, nat_le, Some, None, if◌then◌else◌, IfSome, IfNone};
 ghost use Rattle.std.specs.List.{list_all};
-ghost use Rattle.spec_validation.specs.spec_binary.SameTypes as types;
-ghost use Rattle.spec_validation.specs.spec_binary.Indices as indices;
+ghost use Rattle.spec_execution.specs.spec_binary.SameTypes as types;
+ghost use Rattle.spec_execution.specs.spec_binary.Indices as indices;
 ghost use Rattle.wasm_form.specs.declared.types.ValType.TheVariants.{FuncRef};
-ghost use Rattle.wasm_form.specs.declared.instr.Instr.{out-Instr};
-ghost use Rattle.spec_validation.specs.spec_binary.IndexSpaces.{function_space, table_space, memory_space};
-ghost use Rattle.spec_validation.specs.Faults as validation;
+ghost use Rattle.spec_execution.specs.spec_binary.IndexSpaces.{function_space, table_space, memory_space};
+ghost use Rattle.spec_execution.specs.spec_validation.Faults as validation;
 ghost use Rattle.wasm_check.specs.Answers.{ChecksTo};
 ghost use Rattle.wasm_check.specs.Spaces.{AreSpaces};
 
+use crate::constants::is_constant;
 use crate::names::are_distinct;
 use crate::spaces::Spaces;
-use spec_validation::{CheckFault, Field};
+use spec_execution::spec_validation::{CheckFault, Field};
 use std::alloc::Global;
 use wasm_form::{
-    Data, DataMode, Elem, ElemItems, ElemMode, ExportDesc, Expr, FuncType, GlobalType, ImportDesc,
-    IndexForm, Instr, Limits, Module, TableType, ValType, index_form,
+    Data, DataMode, Elem, ElemItems, ElemMode, ExportDesc, Expr, FuncType, ImportDesc, Limits,
+    Module, TableType, ValType,
 };
 
 // The most entries that a table begins with.
@@ -110,92 +110,19 @@ fn memories_fit(memories: &[Limits]) -> bool
     memories.iter().all(|limits| memory_bounded(limits))
 }
 
-fn is_function(m: &Module, spaces: &Spaces, f: u32) -> bool
+/// The number is a function's.
+pub(crate) fn is_function(m: &Module, spaces: &Spaces, f: u32) -> bool
     requires { AreSpaces m.now spaces.now }
     ensures { result ≡ validation.is_function m.now f }
 {
     (f as usize) < spaces.functions.len()
 }
 
-fn same_type(t: ValType, u: ValType) -> bool
+/// The two types are one.
+pub(crate) fn same_type(t: ValType, u: ValType) -> bool
     ensures { result ≡ types.same_type t u }
 {
     t as u8 == u as u8
-}
-
-// The value of an immutable global.
-fn immutable(ty: GlobalType) -> Option<ValType>
-    ensures { result ≡ validation.immutable ty }
-{
-    if ty.mutable { None } else { Some(ty.value) }
-}
-
-// ref.func of a function, or global.get of an imported immutable global.
-fn constant_index(m: &Module, spaces: &Spaces, form: IndexForm, n: u32) -> Option<ValType>
-    requires { AreSpaces m.now spaces.now }
-    ensures { result ≡ validation.constant_index m.now form n }
-{
-    match form {
-        IndexForm::RefFunc => {
-            if is_function(m, spaces, n) {
-                Some(ValType::FuncRef)
-            } else {
-                None
-            }
-        }
-        IndexForm::GlobalGet => match spaces.imported.get(n as usize) {
-            Some(ty) => immutable(*ty),
-            None => None,
-        },
-        _ => None,
-    }
-}
-
-// The type of a constant instruction.
-fn constant_step(m: &Module, spaces: &Spaces, i: &Instr) -> Option<ValType>
-    requires { AreSpaces m.now spaces.now }
-    ensures { result ≡ validation.constant_step m.now (out-Instr i.now) }
-{
-    match i {
-        Instr::I32Const(_) => Some(ValType::I32),
-        Instr::I64Const(_) => Some(ValType::I64),
-        Instr::RefNull(t) => null_type(*t),
-        Instr::Index(op, n) => match index_form(*op) {
-            Some(form) => constant_index(m, spaces, form, *n),
-            None => None,
-        },
-        _ => None,
-    }
-}
-
-fn null_type(t: ValType) -> Option<ValType>
-    ensures { result ≡ (if types.same_type t FuncRef then Some FuncRef else None) }
-{
-    match t {
-        ValType::FuncRef => Some(ValType::FuncRef),
-        _ => None,
-    }
-}
-
-// A constant expression is one constant instruction (section 3.3.10).
-fn constant_type(m: &Module, spaces: &Spaces, instrs: &[Instr]) -> Option<ValType>
-    requires { AreSpaces m.now spaces.now }
-    ensures { result ≡ validation.constant_type m.now instrs.now }
-{
-    match instrs {
-        [i] => constant_step(m, spaces, i),
-        _ => None,
-    }
-}
-
-fn is_constant(m: &Module, spaces: &Spaces, t: ValType, e: &Expr) -> bool
-    requires { AreSpaces m.now spaces.now }
-    ensures { result ≡ validation.is_constant m.now t e.now }
-{
-    match constant_type(m, spaces, e.list.items()) {
-        Some(u) => same_type(t, u),
-        None => false,
-    }
 }
 
 fn globals_fit(m: &Module, spaces: &Spaces) -> bool

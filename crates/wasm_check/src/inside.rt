@@ -2,12 +2,12 @@
 ghost use Rattle.std.specs.Prelude.{◌≡◌, ◌+◌, ◌<◌, ◌^◌, length, nat_le};
 ghost use Rattle.std.specs.List.{list_all};
 ghost use Rattle.wasm_form.specs.Ranges as ranges;
-ghost use Rattle.spec_validation.specs.Faults as validation;
+ghost use Rattle.spec_execution.specs.spec_validation.Faults as validation;
 ghost use Rattle.wasm_check.specs.Answers.{ChecksTo};
 ghost use Rattle.wasm_check.specs.Inside.{unsupported_else, AreSupported};
 
 use crate::support::{are_supported, is_supported, supported_at, type_supported};
-use spec_validation::{CheckFault, Place};
+use spec_execution::spec_validation::{CheckFault, Place};
 use wasm_form::{BlockType, Code, Expr, Group, Instr, Module};
 
 fn within(low: u8, high: u8, opcode: u8) -> bool

@@ -3,6 +3,7 @@
 
 mod bodies;
 mod checked;
+mod constants;
 mod evaluation;
 mod exports;
 mod fields;
@@ -14,7 +15,7 @@ mod support;
 mod value;
 
 pub use checked::{CheckRefused, Checked, check};
-pub use evaluation::constant;
-pub use exports::{exported_function, imported_functions};
-pub use spec_validation::{CheckFault, Field, Place};
-pub use value::Constant;
+pub use evaluation::{constant, evaluate};
+pub use exports::{exported_function, imported_functions, imported_globals};
+pub use spec_execution::spec_validation::{CheckFault, Field, Place};
+pub use value::{Constant, Known};

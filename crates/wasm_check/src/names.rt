@@ -1,6 +1,6 @@
 // Whether each name is exported once.
 ghost use Rattle.std.specs.Prelude.{◌≡◌, IfOk};
-ghost use Rattle.spec_validation.specs.Faults.{names_distinct};
+ghost use Rattle.spec_execution.specs.spec_validation.Faults.{names_distinct};
 
 use std::alloc::Global;
 use std::collections::BTreeSet;

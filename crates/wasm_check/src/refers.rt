@@ -2,8 +2,8 @@
 ghost use Rattle.std.specs.Prelude.{◌≡◌, ℕ, Bool, false, length, nat_eq, replicate, IfOk};
 ghost use Rattle.std.specs.List.{list_any};
 ghost use Rattle.wasm_form.specs.declared.instr.Instr.TheOpen as Open;
-ghost use Rattle.spec_validation.specs.spec_binary.IndexSpaces.{function_space};
-ghost use Rattle.spec_validation.specs.Faults as validation;
+ghost use Rattle.spec_execution.specs.spec_binary.IndexSpaces.{function_space};
+ghost use Rattle.spec_execution.specs.spec_validation.Faults as validation;
 ghost use Rattle.wasm_check.specs.Marks.{refers_form, Adds, AreMarks};
 
 use std::alloc::Global;

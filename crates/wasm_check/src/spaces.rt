@@ -1,6 +1,6 @@
 // The index spaces of a module (WebAssembly Core 2.0, section 2.5.1): what is imported comes first.
 ghost use Rattle.std.specs.Prelude.{◌≡◌, ◌+◌, ◌++◌, ◌<◌, ◌≤◌, ◌^◌, length, map, OnOk, IfOk};
-ghost use Rattle.spec_validation.specs.spec_binary.IndexSpaces.{functions_in, tables_in, globals_in, memories_in, imports_of, function_space, global_space, type_of_global};
+ghost use Rattle.spec_execution.specs.spec_binary.IndexSpaces.{functions_in, tables_in, globals_in, memories_in, imports_of, function_space, global_space, type_of_global};
 ghost use Rattle.wasm_check.specs.Spaces.{entries, item_type_of, AreSpaces};
 
 use crate::support::item_type;

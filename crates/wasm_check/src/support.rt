@@ -1,11 +1,11 @@
 // What is not supported: other types than i32, i64 and funcref, and floats.
 ghost use Rattle.std.specs.Prelude.{◌≡◌, ◌<◌, ◌^◌, length, slice_get, IfOk};
 ghost use Rattle.std.specs.List.{list_all};
-ghost use Rattle.spec_validation.specs.Faults as validation;
+ghost use Rattle.spec_execution.specs.spec_validation.Faults as validation;
 ghost use Rattle.wasm_check.specs.Answers.{ChecksTo};
 ghost use Rattle.wasm_check.specs.Inside.{supported_or, AreSupported};
 
-use spec_validation::{CheckFault, Place};
+use spec_execution::spec_validation::{CheckFault, Place};
 use std::alloc::Global;
 use wasm_form::{
     Elem, ElemItems, FuncType, GlobalDef, ImportDesc, Memory, Module, TableType, ValType,

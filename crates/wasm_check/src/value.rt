@@ -6,3 +6,10 @@ pub enum Constant {
     Num(u64),
     Func(Option<u32>),
 }
+
+/// What is known of the imported globals, in order: the number of each, or the bases that some of them are.
+#[derive(Clone, Copy)]
+pub enum Known<'a> {
+    Numbers(&'a [u64]),
+    Bases(&'a [Option<u32>]),
+}

@@ -11,8 +11,8 @@ use Rattle.spec_hosts.specs.spec_runtime.Names.{HostName, HostNames}
 use Rattle.spec_hosts.specs.spec_runtime.Hosts.{HostCall}
 use Rattle.spec_hosts.specs.spec_runtime.Recorded.{Recorded, waits}
 use Rattle.spec_hosts.specs.Ends.{taken_of}
-use Rattle.wasm_exec.specs.Courses.{Course}
-use Rattle.wasm_exec.specs.Recordings.{after, status_at, IsAt, Advances}
+use Rattle.spec_hosts.specs.spec_runtime.Courses.{Course, after, status_at, IsAt}
+use Rattle.wasm_machine.specs.Steps.{Advances, AreOfCode}
 use Rattle.wasm_exec.specs.Driving.{Progress, IsAskedOf, IsFree, IsRunning, KeepsCalls}
 use Rattle.wasm_exec.proofs.Growth.{real_front, events_last}
 use Rattle.wasm_exec.proofs.Limits.{not_due, free_to}
@@ -66,13 +66,13 @@ module _ (C : Course) (names : HostNames) (p : Progress) (running : IsRunning C 
   same_run : (x : Recorded) → x ≡ old → IsRunning C names (with_run x) × KeepsCalls C old x
   same_run x e = subst (λ x. IsRunning C names (with_run x) × KeepsCalls C old x) (sym e) (running, record { answers = refl; calls = λ calls h. h })
 
-  module _ (most n : ℕ) (a : Advances C most old (next n)) (stands : IsAt C (next n)) where
+  module _ (most n : ℕ) (a : Advances most old (next n)) (code : AreOfCode C old (next n)) (stands : IsAt C (next n)) where
     moving : (k : ℕ) → old.steps ≤ k → k < n → C.system.status (after C k old.answers).state ≡ Moving
-    moving k above below = (a.free k above below).0
+    moving k above below = (code.free k above below).0
 
     free : IsFree C n old.answers
     free = free_to C old.answers old.steps n running.free
-        (λ k above below. let f = a.free k above below in
+        (λ k above below. let f = code.free k above below in
         not_due C (after C k old.answers).state (taken_of old.answers (after C k old.answers).left) (λ e. f.1) (λ waiting. absurd (cc (waiting, ap waits f.0))))
 
     some_made : old.steps < n → IsRunning C names (with_run (next n)) × KeepsCalls C old (next n)
@@ -82,7 +82,7 @@ module _ (C : Course) (names : HostNames) (p : Progress) (running : IsRunning C 
             declared = running.declared;
             stands = stands;
             taken = running.taken;
-            asks = subst (λ (o : Option Asked). IsAskedOf C.host (status_at C (next n)) o) (sym none) (none_asked C.host (status_at C (next n)) (a.unasked stands lt));
+            asks = subst (λ (o : Option Asked). IsAskedOf C.host (status_at C (next n)) o) (sym none) (none_asked C.host (status_at C (next n)) (code.unasked stands lt));
             free = free;
             written = running.written;
           },
@@ -95,7 +95,8 @@ module _ (C : Course) (names : HostNames) (p : Progress) (running : IsRunning C 
     made : IsRunning C names (with_run (next n)) × KeepsCalls C old (next n)
     made = elim (cases_lt old.steps n) [ inl lt ↦ some_made lt | inr ge ↦ same_run (next n) (ap next (let e : n ≡ old.steps = omega (arith, a.more) in e) ∙ none_made) ]
 
-  pub advanced : (most : ℕ) (new : Recorded) → Advances C most old new → new.lost ≡ false → IsAt C new → IsRunning C names (with_run new) × KeepsCalls C old new
-  advanced most new a found stands =
+  pub advanced : (most : ℕ) (new : Recorded) → Advances most old new → AreOfCode C old new → new.lost ≡ false → IsAt C new → IsRunning C names (with_run new) × KeepsCalls C old new
+  advanced most new a code found stands =
       let same : new ≡ next new.steps = a.same ∙ (λ i. record p.run { steps = new.steps; lost = found i }) in
-      subst (λ x. IsRunning C names (with_run x) × KeepsCalls C old x) (sym same) (made most new.steps (subst (Advances C most old) same a) (subst (IsAt C) same stands))
+      subst (λ x. IsRunning C names (with_run x) × KeepsCalls C old x) (sym same)
+      (made most new.steps (subst (Advances most old) same a) (subst (AreOfCode C old) same code) (subst (IsAt C) same stands))

@@ -20,8 +20,8 @@ use Rattle.spec_hosts.specs.Hosted.{Embedder, IsHosted, Hosted, IsBroken, Breaks
 use Rattle.spec_hosts.specs.Ends.{bytes_written, are_many, taken_of}
 use Rattle.dyl_link.specs.host_table.Names.{host_name_of}
 use Rattle.dyl_link.specs.host_table.declared.host.HostName as code
-use Rattle.wasm_exec.specs.Courses.{Course}
-use Rattle.wasm_exec.specs.Recordings.{reached, status_at, memory_at, IsAt, Awaits, with_answer}
+use Rattle.spec_hosts.specs.spec_runtime.Courses.{Course, reached, status_at, memory_at, IsAt, with_answer}
+use Rattle.wasm_machine.specs.Steps.{Awaits}
 use Rattle.wasm_exec.specs.Driving.{Progress, IsAskedOf, event_reached, IsRunning, IsReady, IsDriven, IsPrepared}
 use Rattle.wasm_exec.proofs.Hosting.{hosted_last}
 use Rattle.wasm_exec.proofs.Limits.{taken_append, free_append}

@@ -18,9 +18,10 @@ use Rattle.wasm_single.specs.Singles.{SingleRun, new_run}
 use Rattle.wasm_exec.specs.declared.driver.Driver.{Driver}
 use Rattle.wasm_exec.specs.declared.program.Program.{Program}
 use Rattle.wasm_exec.specs.declared.program.Program.TheVariants as program
-use Rattle.wasm_exec.specs.Courses.{Course, Origin, OfModule, course_of}
+use Rattle.spec_hosts.specs.spec_runtime.Courses.{Course, no_steps}
+use Rattle.wasm_exec.specs.Courses.{Origin, OfModule, course_of}
 use Rattle.wasm_exec.specs.Programs.{recorded_of, IsOf}
-use Rattle.wasm_exec.specs.Driving.{Progress, IsDriven, progress_of, Drives, no_steps, Begins, Opens}
+use Rattle.wasm_exec.specs.Driving.{Progress, IsDriven, progress_of, Drives, Begins, Opens}
 use Rattle.wasm_exec.specs.Executed.{HaveIntegers, IsRefused}
 use Rattle.wasm_exec.proofs.Openings.{opening_parts, are_declared}
 use Rattle.wasm_exec.proofs.Proceeding.{cut_here}

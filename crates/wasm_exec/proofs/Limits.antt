@@ -9,8 +9,7 @@ use Rattle.spec_hosts.proofs.of_spec_runs.Runs.{run_append}
 use Rattle.spec_hosts.specs.spec_runtime.Hosts.{HostCall, hosts}
 use Rattle.spec_hosts.specs.spec_runtime.Recorded.{waits}
 use Rattle.spec_hosts.specs.Ends.{are_many, taken_of, is_due}
-use Rattle.wasm_exec.specs.Courses.{Course}
-use Rattle.wasm_exec.specs.Recordings.{after}
+use Rattle.spec_hosts.specs.spec_runtime.Courses.{Course, after}
 use Rattle.wasm_exec.specs.Driving.{IsFree}
 use Rattle.wasm_exec.proofs.Growth.{real_front}
 

@@ -8,8 +8,7 @@ use Rattle.spec_hosts.specs.spec_runtime.Hosts.{HostCall}
 use Rattle.spec_hosts.specs.spec_runtime.Recorded.{Recorded, has_ended, waits, waits_unanswered}
 use Rattle.spec_hosts.specs.Ends.{goes_on}
 use Rattle.spec_hosts.specs.declared.ran.RunEnd.TheVariants as end
-use Rattle.wasm_exec.specs.Courses.{Course}
-use Rattle.wasm_exec.specs.Recordings.{status_at}
+use Rattle.spec_hosts.specs.spec_runtime.Courses.{Course, status_at}
 use Rattle.wasm_exec.specs.Driving.{Progress, IsRunning, IsReady, HasEnded}
 
 both_false : (a : Bool) → (a && false) ≡ false

@@ -14,8 +14,8 @@ use Rattle.spec_hosts.specs.declared.ran.RunEnd.{RunEnd}
 use Rattle.spec_hosts.specs.declared.ran.RunEnd.TheVariants as end
 use Rattle.wasm_machine.specs.declared.event.Event.{Event}
 use Rattle.wasm_machine.specs.declared.event.Event.TheVariants as event
-use Rattle.wasm_exec.specs.Courses.{Course}
-use Rattle.wasm_exec.specs.Recordings.{after, reached, status_at, memory_at, IsAt, TellsStatus, StepMade, RunStepped, ArgumentsFit}
+use Rattle.spec_hosts.specs.spec_runtime.Courses.{Course, after, reached, status_at, memory_at, IsAt}
+use Rattle.wasm_machine.specs.Steps.{TellsStatus, StepMade, RunStepped, ArgumentsFit}
 use Rattle.wasm_exec.specs.Driving.{end_by, asked_by, Progress, AreDeclared, IsAskedOf, IsFree, IsRunning, IsReady, HasEnded, Grows, StepGives}
 use Rattle.wasm_exec.proofs.Growth.{events_last}
 use Rattle.wasm_exec.proofs.Limits.{not_due, free_to}

@@ -23,8 +23,8 @@ use Rattle.wasm_machine.specs.declared.event.Event.{Event}
 use Rattle.wasm_machine.specs.declared.event.Event.TheVariants as event
 use Rattle.wasm_exec.specs.declared.driver.Driver.{Driver}
 use Rattle.wasm_exec.specs.declared.program.Program.{Program}
-use Rattle.wasm_exec.specs.Courses.{Course, Origin, course_of}
-use Rattle.wasm_exec.specs.Recordings.{after, reached, status_at, is_waiting, IsAt}
+use Rattle.spec_hosts.specs.spec_runtime.Courses.{Course, after, reached, status_at, is_waiting, IsAt}
+use Rattle.wasm_exec.specs.Courses.{Origin, course_of}
 use Rattle.wasm_exec.specs.Programs.{recorded_of, IsOf}
 
 -- ---- what came of a step
@@ -215,10 +215,6 @@ abbrev pub LeadsTo : Embedder → Driver → Driver → Devices → Devices → 
 LeadsTo embedder first d begun now = (o : Origin) → Drives embedder o first begun begun → Drives embedder o d begun now
 
 -- ---- from the opening state
-
--- no step was made, and nothing was answered
-abbrev pub no_steps : Recorded
-no_steps = record { steps = 0; answers = []; answered = false; lost = false }
 
 -- a run begins by going on, and its host functions are declared
 pub record Begins (C : Course) (names : HostNames) : Type 0 where

@@ -2,4 +2,3 @@ pub mod Courses
 pub mod Driving
 pub mod Executed
 pub mod Programs
-pub mod Recordings

@@ -2,17 +2,15 @@
 use Rattle.std.specs.Prelude.{◌≡◌, Ok}
 use Rattle.spec_hosts.specs.spec_runtime.Recorded.{Recorded}
 use Rattle.wasm_single.specs.Starts.{opened}
-use Rattle.wasm_single.specs.Singles as single
 use Rattle.dyl_link.specs.Kept.{IsLinked}
-use Rattle.dyl_store.specs.Stores as store
 use Rattle.wasm_exec.specs.declared.program.Program.{Program}
 use Rattle.wasm_exec.specs.declared.program.Program.TheVariants as program
 use Rattle.wasm_exec.specs.Courses.{Origin, OfModule, OfSet}
 
 -- its steps and its answers
 abbrev pub recorded_of : Program → Recorded
-recorded_of (program.Module s) = single.recorded_of s
-recorded_of (program.Set s) = store.recorded_of s
+recorded_of (program.Module s) = s.run
+recorded_of (program.Set s) = s.run
 
 -- it is a run of this
 abbrev pub IsOf : Program → Origin → Type 0

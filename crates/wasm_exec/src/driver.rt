@@ -5,7 +5,7 @@ ghost use Rattle.spec_hosts.specs.Devices.{Devices, devices};
 ghost use Rattle.spec_hosts.specs.Ends.{bytes_written, are_many};
 ghost use Rattle.host_calls.specs.Embedders.{names_of, embedder};
 ghost use Rattle.wasm_exec.specs.Courses.{Origin};
-ghost use Rattle.wasm_exec.specs.Programs.{recorded_of, IsOf, Keeps};
+ghost use Rattle.wasm_exec.specs.Programs.{recorded_of, Keeps};
 ghost use Rattle.wasm_exec.specs.Driving.{IsBoundTo, Runs, MayStep, Drives, GoesAlong, Steps, EndsSo, GoesOn, IsServed, progress_of, ran_of};
 
 use crate::events::{asked_by, end_by};
@@ -68,8 +68,7 @@ impl<'m> Driver<'m> {
 
     /// Makes steps of code. Whether a further step may be made.
     fn advance(&mut self, alloc: Global, most: u64) -> Result<bool, Memory>
-        requires runs { (o : Origin) × IsOf self.old.program o }
-        requires few { (recorded_of self.old.program).steps ≤ most }
+        requires { (recorded_of self.old.program).steps ≤ most }
         ensures along { OnOk result (GoesAlong self.old self.new) }
         ensures left { IfOk result (λ left. left ≡ nat_lt (recorded_of self.new.program).steps most) }
         ensures kept { Keeps self.old.program self.new.program }

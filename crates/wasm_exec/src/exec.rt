@@ -5,7 +5,8 @@ ghost use Rattle.host_calls.specs.Embedders.{names_of, embedder_of, embedder};
 ghost use Rattle.wasm_exec.specs.Executed.{HaveIntegers, IsLinkedOver, Executes, ExecutesKept};
 ghost use Rattle.wasm_exec.specs.Courses.{Origin};
 ghost use Rattle.wasm_exec.specs.Programs.{recorded_of};
-ghost use Rattle.wasm_exec.specs.Driving.{IsBegun, IsDrivenTo, IsDrivenOn, no_steps, Opens, IsRunFrom};
+ghost use Rattle.spec_hosts.specs.spec_runtime.Courses.{no_steps};
+ghost use Rattle.wasm_exec.specs.Driving.{IsBegun, IsDrivenTo, IsDrivenOn, Opens, IsRunFrom};
 
 use crate::driver::Driver;
 use crate::program::Program;

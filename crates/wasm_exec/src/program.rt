@@ -2,8 +2,9 @@
 ghost use Rattle.std.specs.Prelude.{◌≡◌, ◌<◌, ◌≤◌, false, true, map, slice_get, IfOk, OnOk, OnErr};
 ghost use Rattle.spec_hosts.specs.spec_runtime.Recorded as recorded;
 ghost use Rattle.dyl_link.specs.host_table.Names.{host_name_of};
+ghost use Rattle.spec_hosts.specs.spec_runtime.Courses.{status_at, memory_at, IsAt, is_waiting, with_answer, as_lost};
+ghost use Rattle.wasm_machine.specs.Steps.{RunStepped, ArgumentsFit, Advances, AreOfCode, Awaits};
 ghost use Rattle.wasm_exec.specs.Courses.{Origin, course_of};
-ghost use Rattle.wasm_exec.specs.Recordings.{status_at, memory_at, IsAt, is_waiting, RunStepped, ArgumentsFit, Advances, Awaits, with_answer};
 ghost use Rattle.wasm_exec.specs.Programs.{recorded_of, IsOf, Keeps};
 
 use dyl_link::host_table::HostName;
@@ -26,9 +27,9 @@ impl<'m> Program<'m> {
     pub fn run_step(&mut self, alloc: Global) -> Result<Event, Memory>
         requires answered { (o : Origin) × IsOf self.old o × IsAt (course_of o) (recorded_of self.old) × (is_waiting (course_of o) (recorded_of self.old) ≡ false) }
         requires few { (recorded_of self.old).steps < 18446744073709551615 }
-        ensures stepped { IfOk result (λ e. (o : Origin) → IsOf self.old o → IsAt (course_of o) (recorded_of self.old) → RunStepped (course_of o) e (recorded_of self.old) (recorded_of self.new)) }
+        ensures stepped { IfOk result (λ e. (o : Origin) → IsOf self.old o → IsAt (course_of o) (recorded_of self.old) × RunStepped (course_of o) e (recorded_of self.old) (recorded_of self.new)) }
         ensures arguments { IfOk result (λ e. (o : Origin) → IsOf self.old o → ArgumentsFit (course_of o).host e) }
-        ensures lost { OnErr result (recorded_of self.new ≡ (record (recorded_of self.old) { lost = true })) }
+        ensures lost { OnErr result (recorded_of self.new ≡ as_lost (recorded_of self.old)) }
         ensures kept { Keeps self.old self.new }
     {
         match self {
@@ -39,8 +40,8 @@ impl<'m> Program<'m> {
 
     /// Makes steps of code, up to so many in all, until one is left for `run_step`.
     pub fn advance(&mut self, alloc: Global, most: u64) -> Result<(), Memory>
-        requires { (o : Origin) × IsOf self.old o }
-        ensures advances { (o : Origin) → IsOf self.old o → Advances (course_of o) most (recorded_of self.old) (recorded_of self.new) }
+        ensures advances { Advances most (recorded_of self.old) (recorded_of self.new) }
+        ensures code { (o : Origin) → IsOf self.old o → AreOfCode (course_of o) (recorded_of self.old) (recorded_of self.new) }
         ensures more { (recorded_of self.old).steps ≤ (recorded_of self.new).steps }
         ensures few { (recorded_of self.old).steps ≤ most → (recorded_of self.new).steps ≤ most }
         ensures found { OnOk result ((recorded_of self.new).lost ≡ false) }
@@ -56,7 +57,7 @@ impl<'m> Program<'m> {
     pub fn answer(&mut self, alloc: Global, a: Answer) -> Result<(), Memory>
         requires { (o : Origin) × IsOf self.old o × Awaits (course_of o) (recorded_of self.old) a }
         ensures recorded { OnOk result (recorded_of self.new ≡ with_answer (recorded_of self.old) a) }
-        ensures lost { OnErr result (recorded_of self.new ≡ (record (recorded_of self.old) { lost = true })) }
+        ensures lost { OnErr result (recorded_of self.new ≡ as_lost (recorded_of self.old)) }
         ensures kept { Keeps self.old self.new }
     {
         match self {

@@ -13,42 +13,25 @@ use Rattle.wasm_form.specs.declared.module.Module.{Module}
 use Rattle.wasm_form.specs.declared.index.IndexForm.{IndexForm}
 use Rattle.wasm_form.specs.declared.index.IndexForm.TheVariants as forms
 use Rattle.wasm_form.specs.Index.{index_form}
+use Rattle.wasm_form.specs.declared.runtime.Value.{Value}
 use Rattle.wasm_form.specs.declared.runtime.Value.TheVariants as values
 use Rattle.spec_safety.specs.spec_binary.Options.{◌>>=◌}
 use Rattle.spec_safety.specs.spec_binary.SameTypes.{same_type}
 use Rattle.spec_safety.specs.spec_binary.Indices.{function_type}
 use Rattle.spec_safety.specs.spec_binary.IndexSpaces.{function_space}
-use Rattle.spec_safety.specs.spec_validation.Faults.{constant_type, is_of_type, is_function}
+use Rattle.spec_safety.specs.spec_validation.Faults.{is_function, is_constant}
 use Rattle.spec_safety.specs.spec_validation.Faults as valid
-use Rattle.spec_safety.specs.spec_runtime.Constants.{index_constant, instruction_constant, constant_in, constant_of, no_globals, numbered_globals, number_in}
+use Rattle.spec_safety.specs.spec_runtime.Constants.{index_constant, instruction_constant, constant_of, no_globals, numbered_globals, number_in}
 use Rattle.spec_safety.specs.spec_execution.Instances.{function_named, module_target, constant_value, constant_offset}
+use Rattle.spec_safety.proofs.of_spec_execution.Constants.{has_value}
 use Rattle.wasm_check.specs.declared.value.Constant.{Constant}
 use Rattle.wasm_check.specs.declared.value.Constant.TheVariants as constant
-use Rattle.wasm_check.specs.Constants.{StandsFor, AreOfTypes}
+use Rattle.wasm_check.specs.Constants.{StandsFor, AreOfTypes, IsConstant}
 use Rattle.wasm_check.specs.Constants as checked
 use Rattle.wasm_instance.specs.Imports.{function_after, ImportsFunctions}
-use Rattle.wasm_instance.specs.Constants.{value_of, is_typed}
+use Rattle.wasm_instance.specs.Constants.{value_of}
 use Rattle.wasm_instance.proofs.Alone.{no_globals as no_globals_imported}
 use Rattle.wasm_instance.proofs.FunctionTypes.{named_is}
-
--- ---- types
-
-type_is : (t u : ValType) → same_type t u ≡ true → u ≡ t
-type_is I32 I32 e = refl
-type_is I64 I64 e = refl
-type_is F32 F32 e = refl
-type_is F64 F64 e = refl
-type_is FuncRef FuncRef e = refl
-type_is ExternRef ExternRef e = refl
-type_is _ _ e = absurd cc
-
-pub has_type : (t : ValType) (o : Option ValType) → is_of_type t o ≡ true → o ≡ Some t
-has_type t None e = absurd cc
-has_type t (Some u) e = ap (λ (x : ValType). Some x) (type_is t u e)
-
-pub type_there : (t : ValType) (o : Option ValType) → is_of_type t o ≡ true → is_some o ≡ true
-type_there t None e = absurd cc
-type_there t (Some u) e = refl
 
 -- no global is imported
 pub none_of_types : (m : Module) → AreOfTypes m []
@@ -88,10 +71,11 @@ module _ (m : Module) (imported : ℕ) (source : ImportsFunctions m imported) wh
   step_valued (Open.Index op n) typed = index_valued (index_form op) n typed
   step_valued _ typed = absurd cc
 
-  list_valued : (is : List Instr) → is_some (constant_type m is) ≡ true → is_some (constant_in (module_target m) no_globals is) ≡ true
-  list_valued [] typed = absurd cc
-  list_valued (i ∷ []) typed = step_valued (out-Instr i) typed
-  list_valued (i ∷ j ∷ is) typed = absurd cc
+  no_number : (g : ℕ) (v : Value) → no_globals g ≡ Some v → (n : ℕ) × (v ≡ values.Num n)
+  no_number g v e = absurd cc
+
+  constant_valued : (t : ValType) (e : Expr) → is_constant m t e ≡ true → (v : Value) × (constant_value m e ≡ Some v)
+  constant_valued t e typed = has_value m (module_target m) no_globals no_number t (λ i h. step_valued (out-Instr i) (ap is_some h)) e typed
 
   -- ---- a constant that stands for a typed expression is its value
 
@@ -105,10 +89,10 @@ module _ (m : Module) (imported : ℕ) (source : ImportsFunctions m imported) wh
   constant_is (constant.Func None) e = refl
   constant_is (constant.Func (Some f)) e = named_value f (function_type m f) e
 
-  pub value_is : (c : Constant) (e : Expr) → is_typed m e ≡ true → StandsFor (Some c) (λ functions. constant_of functions (numbered_globals []) e) → constant_value m e ≡ Some (value_of imported c)
+  pub value_is : (c : Constant) (e : Expr) → IsConstant m e → StandsFor (Some c) (λ functions. constant_of functions (numbered_globals []) e) → constant_value m e ≡ Some (value_of imported c)
   value_is c e typed stands =
       let is : constant_value m e ≡ checked.value_of (module_target m) c = stands (module_target m) in
-      let there : is_some (constant_value m e) ≡ true = list_valued e.list typed in
+      let there : is_some (constant_value m e) ≡ true = ap is_some (constant_valued typed.0 e typed.1).1 in
       is ∙ constant_is c (ap is_some (sym is) ∙ there)
 
 -- a number that stands for an expression is where its segment goes

@@ -4,8 +4,9 @@ ghost use Rattle.wasm_form.specs.declared.types.ValType.TheVariants.{I32, FuncRe
 ghost use Rattle.spec_safety.specs.spec_validation.Faults.{is_constant, global_fits};
 ghost use Rattle.spec_safety.specs.spec_execution.Instances.{constant_value, constant_offset, constant_reference, global_value};
 ghost use Rattle.spec_safety.specs.Laws.{IsAlone};
+ghost use Rattle.wasm_check.specs.Constants.{IsConstant};
 ghost use Rattle.wasm_instance.specs.Imports.{ImportsFunctions};
-ghost use Rattle.wasm_instance.specs.Constants.{value_of, is_typed};
+ghost use Rattle.wasm_instance.specs.Constants.{value_of};
 
 use crate::imports::named;
 use std::alloc::Global;
@@ -25,7 +26,7 @@ fn valued(imported: u32, c: Constant) -> Value
 /// The value of a constant expression.
 pub(crate) fn value(alloc: Global, m: &Module, imported: u32, e: &Expr) -> Result<Value, Memory>
     requires source { ImportsFunctions m.now imported }
-    requires typed { IsTrue (is_typed m.now e.now) }
+    requires typed { IsConstant m.now e.now }
     ensures { IfOk result (λ v. constant_value m.now e.now ≡ Some v) }
 {
     let c = constant(alloc, m, e, &[])?;

@@ -14,3 +14,5 @@ pub mod Receiving
 pub mod Asking
 pub mod Marked
 pub mod Under
+pub mod Courses
+pub mod Steps

@@ -3,3 +3,4 @@ pub mod Machines
 pub mod Whole
 pub mod Outside
 pub mod Marks
+pub mod Steps

@@ -5,9 +5,11 @@ mod callers;
 mod calls;
 mod event;
 mod machine;
+mod told;
 
 pub use event::Event;
 pub use machine::{Machine, StackTop, Standing};
+pub use told::{are_numbers, event_of, steps_told};
 pub use wasm_form::{Answer, Asked, Value, Write};
 pub use wasm_step::Done;
 pub use wasm_view::View;

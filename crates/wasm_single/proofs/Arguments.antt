@@ -35,9 +35,8 @@ use Rattle.spec_safety.specs.spec_execution.OneModule.{Starting, ModuleState, st
 use Rattle.wasm_machine.specs.declared.event.Event.{Event}
 use Rattle.wasm_machine.specs.declared.event.Event.TheVariants as event
 use Rattle.wasm_single.specs.declared.bare_run.Core.{Core}
-use Rattle.wasm_single.specs.Cores.{TellsStatus, Steps}
-use Rattle.wasm_single.specs.Singles.{ArgumentsFit}
-use Rattle.wasm_single.specs.Steps.{AreNumbers}
+use Rattle.wasm_machine.specs.Steps.{TellsStatus, ArgumentsFit, AreNumbers}
+use Rattle.wasm_single.specs.Cores.{Steps}
 use Rattle.spec_safety.proofs.of_spec_binary.Options.{each_found, each, either_way}
 use Rattle.wasm_single.proofs.Functions.{went_on}
 
@@ -212,8 +211,8 @@ module _ (m : Module) (s : ModuleState) where
       became_fit n.0 t call asked n.2 waits
 
 -- the same of what is told of the step
-told_fit : (m : Module) (s t : ModuleState) (asked : Asked) (status : Status HostCall Trap) → module_step m s ≡ Some t → t.status ≡ status → TellsStatus m (event.Waits asked) status
-    → AreNumbers (event.Waits asked) → ArgumentsFit m (event.Waits asked)
+told_fit : (m : Module) (s t : ModuleState) (asked : Asked) (status : Status HostCall Trap) → module_step m s ≡ Some t → t.status ≡ status → TellsStatus (module_hosts m) (event.Waits asked) status
+    → AreNumbers (event.Waits asked) → ArgumentsFit (module_hosts m) (event.Waits asked)
 told_fit m s t asked Moving made stands told numbers = absurd told
 told_fit m s t asked (Waits call) made stands told numbers =
     let fits : Fit call.host.ty.params asked.args = subst (Fit call.host.ty.params) (sym told.1) (step_arguments m s t call made stands) in
@@ -223,7 +222,7 @@ told_fit m s t asked Returned made stands told numbers = absurd told
 told_fit m s t asked (Exited code) made stands told numbers = absurd told
 told_fit m s t asked (Trapped why) made stands told numbers = absurd told
 
-pub arguments_told : (e : Event) (s : ModuleState) (new : Core) → Steps e s new → AreNumbers e → ArgumentsFit new.checked.now e
+pub arguments_told : (e : Event) (s : ModuleState) (new : Core) → Steps e s new → AreNumbers e → ArgumentsFit (module_hosts new.checked.now) e
 arguments_told (event.Waits asked) s new made numbers = told_fit new.checked.now s made.1.0 asked made.1.0.status made.1.1 refl made.1.2 numbers
 arguments_told event.Moved s new made numbers = tt
 arguments_told (event.Loader which first second) s new made numbers = tt

@@ -1,43 +1,33 @@
 -- What a step of code that is told in few bytes makes of the count of steps.
-use Rattle.std.proofs.Common.{◌≡◌, ◌≢◌, ◌⊎◌, Some, None, false, refl, sym, ◌∙◌, inl, inr, subst}
-use Rattle.wasm_form.specs.declared.module.Module.{Module}
+use Rattle.std.proofs.Common.{◌≡◌, ◌⊎◌, Some, None, sym, ◌∙◌, inl, inr, subst}
 use Rattle.wasm_form.specs.declared.runtime.Trap.{Trap}
-use Rattle.spec_safety.specs.spec_runs.Systems.{Status, Moving, Waits, Returned, Exited, Trapped}
-use Rattle.spec_safety.specs.spec_runtime.Hosts.{HostCall}
+use Rattle.spec_safety.specs.spec_execution.Instances.{module_hosts}
 use Rattle.spec_safety.specs.spec_execution.OneModule.{ModuleState}
 use Rattle.wasm_step.specs.declared.done.Done.{Done}
 use Rattle.wasm_step.specs.declared.done.Done.TheVariants as done
-use Rattle.wasm_machine.specs.declared.event.Event.{Event}
 use Rattle.wasm_machine.specs.declared.event.Event.TheVariants as event
+use Rattle.wasm_machine.specs.Steps.{TellsStatus}
+use Rattle.wasm_machine.proofs.Steps.{not_waiting}
 use Rattle.wasm_single.specs.declared.bare_run.Core.{Core}
-use Rattle.wasm_single.specs.Cores.{IsState, TellsStatus, Steps, QuickSteps}
-use Rattle.wasm_single.specs.Singles.{waits}
+use Rattle.wasm_single.specs.Cores.{IsState, Steps, QuickSteps}
 use Rattle.wasm_single.specs.Steps.{IsMade, HasStopped}
 use Rattle.wasm_single.proofs.Stopping.{stopped_at}
 
--- what is told of a run that waits for a host function tells that alone
-not_waiting : (m : Module) (e : Event) (status : Status HostCall Trap) → ((call : HostCall) → TellsStatus m e (Waits call) → ⊥) → TellsStatus m e status → waits status ≡ false
-not_waiting m e Moving none tells = refl
-not_waiting m e (Waits call) none tells = absurd (none call tells)
-not_waiting m e Returned none tells = refl
-not_waiting m e (Exited code) none tells = refl
-not_waiting m e (Trapped why) none tells = refl
-
 module _ (s : ModuleState) (new : Core) where
   pub moved_made : Steps event.Moved s new → IsMade s new
-  moved_made h = (h.0, (h.1.0, h.1.1, h.1.3, not_waiting new.checked.now event.Moved h.1.0.status (λ call tells. tells) h.1.2))
+  moved_made h = (h.0, (h.1.0, h.1.1, h.1.3, not_waiting (module_hosts new.checked.now) event.Moved h.1.0.status (λ call tells. tells) h.1.2))
 
   -- it was the last step
   pub ended_made : (d : Done) → (d ≡ done.Returned) ⊎ ((why : Trap) × (d ≡ done.Trapped why)) → QuickSteps d s new → IsMade s new × HasStopped new
   ended_made d (inl e) q =
       let h : Steps event.Returned s new = subst (λ x. QuickSteps x s new) e q in (
-        (h.0, (h.1.0, h.1.1, h.1.3, not_waiting new.checked.now event.Returned h.1.0.status (λ call tells. tells) h.1.2)),
-        stopped_at new h.1.0 h.1.3 (λ code. subst (TellsStatus new.checked.now event.Returned) code.0 h.1.2),
+        (h.0, (h.1.0, h.1.1, h.1.3, not_waiting (module_hosts new.checked.now) event.Returned h.1.0.status (λ call tells. tells) h.1.2)),
+        stopped_at new h.1.0 h.1.3 (λ code. subst (TellsStatus (module_hosts new.checked.now) event.Returned) code.0 h.1.2),
       )
   ended_made d (inr e) q =
       let h : Steps (event.Trapped e.0) s new = subst (λ x. QuickSteps x s new) e.1 q in (
-        (h.0, (h.1.0, h.1.1, h.1.3, not_waiting new.checked.now (event.Trapped e.0) h.1.0.status (λ call tells. tells) h.1.2)),
-        stopped_at new h.1.0 h.1.3 (λ code. subst (TellsStatus new.checked.now (event.Trapped e.0)) code.0 h.1.2),
+        (h.0, (h.1.0, h.1.1, h.1.3, not_waiting (module_hosts new.checked.now) (event.Trapped e.0) h.1.0.status (λ call tells. tells) h.1.2)),
+        stopped_at new h.1.0 h.1.3 (λ code. subst (TellsStatus (module_hosts new.checked.now) (event.Trapped e.0)) code.0 h.1.2),
       )
 
   -- none was made
@@ -51,13 +41,3 @@ module _ (s : ModuleState) (new : Core) where
   left_state d (inr (inr (inl e))) q = let h = subst (λ x. QuickSteps x s new) e q in (h.1, stopped_at new s h.1 h.2)
   left_state d (inr (inr (inr (inl e)))) q = let h = subst (λ x. QuickSteps x s new) e q in (h.1, stopped_at new s h.1 h.2)
   left_state d (inr (inr (inr (inr e)))) q = let h = subst (λ x. QuickSteps x s new) e q in (h.1, stopped_at new s h.1 h.2)
-
--- and memory wasn't wanting
-pub left_found : (d : Done)
-    → (d ≡ done.Stuck) ⊎ (d ≡ done.Exited) ⊎ (d ≡ done.Marked) ⊎ (d ≡ done.Deep) ⊎ (d ≡ done.Outside)
-    → d ≢ done.NoMemory
-left_found d (inl e) none = cc
-left_found d (inr (inl e)) none = cc
-left_found d (inr (inr (inl e))) none = cc
-left_found d (inr (inr (inr (inl e)))) none = cc
-left_found d (inr (inr (inr (inr e)))) none = cc

@@ -14,7 +14,7 @@ use Rattle.spec_safety.specs.spec_runtime.Names.{HostNames}
 use Rattle.spec_safety.specs.spec_execution.Ranges.{IsFrameInRange}
 use Rattle.spec_safety.specs.spec_execution.Instances.{module_view, imported_hosts}
 use Rattle.spec_safety.specs.spec_binary.IndexSpaces.{imported_count}
-use Rattle.spec_safety.specs.spec_execution.OneModule.{ModuleState, imports_met, module_entry, segments_performed, opened_state, opened_with, opened_after, module_run}
+use Rattle.spec_safety.specs.spec_execution.OneModule.{ModuleState, imports_met, module_entry, segments_performed, opened_state, opened_with, opened_after}
 use Rattle.spec_safety.specs.Laws.{IsAlone, CheckedIsInRange, OpenedHolds}
 use Rattle.host_table.specs.Names.{host_name_of}
 use Rattle.host_table.specs.declared.host.HostName.{HostName}
@@ -63,7 +63,7 @@ module _ (m : Module) (entry : ℕ) (i : InstanceState) (found : module_entry m 
   opens = ap (λ e. opened_with m e (segments_performed m)) found ∙ ap (opened_with m (Some entry)) is.1
 
   pub loaded : (names : HostNames) (answers : List Answer) → imports_met m names m.imports ≡ Ok tt → answers ≡ []
-      → Loads m names (Ok (record { wasm = m; steps = 0; answers = answers; answered = false; lost = false }))
+      → Loads m names (Ok (record { wasm = m; run = record { steps = 0; answers = answers; answered = false; lost = false } }))
   loaded names answers met none = (rw none refl, (opening, ap (opened_after m) met ∙ opens))
 
 -- what was found of the module says that the run is kept as it should
@@ -103,8 +103,7 @@ module _ (checked : Bor Module) (entry : ℕ) (i : InstanceState) (found : modul
         hosts_are = listed;
         core = λ e. core_is;
         stands = λ e. (
-          module_run m (opening m entry i found is) answers.items 0,
-          record { opening = opening m entry i found is; opens = opens m entry i found is; stands = record { found = refl; run = refl; real = tt; left = none } },
-          record { units = refl; memory = refl; standing = (refl, refl) },
+          opening m entry i found is,
+          (opens m entry i found is, record { found = refl; run = refl; real = tt; left = none }, record { units = refl; memory = refl; standing = (refl, refl) }),
         );
       }

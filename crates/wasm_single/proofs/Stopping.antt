@@ -2,36 +2,38 @@
 use Rattle.std.proofs.Common.{◌≡◌, ◌≢◌, ◌<◌, ℕ, List, Some, None, Ok, Err, Result, refl, sym, ap, ◌∙◌, subst, true, false}
 use Rattle.std.specs.Result.{OnOk}
 use Rattle.wasm_form.specs.declared.runtime.Trap.{Trap}
-use Rattle.spec_safety.specs.spec_runs.Systems.{Status, Moving, Waits, Returned, Exited, Trapped, Ran}
-use Rattle.spec_safety.specs.spec_runtime.Hosts.{HostCall, hosts}
+use Rattle.spec_safety.specs.spec_runs.Systems.{Status, Moving, Waits, Returned, Exited, Trapped}
+use Rattle.spec_safety.specs.spec_runtime.Hosts.{HostCall}
 use Rattle.spec_safety.specs.spec_runtime.Memories.{MemoryInstance}
 use Rattle.spec_safety.specs.spec_execution.Runs.{is_running, Frame}
 use Rattle.spec_safety.specs.spec_execution.Instances.{ModuleParts}
 use Rattle.spec_safety.specs.spec_execution.OneModule.{Starting, ModuleState}
 use Rattle.wasm_machine.specs.declared.machine.Standing.{Standing}
 use Rattle.wasm_machine.specs.declared.machine.Standing.TheVariants as standing
+use Rattle.spec_safety.specs.spec_runtime.Courses.{state_at, IsAt}
 use Rattle.wasm_single.specs.declared.bare_run.Core.{Core}
 use Rattle.wasm_single.specs.declared.bare_run.Phase.{Phase}
 use Rattle.wasm_single.specs.declared.bare_run.Phase.TheVariants as phase
 use Rattle.wasm_single.specs.declared.single.Single.TheInside.{Inside}
 use Rattle.wasm_single.specs.Cores.{starting_of, stack_in, IsState, StandsAs, IsCodeNext}
-use Rattle.wasm_single.specs.Singles.{SingleRun, Stands}
+use Rattle.wasm_single.specs.Starts.{opened}
+use Rattle.wasm_single.specs.Singles.{SingleRun, module_course}
 use Rattle.wasm_single.specs.Steps.{HasStopped}
 use Rattle.wasm_single.specs.Kept.{run_of, IsSingle}
 use Rattle.wasm_single.proofs.Calling.{state_moving}
-use Rattle.wasm_single.proofs.Running.{stands_same}
+use Rattle.wasm_single.proofs.Running.{stands_from}
 
-abbrev IsAt : ModuleState → Status HostCall Trap → Type 0
-IsAt s status = s.status ≡ status
+abbrev HasStatus : ModuleState → Status HostCall Trap → Type 0
+HasStatus s status = s.status ≡ status
 
 -- where a step of code is next the machine goes on
 code_moving : (c : Core) (s : ModuleState) (st : Standing) → StandsAs c s st → IsCodeNext c.checked.now s → st ≡ standing.Moving
 code_moving c s standing.Moving h code = refl
 code_moving c s (standing.Asking entry count) h code = absurd (let clash : Waits h.0 ≡ Moving = sym h.1 ∙ code.0 in cc)
 code_moving c s standing.Loading h code = absurd h
-code_moving c s standing.Returned h code = absurd (let clash : IsAt s Returned = h in cc)
-code_moving c s (standing.Trapped why) h code = absurd (let clash : IsAt s (Trapped why) = h in cc)
-code_moving c s (standing.Exited number) h code = absurd (let clash : IsAt s (Exited number) = h in cc)
+code_moving c s standing.Returned h code = absurd (let clash : HasStatus s Returned = h in cc)
+code_moving c s (standing.Trapped why) h code = absurd (let clash : HasStatus s (Trapped why) = h in cc)
+code_moving c s (standing.Exited number) h code = absurd (let clash : HasStatus s (Exited number) = h in cc)
 code_moving c s standing.Stuck h code = absurd (let clash : None ≡ Some code.3.0 = sym h.1 ∙ code.3.1 in cc)
 code_moving c s standing.Lost h code = absurd h
 
@@ -71,9 +73,9 @@ on_either (Err e) P p = tt
 
 -- no step of code is left to a run, of which so many steps may be made in all
 abbrev pub HasNoneLeft : ℕ → SingleRun → Type 0
-HasNoneLeft most v = (r : Ran hosts ModuleState) → Stands v r → v.steps < most → IsCodeNext v.wasm r.state → ⊥
+HasNoneLeft most v = (opening : ModuleState) → opened v.wasm ≡ Ok opening → IsAt (module_course v.wasm opening) v.run → v.run.steps < most → IsCodeNext v.wasm (state_at (module_course v.wasm opening) v.run) → ⊥
 
 pub none_left : (most : ℕ) (i : Inside) → IsSingle i → (i.lost ≡ false → HasStopped i.core) → HasNoneLeft most (run_of i)
-none_left most i h stopped = λ r stands few code.
-    let q = h.stands stands.stands.found in
-    stopped stands.stands.found q.0.state q.2 (subst (λ (x : Ran hosts ModuleState). IsCodeNext i.core.checked.now x.state) (stands_same (run_of i) r q.0 stands q.1) code)
+none_left most i h stopped = λ opening opens at few code.
+    let m = i.core.checked.now in
+    stopped at.found (state_at (module_course m opening) (run_of i).run) (stands_from i h at.found m refl opening opens).2 code

@@ -1,8 +1,7 @@
 -- A module in its run: its instance, the machine, and what is still to be called.
 use Rattle.std.specs.Prelude.{◌≡◌, ◌≢◌, ◌≤◌, ℕ, List, [], ◌∷◌, Some, None, Bool, true, false, IfSome, IsTrue}
-use Rattle.spec_safety.specs.spec_runs.Systems.{Status, Moving, Waits, Returned, Exited, Trapped}
+use Rattle.spec_safety.specs.spec_runs.Systems.{Moving, Waits, Returned, Exited, Trapped}
 use Rattle.wasm_form.specs.declared.module.Module.{Module}
-use Rattle.wasm_form.specs.declared.runtime.Trap.{Trap}
 use Rattle.wasm_form.specs.declared.runtime.Answer.{Answer}
 use Rattle.spec_safety.specs.spec_binary.Indices.{nullary, function_type}
 use Rattle.spec_safety.specs.spec_runtime.Memories.{MemoryInstance}
@@ -15,6 +14,7 @@ use Rattle.wasm_step.specs.declared.done.Done.{Done}
 use Rattle.wasm_step.specs.declared.done.Done.TheVariants as done
 use Rattle.wasm_machine.specs.Machines.{MachineState, IsOver, Told}
 use Rattle.wasm_machine.specs.Marks.{marked_stack, AreMarks}
+use Rattle.wasm_machine.specs.Steps.{TellsStatus}
 use Rattle.wasm_machine.specs.declared.machine.Standing.{Standing}
 use Rattle.wasm_machine.specs.declared.machine.Standing.TheVariants as standing
 use Rattle.wasm_machine.specs.declared.event.Event.{Event}
@@ -92,15 +92,6 @@ pub record IsState (c : Core) (s : ModuleState) : Type 0 where
 
 -- ---- one step
 
--- what is told of a step, by how the run stands after it
-abbrev pub TellsStatus : Module → Event → Status HostCall Trap → Type 0
-TellsStatus m event.Moved Moving = Unit {0}
-TellsStatus m (event.Waits asked) (Waits call) = (module_hosts m asked.entry ≡ Some call.host) × (asked.args ≡ call.args)
-TellsStatus m event.Returned Returned = Unit {0}
-TellsStatus m (event.Trapped why) (Trapped cause) = why ≡ cause
-TellsStatus m (event.Exited code) (Exited value) = code ≡ value
-TellsStatus m _ _ = ⊥
-
 -- The next step is one of code that is on top: it passes no limit of depth, and the run goes on by itself after it.
 abbrev pub IsCodeNext : Module → ModuleState → Type 0
 IsCodeNext m s = (s.status ≡ Moving) × (is_running s.stack ≡ true) × (module_too_deep m s ≡ false) × ((t : ModuleState) × (module_step m s ≡ Some t) × (t.status ≡ Moving))
@@ -109,7 +100,7 @@ IsCodeNext m s = (s.status ≡ Moving) × (is_running s.stack ≡ true) × (modu
 abbrev pub Steps : Event → ModuleState → Core → Type 0
 Steps event.Deep s new = (module_too_deep new.checked.now s ≡ true) × (new.machine.standing ≡ standing.Moving) × IsState new s
 Steps event.Stuck s new = (module_step new.checked.now s ≡ None) × (new.machine.standing ≡ standing.Stuck) × IsState new s
-Steps e s new = (module_too_deep new.checked.now s ≡ false) × ((t : ModuleState) × (module_step new.checked.now s ≡ Some t) × TellsStatus new.checked.now e t.status × IsState new t)
+Steps e s new = (module_too_deep new.checked.now s ≡ false) × ((t : ModuleState) × (module_step new.checked.now s ≡ Some t) × TellsStatus (module_hosts new.checked.now) e t.status × IsState new t)
 
 -- the same of a step that the machine tells in few bytes; or it is left to be made with more care, and isn't one of code
 abbrev pub QuickSteps : Done → ModuleState → Core → Type 0

@@ -1,32 +1,10 @@
 -- What a step changes of a run.
-use Rattle.std.specs.Prelude.{◌≡◌, ◌⊎◌, ℕ, suc, ◌^◌, ◌<◌, Some, Bool, true, false}
-use Rattle.std.specs.List.{All}
+use Rattle.std.specs.Prelude.{◌≡◌, ◌⊎◌, ℕ, suc, Some, Bool, true, false}
+use Rattle.spec_safety.specs.spec_runtime.Recorded.{waits}
 use Rattle.spec_safety.specs.spec_execution.OneModule.{ModuleState, module_step, module_too_deep}
-use Rattle.wasm_machine.specs.declared.machine.Standing.{Standing}
 use Rattle.wasm_machine.specs.declared.machine.Standing.TheVariants as standing
-use Rattle.wasm_machine.specs.declared.event.Event.{Event}
-use Rattle.wasm_machine.specs.declared.event.Event.TheVariants as event
 use Rattle.wasm_single.specs.declared.bare_run.Core.{Core}
 use Rattle.wasm_single.specs.Cores.{IsState, IsCodeNext}
-use Rattle.wasm_single.specs.Singles.{waits}
-
--- what is told of a machine after an answer, and of an end again
-abbrev pub event_of : Standing → Event
-event_of standing.Returned = event.Returned
-event_of (standing.Trapped why) = event.Trapped why
-event_of (standing.Exited code) = event.Exited code
-event_of _ = event.Moved
-
--- how many steps were made where this is told of a run that goes on by itself
-abbrev pub steps_told : Event → ℕ
-steps_told event.Deep = 0
-steps_told event.Stuck = 0
-steps_told _ = 1
-
--- what is asked are numbers of 64 bits
-abbrev pub AreNumbers : Event → Type 0
-AreNumbers (event.Waits asked) = All (λ n. n < 2 ^ 64) asked.args
-AreNumbers _ = Unit {0}
 
 -- a step was made from a state that isn't too deep, and doesn't call a host function
 abbrev pub IsMade : ModuleState → Core → Type 0

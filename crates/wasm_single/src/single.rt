@@ -1,20 +1,22 @@
 // The run of one module.
-ghost use Rattle.std.specs.Prelude.{◌≡◌, ◌≢◌, ◌<◌, ◌^◌, ◌++◌, [], ◌∷◌, map, All, Bool, true, false, IfOk, OnOk, OnErr, Err};
-ghost use Rattle.spec_safety.specs.spec_runs.Systems.{Ran};
-ghost use Rattle.spec_safety.specs.spec_runtime.Hosts.{hosts};
-ghost use Rattle.spec_safety.specs.spec_execution.Instances.{imported_hosts};
+ghost use Rattle.std.specs.Prelude.{◌≡◌, ◌≢◌, ◌<◌, map, Bool, true, false, IfOk, OnOk, OnErr, Ok, Err};
+ghost use Rattle.spec_safety.specs.spec_runtime.Recorded.{has_ended};
+ghost use Rattle.spec_safety.specs.spec_execution.Instances.{imported_hosts, module_hosts};
 ghost use Rattle.spec_safety.specs.spec_execution.OneModule.{ModuleState};
 ghost use Rattle.host_table.specs.Names.{host_name_of};
+ghost use Rattle.spec_safety.specs.spec_runtime.Courses.{state_at, status_at, memory_at, IsAt, is_waiting, with_answer, as_lost};
+ghost use Rattle.wasm_machine.specs.Steps.{RunStepped, ArgumentsFit, Advances, AreOfCode, Awaits};
+ghost use Rattle.wasm_single.specs.Starts.{opened};
 ghost use Rattle.wasm_single.specs.Cores.{IsCore, IsState, IsCodeNext};
-ghost use Rattle.wasm_single.specs.Singles.{Stands, has_ended, is_waiting, RunStepped, ArgumentsFit, Advances, Awaits};
-ghost use Rattle.wasm_single.specs.Steps.{event_of, steps_told, AreNumbers, Counted};
+ghost use Rattle.wasm_single.specs.Singles.{module_course};
+ghost use Rattle.wasm_single.specs.Steps.{Counted};
 
 use crate::bare_run::{Core, Phase};
 use host_table::HostName;
 use std::alloc::Global;
 use std::marker::Model;
 use wasm_form::{List, Memory};
-use wasm_machine::{Answer, Done, Event, Standing, View};
+use wasm_machine::{Answer, Done, Event, Standing, View, are_numbers, event_of, steps_told};
 use wasm_space::Space;
 
 /// The run of one module with host imports alone: its steps, and the answers of its host. Contracts see it as a `SingleRun`.
@@ -41,46 +43,6 @@ impl<'m> Model for Single<'m> {
     ghost view = { run_of };
 
     ghost invariant = { IsSingle };
-}
-
-/// What is told of how a run stands after an answer, and of an end again.
-fn event_of(standing: Standing) -> Event
-    ensures { result ≡ event_of standing }
-{
-    match standing {
-        Standing::Returned => Event::Returned,
-        Standing::Trapped(trap) => Event::Trapped(trap),
-        Standing::Exited(code) => Event::Exited(code),
-        Standing::Moving
-        | Standing::Asking(..)
-        | Standing::Loading
-        | Standing::Stuck
-        | Standing::Lost => Event::Moved,
-    }
-}
-
-/// How many steps were made where this is told of a run that goes on by itself.
-fn steps_told(event: &Event) -> u64
-    ensures { result ≡ steps_told event.now }
-{
-    match event {
-        Event::Deep | Event::Stuck => 0,
-        _ => 1,
-    }
-}
-
-/// Numbers of 64 bits are in their range.
-fn are_in_range(numbers: &[u64])
-    ensures { All (λ n. n < 2 ^ 64) numbers.now }
-{}
-
-/// The arguments of a call that is told are numbers of 64 bits.
-fn are_numbers(event: &Event)
-    ensures { AreNumbers event.now }
-{
-    if let Event::Waits(asked) = event {
-        are_in_range(asked.args.items());
-    }
 }
 
 /// Makes one step of code, if the machine can tell it in few bytes, and counts it. Whether code goes on.
@@ -118,12 +80,13 @@ impl<'m> Single<'m> {
     /// `Deep` where the step would pass a limit of depth, and `Stuck` where there is none, with nothing changed. It takes memory
     /// where the next instruction calls or grows; a run that answered `Memory` answers it from then on.
     pub fn run_step(&mut self, alloc: Global) -> Result<Event, Memory>
-        requires answered { (r : Ran hosts ModuleState) → Stands self.old r → is_waiting self.old r ≡ false }
-        requires few { self.old.steps < 18446744073709551615 }
-        ensures stepped { IfOk result (λ e. (r : Ran hosts ModuleState) × Stands self.old r × RunStepped e self.old r self.new) }
-        ensures lost { OnErr result (self.new ≡ record self.old { lost = true }) }
-        ensures again { self.old.lost ≡ true → result ≡ Err (record {}) }
-        ensures arguments { IfOk result (λ e. ArgumentsFit self.new.wasm e) }
+        requires answered { (opening : ModuleState) → opened self.old.wasm ≡ Ok opening → IsAt (module_course self.old.wasm opening) self.old.run → is_waiting (module_course self.old.wasm opening) self.old.run ≡ false }
+        requires few { self.old.run.steps < 18446744073709551615 }
+        ensures stepped { IfOk result (λ e. (opening : ModuleState) × (opened self.old.wasm ≡ Ok opening) × IsAt (module_course self.old.wasm opening) self.old.run × RunStepped (module_course self.old.wasm opening) e self.old.run self.new.run) }
+        ensures lost { OnErr result (self.new.run ≡ as_lost self.old.run) }
+        ensures again { self.old.run.lost ≡ true → result ≡ Err (record {}) }
+        ensures arguments { IfOk result (λ e. ArgumentsFit (module_hosts self.old.wasm) e) }
+        ensures same { self.new.wasm ≡ self.old.wasm }
     {
         if self.lost {
             return Err(Memory);
@@ -155,11 +118,13 @@ impl<'m> Single<'m> {
     /// Makes steps of code, up to so many in all, until one is left for `run_step`: a call of the module's start or entry, of a host
     /// function, or one that is too deep; or the run has ended, waits or is stuck.
     pub fn advance(&mut self, alloc: Global, most: u64) -> Result<(), Memory>
-        ensures advances { Advances most self.old self.new }
-        ensures left { OnOk result ((r : Ran hosts ModuleState) → Stands self.new r → self.new.steps < most → IsCodeNext self.new.wasm r.state → ⊥) }
-        ensures found { OnOk result (self.new.lost ≡ false) }
-        ensures lost { OnErr result (self.new.lost ≡ true) }
-        ensures again { self.old.lost ≡ true → result ≡ Err (record {}) }
+        ensures advances { Advances most self.old.run self.new.run }
+        ensures code { (opening : ModuleState) → opened self.old.wasm ≡ Ok opening → AreOfCode (module_course self.old.wasm opening) self.old.run self.new.run }
+        ensures left { OnOk result ((opening : ModuleState) → opened self.new.wasm ≡ Ok opening → IsAt (module_course self.new.wasm opening) self.new.run → self.new.run.steps < most → IsCodeNext self.new.wasm (state_at (module_course self.new.wasm opening) self.new.run) → ⊥) }
+        ensures found { OnOk result (self.new.run.lost ≡ false) }
+        ensures lost { OnErr result (self.new.run.lost ≡ true) }
+        ensures again { self.old.run.lost ≡ true → result ≡ Err (record {}) }
+        ensures same { self.new.wasm ≡ self.old.wasm }
     {
         if self.lost {
             return Err(Memory);
@@ -178,9 +143,10 @@ impl<'m> Single<'m> {
 
     /// Records the answer that the next step takes.
     pub fn answer(&mut self, alloc: Global, a: Answer) -> Result<(), Memory>
-        requires { Awaits self.old a }
-        ensures recorded { OnOk result (self.new ≡ record self.old { answers = self.old.answers ++ a ∷ []; answered = true }) }
-        ensures lost { OnErr result (self.new ≡ record self.old { lost = true }) }
+        requires { (opening : ModuleState) × (opened self.old.wasm ≡ Ok opening) × Awaits (module_course self.old.wasm opening) self.old.run a }
+        ensures recorded { OnOk result (self.new.run ≡ with_answer self.old.run a) }
+        ensures lost { OnErr result (self.new.run ≡ as_lost self.old.run) }
+        ensures same { self.new.wasm ≡ self.old.wasm }
     {
         let Ok(()) = self.answers.push(a) else {
             self.lost = true;
@@ -192,14 +158,14 @@ impl<'m> Single<'m> {
 
     /// Whether it waits for an answer that isn't recorded.
     pub fn waiting(&self) -> bool
-        ensures { (r : Ran hosts ModuleState) → Stands self.now r → result ≡ is_waiting self.now r }
+        ensures { (opening : ModuleState) → opened self.now.wasm ≡ Ok opening → IsAt (module_course self.now.wasm opening) self.now.run → result ≡ is_waiting (module_course self.now.wasm opening) self.now.run }
     {
         !self.answered && matches!(self.core.machine.standing(), Standing::Asking(..))
     }
 
     /// Whether it has returned, exited or trapped.
     pub fn has_ended(&self) -> bool
-        ensures { (r : Ran hosts ModuleState) → Stands self.now r → result ≡ has_ended r.state.status }
+        ensures { (opening : ModuleState) → opened self.now.wasm ≡ Ok opening → IsAt (module_course self.now.wasm opening) self.now.run → result ≡ has_ended (status_at (module_course self.now.wasm opening) self.now.run) }
     {
         matches!(
             self.core.machine.standing(),
@@ -209,22 +175,22 @@ impl<'m> Single<'m> {
 
     /// How many steps were made. The run stands where these lead.
     pub fn steps(&self) -> u64
-        ensures value { result ≡ self.now.steps }
-        ensures stands { self.now.lost ≡ false → (r : Ran hosts ModuleState) × Stands self.now r }
+        ensures value { result ≡ self.now.run.steps }
+        ensures stands { self.now.run.lost ≡ false → (opening : ModuleState) × (opened self.now.wasm ≡ Ok opening) × IsAt (module_course self.now.wasm opening) self.now.run }
     {
         self.steps
     }
 
     /// The answers that are recorded, in order.
     pub fn answers(&self) -> &[Answer]
-        ensures { result.now ≡ self.now.answers }
+        ensures { result.now ≡ self.now.run.answers }
     {
         &self.answers
     }
 
     /// The answers themselves.
     pub fn into_answers(self) -> List<Answer>
-        ensures { result ≡ self.entry.answers }
+        ensures { result ≡ self.entry.run.answers }
     {
         drop(self.core);
         drop(self.hosts);
@@ -233,7 +199,7 @@ impl<'m> Single<'m> {
 
     /// The memory as the run stands.
     pub fn memory(&self) -> &Space
-        ensures { (r : Ran hosts ModuleState) → Stands self.now r → result.now ≡ r.state.memory }
+        ensures { (opening : ModuleState) → opened self.now.wasm ≡ Ok opening → IsAt (module_course self.now.wasm opening) self.now.run → result.now ≡ memory_at (module_course self.now.wasm opening) self.now.run }
     {
         self.core.instance.memory()
     }

@@ -16,7 +16,7 @@ length-little (suc n) value = ap (λ k. suc k) (length-little n (value / 256))
 abbrev pub items_at : {X : Type 0} → List X → ℕ → ℕ → Option (List X)
 items_at xs at n = if nat_le (at + n) (length xs) then Some (take n (drop at xs)) else None
 
-part_within : {X : Type 0} (xs : List X) (at n : ℕ) → at + n ≤ length xs → items_at xs at n ≡ Some (take n (drop at xs))
+pub part_within : {X : Type 0} (xs : List X) (at n : ℕ) → at + n ≤ length xs → items_at xs at n ≡ Some (take n (drop at xs))
 part_within xs at n fits = rw (le-leb _ _ fits) refl
 
 pub length_part : {X : Type 0} (xs : List X) (at n : ℕ) → at + n ≤ length xs → length (take n (drop at xs)) ≡ n

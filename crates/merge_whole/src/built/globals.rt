@@ -42,12 +42,18 @@ fn number_global(alloc: Global, may_be_set: bool, k: u32) -> Result<GlobalDef, M
     })
 }
 
-fn own_value(linked: &Linked, m: u32, bases: &[Option<u32>], g: &GlobalDef) -> Value
-    ensures { result ≡ value_by linked.now bases.now m g.now }
+fn own_value(
+    alloc: Global,
+    linked: &Linked,
+    m: u32,
+    bases: &[Option<u32>],
+    g: &GlobalDef,
+) -> Result<Value, Memory>
+    ensures { IfOk result (λ v. v ≡ value_by linked.now bases.now m g.now) }
 {
-    match constant(linked, m, bases, &g.init) {
-        Some(value) => value,
-        None => zero_of(g.ty.value),
+    match constant(alloc, linked, m, bases, &g.init)? {
+        Some(value) => Ok(value),
+        None => Ok(zero_of(g.ty.value)),
     }
 }
 
@@ -63,7 +69,7 @@ fn own_global(
     requires { FitsIn g.now.ty.value (value_by linked.now bases.now m g.now) }
     ensures { IfOk result (λ x. x ≡ own_by linked.now (numbers_in n.now) bases.now m g.now) }
 {
-    let value = own_value(linked, m, bases, g);
+    let value = own_value(alloc, linked, m, bases, g)?;
     let init = constant_instr(n, g.ty.value, value);
     Ok(GlobalDef {
         ty: g.ty,

@@ -1,66 +1,75 @@
-// The values of constant expressions (WebAssembly Core 2.0, section 3.3.7.2).
-ghost use Rattle.std.specs.Prelude.{◌≡◌, [], ◌∷◌, false, length, is_some, IsTrue, IfOk};
-ghost use Rattle.wasm_form.specs.declared.types.ValType.TheVariants.{I32};
-ghost use Rattle.spec_linking.specs.spec_binary.IndexSpaces.{imports_of, globals_in};
-ghost use Rattle.spec_linking.specs.spec_validation.Faults.{constant_type};
-
+// The values of constant expressions (WebAssembly Core 2.0, section 3.3.10, with the operators of extended constant expressions).
 use std::alloc::Global;
-use wasm_check::{Constant, constant};
-use wasm_form::{Expr, GlobalType, Import, ImportDesc, Instr, List, Memory, Module, Text, ValType};
+use wasm_check::{Constant, Known, evaluate};
+use wasm_form::{Expr, Instr, List, Memory, ValType};
 
-// A module that imports one immutable i32 global.
-fn imports_a_number(alloc: Global) -> Result<Module, Memory>
-    ensures { IfOk result (λ m. imports_of globals_in m.imports ≡ record { value = I32; mutable = false } ∷ []) }
-{
-    let ty = GlobalType {
-        value: ValType::I32,
-        mutable: false,
+// What the instructions give where the one imported global is 1024.
+fn value_of(alloc: Global, instrs: Vec<Instr>) -> Result<Option<Constant>, Memory> {
+    let e = Expr {
+        list: List::of(instrs),
     };
-    let import = Import {
-        module: Text::of(String::from_str(alloc, "env")?),
-        field: Text::of(String::from_str(alloc, "__memory_base")?),
-        desc: ImportDesc::Global(ty),
-    };
-    Ok(Module {
-        types: List::of(Vec::new(alloc)),
-        imports: List::of(vec![in alloc; import]?),
-        funcs: List::of(Vec::new(alloc)),
-        tables: List::of(Vec::new(alloc)),
-        memories: List::of(Vec::new(alloc)),
-        globals: List::of(Vec::new(alloc)),
-        exports: List::of(Vec::new(alloc)),
-        start: None,
-        elems: List::of(Vec::new(alloc)),
-        data_count: None,
-        codes: List::of(Vec::new(alloc)),
-        datas: List::of(Vec::new(alloc)),
-        customs: List::of(Vec::new(alloc)),
-    })
+    let imported = [1024];
+    let value = evaluate(alloc, &e, &Known::Numbers(&imported));
+    drop(e);
+    value
 }
 
-// What the instruction alone gives where the one imported global is 1024.
-fn value_of(alloc: Global, m: &Module, i: Instr) -> Result<Constant, Memory>
-    requires typed { IsTrue (is_some (constant_type m.now (i ∷ []))) }
-    requires numbers { length (imports_of globals_in m.now.imports) ≡ 1 }
-{
-    let e = Expr {
-        list: List::of(vec![in alloc; i]?),
-    };
-    constant(alloc, m, &e, &[1024])
+fn number(n: u64) -> Result<Option<Constant>, Memory> {
+    Ok(Some(Constant::Num(n)))
 }
 
 #[test]
-fn values_constants(rt: HostRuntime) -> Result<(), Memory> {
+fn values_one_instruction(rt: HostRuntime) -> Result<(), Memory> {
     let alloc = rt.alloc();
-    let m = imports_a_number(alloc)?;
-    let of_i32 = value_of(alloc, &m, Instr::I32Const(-1));
-    let of_i64 = value_of(alloc, &m, Instr::I64Const(-1));
-    let of_null = value_of(alloc, &m, Instr::RefNull(ValType::FuncRef));
-    let of_imported = value_of(alloc, &m, Instr::Index(0x23, 0));
-    drop(m);
-    assert!(rt; of_i32 == Ok(Constant::Num(4_294_967_295)));
-    assert!(rt; of_i64 == Ok(Constant::Num(18_446_744_073_709_551_615)));
-    assert!(rt; of_null == Ok(Constant::Func(None)));
-    assert!(rt; of_imported == Ok(Constant::Num(1024)));
+    let of_i32 = value_of(alloc, vec![in alloc; Instr::I32Const(-1)]?);
+    let of_i64 = value_of(alloc, vec![in alloc; Instr::I64Const(-1)]?);
+    let of_null = value_of(alloc, vec![in alloc; Instr::RefNull(ValType::FuncRef)]?);
+    let of_function = value_of(alloc, vec![in alloc; Instr::Index(0xD2, 7)]?);
+    let of_imported = value_of(alloc, vec![in alloc; Instr::Index(0x23, 0)]?);
+    let of_another = value_of(alloc, vec![in alloc; Instr::Index(0x23, 1)]?);
+    assert!(rt; of_i32 == number(4_294_967_295));
+    assert!(rt; of_i64 == number(18_446_744_073_709_551_615));
+    assert!(rt; of_null == Ok(Some(Constant::Func(None))));
+    assert!(rt; of_function == Ok(Some(Constant::Func(Some(7)))));
+    assert!(rt; of_imported == number(1024));
+    assert!(rt; of_another == Ok(None));
+    Ok(())
+}
+
+// Two numbers, and an operator.
+fn joined(alloc: Global, a: Instr, b: Instr, op: u8) -> Result<Option<Constant>, Memory> {
+    let instrs = vec![in alloc; a, b, Instr::Plain(op)]?;
+    value_of(alloc, instrs)
+}
+
+#[test]
+fn values_operators(rt: HostRuntime) -> Result<(), Memory> {
+    let alloc = rt.alloc();
+    let sum = joined(alloc, Instr::Index(0x23, 0), Instr::I32Const(-4), 0x6A);
+    let difference = joined(alloc, Instr::I32Const(7), Instr::I32Const(9), 0x6B);
+    let product = joined(
+        alloc,
+        Instr::I32Const(65_536),
+        Instr::I32Const(65_537),
+        0x6C,
+    );
+    let long_sum = joined(alloc, Instr::I64Const(-1), Instr::I64Const(2), 0x7C);
+    let long_difference = joined(alloc, Instr::I64Const(0), Instr::I64Const(1), 0x7D);
+    let long_product = joined(alloc, Instr::I64Const(-3), Instr::I64Const(5), 0x7E);
+    let division = joined(alloc, Instr::I32Const(4), Instr::I32Const(2), 0x6E);
+    let two_left = value_of(
+        alloc,
+        vec![in alloc; Instr::I32Const(1), Instr::I32Const(2)]?,
+    );
+    let nothing_left = value_of(alloc, Vec::new(alloc));
+    assert!(rt; sum == number(1020));
+    assert!(rt; difference == number(4_294_967_294));
+    assert!(rt; product == number(65_536));
+    assert!(rt; long_sum == number(1));
+    assert!(rt; long_difference == number(18_446_744_073_709_551_615));
+    assert!(rt; long_product == number(18_446_744_073_709_551_601));
+    assert!(rt; division == Ok(None));
+    assert!(rt; two_left == Ok(None));
+    assert!(rt; nothing_left == Ok(None));
     Ok(())
 }

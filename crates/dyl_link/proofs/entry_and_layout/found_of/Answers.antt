@@ -1,7 +1,11 @@
-use Rattle.std.proofs.Common.{rules}
+use Rattle.std.proofs.Common.{rules, ap, map, sym}
+use Rattle.dyl_slots.specs.dyl_search.Gathers.{member_of, set_of}
 use Rattle.dyl_link.specs.Kept.{linked_set}
 use Rattle.dyl_link.proofs.Sound.{is_over}
 use Rattle.dyl_link.proofs.entry_and_layout.found_of.Goals as goal
+
+pub of-requires-clause-set : goal.of-requires-clause-set
+of-requires-clause-set c = (set_of c.args.set.now, c.requires.shape, ap (map member_of) (sym c.items.ensures))
 
 pub entered-requires-clause-over : goal.entered-requires-clause-over
 entered-requires-clause-over c =

@@ -1,7 +1,18 @@
 use Rattle.std.proofs.Common.{arith, ◌≡◌, ◌∙◌, ◌<◌, ◌++◌, ◌∷◌, [], ap, sym, subst, length, map, take, ◌+◌, List}
+use Rattle.std.proofs.lemmas.List.{length-take-le}
 use Rattle.spec_linking.specs.Wanted.{Wanted, with_name, number_of}
 use Rattle.spec_linking.proofs.Numbering.{Have, more_known, more_have, more_numbers}
+use Rattle.dyl_search.proofs.FewNames.{names_few}
 use Rattle.dyl_search.proofs.step.number_names.Goals as goal
+
+pub number-requires : goal.number-requires
+number-requires c =
+    let needed = c.args.needed.now in
+    let lt : c.loop-name.name-index < length needed = omega arith in
+    let taken = length-take-le c.loop-name.name-index needed (omega arith) in
+    let same = ap length c.loop-name.invariant.known in
+    let few = names_few c.args.needed_by c.args.names.now (take c.loop-name.name-index needed) in
+    omega arith
 
 pub loop-name-preserved : goal.loop-name-preserved
 loop-name-preserved c =

@@ -1,9 +1,28 @@
-use Rattle.std.proofs.Common.{ap, subst, length, Err, List, ℕ}
+use Rattle.std.proofs.Common.{ap, subst, length, arith, Err, List, ℕ}
 use Rattle.dyl_search.specs.Loaded.{IsLoaded, IsModule, Holds}
 use Rattle.std.proofs.lemmas.Result.{err_from_is_err_and}
+use Rattle.dyl_search.proofs.FewNames.{names_few, names_within, loaded_few}
 use Rattle.dyl_search.proofs.NextMember.{no_member, stands_more}
 use Rattle.dyl_search.proofs.Whole.{loaded_whole, search_whole}
 use Rattle.dyl_search.proofs.step.step.Goals as goal
+
+pub next_member-requires-clause-few : goal.next_member-requires-clause-few
+next_member-requires-clause-few g c =
+    let P : List ℕ → Type 0 = λ bytes. Holds bytes (λ wasm. IsModule wasm c.in_ok-loaded.loaded) in
+    let names = names_within (g.F.Files.seen c.args.files.now).told c.args.o.now c.args.g.now c.requires.stands in
+    let needed = loaded_few c.in_ok-found.found.bytes.items c.in_ok-loaded.loaded (subst P c.as_slice-2.ensures.value c.in_ok-loaded.ensures) in
+    let room = c.in_ok-found.ensures.found.few_bytes in
+    omega arith
+
+pub add_member-requires-clause-few_names : goal.add_member-requires-clause-few_names
+add_member-requires-clause-few_names g c =
+    let P : List ℕ → Type 0 = λ bytes. Holds bytes (λ wasm. IsModule wasm c.in_ok-loaded.loaded) in
+    let names = names_within (g.F.Files.seen c.args.files.now).told c.args.o.now c.args.g.now c.requires.stands in
+    let needed = loaded_few c.in_ok-found.found.bytes.items c.in_ok-loaded.loaded (subst P c.as_slice-2.ensures.value c.in_ok-loaded.ensures) in
+    let room = c.in_ok-found.ensures.found.few_bytes in
+    let same = ap length c.in_ok-member.ensures.known in
+    let more = names_few (length c.as_slice.result.now) c.args.g.now.names c.in_ok-loaded.loaded.dylink.needed in
+    omega arith
 
 pub returns-in_err-loaded-clause-stops : goal.returns-in_err-loaded-clause-stops
 returns-in_err-loaded-clause-stops g c =

@@ -1,5 +1,6 @@
 use Rattle.std.proofs.Common.{inl, inr, refl, arith}
-use Rattle.dyl_store.proofs.Counting.{moved_made, ended_made, left_state, left_found}
+use Rattle.wasm_machine.proofs.Steps.{left_found}
+use Rattle.dyl_store.proofs.Counting.{moved_made, ended_made, left_state}
 use Rattle.dyl_store.proofs.store.quick_step.Goals as goal
 
 pub returns-in-Goes-clause-counted : goal.returns-in-Goes-clause-counted

@@ -17,5 +17,5 @@ handle_list-requires c =
       | else-handle-ne0-via-else-handle-ne0 w ↦ omega arith
     ]
 
-pub search-requires : goal.search-requires
-search-requires c = bases_count c.requires.linked.0 _ c.requires.linked.1
+pub search_name-requires : goal.search_name-requires
+search_name-requires c = bases_count c.requires.linked.0 _ c.requires.linked.1

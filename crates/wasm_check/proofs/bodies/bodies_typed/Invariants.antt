@@ -1,5 +1,5 @@
 use Rattle.std.proofs.Common.{◌≡◌, drop}
-use Rattle.spec_validation.specs.Faults.{first_in, body_typed}
+use Rattle.spec_execution.specs.spec_validation.Faults.{first_in, body_typed}
 use Rattle.wasm_check.specs.Heights.{HaveHeights}
 use Rattle.wasm_check.proofs.bodies.bodies_typed.Given as goal
 

@@ -1,5 +1,5 @@
 use Rattle.std.proofs.Common.{◌≡◌, drop}
-use Rattle.spec_validation.specs.spec_binary.Exports.{exported_as}
+use Rattle.spec_execution.specs.spec_binary.Exports.{exported_as}
 use Rattle.wasm_check.proofs.exports.exported.Given as goal
 
 abbrev pub invariant-loop-export : goal.invariant-loop-export

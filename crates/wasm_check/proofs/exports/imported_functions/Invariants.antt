@@ -1,5 +1,5 @@
 use Rattle.std.proofs.Common.{◌≡◌, ◌+◌, ◌≤◌, drop, length}
-use Rattle.spec_validation.specs.spec_binary.IndexSpaces.{functions_in, imports_of}
+use Rattle.spec_execution.specs.spec_binary.IndexSpaces.{functions_in, imports_of}
 use Rattle.wasm_check.proofs.exports.imported_functions.Given as goal
 
 abbrev pub invariant-loop-import : goal.invariant-loop-import

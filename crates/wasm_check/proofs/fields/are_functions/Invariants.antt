@@ -1,6 +1,6 @@
 use Rattle.std.proofs.Common.{◌≡◌, drop}
 use Rattle.std.specs.List.{list_all}
-use Rattle.spec_validation.specs.Faults.{is_function}
+use Rattle.spec_execution.specs.spec_validation.Faults.{is_function}
 use Rattle.wasm_check.proofs.fields.are_functions.Given as goal
 
 abbrev pub invariant-loop-f : goal.invariant-loop-f

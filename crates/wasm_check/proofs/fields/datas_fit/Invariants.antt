@@ -1,6 +1,6 @@
 use Rattle.std.proofs.Common.{◌≡◌, drop}
 use Rattle.std.specs.List.{list_all}
-use Rattle.spec_validation.specs.Faults.{data_fits}
+use Rattle.spec_execution.specs.spec_validation.Faults.{data_fits}
 use Rattle.wasm_check.proofs.fields.datas_fit.Given as goal
 
 abbrev pub invariant-loop-segment : goal.invariant-loop-segment

@@ -1,5 +1,5 @@
 use Rattle.std.proofs.Common.{◌≡◌, drop}
-use Rattle.spec_validation.specs.Faults.{unsupported_of}
+use Rattle.spec_execution.specs.spec_validation.Faults.{unsupported_of}
 use Rattle.wasm_check.proofs.inside.+scan.Given as goal
 
 abbrev pub invariant-instrs_supported-loop-i : goal.invariant-instrs_supported-loop-i

@@ -4,7 +4,7 @@ use Rattle.std.specs.Str.{bytes_eq}
 use Rattle.std.specs.Ordering.{nat_cmp}
 use Rattle.std.specs.Cmp.Lexicographic.{slice_cmp}
 use Rattle.std.specs.BTreeSet as sorted
-use Rattle.spec_validation.specs.spec_binary.Exports.{AllDistinct, name_of}
+use Rattle.spec_execution.specs.spec_binary.Exports.{AllDistinct, name_of}
 use Rattle.wasm_check.proofs.names.are_distinct.Given as goal
 
 abbrev pub invariant-loop-export : goal.invariant-loop-export

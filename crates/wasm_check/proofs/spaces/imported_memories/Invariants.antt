@@ -1,5 +1,5 @@
 use Rattle.std.proofs.Common.{◌≡◌, ◌+◌, ◌≤◌, drop, length}
-use Rattle.spec_validation.specs.spec_binary.IndexSpaces.{imports_of, memories_in}
+use Rattle.spec_execution.specs.spec_binary.IndexSpaces.{imports_of, memories_in}
 use Rattle.wasm_check.proofs.spaces.imported_memories.Given as goal
 
 abbrev pub invariant-loop-import : goal.invariant-loop-import

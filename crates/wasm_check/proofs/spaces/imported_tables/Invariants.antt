@@ -1,5 +1,5 @@
 use Rattle.std.proofs.Common.{◌≡◌, ◌++◌, drop}
-use Rattle.spec_validation.specs.spec_binary.IndexSpaces.{imports_of, tables_in}
+use Rattle.spec_execution.specs.spec_binary.IndexSpaces.{imports_of, tables_in}
 use Rattle.wasm_check.specs.Spaces.{entries}
 use Rattle.wasm_check.proofs.spaces.imported_tables.Given as goal
 

@@ -1,5 +1,5 @@
 use Rattle.std.proofs.Common.{◌≡◌, ◌++◌, drop, map}
-use Rattle.spec_validation.specs.spec_binary.IndexSpaces.{type_of_global}
+use Rattle.spec_execution.specs.spec_binary.IndexSpaces.{type_of_global}
 use Rattle.wasm_check.proofs.spaces.put_globals.Given as goal
 
 abbrev pub invariant-loop-global : goal.invariant-loop-global

@@ -1,5 +1,5 @@
 use Rattle.std.proofs.Common.{◌≡◌, drop}
-use Rattle.spec_validation.specs.Faults.{first_in, import_supported}
+use Rattle.spec_execution.specs.spec_validation.Faults.{first_in, import_supported}
 use Rattle.wasm_check.proofs.support.imports_supported.Given as goal
 
 abbrev pub invariant-loop-n : goal.invariant-loop-n

@@ -1,5 +1,5 @@
 use Rattle.std.proofs.Common.{◌≡◌, ◌++◌, drop, map}
-use Rattle.spec_validation.specs.Faults.{is_function_supported}
+use Rattle.spec_execution.specs.spec_validation.Faults.{is_function_supported}
 use Rattle.wasm_check.proofs.support.supported_types.Given as goal
 
 abbrev pub invariant-loop-f : goal.invariant-loop-f

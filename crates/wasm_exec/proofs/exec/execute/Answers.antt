@@ -6,14 +6,14 @@ use Rattle.spec_hosts.specs.Devices.{devices}
 use Rattle.spec_hosts.proofs.Fronts.{fronts_itself}
 use Rattle.host_calls.specs.Embedders.{embedder_of}
 use Rattle.wasm_single.specs.Starts.{IsTold}
-use Rattle.wasm_single.specs.Singles.{recorded_of}
+use Rattle.wasm_single.specs.Singles.{SingleRun}
 use Rattle.wasm_exec.specs.Courses.{OfModule, course_of}
 use Rattle.wasm_exec.proofs.Beginning.{module_opens, refuses}
 use Rattle.wasm_exec.proofs.Proceeding.{course_fronts}
 use Rattle.wasm_exec.proofs.exec.execute.Goals as goal
 
 pub run_program-requires-clause-fresh : goal.run_program-requires-clause-fresh
-run_program-requires-clause-fresh g c = ap recorded_of c.in-Ok.ensures.0
+run_program-requires-clause-fresh g c = ap (λ (s : SingleRun). s.run) c.in-Ok.ensures.0
 
 pub run_program-requires-clause-opened : goal.run_program-requires-clause-opened
 run_program-requires-clause-opened g c =

@@ -2,7 +2,7 @@
 use Rattle.std.proofs.Common.{ap}
 use Rattle.spec_hosts.proofs.Fronts.{fronts_itself}
 use Rattle.host_calls.specs.Embedders.{embedder_of}
-use Rattle.dyl_store.specs.Stores.{recorded_of}
+use Rattle.dyl_store.specs.Stores.{StoreRun}
 use Rattle.wasm_exec.specs.Courses.{OfSet, course_of}
 use Rattle.wasm_exec.proofs.Beginning.{not_begun}
 use Rattle.wasm_exec.proofs.Proceeding.{course_fronts}
@@ -10,7 +10,7 @@ use Rattle.wasm_exec.proofs.Sets.{set_begins, set_opens, set_executes}
 use Rattle.wasm_exec.proofs.exec.execute_set.Goals as goal
 
 pub run_program-requires-clause-fresh : goal.run_program-requires-clause-fresh
-run_program-requires-clause-fresh g c = ap recorded_of c.in-Ok.ensures
+run_program-requires-clause-fresh g c = ap (λ (s : StoreRun). s.run) c.in-Ok.ensures
 
 pub run_program-requires-clause-opened : goal.run_program-requires-clause-opened
 run_program-requires-clause-opened g c =

@@ -1,16 +1,15 @@
 use Rattle.std.proofs.Common.{ℕ, ◌<◌, ◌^◌, Option, Some, [], subst, arith}
 use Rattle.wasm_form.specs.declared.types.ValType.TheVariants.{I32}
 use Rattle.wasm_form.specs.declared.runtime.Ref.{Ref}
-use Rattle.spec_safety.specs.spec_validation.Faults.{constant_type}
 use Rattle.spec_safety.specs.spec_runtime.Constants.{constant_of, numbered_globals}
 use Rattle.wasm_check.specs.declared.value.Constant.{Constant}
 use Rattle.wasm_check.specs.Constants.{StandsFor, IsOfType}
 use Rattle.wasm_instance.proofs.Alone.{number_of_globals}
-use Rattle.wasm_instance.proofs.ConstantValues.{has_type, type_there, none_of_types, offset_is}
+use Rattle.wasm_instance.proofs.ConstantValues.{none_of_types, offset_is}
 use Rattle.wasm_instance.proofs.constants.offset.Goals as goal
 
 pub constant-requires-clause-typed : goal.constant-requires-clause-typed
-constant-requires-clause-typed c = type_there I32 (constant_type c.args.m.now c.args.e.now.list) c.requires.number
+constant-requires-clause-typed c = (I32, c.requires.number)
 
 pub constant-requires-clause-numbers : goal.constant-requires-clause-numbers
 constant-requires-clause-numbers c = number_of_globals c.args.m.now c.requires.alone.imports
@@ -18,13 +17,13 @@ constant-requires-clause-numbers c = number_of_globals c.args.m.now c.requires.a
 pub overflow_cast-result : goal.overflow_cast-result
 overflow_cast-result c =
     let m = c.args.m.now in
-    let small : c.in-Num.n < 2 ^ 32 = subst (IsOfType m I32) c.in-Num.is (c.in_ok-n.ensures.typed I32 (has_type I32 (constant_type m c.args.e.now.list) c.requires.number) (none_of_types m)) in
+    let small : c.in-Num.n < 2 ^ 32 = subst (IsOfType m I32) c.in-Num.is (c.in_ok-n.ensures.typed I32 c.requires.number (none_of_types m)) in
     omega (arith, small)
 
 pub unreachable-requires : goal.unreachable-requires
 unreachable-requires c =
     let m = c.args.m.now in
-    subst (IsOfType m I32) c.in-Func.is (c.in_ok-n.ensures.typed I32 (has_type I32 (constant_type m c.args.e.now.list) c.requires.number) (none_of_types m))
+    subst (IsOfType m I32) c.in-Func.is (c.in_ok-n.ensures.typed I32 c.requires.number (none_of_types m))
 
 pub returns : goal.returns
 returns c =

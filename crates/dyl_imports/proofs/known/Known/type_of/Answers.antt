@@ -1,4 +1,4 @@
-use Rattle.std.proofs.Common.{◌≡◌, ◌≤◌, length, get_or, arith}
+use Rattle.std.proofs.Common.{◌≡◌, length, get_or, arith}
 use Rattle.spec_loading.specs.spec_binary.IndexSpaces.{function_space}
 use Rattle.dyl_imports.proofs.Counted.{counted_at, none_past}
 use Rattle.dyl_imports.proofs.known.Known.type_of.Goals as goal

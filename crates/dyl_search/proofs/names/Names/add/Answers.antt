@@ -1,4 +1,4 @@
-use Rattle.std.proofs.Common.{◌≡◌, ◌∙◌, sym, ap, ◌++◌, ◌∷◌, [], refl, string_bytes, None, position, length, ◌≤◌}
+use Rattle.std.proofs.Common.{◌≡◌, ◌∙◌, sym, ap, ◌++◌, ◌∷◌, [], refl, string_bytes, None, position, length, ◌≤◌, arith}
 use Rattle.std.specs.String.{string_eq}
 use Rattle.spec_linking.specs.Wanted.{is_named, number_of}
 use Rattle.dyl_search.specs.Known.{by_text}
@@ -20,11 +20,17 @@ known c =
     ∙ ap (λ n. by_text es ++ record { name = n; needed_by = c.args.needed_by } ∷ []) named
     ∙ ap (λ ds. ds ++ record { name = name; needed_by = c.args.needed_by } ∷ []) c.self.view_is
 
+pub overflow_cast-n : goal.overflow_cast-n
+overflow_cast-n c =
+    let count = c.len-n.ensures.len ∙ length_by_text c.self.inside.entries.entries ∙ ap length c.self.view_is in
+    let few = c.requires.few in
+    omega arith
+
 pub returns-clause-known : goal.returns-clause-known
 returns-clause-known c = known c ∙ added c.args.needed_by c.args.self.now c.args.name.now (unnumbered c.args.name.now c.args.self.now c.requires.new)
 
 pub returns-clause-number : goal.returns-clause-number
 returns-clause-number c =
     let name = c.args.name.now in
-    c.in_ok-n.ensures ∙ c.len.ensures.len ∙ length_by_text c.self.inside.entries.entries ∙ ap length c.self.view_is
+    c.len-n.ensures.len ∙ length_by_text c.self.inside.entries.entries ∙ ap length c.self.view_is
     ∙ sym (number_new name c.args.self.now c.args.needed_by c.requires.new) ∙ ap (λ ds. number_of ds name) (sym (known c))

@@ -1,9 +1,9 @@
 use Rattle.std.proofs.Common.{arith, subst, sym, ◌∙◌, ◌≡◌, suc, true, false}
-use Rattle.dyl_store.specs.Stores.{Advances}
+use Rattle.wasm_machine.specs.Steps.{Advances}
 use Rattle.dyl_store.specs.Kept.{run_of, IsStore}
 use Rattle.dyl_store.proofs.Stepping.{linked_of}
 use Rattle.dyl_store.proofs.Stopping.{HasNoneLeft, idle_left, on_either}
-use Rattle.dyl_store.proofs.Advancing.{goes_on, is_nearer, stops}
+use Rattle.dyl_store.proofs.Advancing.{IsByCode, goes_on, is_nearer, stops}
 use Rattle.dyl_store.proofs.store.Store.advance.Goals as goal
 use Rattle.dyl_store.proofs.store.Store.advance.Goals.{in-Moving, in_default, then-code-test+else-quick_step, else-code-test}
 
@@ -32,11 +32,23 @@ invariant_of-self c = elim c.code-test.branch [
 pub returns-clause-left : goal.returns-clause-left
 returns-clause-left c = λ L of. on_either c.if-self-2.result _ (elim c.code-test.branch [
   | then-code-test+else-quick_step w ↦ subst (λ i. HasNoneLeft L c.args.most (run_of i)) (sym w.self-inside-is) ((stops c.args.most c.args.self.now c.code.self-inside w.quick_step.new.running w.quick_step.new.steps w.quick_step.new.lost c.code.invariant w.code-test.true w.quick_step.ensures.linked w.quick_step.ensures.running w.if-quick_step.ensures.counted).left L of)
-  | else-code-test w ↦ subst (λ i. HasNoneLeft L c.args.most (run_of i)) (sym w.self-inside-is) (λ r stands few code. let k = w.code-test.false in omega arith)
+  | else-code-test w ↦ subst (λ i. HasNoneLeft L c.args.most (run_of i)) (sym w.self-inside-is) (λ at few code. let k = w.code-test.false in omega arith)
 ])
 
 pub returns-clause-advances : goal.returns-clause-advances
-returns-clause-advances c = λ L of. elim c.code-test.branch [
-  | then-code-test+else-quick_step w ↦ subst (λ i. Advances L c.args.most c.args.self.now (run_of i)) (sym w.self-inside-is) ((stops c.args.most c.args.self.now c.code.self-inside w.quick_step.new.running w.quick_step.new.steps w.quick_step.new.lost c.code.invariant w.code-test.true w.quick_step.ensures.linked w.quick_step.ensures.running w.if-quick_step.ensures.counted).advances L of)
-  | else-code-test w ↦ subst (λ i. Advances L c.args.most c.args.self.now (run_of i)) (sym w.self-inside-is) (c.code.invariant.advances L of)
+returns-clause-advances c = elim c.code-test.branch [
+  | then-code-test+else-quick_step w ↦ subst (λ i. Advances c.args.most c.args.self.now.run (run_of i).run) (sym w.self-inside-is) (stops c.args.most c.args.self.now c.code.self-inside w.quick_step.new.running w.quick_step.new.steps w.quick_step.new.lost c.code.invariant w.code-test.true w.quick_step.ensures.linked w.quick_step.ensures.running w.if-quick_step.ensures.counted).advances
+  | else-code-test w ↦ subst (λ i. Advances c.args.most c.args.self.now.run (run_of i).run) (sym w.self-inside-is) c.code.invariant.advances
+]
+
+pub returns-clause-code : goal.returns-clause-code
+returns-clause-code c = elim c.code-test.branch [
+  | then-code-test+else-quick_step w ↦ subst (λ i. IsByCode c.args.self.now (run_of i).run) (sym w.self-inside-is) (stops c.args.most c.args.self.now c.code.self-inside w.quick_step.new.running w.quick_step.new.steps w.quick_step.new.lost c.code.invariant w.code-test.true w.quick_step.ensures.linked w.quick_step.ensures.running w.if-quick_step.ensures.counted).code
+  | else-code-test w ↦ subst (λ i. IsByCode c.args.self.now (run_of i).run) (sym w.self-inside-is) c.code.invariant.code
+]
+
+pub returns-clause-same : goal.returns-clause-same
+returns-clause-same c = elim c.code-test.branch [
+  | then-code-test+else-quick_step w ↦ subst (λ i. (run_of i).linked ≡ c.args.self.now.linked) (sym w.self-inside-is) (stops c.args.most c.args.self.now c.code.self-inside w.quick_step.new.running w.quick_step.new.steps w.quick_step.new.lost c.code.invariant w.code-test.true w.quick_step.ensures.linked w.quick_step.ensures.running w.if-quick_step.ensures.counted).same
+  | else-code-test w ↦ subst (λ i. (run_of i).linked ≡ c.args.self.now.linked) (sym w.self-inside-is) c.code.invariant.same
 ]

@@ -1,4 +1,7 @@
-use Rattle.std.proofs.Common.{rules, sym, ◌∙◌, ◌≡◌, true, false}
+use Rattle.std.proofs.Common.{rules, refl, sym, ◌∙◌, ◌≡◌, true, false}
+use Rattle.spec_loading.specs.spec_runtime.Courses.{state_at}
+use Rattle.dyl_store.specs.Stores.{set_course}
+use Rattle.dyl_store.specs.Kept.{run_of}
 use Rattle.dyl_store.proofs.Stepping.{somewhere, moving_store, moving_stepped, linked_of, last_found, last_taken, taken_store, taken_stepped, end_so, ended_stepped, end_asks_nothing}
 use Rattle.dyl_store.proofs.Arguments.{arguments_told}
 use Rattle.dyl_store.proofs.store.Store.run_step.Goals as goal
@@ -39,13 +42,14 @@ returns-in-Some-clause-stepped c =
 pub returns-in-Ok-clause-arguments : goal.returns-in-Ok-clause-arguments
 returns-in-Ok-clause-arguments c = λ L linked.
     let before = linked_of c.args.self.now c.self.inside L c.self.view_is linked in
-    let r = c.self.invariant.stands c.if-self.false L before in
-    arguments_told L c.in-Ok.event r.0.state c.step.new.self (c.in-Ok.ensures.stepped L before r.0.state r.2) c.are_numbers.ensures
+    let s = state_at (set_course L) (run_of c.self.inside).run in
+    arguments_told L c.in-Ok.event s c.step.new.self (c.in-Ok.ensures.stepped L before s (c.self.invariant.stands c.if-self.false L before).1) c.are_numbers.ensures
 
 pub returns-in_default : goal.returns-in_default
 returns-in_default c = record {
   stepped = ended_stepped c.event_of-in_default.result c.standing.result c.args.self.now c.self.inside c.self.view_is c.self.invariant c.if-self.false (end_so c.standing.result c.in_default.not-Moving c.in_default.not-Asking c.in_default.not-Stuck) c.standing.ensures c.event_of-in_default.ensures;
   lost = tt;
   again = λ lost. absurd (let clash : true ≡ false = search rules in cc);
+  same = refl;
   arguments = λ L of. end_asks_nothing c.event_of-in_default.result c.standing.result c.event_of-in_default.ensures L;
 }

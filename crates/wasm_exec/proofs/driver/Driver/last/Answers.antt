@@ -1,7 +1,7 @@
 use Rattle.std.proofs.Common.{◌≡◌, true, rules, sym, ◌∙◌}
 use Rattle.spec_hosts.specs.spec_runtime.Recorded.{has_ended}
-use Rattle.wasm_exec.specs.Courses.{Course, course_of}
-use Rattle.wasm_exec.specs.Recordings.{status_at}
+use Rattle.spec_hosts.specs.spec_runtime.Courses.{Course, status_at}
+use Rattle.wasm_exec.specs.Courses.{course_of}
 use Rattle.wasm_exec.specs.Programs.{recorded_of}
 use Rattle.wasm_exec.specs.Driving.{progress_of}
 use Rattle.wasm_exec.proofs.Readiness.{not_waiting, ready_still, limited}
@@ -24,7 +24,7 @@ pub returns-clause-ended : goal.returns-clause-ended
 returns-clause-ended c = λ o names runs.
     let p = progress_of c.args.self.now in
     let C : Course = course_of o in
-    let told = c.in_ok-event.ensures.stepped o runs.0 runs.1.stands in
+    let told = (c.in_ok-event.ensures.stepped o runs.0).1 in
     let ended : has_ended (status_at C p.run) ≡ true = sym (c.has_ended.ensures o runs.0 runs.1.stands) ∙ search rules in
     (ended_again C names p (ready_still C names p runs.1 (ended_still (status_at C p.run) ended)) c.in_ok-event.event (recorded_of c.run_step.new.self) c.in-Some.end (sym c.end_by.ensures ∙ c.in-Some.is) ended told).0
 
@@ -34,6 +34,6 @@ returns-clause-same c =
     let o = runs.1 in
     let p = progress_of c.args.self.now in
     let C : Course = course_of o in
-    let told = c.in_ok-event.ensures.stepped o runs.2.0 runs.2.1.stands in
+    let told = (c.in_ok-event.ensures.stepped o runs.2.0).1 in
     let ended : has_ended (status_at C p.run) ≡ true = sym (c.has_ended.ensures o runs.2.0 runs.2.1.stands) ∙ search rules in
     (ended_again C runs.0 p (ready_still C runs.0 p runs.2.1 (ended_still (status_at C p.run) ended)) c.in_ok-event.event (recorded_of c.run_step.new.self) c.in-Some.end (sym c.end_by.ensures ∙ c.in-Some.is) ended told).1

@@ -6,11 +6,6 @@ use Rattle.wasm_exec.specs.Driving.{progress_of}
 use Rattle.wasm_exec.proofs.Proceeding.{driven_along, steps_so, step_proceeds, full, cut_short, cut_here}
 use Rattle.wasm_exec.proofs.driver.Driver.proceed.Goals as goal
 
-pub advance-requires-clause-runs : goal.advance-requires-clause-runs
-advance-requires-clause-runs g c =
-    let driven = c.requires.driven in
-    (driven.0, driven.3.0)
-
 pub returns-in_err-advance-clause-proceeds : goal.returns-in_err-advance-clause-proceeds
 returns-in_err-advance-clause-proceeds g c = λ o begun drives.
     let p = err_from_is_err_and c.from_residual.result c.from_residual.ensures.1 in

@@ -13,5 +13,5 @@ pub returns-clause-stepped : goal.returns-clause-stepped
 returns-clause-stepped c = λ o names may.
     let told = c.in_ok-event.ensures in (
       c.run_step.ensures.kept o may.0,
-      rw (c.end_by-end.ensures, c.asked_by.ensures) (step_gives (course_of o) names (progress_of c.args.self.now) may.1 c.in_ok-event.event (recorded_of c.run_step.new.self) (told.arguments o may.0) (told.stepped o may.0 may.1.stands)),
+      rw (c.end_by-end.ensures, c.asked_by.ensures) (step_gives (course_of o) names (progress_of c.args.self.now) may.1 c.in_ok-event.event (recorded_of c.run_step.new.self) (told.arguments o may.0) (told.stepped o may.0).1),
     )

@@ -1,11 +1,13 @@
 use Rattle.std.proofs.Common.{◌≡◌}
-use Rattle.spec_hosts.specs.spec_runtime.Recorded as recorded
-use Rattle.wasm_exec.proofs.Singles as one
-use Rattle.wasm_exec.proofs.Sets as set
+use Rattle.spec_hosts.specs.spec_runtime.Recorded.{has_ended}
+use Rattle.spec_hosts.specs.spec_runtime.Courses.{status_at, IsAt}
+use Rattle.wasm_exec.specs.Courses.{course_of}
+use Rattle.wasm_exec.proofs.Singles.{by_module}
+use Rattle.wasm_exec.proofs.Sets.{by_set}
 use Rattle.wasm_exec.proofs.program.Program.has_ended.Goals as goal
 
 pub returns-in-Module : goal.returns-in-Module
-returns-in-Module c = rw c.in-Module.is (one.at_course c.in-Module.single (λ host status memory. c.has_ended.result ≡ recorded.has_ended status) c.has_ended.ensures)
+returns-in-Module c = let s = c.in-Module.single in rw c.in-Module.is (by_module s (λ o. IsAt (course_of o) s.run → c.has_ended.result ≡ has_ended (status_at (course_of o) s.run)) c.has_ended.ensures)
 
 pub returns-in-Set : goal.returns-in-Set
-returns-in-Set c = rw c.in-Set.is (set.at_course c.in-Set.store (λ host status memory. c.has_ended-in-Set.result ≡ recorded.has_ended status) c.has_ended-in-Set.ensures)
+returns-in-Set c = let s = c.in-Set.store in rw c.in-Set.is (by_set s (λ o. IsAt (course_of o) s.run → c.has_ended-in-Set.result ≡ has_ended (status_at (course_of o) s.run)) c.has_ended-in-Set.ensures)

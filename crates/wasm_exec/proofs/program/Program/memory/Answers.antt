@@ -1,10 +1,12 @@
 use Rattle.std.proofs.Common.{◌≡◌}
-use Rattle.wasm_exec.proofs.Singles as one
-use Rattle.wasm_exec.proofs.Sets as set
+use Rattle.spec_hosts.specs.spec_runtime.Courses.{memory_at, IsAt}
+use Rattle.wasm_exec.specs.Courses.{course_of}
+use Rattle.wasm_exec.proofs.Singles.{by_module}
+use Rattle.wasm_exec.proofs.Sets.{by_set}
 use Rattle.wasm_exec.proofs.program.Program.memory.Goals as goal
 
 pub returns-in-Module : goal.returns-in-Module
-returns-in-Module c = rw c.in-Module.is (one.at_course c.in-Module.single (λ host status memory. c.memory.result.now ≡ memory) c.memory.ensures)
+returns-in-Module c = let s = c.in-Module.single in rw c.in-Module.is (by_module s (λ o. IsAt (course_of o) s.run → c.memory.result.now ≡ memory_at (course_of o) s.run) c.memory.ensures)
 
 pub returns-in-Set : goal.returns-in-Set
-returns-in-Set c = rw c.in-Set.is (set.at_course c.in-Set.store (λ host status memory. c.memory-in-Set.result.now ≡ memory) c.memory-in-Set.ensures)
+returns-in-Set c = let s = c.in-Set.store in rw c.in-Set.is (by_set s (λ o. IsAt (course_of o) s.run → c.memory-in-Set.result.now ≡ memory_at (course_of o) s.run) c.memory-in-Set.ensures)

@@ -1,9 +1,15 @@
-use Rattle.wasm_exec.proofs.Singles as one
-use Rattle.wasm_exec.proofs.Sets as set
+use Rattle.spec_hosts.specs.spec_runtime.Courses.{IsAt}
+use Rattle.wasm_exec.specs.Courses.{course_of}
+use Rattle.wasm_exec.proofs.Singles.{by_module, from_opening}
+use Rattle.wasm_exec.proofs.Sets.{by_set}
 use Rattle.wasm_exec.proofs.program.Program.steps.Goals as goal
 
 pub returns-in-Module-clause-stands : goal.returns-in-Module-clause-stands
-returns-in-Module-clause-stands c = rw c.in-Module.is (λ found. let there = c.steps.ensures.stands found in one.stands_so c.in-Module.single there.0 there.1)
+returns-in-Module-clause-stands c =
+    let s = c.in-Module.single in
+    rw c.in-Module.is (λ found. by_module s (λ o. IsAt (course_of o) s.run) (from_opening s (λ o. IsAt (course_of o) s.run) (c.steps.ensures.stands found)))
 
 pub returns-in-Set-clause-stands : goal.returns-in-Set-clause-stands
-returns-in-Set-clause-stands c = rw c.in-Set.is (λ found. set.stands_so c.in-Set.store (λ L of. c.steps-in-Set.ensures.stands L of found))
+returns-in-Set-clause-stands c =
+    let s = c.in-Set.store in
+    rw c.in-Set.is (λ found. by_set s (λ o. IsAt (course_of o) s.run) (λ L of. c.steps-in-Set.ensures.stands L of found))

@@ -1,9 +1,9 @@
 use Rattle.std.proofs.Common.{arith, rules, subst, sym, ◌∙◌, ◌≡◌, suc, true, false}
 use Rattle.wasm_single.specs.declared.bare_run.Phase.TheVariants as phase
-use Rattle.wasm_single.specs.Singles.{Advances}
+use Rattle.wasm_machine.specs.Steps.{Advances}
 use Rattle.wasm_single.specs.Kept.{run_of, IsSingle}
 use Rattle.wasm_single.proofs.Stopping.{HasNoneLeft, stopped_idle, stopped_opened, none_left, on_either}
-use Rattle.wasm_single.proofs.Advancing.{goes_on, is_nearer, stops}
+use Rattle.wasm_single.proofs.Advancing.{IsByCode, goes_on, is_nearer, stops}
 use Rattle.wasm_single.proofs.single.Single.advance.Goals as goal
 use Rattle.wasm_single.proofs.single.Single.advance.Goals.{in-Moving, in_default, then-code-test+else-quick_step, else-code-test}
 
@@ -36,11 +36,23 @@ invariant_of-self c = elim c.code-test.branch [
 pub returns-clause-left : goal.returns-clause-left
 returns-clause-left c = on_either c.if-self-2.result _ (elim c.code-test.branch [
   | then-code-test+else-quick_step w ↦ subst (λ i. HasNoneLeft c.args.most (run_of i)) (sym w.self-inside-is) (stops c.args.most c.args.self.now c.code.self-inside w.quick_step.new.core w.quick_step.new.steps w.quick_step.new.lost c.code.invariant w.code-test.true w.quick_step.ensures.wasm w.quick_step.ensures.core w.if-quick_step.ensures.counted).left
-  | else-code-test w ↦ subst (λ i. HasNoneLeft c.args.most (run_of i)) (sym w.self-inside-is) (λ r stands few code. let k = w.code-test.false in omega arith)
+  | else-code-test w ↦ subst (λ i. HasNoneLeft c.args.most (run_of i)) (sym w.self-inside-is) (λ opening opens at few code. let k = w.code-test.false in omega arith)
 ])
 
 pub returns-clause-advances : goal.returns-clause-advances
 returns-clause-advances c = elim c.code-test.branch [
-  | then-code-test+else-quick_step w ↦ subst (λ i. Advances c.args.most c.args.self.now (run_of i)) (sym w.self-inside-is) (stops c.args.most c.args.self.now c.code.self-inside w.quick_step.new.core w.quick_step.new.steps w.quick_step.new.lost c.code.invariant w.code-test.true w.quick_step.ensures.wasm w.quick_step.ensures.core w.if-quick_step.ensures.counted).advances
-  | else-code-test w ↦ subst (λ i. Advances c.args.most c.args.self.now (run_of i)) (sym w.self-inside-is) c.code.invariant.advances
+  | then-code-test+else-quick_step w ↦ subst (λ i. Advances c.args.most c.args.self.now.run (run_of i).run) (sym w.self-inside-is) (stops c.args.most c.args.self.now c.code.self-inside w.quick_step.new.core w.quick_step.new.steps w.quick_step.new.lost c.code.invariant w.code-test.true w.quick_step.ensures.wasm w.quick_step.ensures.core w.if-quick_step.ensures.counted).advances
+  | else-code-test w ↦ subst (λ i. Advances c.args.most c.args.self.now.run (run_of i).run) (sym w.self-inside-is) c.code.invariant.advances
+]
+
+pub returns-clause-code : goal.returns-clause-code
+returns-clause-code c = elim c.code-test.branch [
+  | then-code-test+else-quick_step w ↦ subst (λ i. IsByCode c.args.self.now (run_of i).run) (sym w.self-inside-is) (stops c.args.most c.args.self.now c.code.self-inside w.quick_step.new.core w.quick_step.new.steps w.quick_step.new.lost c.code.invariant w.code-test.true w.quick_step.ensures.wasm w.quick_step.ensures.core w.if-quick_step.ensures.counted).code
+  | else-code-test w ↦ subst (λ i. IsByCode c.args.self.now (run_of i).run) (sym w.self-inside-is) c.code.invariant.code
+]
+
+pub returns-clause-same : goal.returns-clause-same
+returns-clause-same c = elim c.code-test.branch [
+  | then-code-test+else-quick_step w ↦ subst (λ i. (run_of i).wasm ≡ c.args.self.now.wasm) (sym w.self-inside-is) (stops c.args.most c.args.self.now c.code.self-inside w.quick_step.new.core w.quick_step.new.steps w.quick_step.new.lost c.code.invariant w.code-test.true w.quick_step.ensures.wasm w.quick_step.ensures.core w.if-quick_step.ensures.counted).same
+  | else-code-test w ↦ subst (λ i. (run_of i).wasm ≡ c.args.self.now.wasm) (sym w.self-inside-is) c.code.invariant.same
 ]

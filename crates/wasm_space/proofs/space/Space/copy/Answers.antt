@@ -1,21 +1,31 @@
-use Rattle.std.proofs.Common.{◌∙◌, ◌+◌, ◌≤◌, length, arith, subst, refl, Ok}
-use Rattle.spec_runtime.specs.wasm_form.declared.runtime.Trap.TheVariants.{MemoryBounds}
-use Rattle.spec_runtime.specs.Memories.{MemoryInstance, copied, written}
-use Rattle.wasm_space.proofs.Changes.{memory_writes, initialized_all}
-use Rattle.wasm_space.specs.Access.{ChangesOrTraps}
-use Rattle.wasm_space.proofs.Overwriting.{paste_is}
+use Rattle.std.proofs.Common.{◌∙◌, ap, ◌+◌, ◌*◌, ◌≤◌, length, take, drop, sym, arith}
+use Rattle.std.specs.Vec.{with_items}
+use Rattle.std.proofs.lemmas.List.{with_items_is}
+use Rattle.spec_runtime.specs.Memories.{overwritten}
+use Rattle.wasm_space.specs.Paged.{joined}
+use Rattle.wasm_space.proofs.Stored.{initial, size_is, bytes_are}
 use Rattle.wasm_space.proofs.space.Space.copy.Goals as goal
 
 pub returns : goal.returns
 returns c =
     let s = c.self.inside in
-    let old = s.bytes.items in
-    let to = c.args.to in
-    let from = c.args.from in
+    let size = size_is c.args.self.now s.pages.items s.max c.self.view_is c.self.invariant.0 in
     let n = c.args.n in
-    let given : from + n ≤ length old = omega (arith, s.bytes.ok.0) in
-    let fits : to + n ≤ length old = omega (arith, s.bytes.ok.0) in
-    let after = c.copy_within.new.self.items in
-    let P : MemoryInstance → Type 0 = λ m. ChangesOrTraps MemoryBounds m (copied m to from n) (Ok tt) (record { bytes = after; max = s.max }) in
-    let done = initialized_all (λ bytes. record { bytes = bytes; max = s.max }) written (memory_writes s.max) MemoryBounds (record { bytes = old; max = s.max }) old old after to from n refl given fits (c.copy_within.ensures.items ∙ paste_is old to from n) in
-    subst P c.self.view_is done
+    let given : c.args.from + n ≤ length c.args.self.now.bytes = omega arith in
+    let fits : c.args.to + n ≤ length s.pages.items * 65536 = omega arith in
+    initial c.args.self.now s.pages.items s.max c.self.view_is c.self.invariant.0 (with_items s.pages c.move_bytes.new.pages).items c.args.self.now.bytes c.args.to c.args.from n given fits
+    (ap joined (with_items_is s.pages c.move_bytes.new.pages (c.move_bytes.auto.pages ∙ c.deref_mut.ensures.len)) ∙ c.move_bytes.ensures.bytes ∙ ap (λ xs. overwritten (joined xs) c.args.to (take n (drop c.args.from (joined xs)))) c.deref_mut.ensures.value ∙ ap (λ xs. overwritten (joined s.pages.items) c.args.to (take n (drop c.args.from xs))) (sym (bytes_are c.args.self.now s.pages.items s.max c.self.view_is c.self.invariant.0)))
+
+pub move_bytes-requires-clause-to : goal.move_bytes-requires-clause-to
+move_bytes-requires-clause-to c =
+    let s = c.self.inside in
+    let size = size_is c.args.self.now s.pages.items s.max c.self.view_is c.self.invariant.0 in
+    let same = ap length c.deref_mut.ensures.value in
+    omega (arith, size, same)
+
+pub move_bytes-requires-clause-from : goal.move_bytes-requires-clause-from
+move_bytes-requires-clause-from c =
+    let s = c.self.inside in
+    let size = size_is c.args.self.now s.pages.items s.max c.self.view_is c.self.invariant.0 in
+    let same = ap length c.deref_mut.ensures.value in
+    omega (arith, size, same)
