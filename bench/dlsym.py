@@ -1,5 +1,5 @@
 #!/usr/bin/env python3
-"""How long a call of `dlsym` takes by `wdyl run`: `dlsym.py WDYL`.
+"""How long a call of `dlsym` takes by `wdyl run`, and in a merged file by node: `dlsym.py WDYL`.
 
 A main module calls `dlsym` with the default handle 100,000 times, and ends where the name isn't found. A run of the same set that
 calls it once is taken off. There are three pairs of sets:
@@ -8,20 +8,34 @@ calls it once is taken off. There are three pairs of sets:
 - 128 and 256 members, of which the last defines the name;
 - a name of 1,000 letters, and one of 2,000.
 
-Printed is processor time in microseconds a call, the best of three. The exit status is 1 where the first takes more than 1.5 times as
-long, or one of the others more than 2.5 times.
+The sets of the first pair are merged, too, and the merged files run by node, where the search is their own code: it may take twice as long.
+
+Printed are microseconds a call, the best of three: of processor time, and of node by its own clock. The exit status is 1 where the first takes more than 1.5 times as
+long, one of the others more than 2.5 times, or the merged one more than twice.
 """
 
 import os
+import subprocess
 import sys
 import tempfile
 
-from timing import MOST_GROWTH, best, written
+from timing import MOST_GROWTH, RUNS, best, written
 from make_examples import body, call, items, name, record, section, signed, unsigned
 
 HEADER = b"\x00asm\x01\x00\x00\x00"
 CALLS = 100_000
 MOST_WITH_NAMES = 1.5
+MOST_IN_NODE = 2
+# What node says of the milliseconds that the entry of a module takes, once its functions are compiled. Its second compiler, which is left out,
+# takes minutes for a function of some megabytes.
+IN_NODE = ["node", "--liftoff-only", "--input-type=module", "-e", """
+import { readFileSync } from "node:fs";
+const { exports } = new WebAssembly.Instance(new WebAssembly.Module(readFileSync("merged.wasm")));
+exports._start();
+const begun = performance.now();
+exports._start();
+console.log(performance.now() - begun);
+"""]
 
 
 def loop(calls):
@@ -67,7 +81,7 @@ def set_of(text, libraries, calls):
 
 
 def of_names(count):
-    return "name0", [[f"name{n}" for n in range(count)]]
+    return f"name{count - 1}", [[f"name{n}" for n in range(count)]]
 
 
 def of_members(count):
@@ -88,8 +102,17 @@ def microseconds(wdyl, text, libraries):
     return (seconds[1] - seconds[0]) / CALLS * 1e6
 
 
-def compared(wdyl, what, made, sizes, most):
-    less, more = (microseconds(wdyl, *made(size)) for size in sizes)
+def microseconds_in_node(wdyl, text, libraries):
+    """Of one call, by the code of the merged file."""
+    with tempfile.TemporaryDirectory() as folder:
+        written(set_of(text, libraries, CALLS), folder)
+        subprocess.run([wdyl, "merge", "main.wasm", "merged.wasm"], cwd=folder, check=True)
+        told = [subprocess.run(IN_NODE, cwd=folder, check=True, stdout=subprocess.PIPE).stdout for _ in range(RUNS)]
+    return min(map(float, told)) * 1e3 / CALLS
+
+
+def compared(wdyl, what, made, sizes, most, measure=microseconds):
+    less, more = (measure(wdyl, *made(size)) for size in sizes)
     ratio = more / less
     print(f"{what}: {sizes[0]:,}: {less:.2f} us a call, {sizes[1]:,}: {more:.2f} us, {ratio:.2f} times as long, at most {most}", flush=True)
     return ratio <= most
@@ -101,6 +124,7 @@ def main():
         compared(wdyl, "names that are defined", of_names, (4096, 65_536), MOST_WITH_NAMES),
         compared(wdyl, "members that are searched", of_members, (128, 256), MOST_GROWTH),
         compared(wdyl, "letters of the name", of_length, (1000, 2000), MOST_GROWTH),
+        compared(wdyl, "names, merged, by node", of_names, (4096, 65_536), MOST_IN_NODE, microseconds_in_node),
     ]
     return 0 if all(fits) else 1
 

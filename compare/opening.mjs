@@ -4,7 +4,8 @@
 import { passingOn } from "./binary.mjs";
 
 export const LOADER_TYPES = { dlopen: "[127,127] -> [127]", dlsym: "[127,127] -> [127]", dlclose: "[127] -> [127]", dlerror: "[] -> [127]" };
-const FLAGS = 1 | 2 | 4096;
+const GLOBAL = 256;
+const FLAGS = 1 | 2 | GLOBAL | 4096;
 const ERRORS = { badFlags: 1, noModule: 2, badHandle: 3, noSymbol: 4, badClose: 5 };
 const NOT_CLOSED = -1;
 
@@ -30,8 +31,10 @@ export class Openings {
   constructor(program, textsAt) {
     Object.assign(this, { program, textsAt, error: 0, open: 0 });
     this.stages = program.linked.members.map(() => 0);
+    // the members that were promoted, in this order
+    this.promoted = [];
     // what was done, for those who want to know
-    this.counts = { opened: 0, nested: 0, errors: 0, endless: 0 };
+    this.counts = { opened: 0, nested: 0, promoted: 0, errors: 0, endless: 0 };
     const given = Object.keys(LOADER_TYPES).map((name) => [name, (...words) => this[name](...words.map((word) => word >>> 0))]);
     this.functions = passedOn(Object.fromEntries(given), LOADER_TYPES);
   }
@@ -81,13 +84,24 @@ export class Openings {
     if (this.stages[member.number] === 0) this.counts.opened++;
     if (this.open) this.counts.nested++;
     this.begin(member);
+    if (flags & GLOBAL) this.promote(member);
     return member.number + 1;
+  }
+  // What a member reaches is searched through handles 0 and 1 from here on.
+  promote(member) {
+    const searched = this.searchedByAll();
+    const added = breadthFirst(member).filter((other) => !searched.includes(other));
+    this.promoted.push(...added);
+    this.counts.promoted += added.length;
+  }
+  searchedByAll() {
+    return [...this.program.linked.links.startup, ...this.promoted];
   }
   dlsym(handle, name) {
     const text = this.string(name);
     if (handle !== 0 && !this.isHandle(handle)) return this.refused(ERRORS.badHandle, 0);
     const { members, links } = this.program.linked;
-    const found = links.searched(handle === 0 ? links.startup : breadthFirst(members[handle - 1]), text);
+    const found = links.searched(handle <= 1 ? this.searchedByAll() : breadthFirst(members[handle - 1]), text);
     return found ? this.program.linked.place(found) : this.refused(ERRORS.noSymbol, 0);
   }
   dlclose(handle) {

@@ -18,8 +18,8 @@ LOADER = {"dlopen": ([I32, I32], [I32]), "dlsym": ([I32, I32], [I32]), "dlclose"
 NO_MEMBERS = ["none.so", ""]
 NO_SYMBOLS = ["none", "", "again", "main", "_start", "_initialize", "__dso_handle", "__wasm_call_ctors", "__heap_base", *LOADER]
 DATA = "data"
-GOOD_FLAGS = (0, 1, 2, 2, 2, 3, 4096, 4097, 4098, 4099)
-BAD_FLAGS = (4, 8, 256, 258, 4100, 8192, 1 << 16, -1, -(2**31))
+GOOD_FLAGS = (0, 1, 2, 2, 3, 256, 257, 258, 258, 259, 4096, 4097, 4098, 4099, 4354)
+BAD_FLAGS = (4, 8, 260, 512, 4100, 8192, 1 << 16, -1, -(2**31))
 # the texts stand behind what relocations write
 PAD = 64
 MEMORY_END = MEMORY_SIZE + b"\x00" + i32(16) + I32_SHL

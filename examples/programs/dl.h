@@ -3,7 +3,7 @@
 #ifndef DL_H
 #define DL_H
 
-enum { RTLD_LAZY = 1, RTLD_NOW = 2 };
+enum { RTLD_LAZY = 1, RTLD_NOW = 2, RTLD_GLOBAL = 256 };
 
 void *dlopen(const char *name, int flags);
 void *dlsym(void *library, const char *name);

@@ -19,12 +19,6 @@ use Rattle.spec_loading.specs.spec_linking.declared.fault.SetFault.{SetFault}
 use Rattle.spec_loading.specs.spec_linking.declared.fault.SetFault.TheVariants as set
 use Rattle.dyl_commands.specs.Served.{Serves, ExecutesModule, set_outcome}
 
--- what is refused, but for want of memory
-pub refused_is : (wasm : Module) (embedder : Embedder) (steps : ℕ) (fault : SingleFault) (old new : Devices) → (fault ≡ single.Memory → ⊥) → run.IsRefused wasm embedder steps fault old new
-    → ExecutesModule wasm embedder steps (Single fault) old new
-refused_is wasm embedder steps single.Memory old new other h = absurd (other refl)
-refused_is wasm embedder steps _ old new other h = h
-
 module _ (embedder : List (List ℕ) → Embedder) (path : List ℕ) (steps : ℕ) (args : List (List ℕ)) (wasm : Module) (old mid : FilesState) (read : ReadsFile path (Ok wasm) old mid) (begun now : Devices) where
   -- the arguments that the guest sees make no difference to the names
   module _ (E : Embedder) (is : E ≡ embedder (guest_arguments args)) where
@@ -76,10 +70,6 @@ never_done wasm embedder steps _ old new h = absurd h
 pub set_not_done : (fault : SetFault) → is_done (set_outcome fault) ≡ false
 set_not_done set.Memory = refl
 set_not_done fault = refl
-
--- what is answered with
-pub ran_is : (wasm : Module) (embedder : Embedder) (steps : ℕ) (r : ran.Ran) (old new : Devices) → run.Executes wasm embedder steps (Ok r) old new → ExecutesModule wasm embedder steps (Ran r) old new
-ran_is wasm embedder steps r old new h = h
 
 pub memory_is : (wasm : Module) (embedder : Embedder) (steps : ℕ) (fault : SingleFault) (old new : Devices) → fault ≡ single.Memory → run.Executes wasm embedder steps (Err fault) old new → ExecutesModule wasm embedder steps Memory old new
 memory_is wasm embedder steps fault old new is h = subst (λ f. run.IsRefused wasm embedder steps f old new) is h

@@ -204,10 +204,6 @@ module _ (k : Kept) (embedder : Embedder) (steps : ℕ) (wasm : Module) (loaded 
   pub both_put : (answer : Outcome) → SumsUp k loaded merged answer old new → RunsKept k embedder steps answer old new
   both_put answer sums = λ L is names. of_set L is names answer sums
 
--- memory was wanting before anything was put
-pub none_put : (k : Kept) (embedder : Embedder) (steps : ℕ) (sink : SinkState) → RunsKept k embedder steps Memory sink sink
-none_put k embedder steps sink = λ L is names. inl refl
-
 -- ---- what is asked
 
 module _ (embedder : Embedder) (n pages steps : ℕ) where

@@ -1,5 +1,5 @@
 -- What comes of merging a set that links.
-use Rattle.std.proofs.Common.{◌≡◌, ◌≤◌, ◌^◌, ℕ, List, [], Option, Some, None, Ok, refl, sym, ◌∙◌, subst, inl}
+use Rattle.std.proofs.Common.{◌≡◌, ℕ, List, [], Option, Some, None, Ok, refl, sym, ◌∙◌, subst, inl}
 use Rattle.std.specs.Prelude.{IsSomeAnd}
 use Rattle.std.specs.FinMap.{get}
 use Rattle.spec_hosts.specs.dyl_outside.FileMap.{FileMap}

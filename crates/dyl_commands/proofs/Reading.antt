@@ -1,6 +1,5 @@
 -- What comes of reading a file, step by step.
-use Rattle.std.proofs.Common.{◌≡◌, ℕ, ◌≤◌, List, length, false, Some, Result, Ok, Err, IfOk, refl, sym, subst}
-use Rattle.std.specs.Prelude.{IsSomeAnd}
+use Rattle.std.proofs.Common.{◌≡◌, ℕ, ◌≤◌, List, length, false, Result, Ok, Err, IfOk, refl}
 use Rattle.wasm_form.specs.declared.module.Module.{Module}
 use Rattle.spec_reading.specs.spec_binary.declared.fault.DecodeFault.{DecodeFault}
 use Rattle.spec_reading.specs.spec_binary.declared.fault.DecodeFault.TheVariants as decode
@@ -9,11 +8,10 @@ use Rattle.spec_loading.specs.spec_validation.declared.fault.CheckFault.{CheckFa
 use Rattle.spec_loading.specs.spec_validation.declared.fault.CheckFault.TheVariants as check
 use Rattle.spec_loading.specs.spec_validation.Faults as validation
 use Rattle.spec_loading.specs.spec_linking.declared.fault.SetFault.{SetFault}
-use Rattle.spec_loading.specs.spec_linking.declared.fault.SetFault.TheVariants.{Missing, ReadFault, Decode, SetSize, Memory}
-use Rattle.spec_loading.specs.spec_linking.Sets.{Files}
+use Rattle.spec_loading.specs.spec_linking.declared.fault.SetFault.TheVariants.{Decode, Memory}
 use Rattle.wasm_decode.specs.Decoded.{Decodes}
 use Rattle.dyl_link.specs.wasm_check.Answers.{IsFirst}
-use Rattle.dyl_commands.specs.OneFile.{most_run, OfModule, OfBytes, TellsFile}
+use Rattle.dyl_commands.specs.OneFile.{most_run, OfModule, OfBytes}
 use Rattle.dyl_commands.specs.Causes.{wants_inside}
 use Rattle.dyl_commands.specs.Fetched.{decode_fault, check_fault, OrMemory, IsOfSome}
 
@@ -45,21 +43,6 @@ of_undecoded bytes decode.Memory told = tt
 of_undecoded bytes fault told = (refl, told)
 
 -- ---- a file
-
--- what is so of its bytes
-pub of_fetched : (files : Files) (path bytes : List ℕ) (said : Result Module SetFault) → files path ≡ Some bytes → length bytes ≤ most_run → OrMemory (OfBytes bytes) said
-    → TellsFile files path said
-of_fetched files path bytes said file few h = go said h
-  where
-    there : (P : List ℕ → Type 0) → P bytes → IsSomeAnd (files path) P
-    there P p = subst (λ o. IsSomeAnd o P) (sym file) p
-
-    go : (said : Result Module SetFault) → OrMemory (OfBytes bytes) said → TellsFile files path said
-    go (Err Memory) h = tt
-    go (Err (ReadFault at)) h = absurd h.2
-    go (Err (Missing name)) h = absurd h.2
-    go (Err SetSize) h = absurd h.2
-    go said h = there (λ bytes. (length bytes ≤ most_run) × OfBytes bytes said) (few, h)
 
 -- some bytes spell it
 pub of_some : (bytes : List ℕ) (said : Result Module SetFault) → length bytes ≤ most_run → OrMemory (OfBytes bytes) said → IfOk said IsOfSome

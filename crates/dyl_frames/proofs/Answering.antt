@@ -21,7 +21,7 @@ use Rattle.spec_loading.specs.Phases.{LoaderFrame}
 use Rattle.spec_loading.specs.Loading.{Loading, LoadedState, with_run}
 use Rattle.dyl_frames.specs.declared.frames.Core.{Core}
 use Rattle.dyl_frames.specs.declared.frames.Pending.{Pending}
-use Rattle.dyl_frames.specs.Cores.{frame_at, LiesUnder, IsStacked, IsLive, IsSound, IsState, StandsAs, TakenFrom, FitsHost}
+use Rattle.dyl_frames.specs.Cores.{frame_at, LiesUnder, IsStacked, IsLive, IsSound, loader_of, IsState, StandsAs, TakenFrom, FitsHost}
 use Rattle.dyl_frames.proofs.CodeSteps.{with_machine}
 
 -- a host function is waited for
@@ -33,7 +33,7 @@ pub fits_answer : {Units : Type 0} (V : View Units) (memory : MemoryInstance) (a
 fits_answer V memory a (standing.Asking entry count) fits = fits
 fits_answer V memory a st fits = absurd fits
 
-module _ {Units : Type 0} (D : Loading Units) (c : Core) (n : MachineState) (us : Units) (memory : MemoryInstance) (s : LoadedState Units) (stages : s.loader.stages ≡ c.stages) (error : s.loader.error ≡ c.error) (units : s.run.units ≡ us) where
+module _ {Units : Type 0} (D : Loading Units) (c : Core) (n : MachineState) (us : Units) (memory : MemoryInstance) (s : LoadedState Units) (loader : s.loader ≡ loader_of c) (units : s.run.units ≡ us) where
   abbrev values_of : List ℕ → List Value
   values_of results = reverse (map Num results)
 
@@ -44,8 +44,7 @@ module _ {Units : Type 0} (D : Loading Units) (c : Core) (n : MachineState) (us 
     goes : (f : Frame LoaderFrame) (fs : List (Frame LoaderFrame)) (frames : List (Frame ℕ)) → given (values_of results) f ∷ fs ≡ marked_stack (frame_at c.frames.items) frames → StandsAt n frames standing.Moving
         → IsState D (with_machine c n) us memory (after (f ∷ fs))
     goes f fs frames stack at = record {
-      stages = stages;
-      error = error;
+      loader = loader;
       units = same;
       space = space;
       standing = subst (λ (st : Standing). StandsAs D (with_machine c n) (after (f ∷ fs)) st) (sym at.standing_is)
@@ -54,8 +53,7 @@ module _ {Units : Type 0} (D : Loading Units) (c : Core) (n : MachineState) (us 
 
     pub received : (frames : List (Frame ℕ)) → Received frames results n → IsState D (with_machine c n) us memory (after (marked_stack (frame_at c.frames.items) frames))
     received [] at = record {
-      stages = stages;
-      error = error;
+      loader = loader;
       units = same;
       space = space;
       standing = subst (λ (st : Standing). StandsAs D (with_machine c n) (after []) st) (sym at.standing_is) refl;
@@ -65,8 +63,7 @@ module _ {Units : Type 0} (D : Loading Units) (c : Core) (n : MachineState) (us 
 
   exited : (code : ℕ) → s.run.memory ≡ memory → StandsAt n [] (standing.Exited code) → IsState D (with_machine c n) us memory (with_run s (stands s.run [] (Exited code)))
   exited code space at = record {
-    stages = stages;
-    error = error;
+    loader = loader;
     units = units;
     space = space;
     standing = subst (λ (st : Standing). StandsAs D (with_machine c n) (with_run s (stands s.run [] (Exited code))) st) (sym at.standing_is) refl;
@@ -82,8 +79,8 @@ taken_from {Units} D w w' c n a fits t s k = go a fits t
         let run : State Units LoaderFrame = record s.run { memory = all_written writes s.run.memory } in
         let space : all_written writes s.run.memory ≡ w'.memory = ap (all_written writes) k.space ∙ sym t.2 in
         subst (λ (fs : List (Frame LoaderFrame)). IsState D (with_machine c n) w'.units w'.memory (with_run s (returned run (reverse (map Num results)) fs))) (sym st.3)
-        (received D c n w'.units w'.memory s k.stages k.error (k.units ∙ sym t.1) results run (k.units ∙ sym t.1) space c.machine.stack.frames t.0)
-    go (Exit code) fits t = exited D c n w'.units w'.memory s k.stages k.error (k.units ∙ sym t.1.0) code (k.space ∙ sym t.1.1) t.0
+        (received D c n w'.units w'.memory s k.loader (k.units ∙ sym t.1) results run (k.units ∙ sym t.1) space c.machine.stack.frames t.0)
+    go (Exit code) fits t = exited D c n w'.units w'.memory s k.loader (k.units ∙ sym t.1.0) code (k.space ∙ sym t.1.1) t.0
 
 -- ---- the core
 

@@ -105,8 +105,7 @@ stuck_same V us us' memory memory' (Some (Traps why)) old n t = absurd t
 pub same_state : {Units : Type 0} (D : Loading Units) (c : Core) (n : MachineState) (us us' : Units) (memory memory' : MemoryInstance) → n ≡ c.machine → AreSame (changes us us' memory memory')
     → (s : LoadedState Units) → IsState D c us memory s → IsState D (with_machine c n) us' memory' s
 same_state D c n us us' memory memory' same kept s k = record {
-  stages = k.stages;
-  error = k.error;
+  loader = k.loader;
   units = k.units ∙ sym kept.0;
   space = k.space ∙ sym kept.1;
   standing = subst (λ (x : MachineState). StandsAs D (with_machine c x) s x.standing) (sym same) k.standing;
@@ -146,7 +145,7 @@ module _ {Units : Type 0} (D : Loading Units) (c : Core) (n : MachineState) (us 
 
     made_steps : is_made e ≡ true → Steps D e s (with_machine c n) us' memory'
     made_steps is =
-        steps_told D s s (with_machine c n) us' memory' k.stages k.error hosts.hosts e next_here c.machine is (comes_code code) over_state over.asked
+        steps_told D s s (with_machine c n) us' memory' k.loader hosts.hosts e next_here c.machine is (comes_code code) over_state over.asked
 
   -- a function of the loader is called
   loads_told : (which : LoaderCall) (first second : ℕ) (code : is_running c.machine.stack.frames ≡ true) (next : Option (Next Units ℕ)) → next_here ≡ next
@@ -161,7 +160,7 @@ module _ {Units : Type 0} (D : Loading Units) (c : Core) (n : MachineState) (us 
       let load = subst (λ (o : Option (Next Units ℕ)). IfSome o IsLoad) is (step_load D.view us memory c.machine.stack.frames) in
       let comes = subst (λ (o : Option (Next Units ℕ)). ComesFrom D s s (with_machine c n) us' memory' (frame_at c.frames.items) o) is (comes_code code) in
       let given : args ≡ loader_arguments called first second = load.1 ∙ ap (λ (x : ℕ). loader_arguments called x (second_of args)) (sym t.2) ∙ ap (λ (x : ℕ). loader_arguments called first x) (sym t.3) in
-      loader_told D s s (with_machine c n) us' memory' which called first second args frames keeps.0 comes refl t.0 t.1 given k.stages k.error at.0 (k.units ∙ sym t.4.0) (k.space ∙ sym t.4.1)
+      loader_told D s s (with_machine c n) us' memory' which called first second args frames keeps.0 comes refl t.0 t.1 given k.loader at.0 (k.units ∙ sym t.4.0) (k.space ∙ sym t.4.1)
 
   told_steps : (e : Event) → is_mark e ≡ false → is_running c.machine.stack.frames ≡ true → Told D.view e next_here c.machine n (changes us us' memory memory') → IsOver D.view us' n
       → Steps D e s (with_machine c n) us' memory'
@@ -180,7 +179,7 @@ module _ {Units : Type 0} (D : Loading Units) (c : Core) (n : MachineState) (us 
   told_steps event.Stuck is code t over =
       let still = stuck_same D.view us us' memory memory' next_here c.machine n t in
       stuck_told D s s (with_machine c n) us' memory' next_here c.machine (frame_at c.frames.items) (comes_code code) (over_state event.Stuck code t over)
-      k.stages k.error at.0 (k.units ∙ sym still.0) (k.space ∙ sym still.1)
+      k.loader at.0 (k.units ∙ sym still.0) (k.space ∙ sym still.1)
 
   pub step_steps : (e : Event) → Stepped D.view e c.machine n (changes us us' memory memory') → IsOver D.view us' n → is_mark e ≡ false → Steps D e s (with_machine c n) us' memory'
   step_steps e (inl t) over is = told_steps e is t.1 t.2 over

@@ -30,7 +30,7 @@ use Rattle.spec_loading.specs.Phases.{LoaderFrame}
 use Rattle.spec_loading.specs.Loading.{Loading, LoadedState, comes_to, call_next, after_next, loaded_next}
 use Rattle.dyl_frames.specs.declared.frames.Pending.{Pending}
 use Rattle.dyl_frames.specs.declared.frames.Core.{Core}
-use Rattle.dyl_frames.specs.Cores.{frame_at, LiesOver, LiesUnder, IsLive, IsLoaded, IsSound, IsState, Steps, is_made, is_deep_event, IsOwn, top_frame}
+use Rattle.dyl_frames.specs.Cores.{frame_at, LiesOver, LiesUnder, IsLive, IsLoaded, IsSound, loader_of, IsState, Steps, is_made, is_deep_event, IsOwn, top_frame}
 use Rattle.dyl_frames.proofs.Loads.{IsPlain}
 use Rattle.dyl_frames.proofs.Telling.{steps_told, stuck_told, deep_is, live_at}
 use Rattle.dyl_frames.proofs.CodeSteps.{changes, with_machine, state_moving, deep_same, same_state, by_view}
@@ -197,21 +197,18 @@ module _ {Units : Type 0} (w : Seen Units) (c : Core) (h : IsSound w.fixed w.uni
         subst (λ (x : Units). Told D.view e at_call u n (changes x w.units s.run.memory w.memory)) (sym k.units)
         (subst (λ (x : MemoryInstance). Told D.view e at_call u n (changes w.units w.units x w.memory)) (sym k.space) told_own)
 
-    pub entered_steps : (new : Core) → new.machine ≡ n → new.stages ≡ c.stages → new.error ≡ c.error → is_deep_event e ≡ false → Steps D e s new w.units w.memory
-    entered_steps new machine stages error begun = go e begun told_state
+    pub entered_steps : (new : Core) → new.machine ≡ n → loader_of new ≡ loader_of c → is_deep_event e ≡ false → Steps D e s new w.units w.memory
+    entered_steps new machine loader begun = go e begun told_state
       where
-        same_stages : s.loader.stages ≡ new.stages
-        same_stages = k.stages ∙ sym stages
-
-        same_error : s.loader.error ≡ new.error
-        same_error = k.error ∙ sym error
+        same_loader : s.loader ≡ loader_of new
+        same_loader = k.loader ∙ sym loader
 
         told_new : (x : Event) → Told D.view x at_call u n (changes s.run.units w.units s.run.memory w.memory) → Told D.view x at_call u new.machine (changes s.run.units w.units s.run.memory w.memory)
         told_new x t = subst (λ (y : MachineState). Told D.view x at_call u y (changes s.run.units w.units s.run.memory w.memory)) (sym machine) t
 
         made_go : (x : Event) → is_made x ≡ true → Told D.view x at_call u n (changes s.run.units w.units s.run.memory w.memory) → Steps D x s new w.units w.memory
         made_go x is t =
-            steps_told D s s new w.units w.memory same_stages same_error loaded.hosts x at_call u is (entry_comes (frame_at new.frames.items)) (told_new x t)
+            steps_told D s s new w.units w.memory same_loader loaded.hosts x at_call u is (entry_comes (frame_at new.frames.items)) (told_new x t)
             (subst (λ (y : MachineState). IsAsked D.view y.standing) (sym machine) (by_view D w.fixed loaded (λ (W : View Units). IsOver W w.units n) over).asked)
 
         no_mark : (tag : ℕ) (next : Option (Next Units ℕ)) → Told D.view (event.Marked tag) next u n (changes s.run.units w.units s.run.memory w.memory) → ⊥
@@ -229,7 +226,7 @@ module _ {Units : Type 0} (w : Seen Units) (c : Core) (h : IsSound w.fixed w.uni
         go event.Deep b t = absurd cc
         go event.Stuck b t =
             stuck_told D s s new w.units w.memory at_call u (frame_at new.frames.items) (entry_comes (frame_at new.frames.items)) (told_new event.Stuck t)
-            same_stages same_error (state_moving D c w.units w.memory s k marked.0).0 k.units k.space
+            same_loader (state_moving D c w.units w.memory s k marked.0).0 k.units k.space
         go (event.Marked tag) b t = absurd (no_mark tag at_call t)
         go event.Moved b t = made_go event.Moved refl t
         go (event.Waits a) b t = made_go (event.Waits a) refl t

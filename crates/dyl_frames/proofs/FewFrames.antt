@@ -1,6 +1,6 @@
 -- There are few frames of the loader: each waits for the call of a phase, and a member comes to no stage twice.
-use Rattle.std.proofs.Common.{◌≡◌, ◌≢◌, ◌⊎◌, inl, inr, ℕ, zero, suc, ◌+◌, ◌-◌, ◌*◌, ◌<◌, ◌≤◌, Bool, true, false, List, [], ◌∷◌, ◌++◌, length, length-append, Option, Some, None, refl, ap, sym, ◌∙◌, subst, sum, arith, All}
-use Rattle.std.specs.Prelude.{slice_get, slice_set, nat_lt, replicate, map, reverse, Result, Ok, Err, IfOk, OnOk}
+use Rattle.std.proofs.Common.{◌≡◌, ◌≢◌, inl, inr, ℕ, zero, suc, ◌+◌, ◌-◌, ◌*◌, ◌<◌, ◌≤◌, true, false, List, [], ◌∷◌, ◌++◌, length, length-append, Option, Some, None, refl, ap, sym, ◌∙◌, subst, sum, arith, All}
+use Rattle.std.specs.Prelude.{slice_get, slice_set, replicate, map, reverse, Result, Ok, Err, IfOk, OnOk}
 use Rattle.std.proofs.lemmas.Bool.Decides.{nat_tests}
 use Rattle.std.proofs.lemmas.List.{length-replicate}
 use Rattle.std.proofs.lemmas.List.Elements.{All-nil, All-cons, All-head, All-tail}
@@ -11,7 +11,7 @@ use Rattle.spec_loading.specs.wasm_form.declared.runtime.Answer.TheVariants.{Rep
 use Rattle.spec_loading.specs.wasm_form.declared.runtime.Value.{Value}
 use Rattle.spec_loading.specs.wasm_form.declared.runtime.Value.TheVariants.{Num}
 use Rattle.spec_loading.specs.spec_execution.Views.{View}
-use Rattle.spec_loading.specs.spec_execution.Runs.{Frame, Active, Marked, Next, Goes, Asks, Loads, Ends, Traps, is_running, given}
+use Rattle.spec_loading.specs.spec_execution.Runs.{Frame, Active, Marked, Next, Goes, is_running, given}
 use Rattle.spec_loading.specs.declared.task.Phase.{Phase}
 use Rattle.spec_loading.specs.declared.task.Phase.TheVariants.{Place, Start, Relocate, Construct}
 use Rattle.spec_loading.specs.declared.task.Task.{Task}
@@ -27,6 +27,7 @@ use Rattle.dyl_frames.specs.declared.frames.Core.{Core}
 use Rattle.dyl_frames.specs.Cores.{HasFewFrames, is_below, is_behind, is_begun, raised_stages, Finishes}
 use Rattle.dyl_frames.proofs.CodeSteps.{with_machine}
 use Rattle.dyl_frames.proofs.Tops.{length_set}
+use Rattle.dyl_world.specs.Promoted.{PromotedMembers}
 
 -- ---- stages
 
@@ -113,16 +114,17 @@ module _ (c : Core) (h : HasFewFrames c) where
   Few = length c.frames.items ≤ sum c.stages
 
   -- the frames and the stages are the same
-  pub few_as : (new : Core) → new.frames.items ≡ c.frames.items → new.stages ≡ c.stages → (Runs new → Few) → HasFewFrames new
-  few_as new frames stages runs = record {
+  pub few_as : (new : Core) → new.frames.items ≡ c.frames.items → new.stages ≡ c.stages → new.promoted.room ≡ c.promoted.room → (Runs new → Few) → HasFewFrames new
+  few_as new frames stages room runs = record {
     members = subst (λ (xs : List ℕ). length xs ≤ 256) (sym stages) h.members;
     stages = subst (λ (xs : List ℕ). All IsStage xs) (sym stages) h.stages;
+    room = room ∙ h.room ∙ ap length (sym stages);
     frames = subst (λ (xs : List ℕ). length new.frames.items ≤ sum xs + 1) (sym stages) (subst (λ (ps : List Pending). length ps ≤ sum c.stages + 1) (sym frames) h.frames);
     running = λ e. subst (λ (xs : List ℕ). length new.frames.items ≤ sum xs) (sym stages) (subst (λ (ps : List Pending). length ps ≤ sum c.stages) (sym frames) (runs e));
   }
 
   few_with : (n : MachineState) → (is_running n.stack.frames ≡ true → Few) → HasFewFrames (with_machine c n)
-  few_with n runs = few_as (with_machine c n) refl refl runs
+  few_with n runs = few_as (with_machine c n) refl refl refl runs
 
   pub few_same : (n : MachineState) → n ≡ c.machine → HasFewFrames (with_machine c n)
   few_same n same = few_with n (λ e. h.running (subst (λ (m : MachineState). is_running m.stack.frames ≡ true) same e))
@@ -130,11 +132,11 @@ module _ (c : Core) (h : HasFewFrames c) where
   pub few_ended : (n : MachineState) → n.stack.frames ≡ [] → HasFewFrames (with_machine c n)
   few_ended n none = few_with n (λ e. absurd (nothing_runs n none e))
 
-  pub few_received : (new : Core) (results : List ℕ) → new.frames.items ≡ c.frames.items → new.stages ≡ c.stages → Received c.machine.stack.frames results new.machine → HasFewFrames new
-  few_received new results frames stages r = few_as new frames stages (λ e. h.running (received_runs c.machine.stack.frames results new.machine r e))
+  pub few_received : (new : Core) (results : List ℕ) → new.frames.items ≡ c.frames.items → new.stages ≡ c.stages → new.promoted.room ≡ c.promoted.room → Received c.machine.stack.frames results new.machine → HasFewFrames new
+  few_received new results frames stages room r = few_as new frames stages room (λ e. h.running (received_runs c.machine.stack.frames results new.machine r e))
 
   pub few_answered : {Units : Type 0} (a : Answer) (n : MachineState) (ch : Changes Units) → Answered a c.machine n ch → HasFewFrames (with_machine c n)
-  few_answered (Reply results writes) n ch t = few_received (with_machine c n) results refl refl t.0
+  few_answered (Reply results writes) n ch t = few_received (with_machine c n) results refl refl refl t.0
   few_answered (Exit code) n ch t = few_ended n t.0.frames_are
 
   few_stepped : {Units : Type 0} (V : View Units) (n : MachineState) (ch : Changes Units) (e : Event) → Stepped V e c.machine n ch → HasFewFrames (with_machine c n)
@@ -180,6 +182,7 @@ module _ (c : Core) (h : HasFewFrames c) where
     finished count all some runs = record {
       members = let most = h.members in let many = ap length f.stages_are in omega arith;
       stages = subst (λ (xs : List ℕ). All IsStage xs) (sym f.stages_are) all;
+      room = let kept = ap (λ (p : PromotedMembers). p.room) f.promoted in let had = h.room in let many = ap length f.stages_are in omega arith;
       frames = let is = same_frames in let reached = ap sum f.stages_are in omega arith;
       running = λ e.
           let is = same_frames in
@@ -200,49 +203,53 @@ module _ (c : Core) (h : HasFewFrames c) where
       finished (raised_stages c t) m new f (length_set c.stages t.member (stage_of t.phase)) (all_set c.stages t.member (stage_of t.phase) h.stages (phase_stage t.phase)) (omega arith) (λ e. omega arith)
 
   -- the entry is called once the first frame is done
-  pub few_entered : (new : Core) → new.frames.items ≡ [] → new.stages ≡ c.stages → HasFewFrames new
-  few_entered new none stages =
+  pub few_entered : (new : Core) → new.frames.items ≡ [] → new.stages ≡ c.stages → new.promoted.room ≡ c.promoted.room → HasFewFrames new
+  few_entered new none stages room =
       let count : length new.frames.items ≡ 0 = ap length none in
       record {
         members = subst (λ (xs : List ℕ). length xs ≤ 256) (sym stages) h.members;
         stages = subst (λ (xs : List ℕ). All IsStage xs) (sym stages) h.stages;
+        room = room ∙ h.room ∙ ap length (sym stages);
         frames = omega arith;
         running = λ e. omega arith;
       }
 
   -- a frame is put over code that runs
-  pub few_opened : (new : Core) (p : Pending) (tag : ℕ) (rest : List (Frame ℕ)) → new.frames.items ≡ c.frames.items ++ p ∷ [] → new.stages ≡ c.stages → new.machine.stack.frames ≡ Marked tag ∷ rest → Runs c → HasFewFrames new
-  few_opened new p tag rest frames stages top runs =
+  pub few_opened : (new : Core) (p : Pending) (tag : ℕ) (rest : List (Frame ℕ)) → new.frames.items ≡ c.frames.items ++ p ∷ [] → new.stages ≡ c.stages → new.promoted.room ≡ c.promoted.room → new.machine.stack.frames ≡ Marked tag ∷ rest → Runs c → HasFewFrames new
+  few_opened new p tag rest frames stages room top runs =
       let some = h.running runs in
       let more : length new.frames.items ≡ length c.frames.items + 1 = ap length frames ∙ length-append c.frames.items (p ∷ []) in
       let reached : sum new.stages ≡ sum c.stages = ap sum stages in
       record {
         members = subst (λ (xs : List ℕ). length xs ≤ 256) (sym stages) h.members;
         stages = subst (λ (xs : List ℕ). All IsStage xs) (sym stages) h.stages;
+        room = room ∙ h.room ∙ ap length (sym stages);
         frames = omega arith;
         running = λ e. absurd (let idle : is_running new.machine.stack.frames ≡ false = ap (λ (fs : List (Frame ℕ)). is_running fs) top in let clash : true ≡ false = sym e ∙ idle in cc);
       }
 
   -- the frame on top is taken away
-  pub few_handed : (new : Core) → length c.frames.items ≡ suc (length new.frames.items) → new.stages ≡ c.stages → HasFewFrames new
-  few_handed new less stages =
+  pub few_handed : (new : Core) → length c.frames.items ≡ suc (length new.frames.items) → new.stages ≡ c.stages → new.promoted.room ≡ c.promoted.room → HasFewFrames new
+  few_handed new less stages room =
       let some = h.frames in
       let reached : sum new.stages ≡ sum c.stages = ap sum stages in
       record {
         members = subst (λ (xs : List ℕ). length xs ≤ 256) (sym stages) h.members;
         stages = subst (λ (xs : List ℕ). All IsStage xs) (sym stages) h.stages;
+        room = room ∙ h.room ∙ ap length (sym stages);
         frames = omega arith;
         running = λ e. omega arith;
       }
 
 -- the first frame, on an empty call stack
-pub few_first : (members : ℕ) (c : Core) (p : Pending) → members ≤ 256 → c.frames.items ≡ p ∷ [] → c.stages ≡ replicate members 0 → c.machine.stack.frames ≡ Marked 0 ∷ [] → HasFewFrames c
-few_first members c p few frames stages top =
+pub few_first : (members : ℕ) (c : Core) (p : Pending) → members ≤ 256 → c.frames.items ≡ p ∷ [] → c.stages ≡ replicate members 0 → c.promoted ≡ record { list = []; room = members } → c.machine.stack.frames ≡ Marked 0 ∷ [] → HasFewFrames c
+few_first members c p few frames stages promoted top =
     let one : length c.frames.items ≡ 1 = ap length frames in
     let count : length c.stages ≡ members = ap length stages ∙ length-replicate members 0 in
     record {
       members = omega arith;
       stages = subst (λ (xs : List ℕ). All IsStage xs) (sym stages) (none_reached members);
+      room = ap (λ (x : PromotedMembers). x.room) promoted ∙ sym count;
       frames = omega arith;
       running = λ e. absurd (let idle : is_running c.machine.stack.frames ≡ false = ap (λ (fs : List (Frame ℕ)). is_running fs) top in let clash : true ≡ false = sym e ∙ idle in cc);
     }

@@ -1,5 +1,5 @@
 -- What a function of the loader answers: a number, a trap, or a frame over the code that called it. A frame that is done gives its handle.
-use Rattle.std.proofs.Common.{◌≡◌, ◌⊎◌, inl, inr, ℕ, zero, suc, ◌+◌, ◌-◌, ◌<◌, List, [], ◌∷◌, ◌++◌, Option, Some, refl, ap, sym, ◌∙◌, subst, true, false, length, length-append, take, drop, arith, All}
+use Rattle.std.proofs.Common.{◌≡◌, ◌⊎◌, inl, inr, ℕ, zero, suc, ◌+◌, ◌-◌, ◌<◌, List, [], ◌∷◌, ◌++◌, Option, Some, None, refl, ap, sym, ◌∙◌, subst, true, false, length, length-append, take, drop, arith, All}
 use Rattle.std.specs.Prelude.{slice_get, reverse}
 use Rattle.spec_loading.specs.wasm_form.declared.runtime.Trap.{Trap}
 use Rattle.spec_loading.specs.spec_runs.Systems.{Status, Trapped}
@@ -9,6 +9,9 @@ use Rattle.spec_loading.specs.spec_runtime.Hosts.{HostCall}
 use Rattle.spec_loading.specs.spec_runtime.Memories.{MemoryInstance}
 use Rattle.spec_loading.specs.spec_execution.Views.{View}
 use Rattle.spec_loading.specs.spec_execution.Limits.{passes_limit}
+use Rattle.spec_loading.specs.spec_linking.LinkedSets.{LinkedSet}
+use Rattle.spec_loading.specs.LoaderAnswers.{promoted_with}
+use Rattle.dyl_world.specs.Promoted.{PromotedMembers}
 use Rattle.spec_loading.specs.spec_execution.Runs.{Frame, Active, Marked, is_running, stands}
 use Rattle.wasm_view.specs.Seen.{Seen}
 use Rattle.wasm_machine.specs.Stacks.{CallStack}
@@ -19,20 +22,32 @@ use Rattle.wasm_machine.specs.declared.machine.Standing.TheVariants as standing
 use Rattle.wasm_machine.specs.declared.event.Event.TheVariants as event
 use Rattle.spec_loading.specs.declared.task.Task.{Task}
 use Rattle.spec_loading.specs.declared.task.After.{After}
-use Rattle.spec_loading.specs.declared.task.After.TheVariants.{GiveHandle}
+use Rattle.spec_loading.specs.declared.task.After.TheVariants.{CallEntry, GiveHandle, GiveAndPromote}
 use Rattle.spec_loading.specs.Phases.{LoaderFrame}
-use Rattle.spec_loading.specs.Loading.{Loading, LoaderState, LoadedState, LoaderAnswer, Traps, Comes, comes_by_itself, with_run, goes_on, gives, answered, after_next, came_to, loaded_next, loaded_step, loaded_too_deep}
+use Rattle.spec_loading.specs.Loading.{Loading, LoaderState, LoadedState, LoaderAnswer, Traps, Comes, comes_by_itself, with_run, goes_on, gives, promoting, answered, after_next, came_to, loaded_next, loaded_step, loaded_too_deep}
 use Rattle.dyl_frames.specs.declared.frames.Pending.{Pending}
 use Rattle.dyl_frames.specs.declared.frames.Core.{Core}
 use Rattle.wasm_machine.specs.Steps.{TellsStatus}
 use Rattle.dyl_frames.specs.Next.{answer_of, next_answer}
-use Rattle.dyl_frames.specs.Cores.{frame_in, frame_at, stack_of, LiesOver, LiesUnder, IsHandle, IsPending, IsStacked, IsLive, IsSound, IsState, IsCalling, Steps, AnsweredFrom, gives_number, opens_member, top_frame, Drops}
+use Rattle.dyl_frames.specs.Cores.{frame_in, frame_at, stack_of, LiesOver, LiesUnder, IsHandle, GivesHandle, IsPending, IsStacked, IsLive, IsSound, loader_of, IsState, IsCalling, Steps, AnsweredFrom, gives_number, opens_member, top_frame, Drops}
 use Rattle.dyl_frames.proofs.CodeSteps.{with_machine, state_moving}
 use Rattle.dyl_frames.proofs.Telling.{stays_at}
 use Rattle.dyl_frames.proofs.Tops.{OnMark, marks_alike, marks_kept}
 use Rattle.dyl_frames.proofs.Answering.{received, live_after}
 use Rattle.dyl_frames.proofs.Opening.{tasks_small}
 use Rattle.dyl_frames.proofs.Tasks.{live_mark, trapped_core, quiet_depth, quiet_step}
+
+-- ---- what a frame lies over whose handle is given
+
+lies_over : (a : After) → GivesHandle a → (frames : List (Frame ℕ)) → is_running frames ≡ true → LiesOver a frames
+lies_over CallEntry hands frames runs = absurd hands
+lies_over (GiveHandle m) hands frames runs = runs
+lies_over (GiveAndPromote m) hands frames runs = runs
+
+over_code : (a : After) → GivesHandle a → (frames : List (Frame ℕ)) → LiesOver a frames → is_running frames ≡ true
+over_code CallEntry hands frames lies = absurd hands
+over_code (GiveHandle m) hands frames lies = lies
+over_code (GiveAndPromote m) hands frames lies = lies
 
 -- ---- where a function of the loader is waited for
 
@@ -74,9 +89,9 @@ module _ {Units : Type 0} (w : Seen Units) (c : Core) (h : IsSound w.fixed w.uni
     pub gives_from : (D : Loading Units) → AnsweredFrom D event.Moved (gives_number c n error) c w given_core
     gives_from D s k answer =
         let call = k.call in
-        let loader : LoaderState = record { stages = c.stages; error = error } in
+        let loader : LoaderState = record (loader_of c) { error = error } in
         moved_by D s (answered s (stack_of c) (gives_number c n error)) given_core w.units w.memory (answered_depth D c s call (gives_number c n error) answer) (answered_step D c s call (gives_number c n error) answer)
-        (received D (record c { error = error }) m w.units w.memory (record s { loader = loader }) refl refl k.units (n ∷ []) s.run k.units k.space c.machine.stack.frames r)
+        (received D (record c { error = error }) m w.units w.memory (record s { loader = loader }) refl k.units (n ∷ []) s.run k.units k.space c.machine.stack.frames r)
         (given_moving c.machine.stack.frames (n ∷ []) m live.1 r)
 
     pub gives_core : IsOver w.fixed w.units m → IsSound w.fixed w.units given_core
@@ -93,7 +108,7 @@ module _ {Units : Type 0} (w : Seen Units) (c : Core) (h : IsSound w.fixed w.uni
             with_run s (stands s.run [] (Trapped why)),
             answered_step D c s call (Traps why) answer,
             refl,
-            stays_at D s s (with_machine c m) w.units w.memory (with_run s (stands s.run [] (Trapped why))) (standing.Trapped why) k.stages k.error k.units k.space (ap (λ (x : MachineState). x.standing) is) refl,
+            stays_at D s s (with_machine c m) w.units w.memory (with_run s (stands s.run [] (Trapped why))) (standing.Trapped why) k.loader k.units k.space (ap (λ (x : MachineState). x.standing) is) refl,
           ),
         )
 
@@ -102,10 +117,10 @@ module _ {Units : Type 0} (w : Seen Units) (c : Core) (h : IsSound w.fixed w.uni
 
   -- ---- a frame
 
-  module _ (tasks : List Task) (member tag : ℕ) (m : MachineState) (on : Marks tag c.machine m) (new : Core) (p : Pending) (machine : new.machine ≡ m) (frames : new.frames.items ≡ c.frames.items ++ p ∷ [])
-      (items : p.tasks.items ≡ tasks) (follows : p.after ≡ GiveHandle member) (stages : new.stages ≡ c.stages) (error : new.error ≡ c.error) (is : tag ≡ length c.frames.items) where
+  module _ (tasks : List Task) (after : After) (hands : GivesHandle after) (tag : ℕ) (m : MachineState) (on : Marks tag c.machine m) (new : Core) (p : Pending) (machine : new.machine ≡ m) (frames : new.frames.items ≡ c.frames.items ++ p ∷ [])
+      (items : p.tasks.items ≡ tasks) (follows : p.after ≡ after) (stages : new.stages ≡ c.stages) (loader : loader_of new ≡ loader_of c) (is : tag ≡ length c.frames.items) where
     abbrev frame : LoaderFrame
-    frame = record { tasks = reverse tasks; after = GiveHandle member }
+    frame = record { tasks = reverse tasks; after = after }
 
     pub on_top : new.machine.stack.frames ≡ Marked tag ∷ c.machine.stack.frames
     on_top = ap (λ (x : MachineState). x.stack.frames) machine ∙ ap (λ (x : CallStack). x.frames) on.stack
@@ -127,16 +142,16 @@ module _ {Units : Type 0} (w : Seen Units) (c : Core) (h : IsSound w.fixed w.uni
         ∙ ap (λ (fs : List (Frame LoaderFrame)). Marked frame ∷ fs)
         (sym (marks_alike (frame_at c.frames.items) (frame_at new.frames.items) (LiesUnder c.frames.items) (length c.frames.items) c.machine.stack.frames live.0.marks others))
 
-    pub opens_from : (D : Loading Units) → AnsweredFrom D event.Moved (opens_member (reverse tasks) member) c w new
+    pub opens_from : (D : Loading Units) → AnsweredFrom D event.Moved (opens_member (reverse tasks) after) c w new
     opens_from D s k answer =
         let call = k.call in
-        let x = opens_member (reverse tasks) member in
+        let x = opens_member (reverse tasks) after in
         moved_by D s (goes_on s (Marked frame ∷ stack_of c)) new w.units w.memory (answered_depth D c s call x answer) (answered_step D c s call x answer)
-        (stays_at D s s new w.units w.memory (goes_on s (Marked frame ∷ stack_of c)) standing.Moving (k.stages ∙ sym stages) (k.error ∙ sym error) k.units k.space moving (refl, sym stack_is))
+        (stays_at D s s new w.units w.memory (goes_on s (Marked frame ∷ stack_of c)) standing.Moving (k.loader ∙ sym loader) k.units k.space moving (refl, sym stack_is))
         moving
 
     lies_here : LiesUnder new.frames.items tag c.machine.stack.frames
-    lies_here = subst (λ (f : LoaderFrame). LiesOver f.after c.machine.stack.frames) (sym last_frame) live.1
+    lies_here = subst (λ (f : LoaderFrame). LiesOver f.after c.machine.stack.frames) (sym last_frame) (lies_over after hands c.machine.stack.frames live.1)
 
     marks_here : AreMarksOver (LiesUnder new.frames.items) (suc (length c.frames.items)) (Marked tag ∷ c.machine.stack.frames)
     marks_here =
@@ -157,11 +172,11 @@ module _ {Units : Type 0} (w : Seen Units) (c : Core) (h : IsSound w.fixed w.uni
     appended (x ∷ xs) zero q e = inl e
     appended (x ∷ xs) (suc i) q e = appended xs i q e
 
-    module _ (over : IsOver w.fixed w.units m) (small : All (λ (t : Task). t.member < length c.stages) tasks) (handle : member + 1 < 4294967296) where
+    module _ (over : IsOver w.fixed w.units m) (small : All (λ (t : Task). t.member < length c.stages) tasks) (handle : IsHandle (length c.stages) after) where
       latest : IsPending (length c.stages) p
       latest = record {
         tasks = subst (λ (ts : List Task). All (λ (t : Task). t.member < length c.stages) (reverse ts)) (sym items) (tasks_small (length c.stages) tasks small);
-        handle = subst (λ (a : _). IsHandle a) (sym follows) handle;
+        handle = subst (λ (a : After). IsHandle (length c.stages) a) (sym follows) handle;
       }
 
       pending : (i : ℕ) (q : Pending) → slice_get new.frames.items i ≡ Some q → IsPending (length c.stages) q
@@ -197,12 +212,11 @@ taken_count zero xs e = refl
 taken_count (suc k) [] e = absurd cc
 taken_count (suc k) (x ∷ xs) e = ap suc (taken_count k xs (let less = e in omega arith))
 
-frame_done : {Units : Type 0} (D : Loading Units) (s : LoadedState Units) (f : LoaderFrame) (under : List (Frame LoaderFrame)) (member : ℕ) → f.tasks ≡ [] → f.after ≡ GiveHandle member
-    → loaded_next D s (Marked f ∷ under) ≡ comes_by_itself (gives s under (member + 1))
-frame_done D s f under member tasks after =
-    ap (λ (ts : List Task). loaded_next D s (Marked (record f { tasks = ts }) ∷ under)) tasks ∙ ap (λ (a : After). after_next D s under a) after
+frame_done : {Units : Type 0} (D : Loading Units) (s : LoadedState Units) (f : LoaderFrame) (under : List (Frame LoaderFrame)) (after : After) → f.tasks ≡ [] → f.after ≡ after → loaded_next D s (Marked f ∷ under) ≡ after_next D s under after
+frame_done D s f under after tasks follows =
+    ap (λ (ts : List Task). loaded_next D s (Marked (record f { tasks = ts }) ∷ under)) tasks ∙ ap (λ (a : After). after_next D s under a) follows
 
-module _ {Units : Type 0} (w : Seen Units) (c : Core) (h : IsSound w.fixed w.units c) (marked : IsMarked c.machine) (member : ℕ) (handle : (top_frame c).after ≡ GiveHandle member) (u : MachineState) (off : Unmarks c.machine u) where
+module _ {Units : Type 0} (w : Seen Units) (c : Core) (h : IsSound w.fixed w.units c) (marked : IsMarked c.machine) (member : ℕ) (after : After) (hands : GivesHandle after) (handle : (top_frame c).after ≡ after) where
   m : OnMark c
   m = live_mark w.fixed w.units c h marked
 
@@ -212,17 +226,25 @@ module _ {Units : Type 0} (w : Seen Units) (c : Core) (h : IsSound w.fixed w.uni
   runs : is_running m.rest ≡ true
   runs =
       let lies : LiesOver (top_frame c).after m.rest = subst (λ (i : ℕ). LiesUnder c.frames.items i m.rest) last_is m.under in
-      subst (λ (a : After). LiesOver a m.rest) handle lies
+      over_code after hands m.rest (subst (λ (a : After). LiesOver a m.rest) handle lies)
 
-  rest_is : u.stack.frames ≡ m.rest
-  rest_is = ap (λ (x : CallStack). x.frames) off.stack ∙ ap (λ (fs : List (Frame ℕ)). drop 1 fs) m.frames
+  -- the member whose handle is given is there
+  pub handle_inside : IsHandle (length c.stages) after
+  handle_inside = subst (λ (a : After). IsHandle (length c.stages) a) handle (go (slice_get c.frames.items (length c.frames.items - 1)) refl)
+    where
+      go : (o : Option Pending) → slice_get c.frames.items (length c.frames.items - 1) ≡ o → IsHandle (length c.stages) (frame_in o).after
+      go None e = tt
+      go (Some p) e = (h.pending (length c.frames.items - 1) p e).handle
 
-  module _ (n : MachineState) (r : Received u.stack.frames ((member + 1) ∷ []) n) (new : Core) (f : Drops (with_machine c n) new) where
+  module _ (u : MachineState) (off : Unmarks c.machine u) (n : MachineState) (r : Received u.stack.frames ((member + 1) ∷ []) n)
+      (new : Core) (machine : new.machine ≡ n) (stages : new.stages ≡ c.stages) (frames : new.frames.items ≡ take (length c.frames.items - 1) c.frames.items) where
     here : Received m.rest ((member + 1) ∷ []) n
-    here = subst (λ (fs : List (Frame ℕ)). Received fs ((member + 1) ∷ []) n) rest_is r
+    here =
+        let rest : u.stack.frames ≡ m.rest = ap (λ (x : CallStack). x.frames) off.stack ∙ ap (λ (fs : List (Frame ℕ)). drop 1 fs) m.frames in
+        subst (λ (fs : List (Frame ℕ)). Received fs ((member + 1) ∷ []) n) rest r
 
     frames_are : new.frames.items ≡ take m.number c.frames.items
-    frames_are = f.frames ∙ ap (λ (i : ℕ). take i c.frames.items) (sym last_is)
+    frames_are = frames ∙ ap (λ (i : ℕ). take i c.frames.items) (sym last_is)
 
     kept_under : (i : ℕ) → i < m.number → frame_at c.frames.items i ≡ frame_at new.frames.items i
     kept_under i lt = ap frame_in (sym (taken_get m.number c.frames.items i lt)) ∙ ap (λ (xs : List Pending). frame_at xs i) (sym frames_are)
@@ -239,34 +261,59 @@ module _ {Units : Type 0} (w : Seen Units) (c : Core) (h : IsSound w.fixed w.uni
 
     pub handed_core : IsOver w.fixed w.units n → IsSound w.fixed w.units new
     handed_core over = record {
-      over = subst (λ (x : MachineState). IsOver w.fixed w.units x) (sym f.machine) over;
-      live = subst (λ (x : MachineState). IsLive x.standing new.frames.items x.stack.frames) (sym f.machine) (live_after new.frames.items m.rest ((member + 1) ∷ []) n marks_new here);
-      pending = λ i q e. subst (λ (xs : List ℕ). IsPending (length xs) q) (sym f.stages) (h.pending i q (taken_found m.number c.frames.items i q (sym (ap (λ (xs : List Pending). slice_get xs i) frames_are) ∙ e)));
+      over = subst (λ (x : MachineState). IsOver w.fixed w.units x) (sym machine) over;
+      live = subst (λ (x : MachineState). IsLive x.standing new.frames.items x.stack.frames) (sym machine) (live_after new.frames.items m.rest ((member + 1) ∷ []) n marks_new here);
+      pending = λ i q e. subst (λ (xs : List ℕ). IsPending (length xs) q) (sym stages) (h.pending i q (taken_found m.number c.frames.items i q (sym (ap (λ (xs : List Pending). slice_get xs i) frames_are) ∙ e)));
     }
 
-    module _ (D : Loading Units) (tasks : (top_frame c).tasks ≡ []) (s : LoadedState Units) (k : IsState D c w.units w.memory s) where
+    -- what follows gives the handle, and leaves the run as it is, and what is kept as it is here
+    module _ (D : Loading Units) (tasks : (top_frame c).tasks ≡ []) (s : LoadedState Units) (k : IsState D c w.units w.memory s)
+        (loader : LoaderState) (done : (under : List (Frame LoaderFrame)) → after_next D s under after ≡ comes_by_itself (gives (record s { loader = loader }) under (member + 1))) (keeps : loader ≡ loader_of new) where
       abbrev under : List (Frame LoaderFrame)
       under = marked_stack (frame_at c.frames.items) m.rest
 
-      comes : loaded_next D s s.run.stack ≡ comes_by_itself (gives s under (member + 1))
+      abbrev given_state : List (Frame LoaderFrame) → LoadedState Units
+      given_state fs = gives (record s { loader = loader }) fs (member + 1)
+
+      comes : loaded_next D s s.run.stack ≡ comes_by_itself (given_state under)
       comes =
           ap (loaded_next D s)
           ((state_moving D c w.units w.memory s k marked.0).1 ∙ ap (λ (fs : List (Frame ℕ)). marked_stack (frame_at c.frames.items) fs) m.frames
           ∙ ap (λ (i : ℕ). Marked (frame_at c.frames.items i) ∷ under) last_is)
-          ∙ frame_done D s (top_frame c) under member tasks handle
+          ∙ frame_done D s (top_frame c) under after tasks handle
+          ∙ done under
 
       same_under : under ≡ marked_stack (frame_at new.frames.items) m.rest
       same_under = marks_alike (frame_at c.frames.items) (frame_at new.frames.items) (LiesUnder c.frames.items) m.number m.rest m.marks kept_under
 
-      state : IsState D (with_machine new n) w.units w.memory (gives s (marked_stack (frame_at new.frames.items) m.rest) (member + 1))
-      state =
-          received D new n w.units w.memory s (k.stages ∙ sym f.stages) (k.error ∙ sym f.error) k.units ((member + 1) ∷ []) s.run k.units k.space m.rest here
+      state : IsState D (with_machine new n) w.units w.memory (given_state (marked_stack (frame_at new.frames.items) m.rest))
+      state = received D new n w.units w.memory (record s { loader = loader }) keeps k.units ((member + 1) ∷ []) s.run k.units k.space m.rest here
 
       machine_is : with_machine new n ≡ new
-      machine_is = ap (λ (x : MachineState). with_machine new x) (sym f.machine)
+      machine_is = ap (λ (x : MachineState). with_machine new x) (sym machine)
 
       pub handed_steps : Steps D event.Moved s new w.units w.memory
       handed_steps =
-          moved_by D s (gives s under (member + 1)) new w.units w.memory (quiet_depth D s (gives s under (member + 1)) comes) (quiet_step D s (gives s under (member + 1)) comes)
-          (subst (λ (fs : List (Frame LoaderFrame)). IsState D new w.units w.memory (gives s fs (member + 1))) (sym same_under) (subst (λ (x : Core). IsState D x w.units w.memory (gives s (marked_stack (frame_at new.frames.items) m.rest) (member + 1))) machine_is state))
-          (ap (λ (x : MachineState). x.standing) f.machine ∙ given_moving m.rest ((member + 1) ∷ []) n runs here)
+          moved_by D s (given_state under) new w.units w.memory (quiet_depth D s (given_state under) comes) (quiet_step D s (given_state under) comes)
+          (subst (λ (fs : List (Frame LoaderFrame)). IsState D new w.units w.memory (given_state fs)) (sym same_under)
+          (subst (λ (x : Core). IsState D x w.units w.memory (given_state (marked_stack (frame_at new.frames.items) m.rest))) machine_is state))
+          (ap (λ (x : MachineState). x.standing) machine ∙ given_moving m.rest ((member + 1) ∷ []) n runs here)
+
+-- ---- what is kept then
+
+dropped_loader : (c new : Core) → Drops c new → loader_of new ≡ loader_of c
+dropped_loader c new f =
+    let by : List ℕ → ℕ → PromotedMembers → LoaderState = λ ss e ps. record { stages = ss; error = e; promoted = ps.list } in
+    (λ i. by (f.stages i) (f.error i) (f.promoted i))
+
+module _ {Units : Type 0} (D : Loading Units) (c : Core) (n : MachineState) (d : Core) (f : Drops (with_machine c n) d) (us : Units) (memory : MemoryInstance) (s : LoadedState Units) (k : IsState D c us memory s) where
+  pub still_kept : s.loader ≡ loader_of d
+  still_kept = k.loader ∙ sym (dropped_loader (with_machine c n) d f)
+
+  -- the closure of a member is promoted
+  module _ (L : LinkedSet) (member : ℕ) (promotes : D.promote ≡ promoted_with L.set) (new : PromotedMembers) (is : new.list ≡ promoted_with L.set member d.promoted.list) where
+    pub promoted_kept : (promoting D s member).loader ≡ loader_of (record d { promoted = new })
+    promoted_kept =
+        ap (λ (l : LoaderState). record l { promoted = D.promote member l.promoted }) still_kept
+        ∙ ap (λ (f : ℕ → List ℕ → List ℕ). record (loader_of d) { promoted = f member d.promoted.list }) promotes
+        ∙ ap (λ (l : List ℕ). record (loader_of d) { promoted = l }) (sym is)

@@ -1,5 +1,5 @@
 -- The first frame is put on an empty call stack.
-use Rattle.std.proofs.Common.{◌≡◌, ◌<◌, ℕ, zero, suc, List, [], ◌∷◌, Some, refl, ap, sym, ◌∙◌, subst, length, All}
+use Rattle.std.proofs.Common.{◌≡◌, ◌<◌, ℕ, zero, suc, List, [], ◌∷◌, ◌++◌, Some, refl, ap, sym, ◌∙◌, subst, length, All}
 use Rattle.std.specs.Prelude.{slice_get, reverse, replicate}
 use Rattle.std.proofs.lemmas.List.{length-replicate}
 use Rattle.std.proofs.lemmas.List.Elements.{All-nil}
@@ -17,29 +17,37 @@ use Rattle.spec_loading.specs.declared.task.Task.{Task}
 use Rattle.spec_loading.specs.declared.task.After.{After}
 use Rattle.spec_loading.specs.declared.task.After.TheVariants.{CallEntry}
 use Rattle.spec_loading.specs.Phases.{LoaderFrame}
-use Rattle.spec_loading.specs.Loading.{Loading}
+use Rattle.spec_loading.specs.Loading.{Loading, LoaderState}
+use Rattle.dyl_world.specs.Promoted.{PromotedMembers}
 use Rattle.dyl_frames.specs.declared.frames.Pending.{Pending}
 use Rattle.dyl_frames.specs.declared.frames.Core.{Core}
-use Rattle.dyl_frames.specs.Cores.{frame_of, frame_at, LiesOver, IsHandle, IsPending, IsStacked, IsLive, IsSound, StandsAs, OpensAt}
+use Rattle.dyl_frames.specs.Cores.{frame_of, frame_at, LiesOver, IsHandle, IsPending, IsStacked, IsLive, IsSound, loader_of, StandsAs, OpensAt}
 
 -- nothing runs over a whole view
 pub idle_over : {Units : Type 0} (V : View Units) (us : Units) (st : Standing) → IsWhole V → HoldsAll V us → st ≡ standing.Moving → IsOver V us (record { stack = empty_stack; standing = st })
 idle_over V us st whole holds is = subst (λ (x : Standing). IsOver V us (record { stack = empty_stack; standing = x })) (sym is)
     (record { range = record { whole = whole; units = holds; stack = All-nil (IsFrameInRange V) }; rooms = refl; asked = tt })
 
+pub one_frame : (frames none : List Pending) (p : Pending) → frames ≡ none ++ p ∷ [] → none ≡ [] → frames ≡ p ∷ []
+one_frame frames none p is empty = is ∙ ap (λ (ps : List Pending). ps ++ p ∷ []) empty
+
 pub tasks_small : (members : ℕ) (tasks : List Task) → All (λ (t : Task). t.member < members) tasks → All (λ (t : Task). t.member < members) (reverse tasks)
 tasks_small members tasks h = All-reverse (λ (t : Task). t.member < members) tasks h
 
 module _ {Units : Type 0} (w : Seen Units) (members : ℕ) (tasks : List Task) (c : Core) (p : Pending) (m : MachineState)
-    (frames : c.frames.items ≡ p ∷ []) (items : p.tasks.items ≡ tasks) (follows : p.after ≡ CallEntry) (stages : c.stages ≡ replicate members 0) (error : c.error ≡ 0)
+    (frames : c.frames.items ≡ p ∷ []) (items : p.tasks.items ≡ tasks) (follows : p.after ≡ CallEntry) (stages : c.stages ≡ replicate members 0) (error : c.error ≡ 0) (promoted : c.promoted ≡ record { list = []; room = members })
     (bare : m.stack.frames ≡ []) (marks : Marks 0 m c.machine) where
   pub on_stack : c.machine.stack.frames ≡ Marked 0 ∷ []
   on_stack = ap (λ (s : CallStack). s.frames) marks.stack ∙ ap (λ (fs : List (Frame ℕ)). Marked 0 ∷ fs) bare
 
+  begins : loader_of c ≡ record { stages = replicate members 0; error = 0; promoted = [] }
+  begins =
+      let by : List ℕ → ℕ → PromotedMembers → LoaderState = λ ss e ps. record { stages = ss; error = e; promoted = ps.list } in
+      (λ i. by (stages i) (error i) (promoted i))
+
   pub opened_at : (D : Loading Units) → OpensAt D members (reverse tasks) w c
   opened_at D s o = record {
-    stages = o.stages ∙ sym stages;
-    error = o.error ∙ sym error;
+    loader = o.loader ∙ sym begins;
     units = o.units;
     space = o.space;
     standing = subst (λ (st : Standing). StandsAs D c s st) (sym marks.goes_on) (o.status, stack);
@@ -71,7 +79,7 @@ module _ {Units : Type 0} (w : Seen Units) (members : ℕ) (tasks : List Task) (
       first : IsPending (length c.stages) p
       first = record {
         tasks = subst (λ (n : ℕ). All (λ (t : Task). t.member < n) (frame_of p).tasks) (sym count) (subst (λ (ts : List Task). All (λ (t : Task). t.member < members) (reverse ts)) (sym items) small);
-        handle = subst (λ (a : After). IsHandle a) (sym follows) tt;
+        handle = subst (λ (a : After). IsHandle (length c.stages) a) (sym follows) tt;
       }
 
       found : (i : ℕ) (q : Pending) → slice_get (p ∷ []) i ≡ Some q → IsPending (length c.stages) q

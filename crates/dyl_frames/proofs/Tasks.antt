@@ -28,13 +28,13 @@ use Rattle.spec_loading.specs.declared.task.Phase.{Phase}
 use Rattle.spec_loading.specs.declared.task.Phase.TheVariants.{Place, Start, Relocate, Construct}
 use Rattle.spec_loading.specs.declared.task.Task.{Task}
 use Rattle.spec_loading.specs.Phases.{LoaderFrame, stage_of}
-use Rattle.spec_loading.specs.Loading.{Loading, LoadedState, Comes, comes_by_itself, comes_to, goes_on, ended_by, place_next, call_next, work_next, task_next, raised, loaded_next, loaded_step, with_run, came_to}
+use Rattle.spec_loading.specs.Loading.{Loading, LoaderState, LoadedState, Comes, comes_by_itself, comes_to, goes_on, ended_by, place_next, call_next, work_next, task_next, raised, loaded_next, loaded_step, with_run, came_to}
 use Rattle.dyl_frames.specs.declared.frames.Pending.{Pending}
 use Rattle.dyl_frames.specs.declared.frames.Core.{Core}
-use Rattle.dyl_frames.specs.Cores.{frame_of, frame_in, frame_at, stack_of, LiesUnder, IsHandle, IsPending, IsLive, IsLoaded, IsSound, IsState, Steps, StepsFrom, is_made, is_begun, is_below, is_behind, raised_stages, top_frame, first_of, first_task, TakesTask, Finishes}
+use Rattle.dyl_frames.specs.Cores.{frame_of, frame_in, frame_at, stack_of, LiesUnder, IsHandle, IsPending, IsLive, IsLoaded, IsSound, loader_of, IsState, Steps, StepsFrom, is_made, is_begun, is_below, is_behind, raised_stages, top_frame, first_of, first_task, TakesTask, Finishes}
 use Rattle.dyl_frames.proofs.CodeSteps.{changes, with_machine, state_moving, core_live, told_core, deep_same, same_state, by_view}
 use Rattle.dyl_frames.proofs.Telling.{stays_at, steps_told, deep_told, stuck_told}
-use Rattle.dyl_frames.proofs.Tops.{OnMark, on_mark, rest_of, finished_stack, finished_live, marks_alike, changed_or_kept, length_set, taken_frame}
+use Rattle.dyl_frames.proofs.Tops.{OnMark, on_mark, rest_of, finished_stack, finished_live, marks_alike, changed_or_kept, length_set, taken_frame, finished_loader}
 use Rattle.dyl_frames.proofs.Loads.{IsPlain, plain_load, nullary_plain}
 
 -- ---- the core once the task is done
@@ -48,7 +48,7 @@ taken_pending members p q t h =
     let same = taken_frame p q t in
     record {
       tasks = subst (λ (f : LoaderFrame). All (λ (t : Task). t.member < members) f.tasks) (sym same) (tail_holds (λ (t : Task). t.member < members) (frame_of p).tasks h.tasks);
-      handle = subst (λ (f : LoaderFrame). IsHandle f.after) (sym same) h.handle;
+      handle = subst (λ (f : LoaderFrame). IsHandle members f.after) (sym same) h.handle;
     }
 
 module _ {Units : Type 0} (V : View Units) (us : Units) (stages : List ℕ) (k : ℕ) (c new : Core) (f : Finishes stages c new) (count : length c.frames.items ≡ suc k) (h : IsSound V us c) (members : length stages ≡ length c.stages) where
@@ -79,6 +79,10 @@ raised_count c t = length_set c.stages t.member (stage_of t.phase)
 -- the state with the member of a task at the stage of its phase
 abbrev pub raised_by : {Units : Type 0} → LoadedState Units → Task → LoadedState Units
 raised_by s t = raised s t.member (stage_of t.phase)
+
+-- what the loader keeps then
+raised_loader : {Units : Type 0} (s : LoadedState Units) (c : Core) (t : Task) → s.loader ≡ loader_of c → (raised_by s t).loader ≡ record (loader_of c) { stages = raised_stages c t }
+raised_loader s c t same = ap (λ (l : LoaderState). record l { stages = slice_set l.stages t.member (stage_of t.phase) }) same
 
 test_holds : {X : Type 0} (o : Option ℕ) (n : ℕ) (a b : Option X) → is_below o n ≡ true → (o >>= λ stage. if nat_lt stage n then a else b) ≡ a
 test_holds None n a b e = absurd cc
@@ -112,17 +116,17 @@ module _ {Units : Type 0} (D : Loading Units) (s : LoadedState Units) where
     task_comes = ap (loaded_next D s) stack_is ∙ task_on_top (top_frame c) under t first
 
   -- the stage test
-  module _ (c : Core) (stages : s.loader.stages ≡ c.stages) (frames : List (Frame LoaderFrame)) (t : Task) where
+  module _ (c : Core) (loader : s.loader ≡ loader_of c) (frames : List (Frame LoaderFrame)) (t : Task) where
     pub passed_over : t.member < length c.stages → is_behind c t ≡ false → task_next D s frames t ≡ comes_by_itself (goes_on s frames)
     passed_over lt e =
         let found = slice_get-get_or c.stages t.member 0 lt in
-        let at : slice_get s.loader.stages t.member ≡ Some (get_or c.stages t.member 0) = ap (λ (xs : List ℕ). slice_get xs t.member) stages ∙ found in
-        let below : is_below (slice_get s.loader.stages t.member) (stage_of t.phase) ≡ false = ap (λ (xs : List ℕ). is_below (slice_get xs t.member) (stage_of t.phase)) stages ∙ e in
+        let at : slice_get s.loader.stages t.member ≡ Some (get_or c.stages t.member 0) = ap (λ (l : LoaderState). slice_get l.stages t.member) loader ∙ found in
+        let below : is_below (slice_get s.loader.stages t.member) (stage_of t.phase) ≡ false = ap (λ (l : LoaderState). is_below (slice_get l.stages t.member) (stage_of t.phase)) loader ∙ e in
         test_fails (slice_get s.loader.stages t.member) (stage_of t.phase) _ _ (get_or c.stages t.member 0) at below
 
     pub worked : is_behind c t ≡ true → task_next D s frames t ≡ work_next D (raised_by s t) frames t.phase t.member
     worked e =
-        let below : is_below (slice_get s.loader.stages t.member) (stage_of t.phase) ≡ true = ap (λ (xs : List ℕ). is_below (slice_get xs t.member) (stage_of t.phase)) stages ∙ e in
+        let below : is_below (slice_get s.loader.stages t.member) (stage_of t.phase) ≡ true = ap (λ (l : LoaderState). is_below (slice_get l.stages t.member) (stage_of t.phase)) loader ∙ e in
         test_holds (slice_get s.loader.stages t.member) (stage_of t.phase) _ _ below
 
 -- a step that calls nothing
@@ -134,14 +138,14 @@ module _ {Units : Type 0} (D : Loading Units) (s b : LoadedState Units) (comes :
   quiet_step = ap (λ (o : Option (Comes Units)). o >>= λ x. came_to D x.state x.next) comes
 
 pub quiet_steps : {Units : Type 0} (D : Loading Units) (s b : LoadedState Units) (new : Core) (us : Units) (memory : MemoryInstance) → loaded_next D s s.run.stack ≡ comes_by_itself (goes_on b (stack_of new))
-    → b.loader.stages ≡ new.stages → b.loader.error ≡ new.error → b.run.units ≡ us → b.run.memory ≡ memory → new.machine.standing ≡ standing.Moving → Steps D event.Moved s new us memory
-quiet_steps D s b new us memory comes stages error units space moving = (
+    → b.loader ≡ loader_of new → b.run.units ≡ us → b.run.memory ≡ memory → new.machine.standing ≡ standing.Moving → Steps D event.Moved s new us memory
+quiet_steps D s b new us memory comes loader units space moving = (
   quiet_depth D s (goes_on b (stack_of new)) comes,
   (
     goes_on b (stack_of new),
     quiet_step D s (goes_on b (stack_of new)) comes,
     tt,
-    stays_at D s b new us memory (goes_on b (stack_of new)) standing.Moving stages error units space moving (refl, refl),
+    stays_at D s b new us memory (goes_on b (stack_of new)) standing.Moving loader units space moving (refl, refl),
   ),
 )
 
@@ -161,9 +165,6 @@ module _ {Units : Type 0} (D : Loading Units) (s : LoadedState Units) (c new : C
   pub new_stack : marked_stack (frame_at new.frames.items) (Marked m.number ∷ m.rest) ≡ after_task
   new_stack = finished_stack stages c new f m.number m.count (LiesUnder c.frames.items) m.rest m.marks
 
-  same_error : s.loader.error ≡ new.error
-  same_error = k.error ∙ sym f.error
-
   still_stack : stack_of new ≡ after_task
   still_stack =
       ap (λ (x : MachineState). marked_stack (frame_at new.frames.items) x.stack.frames) f.machine ∙ ap (λ (fs : List (Frame ℕ)). marked_stack (frame_at new.frames.items) fs) m.frames ∙ new_stack
@@ -174,20 +175,21 @@ module _ {Units : Type 0} (D : Loading Units) (s : LoadedState Units) (c new : C
   still_moving : new.machine.standing ≡ standing.Moving
   still_moving = ap (λ (x : MachineState). x.standing) f.machine ∙ moving
 
-  quiet_task : (b : LoadedState Units) → task_next D s after_task t ≡ comes_by_itself (goes_on b after_task) → b.loader.stages ≡ new.stages → b.loader.error ≡ new.error → b.run.units ≡ us' → b.run.memory ≡ memory' → Steps D event.Moved s new us' memory'
-  quiet_task b on stages error units space =
-      quiet_steps D s b new us' memory' (comes_on ∙ on ∙ ap (λ (fs : List (Frame LoaderFrame)). comes_by_itself (goes_on b fs)) (sym still_stack)) stages error units space still_moving
+  quiet_task : (b : LoadedState Units) → task_next D s after_task t ≡ comes_by_itself (goes_on b after_task) → b.loader ≡ loader_of new → b.run.units ≡ us' → b.run.memory ≡ memory' → Steps D event.Moved s new us' memory'
+  quiet_task b on loader units space =
+      quiet_steps D s b new us' memory' (comes_on ∙ on ∙ ap (λ (fs : List (Frame LoaderFrame)). comes_by_itself (goes_on b fs)) (sym still_stack)) loader units space still_moving
 
-  pub stages_raised : stages ≡ raised_stages c t → (raised_by s t).loader.stages ≡ new.stages
-  stages_raised at = ap (λ (xs : List ℕ). slice_set xs t.member (stage_of t.phase)) k.stages ∙ sym at ∙ sym f.stages_are
+  loader_raised : stages ≡ raised_stages c t → (raised_by s t).loader ≡ loader_of new
+  loader_raised at = raised_loader s c t k.loader ∙ ap (λ (xs : List ℕ). record (loader_of c) { stages = xs }) (sym at) ∙ sym (finished_loader stages c new f)
 
   module _ (same : us ≡ us') (kept : memory ≡ memory') where
     pub pass_steps : t.member < length c.stages → is_behind c t ≡ false → stages ≡ c.stages → Steps D event.Moved s new us' memory'
-    pass_steps lt late still = quiet_task s (passed_over D s c k.stages after_task t lt late) (k.stages ∙ sym still ∙ sym f.stages_are) same_error (k.units ∙ same) (k.space ∙ kept)
+    pass_steps lt late still = quiet_task s (passed_over D s c k.loader after_task t lt late)
+        (k.loader ∙ ap (λ (xs : List ℕ). record (loader_of c) { stages = xs }) (sym still) ∙ sym (finished_loader stages c new f)) (k.units ∙ same) (k.space ∙ kept)
 
     pub nothing_steps : is_behind c t ≡ true → stages ≡ raised_stages c t → t.phase ≢ Place → D.callee t.phase t.member ≡ Some None → Steps D event.Moved s new us' memory'
     nothing_steps behind at calls none =
-        quiet_task (raised_by s t) (worked D s c k.stages after_task t behind ∙ calls_work D (raised_by s t) after_task t.phase t.member calls ∙ ap (λ (o : Option (Option Ref)). o >>= call_next D (raised_by s t) after_task) none) (stages_raised at) same_error
+        quiet_task (raised_by s t) (worked D s c k.loader after_task t behind ∙ calls_work D (raised_by s t) after_task t.phase t.member calls ∙ ap (λ (o : Option (Option Ref)). o >>= call_next D (raised_by s t) after_task) none) (loader_raised at)
         (k.units ∙ same) (k.space ∙ kept)
 
   -- ---- placing
@@ -202,14 +204,14 @@ module _ {Units : Type 0} (D : Loading Units) (s : LoadedState Units) (c new : C
 
     place_comes : (trap : Option Trap) → D.placed t.member us memory ≡ Some (placed_so trap) → loaded_next D s s.run.stack ≡ comes_by_itself (ended_by with_placed after_task trap)
     place_comes trap done =
-        comes_on ∙ worked D s c k.stages after_task t behind ∙ ap (λ (phase : Phase). work_next D (raised_by s t) after_task phase t.member) places
+        comes_on ∙ worked D s c k.loader after_task t behind ∙ ap (λ (phase : Phase). work_next D (raised_by s t) after_task phase t.member) places
         ∙ ap (λ (x : Units). D.placed t.member x s.run.memory >>= place_next (raised_by s t) after_task) k.units
         ∙ ap (λ (x : MemoryInstance). D.placed t.member us x >>= place_next (raised_by s t) after_task) k.space
         ∙ ap (λ (o : Option (Performed Units)). o >>= place_next (raised_by s t) after_task) done
 
     pub placed_steps : D.placed t.member us memory ≡ Some (placed_so None) → Steps D event.Moved s new us' memory'
     placed_steps done =
-        quiet_steps D s with_placed new us' memory' (place_comes None done ∙ ap (λ (fs : List (Frame LoaderFrame)). comes_by_itself (goes_on with_placed fs)) (sym still_stack)) (stages_raised at) same_error refl refl still_moving
+        quiet_steps D s with_placed new us' memory' (place_comes None done ∙ ap (λ (fs : List (Frame LoaderFrame)). comes_by_itself (goes_on with_placed fs)) (sym still_stack)) (loader_raised at) refl refl still_moving
 
     pub trap_steps : (why : Trap) (n : MachineState) → n.standing ≡ standing.Trapped why → D.placed t.member us memory ≡ Some (placed_so (Some why)) → Steps D (event.Trapped why) s (record new { machine = n }) us' memory'
     trap_steps why n ends done = (
@@ -218,7 +220,7 @@ module _ {Units : Type 0} (D : Loading Units) (s : LoadedState Units) (c new : C
         ended_by with_placed after_task (Some why),
         quiet_step D s (ended_by with_placed after_task (Some why)) (place_comes (Some why) done),
         refl,
-        stays_at D s s (record new { machine = n }) us' memory' (ended_by with_placed after_task (Some why)) (standing.Trapped why) (stages_raised at) same_error refl refl ends refl,
+        stays_at D s s (record new { machine = n }) us' memory' (ended_by with_placed after_task (Some why)) (standing.Trapped why) (loader_raised at) refl refl ends refl,
       ),
     )
 
@@ -249,14 +251,14 @@ module _ {Units : Type 0} (D : Loading Units) (s : LoadedState Units) (c : Core)
 
   comes_here : (h : ℕ → LoaderFrame) → marked_stack h (Marked m.number ∷ m.rest) ≡ frames_then → loaded_next D s s.run.stack ≡ comes_to (raised_by s t) (option_map (marked_next h) next_here)
   comes_here h stack =
-      task_comes D s c us memory k moving m t first ∙ worked D s c k.stages frames_then t behind ∙ calls_work D (raised_by s t) frames_then t.phase t.member calls
+      task_comes D s c us memory k moving m t first ∙ worked D s c k.loader frames_then t behind ∙ calls_work D (raised_by s t) frames_then t.phase t.member calls
       ∙ ap (λ (o : Option (Option Ref)). o >>= call_next D (raised_by s t) frames_then) callee
       ∙ ap (λ (fs : List (Frame LoaderFrame)). comes_to (raised_by s t) (call D.view s.run.units s.run.memory (λ _. fs) [] r)) (sym stack)
       ∙ ap (comes_to (raised_by s t)) (marked_call D.view s.run.units s.run.memory h (λ _. Marked m.number ∷ m.rest) [] r)
 
   pub call_steps : (hosts : (entry : ℕ) → D.view.host entry ≡ host_type (D.names entry)) (over : IsOver D.view us n) (new : Core) (f : Finishes (raised_stages c t) (with_machine c n) new) → is_made e ≡ true → Steps D e s new us memory
   call_steps hosts over new f is =
-      steps_told D s (raised_by s t) new us memory (ap (λ (xs : List ℕ). slice_set xs t.member (stage_of t.phase)) k.stages ∙ sym f.stages_are) (k.error ∙ sym f.error) hosts e next_here c.machine is
+      steps_told D s (raised_by s t) new us memory (raised_loader s c t k.loader ∙ sym (finished_loader (raised_stages c t) (with_machine c n) new f)) hosts e next_here c.machine is
       (comes_here (frame_at new.frames.items) (finished_stack (raised_stages c t) (with_machine c n) new f m.number m.count (LiesUnder c.frames.items) m.rest m.marks))
       (subst (λ (x : MachineState). Told D.view e next_here c.machine x (changes s.run.units us s.run.memory memory)) (sym f.machine) told_here)
       (subst (λ (x : MachineState). IsAsked D.view x.standing) (sym f.machine) over.asked)
@@ -280,7 +282,7 @@ module _ {Units : Type 0} (D : Loading Units) (s : LoadedState Units) (c : Core)
           deep_told D s (raised_by s _) (with_machine c n) us memory next_here c.machine frames_over (comes_here frames_over stack_over) t (ap (λ (x : MachineState). x.standing) same.0 ∙ moving)
           (same_state D c n us us memory memory same.0 same.1 s k)
       go event.Stuck is t here =
-          stuck_told D s (raised_by s _) (with_machine c n) us memory next_here c.machine frames_over (comes_here frames_over stack_over) t k.stages k.error (state_moving D c us memory s k moving).0 k.units k.space
+          stuck_told D s (raised_by s _) (with_machine c n) us memory next_here c.machine frames_over (comes_here frames_over stack_over) t k.loader (state_moving D c us memory s k moving).0 k.units k.space
       go x is t here = absurd cc
 
 -- a mark on top of the core

@@ -29,7 +29,7 @@ use Rattle.dyl_frames.specs.declared.frames.Core.{Core}
 use Rattle.spec_loading.specs.wasm_form.declared.runtime.LoaderCall.{LoaderCall}
 use Rattle.dyl_frames.specs.declared.frames.Pending.{Pending}
 use Rattle.dyl_frames.specs.Next.{answer_of, next_answer}
-use Rattle.dyl_frames.specs.Cores.{frame_at, LiesUnder, loader_arguments, IsLive, IsState, StandsAs, Steps, is_made}
+use Rattle.dyl_frames.specs.Cores.{frame_at, LiesUnder, loader_arguments, IsLive, loader_of, IsState, StandsAs, Steps, is_made}
 use Rattle.dyl_frames.proofs.Loads.{IsLoad}
 
 named : (h : Option HostName) (ty : FuncType) → host_type h ≡ Some ty → (x : HostName) × (h ≡ Some x)
@@ -50,10 +50,10 @@ module _ {Units : Type 0} (D : Loading Units) (s b : LoadedState Units) (new : C
   step_is : (n : Next Units LoaderFrame) → loaded_next D s s.run.stack ≡ comes_to b (Some n) → loaded_step D s ≡ went D b n
   step_is n e = ap (λ (o : Option (Comes Units)). o >>= λ x. came_to D x.state x.next) e
 
-  pub stays_at : (t : LoadedState Units) (st : Standing) → t.loader.stages ≡ new.stages → t.loader.error ≡ new.error → t.run.units ≡ us → t.run.memory ≡ memory → new.machine.standing ≡ st → StandsAs D new t st → IsState D new us memory t
-  stays_at t st stages error units space at h = record { stages = stages; error = error; units = units; space = space; standing = subst (λ (x : Standing). StandsAs D new t x) (sym at) h }
+  pub stays_at : (t : LoadedState Units) (st : Standing) → t.loader ≡ loader_of new → t.run.units ≡ us → t.run.memory ≡ memory → new.machine.standing ≡ st → StandsAs D new t st → IsState D new us memory t
+  stays_at t st loader units space at h = record { loader = loader; units = units; space = space; standing = subst (λ (x : Standing). StandsAs D new t x) (sym at) h }
 
-  module _ (stages : b.loader.stages ≡ new.stages) (error : b.loader.error ≡ new.error) where
+  module _ (loader : b.loader ≡ loader_of new) where
     went_on : (us' : Units) (memory' : MemoryInstance) (frames : List (Frame ℕ)) → loaded_next D s s.run.stack ≡ comes_to b (Some (Goes us' memory' (marked_stack (frame_at new.frames.items) frames)))
         → StandsAt new.machine frames standing.Moving → is_deep D.view frames ≡ false → us ≡ us' → memory ≡ memory' → Steps D event.Moved s new us memory
     went_on us' memory' frames e at light units space = (
@@ -62,7 +62,7 @@ module _ {Units : Type 0} (D : Loading Units) (s b : LoadedState Units) (new : C
         with_run b (record { units = us'; memory = memory'; stack = marked_stack (frame_at new.frames.items) frames; status = Moving }),
         step_is _ e,
         tt,
-        stays_at _ standing.Moving stages error (sym units) (sym space) at.standing_is (refl, ap (λ (fs : List (Frame ℕ)). marked_stack (frame_at new.frames.items) fs) (sym at.frames_are)),
+        stays_at _ standing.Moving loader (sym units) (sym space) at.standing_is (refl, ap (λ (fs : List (Frame ℕ)). marked_stack (frame_at new.frames.items) fs) (sym at.frames_are)),
       ),
     )
 
@@ -76,19 +76,19 @@ module _ {Units : Type 0} (D : Loading Units) (s b : LoadedState Units) (new : C
             with_run b (stands b.run seen (Waits (record { host = host; args = args }))),
             step_is _ e ∙ ap (λ (o : Option HostName). (o >>= λ x. Some (stands b.run seen (Waits (record { host = x; args = args })))) >>= λ t. Some (with_run b t)) found,
             (ap D.names which ∙ found, same),
-            stays_at _ (standing.Asking entry count) stages error units space at.standing_is
+            stays_at _ (standing.Asking entry count) loader units space at.standing_is
                 (record { host = host; args = args }, refl, found, ap (λ (fs : List (Frame ℕ)). marked_stack (frame_at new.frames.items) fs) (sym at.frames_are)),
           ),
         )
 
     returned : loaded_next D s s.run.stack ≡ comes_to b (Some Ends) → new.machine.standing ≡ standing.Returned → b.run.units ≡ us → b.run.memory ≡ memory → Steps D event.Returned s new us memory
-    returned e at units space = (depth _ e, (with_run b (stands b.run [] Returned), step_is _ e, tt, stays_at _ standing.Returned stages error units space at refl))
+    returned e at units space = (depth _ e, (with_run b (stands b.run [] Returned), step_is _ e, tt, stays_at _ standing.Returned loader units space at refl))
 
     trapped : (why cause : Trap) → loaded_next D s s.run.stack ≡ comes_to b (Some (Traps cause)) → new.machine.standing ≡ standing.Trapped why → why ≡ cause → b.run.units ≡ us → b.run.memory ≡ memory
         → Steps D (event.Trapped why) s new us memory
     trapped why cause e at same units space =
         let of : Trap → Status HostCall Trap = λ x. Trapped x in
-        (depth _ e, (with_run b (stands b.run [] (Trapped cause)), step_is _ e, same, stays_at _ (standing.Trapped why) stages error units space at (ap of (sym same))))
+        (depth _ e, (with_run b (stands b.run [] (Trapped cause)), step_is _ e, same, stays_at _ (standing.Trapped why) loader units space at (ap of (sym same))))
 
     module _ (hosts : (entry : ℕ) → D.view.host entry ≡ host_type (D.names entry)) where
       asked : (a : Asked) (entry : ℕ) (args : List ℕ) (frames : List (Frame ℕ)) (count : ℕ) → loaded_next D s s.run.stack ≡ comes_to b (Some (Asks entry args (marked_stack (frame_at new.frames.items) frames)))
@@ -113,26 +113,25 @@ module _ {Units : Type 0} (D : Loading Units) (s b : LoadedState Units) (new : C
 
   -- code that is stuck
   pub stuck_told : (next : Option (Next Units ℕ)) (old : MachineState) (h : ℕ → LoaderFrame) → ComesFrom h next → Told D.view event.Stuck next old new.machine since
-      → s.loader.stages ≡ new.stages → s.loader.error ≡ new.error → s.run.status ≡ Moving → s.run.units ≡ us → s.run.memory ≡ memory → Steps D event.Stuck s new us memory
-  stuck_told None old h comes t stages error moving units space =
+      → s.loader ≡ loader_of new → s.run.status ≡ Moving → s.run.units ≡ us → s.run.memory ≡ memory → Steps D event.Stuck s new us memory
+  stuck_told None old h comes t loader moving units space =
       let none : loaded_step D s ≡ None = ap (λ (o : Option (Comes Units)). o >>= λ x. came_to D x.state x.next) comes in
-      (none, t.0.standing_is, stays_at s standing.Stuck stages error units space t.0.standing_is (moving, none))
-  stuck_told (Some (Goes us' memory' frames)) old h comes t stages error moving units space = absurd t
-  stuck_told (Some (Asks entry args frames)) old h comes t stages error moving units space = absurd t
-  stuck_told (Some (Loads which args frames)) old h comes t stages error moving units space = absurd t
-  stuck_told (Some Ends) old h comes t stages error moving units space = absurd t
-  stuck_told (Some (Traps why)) old h comes t stages error moving units space = absurd t
+      (none, t.0.standing_is, stays_at s standing.Stuck loader units space t.0.standing_is (moving, none))
+  stuck_told (Some (Goes us' memory' frames)) old h comes t loader moving units space = absurd t
+  stuck_told (Some (Asks entry args frames)) old h comes t loader moving units space = absurd t
+  stuck_told (Some (Loads which args frames)) old h comes t loader moving units space = absurd t
+  stuck_told (Some Ends) old h comes t loader moving units space = absurd t
+  stuck_told (Some (Traps why)) old h comes t loader moving units space = absurd t
 
   -- a function of the loader is called
   pub loader_told : (which called : LoaderCall) (first second : ℕ) (args : List ℕ) (frames : List (Frame ℕ)) → D.view.has_loader ≡ true → ComesFrom (frame_at new.frames.items) (Some (Loads called args frames)) → b ≡ s
-      → StandsAt new.machine frames standing.Loading → which ≡ called → args ≡ loader_arguments called first second → s.loader.stages ≡ new.stages → s.loader.error ≡ new.error → s.run.status ≡ Moving → s.run.units ≡ us → s.run.memory ≡ memory
+      → StandsAt new.machine frames standing.Loading → which ≡ called → args ≡ loader_arguments called first second → s.loader ≡ loader_of new → s.run.status ≡ Moving → s.run.units ≡ us → s.run.memory ≡ memory
       → Steps D (event.Loader which first second) s new us memory
-  loader_told which called first second args frames there comes here at same given stages error moving units space =
+  loader_told which called first second args frames there comes here at same given loader moving units space =
       let at_s : loaded_next D s s.run.stack ≡ comes_to s (Some (Loads called args (marked_stack (frame_at new.frames.items) frames))) = comes ∙ ap (λ (x : LoadedState Units). comes_to x (Some (Loads called args (marked_stack (frame_at new.frames.items) frames)))) here in (
         at.standing_is,
         record {
-          stages = stages;
-          error = error;
+          loader = loader;
           units = units;
           space = space;
           call = record {

@@ -10,9 +10,11 @@ use Rattle.wasm_machine.specs.declared.machine.Standing.{Standing}
 use Rattle.wasm_machine.specs.declared.machine.Standing.TheVariants as standing
 use Rattle.spec_loading.specs.declared.task.After.{After}
 use Rattle.spec_loading.specs.Phases.{LoaderFrame}
+use Rattle.spec_loading.specs.Loading.{LoaderState}
 use Rattle.dyl_frames.specs.declared.frames.Pending.{Pending}
 use Rattle.dyl_frames.specs.declared.frames.Core.{Core}
-use Rattle.dyl_frames.specs.Cores.{frame_of, frame_in, frame_at, LiesOver, LiesUnder, IsStacked, IsLive, top_frame, TakesTask, Finishes}
+use Rattle.dyl_frames.specs.Cores.{frame_of, frame_in, frame_at, LiesOver, LiesUnder, IsStacked, IsLive, loader_of, top_frame, TakesTask, Finishes}
+use Rattle.dyl_world.specs.Promoted.{PromotedMembers}
 
 last_below : {A : Type 0} (xs : List A) (n : ℕ) → xs ≢ [] → n ≡ length xs → n - 1 < n
 last_below [] n some is = absurd (some refl)
@@ -28,11 +30,12 @@ finished_frames xs q p last n some is at read t =
     (p, q, subst (λ (i : ℕ). slice_get xs i ≡ Some p) place (slice_get_read xs n last p is below read), ap (λ (i : ℕ). slice_set xs i q) place, t)
 
 pub takes : (c : Core) (q p : Pending) (last : ℕ) (n : ℕ) → c.frames.items ≢ [] → n ≡ length c.frames.items → last ≡ n - 1 → p ≡ get_or c.frames.items last p → TakesTask p q
-    → Finishes c.stages c (record { machine = c.machine; frames = with_item c.frames last q; stages = c.stages; error = c.error })
+    → Finishes c.stages c (record { machine = c.machine; frames = with_item c.frames last q; stages = c.stages; error = c.error; promoted = c.promoted })
 takes c q p last n some is at read t = record {
   machine = refl;
   stages_are = refl;
   error = refl;
+  promoted = refl;
   frames = finished_frames c.frames.items q p last n some is at read t;
 }
 
@@ -178,3 +181,9 @@ module _ (stages : List ℕ) (c new : Core) (f : Finishes stages c new) (k : ℕ
 
   pub finished_live : (st : Standing) (frames : List (Frame ℕ)) → IsLive st c.frames.items frames → IsLive st new.frames.items frames
   finished_live = live_kept c.frames.items new.frames.items finished_after same_count
+
+-- what the loader keeps once a task is done
+pub finished_loader : (stages : List ℕ) (c new : Core) → Finishes stages c new → loader_of new ≡ record (loader_of c) { stages = stages }
+finished_loader stages c new f =
+    let by : List ℕ → ℕ → PromotedMembers → LoaderState = λ ss e ps. record { stages = ss; error = e; promoted = ps.list } in
+    (λ i. by (f.stages_are i) (f.error i) (f.promoted i))

@@ -1,5 +1,5 @@
 -- The core of a run, and the state at which it stands.
-use Rattle.std.specs.Prelude.{◌≡◌, ◌≢◌, ◌<◌, ◌≤◌, ◌+◌, ℕ, List, [], ◌∷◌, length, map, sum, reverse, drop, take, slice_get, slice_set, ◌-◌, nat_lt, replicate, Option, Some, None, Bool, true, false, IfSome, IsTrue, Result, Ok, Err}
+use Rattle.std.specs.Prelude.{◌≡◌, ◌≢◌, ◌<◌, ◌≤◌, ◌+◌, ℕ, List, [], ◌∷◌, length, sum, reverse, drop, take, slice_get, slice_set, ◌-◌, nat_lt, replicate, Option, Some, None, Bool, true, false, IfSome, IsTrue, Result, Ok, Err}
 use Rattle.std.specs.List.{All}
 use Rattle.spec_loading.specs.spec_runs.Systems.{Moving, Waits, Returned, Exited, Trapped}
 use Rattle.spec_loading.specs.wasm_form.declared.runtime.LoaderCall.{LoaderCall}
@@ -25,9 +25,9 @@ use Rattle.wasm_machine.specs.declared.event.Event.{Event}
 use Rattle.wasm_machine.specs.declared.event.Event.TheVariants as event
 use Rattle.spec_loading.specs.declared.task.Task.{Task}
 use Rattle.spec_loading.specs.declared.task.After.{After}
-use Rattle.spec_loading.specs.declared.task.After.TheVariants.{CallEntry, GiveHandle}
+use Rattle.spec_loading.specs.declared.task.After.TheVariants.{CallEntry, GiveHandle, GiveAndPromote}
 use Rattle.spec_loading.specs.Phases.{LoaderFrame, stage_of}
-use Rattle.spec_loading.specs.Loading.{Loading, LoadedState, LoaderAnswer, Gives, Opens, with_run, comes_to, loaded_next, loaded_step, loaded_too_deep}
+use Rattle.spec_loading.specs.Loading.{Loading, LoaderState, LoadedState, LoaderAnswer, Gives, Opens, with_run, comes_to, loaded_next, loaded_step, loaded_too_deep}
 use Rattle.dyl_frames.specs.declared.frames.Pending.{Pending}
 use Rattle.dyl_frames.specs.declared.frames.Core.{Core}
 use Rattle.wasm_machine.specs.Steps.{TellsStatus}
@@ -50,20 +50,28 @@ frame_at frames tag = frame_in (slice_get frames tag)
 abbrev pub LiesOver : After → List (Frame ℕ) → Type 0
 LiesOver CallEntry frames = frames ≡ []
 LiesOver (GiveHandle m) frames = is_running frames ≡ true
+LiesOver (GiveAndPromote m) frames = is_running frames ≡ true
 
 -- what lies under the mark of each number
 abbrev pub LiesUnder : List Pending → ℕ → List (Frame ℕ) → Type 0
 LiesUnder frames tag under = LiesOver (frame_at frames tag).after under
 
--- the handle of a member is a number of 32 bits
-abbrev pub IsHandle : After → Type 0
-IsHandle CallEntry = Unit {0}
-IsHandle (GiveHandle m) = m + 1 < 4294967296
+-- a handle that is given is that of one of so many members
+abbrev pub IsHandle : ℕ → After → Type 0
+IsHandle members CallEntry = Unit {0}
+IsHandle members (GiveHandle m) = m < members
+IsHandle members (GiveAndPromote m) = m < members
 
--- the members of its tasks are there
+-- a handle is given
+abbrev pub GivesHandle : After → Type 0
+GivesHandle CallEntry = ⊥
+GivesHandle (GiveHandle m) = Unit {0}
+GivesHandle (GiveAndPromote m) = Unit {0}
+
+-- the members of its tasks, and the one whose handle is given, are there
 pub record IsPending (members : ℕ) (p : Pending) : Type 0 where
   pub tasks : All (λ (t : Task). t.member < members) (frame_of p).tasks
-  pub handle : IsHandle p.after
+  pub handle : IsHandle members p.after
 
 -- ---- what is so of it
 
@@ -90,11 +98,13 @@ pub record IsSound {Units : Type 0} (V : View Units) (us : Units) (c : Core) : T
   pub live : IsLive c.machine.standing c.frames.items c.machine.stack.frames
   pub pending : (i : ℕ) (p : Pending) → slice_get c.frames.items i ≡ Some p → IsPending (length c.stages) p
 
--- There are at most 256 members, each at one of the stages 0 to 4. Each frame waits for the call of a phase, but for one whose mark is on top
--- of the call stack; and with each such call its member came to a further stage, so that there are no more than all stages together.
+-- There are at most 256 members, each at one of the stages 0 to 4, and as many may be promoted. Each frame waits for the call of a phase, but
+-- for one whose mark is on top of the call stack; and with each such call its member came to a further stage, so that there are no more than
+-- all stages together.
 pub record HasFewFrames (c : Core) : Type 0 where
   pub members : length c.stages ≤ 256
   pub stages : All (λ (stage : ℕ). stage ≤ 4) c.stages
+  pub room : c.promoted.room ≡ length c.stages
   pub frames : length c.frames.items ≤ sum c.stages + 1
   pub running : is_running c.machine.stack.frames ≡ true → length c.frames.items ≤ sum c.stages
 
@@ -104,6 +114,10 @@ pub record IsCore {Units : Type 0} (V : View Units) (us : Units) (c : Core) : Ty
   pub few : HasFewFrames c
 
 -- ---- where the run stands
+
+-- what the loader keeps
+abbrev pub loader_of : Core → LoaderState
+loader_of c = record { stages = c.stages; error = c.error; promoted = c.promoted.list }
 
 abbrev pub stack_of : Core → List (Frame LoaderFrame)
 stack_of c = marked_stack (frame_at c.frames.items) c.machine.stack.frames
@@ -121,8 +135,7 @@ StandsAs D c s standing.Lost = ⊥
 
 -- the run stands at this state
 pub record IsState {Units : Type 0} (D : Loading Units) (c : Core) (us : Units) (memory : MemoryInstance) (s : LoadedState Units) : Type 0 where
-  pub stages : s.loader.stages ≡ c.stages
-  pub error : s.loader.error ≡ c.error
+  pub loader : s.loader ≡ loader_of c
   pub units : s.run.units ≡ us
   pub space : s.run.memory ≡ memory
   pub standing : StandsAs D c s c.machine.standing
@@ -138,8 +151,7 @@ pub record IsCalling {Units : Type 0} (D : Loading Units) (c : Core) (s : Loaded
 
 -- the run stands at such a state
 pub record IsAtCall {Units : Type 0} (D : Loading Units) (c : Core) (us : Units) (memory : MemoryInstance) (s : LoadedState Units) : Type 0 where
-  pub stages : s.loader.stages ≡ c.stages
-  pub error : s.loader.error ≡ c.error
+  pub loader : s.loader ≡ loader_of c
   pub units : s.run.units ≡ us
   pub space : s.run.memory ≡ memory
   pub call : IsCalling D c s
@@ -193,13 +205,13 @@ abbrev pub AnsweredFrom : {Units : Type 0} → Loading Units → Event → Loade
 AnsweredFrom {Units} D e answer old w new =
     (s : LoadedState Units) → IsAtCall D old w.units w.memory s → next_answer D s ≡ Some answer → Steps D e s new w.units w.memory
 
--- a number is given, the stages stay as they were, and the error is this
+-- a number is given, the stages and the promoted members stay as they were, and the error is this
 abbrev pub gives_number : Core → ℕ → ℕ → LoaderAnswer
-gives_number c n error = Gives n (record { stages = c.stages; error = error })
+gives_number c n error = Gives n (record (loader_of c) { error = error })
 
--- a member is opened with these tasks
-abbrev pub opens_member : List Task → ℕ → LoaderAnswer
-opens_member tasks m = Opens (record { tasks = tasks; after = GiveHandle m })
+-- a member is opened with these tasks, which are followed by this
+abbrev pub opens_member : List Task → After → LoaderAnswer
+opens_member tasks after = Opens (record { tasks = tasks; after = after })
 
 -- an answer was taken
 abbrev pub TakenFrom : {Units : Type 0} → Loading Units → Answer → Core → Seen Units → Core → Seen Units → Type 0
@@ -263,6 +275,7 @@ pub record Finishes (stages : List ℕ) (old new : Core) : Type 0 where
   pub machine : new.machine ≡ old.machine
   pub stages_are : new.stages ≡ stages
   pub error : new.error ≡ old.error
+  pub promoted : new.promoted ≡ old.promoted
   pub frames : (p q : Pending) × (slice_get old.frames.items (length old.frames.items - 1) ≡ Some p)
       × (new.frames.items ≡ slice_set old.frames.items (length old.frames.items - 1) q) × TakesTask p q
 
@@ -271,6 +284,7 @@ pub record Drops (old new : Core) : Type 0 where
   pub machine : new.machine ≡ old.machine
   pub stages : new.stages ≡ old.stages
   pub error : new.error ≡ old.error
+  pub promoted : new.promoted ≡ old.promoted
   pub frames : new.frames.items ≡ take (length old.frames.items - 1) old.frames.items
 
 -- whether a member, by its stage, hasn't come so far
@@ -303,8 +317,7 @@ PlacesFrom D m before result after = Places (D.placed m before.units before.memo
 
 -- the first frame has these tasks, and nothing was done
 pub record IsOpening {Units : Type 0} (members : ℕ) (tasks : List Task) (us : Units) (memory : MemoryInstance) (s : LoadedState Units) : Type 0 where
-  pub stages : s.loader.stages ≡ replicate members 0
-  pub error : s.loader.error ≡ 0
+  pub loader : s.loader ≡ record { stages = replicate members 0; error = 0; promoted = [] }
   pub units : s.run.units ≡ us
   pub space : s.run.memory ≡ memory
   pub status : s.run.status ≡ Moving

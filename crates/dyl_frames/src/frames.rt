@@ -12,10 +12,14 @@ ghost use Rattle.spec_loading.specs.declared.task.After.TheVariants as follows;
 ghost use Rattle.spec_loading.specs.Loading.{Loading};
 ghost use Rattle.spec_loading.specs.Loading as loading;
 ghost use Rattle.dyl_frames.specs.Cores.{IsCore, StepsFrom, QuickStepsFrom, TakenFrom, PlacesFrom, OpensAt, IsMarkTold, IsLoaded, is_begun, is_deep_event};
-ghost use Rattle.dyl_frames.specs.Cores.{AreFrames, first_task, top_frame, TakesTask, Finishes, is_behind, raised_stages, is_mark, IsOwn, FitsHost};
+ghost use Rattle.spec_loading.specs.spec_linking.LinkedSets.{LinkedSet};
+ghost use Rattle.spec_loading.specs.LoaderAnswers.{promoted_with};
+ghost use Rattle.dyl_link.specs.Kept.{IsLinked};
+ghost use Rattle.dyl_frames.specs.Cores.{IsHandle, GivesHandle, AreFrames, first_task, top_frame, TakesTask, Finishes, is_behind, raised_stages, is_mark, IsOwn, FitsHost};
 ghost use Rattle.dyl_frames.specs.Cores.{AnsweredFrom, gives_number, opens_member, Drops};
 
-use dyl_world::{Errors, Stages};
+use dyl_link::Linked;
+use dyl_world::{Errors, Promoted, Stages};
 use spec_loading::wasm_form::{Memory, Ref, Trap};
 use spec_loading::{After, Phase, Task};
 use std::alloc::Global;
@@ -28,13 +32,14 @@ pub(crate) struct Pending {
     pub after: After,
 }
 
-/// A machine, the frames of the loader on its call stack, the latest last, how far each member has come, and the last error of the
-/// loader.
+/// A machine, the frames of the loader on its call stack, the latest last, how far each member has come, which members are promoted, and the
+/// last error of the loader.
 #[derive(Drop)]
 pub struct Core<'m> {
     pub(crate) machine: Machine<'m>,
     pub(crate) frames: Vec<Pending>,
     pub(crate) stages: Stages,
+    pub(crate) promoted: Promoted,
     pub(crate) error: Errors,
 }
 
@@ -98,6 +103,7 @@ impl<'m> Core<'m> {
         ensures moving { IfOk result (λ c. c.machine.standing ≡ Standing.Moving) }
     {
         let stages = Stages::new(alloc, members)?;
+        let promoted = Promoted::new(alloc, members)?;
         let error = Errors::new();
         let mut machine: Machine<'m> = Machine::new(alloc);
         machine.mark(alloc, view, 0)?;
@@ -110,6 +116,7 @@ impl<'m> Core<'m> {
             machine,
             frames,
             stages,
+            promoted,
             error,
         })
     }
@@ -133,6 +140,13 @@ impl<'m> Core<'m> {
         ensures { result.now ≡ self.now.stages }
     {
         &self.stages
+    }
+
+    /// The promoted members.
+    pub fn promoted(&self) -> &Promoted
+        ensures { result.now ≡ self.now.promoted }
+    {
+        &self.promoted
     }
 
     /// One step of the code on top, or the mark on top, with nothing changed. Where code calls a function of the loader `Loader`, and the
@@ -419,28 +433,26 @@ impl<'m> Core<'m> {
         self.machine.trap(why);
     }
 
-    /// Puts a frame over the code that called the loader, with these tasks, the next one last, which is followed by the handle of a member.
+    /// Puts a frame over the code that called the loader, with these tasks, the next one last, which are followed by the handle of a member.
     pub fn open<V: View<'m>>(
         &mut self,
         alloc: Global,
         view: &V,
         tasks: Vec<Task>,
-        member: u32,
+        after: After,
     ) -> Result<(), Memory>
         requires core { IsCore (V.seen view.now).fixed (V.seen view.now).units self.old }
         requires loading { self.old.machine.standing ≡ Standing.Loading }
         requires tasks { All (λ t. t.member < length self.old.stages) tasks.items }
-        requires handle { member + 1 < 4294967296 }
-        ensures stepped { OnOk result ((D : Loading V.Units) → AnsweredFrom D Event.Moved (opens_member (reverse tasks.items) member) self.old (V.seen view.now) self.new) }
+        requires hands { GivesHandle after }
+        requires handle { IsHandle (length self.old.stages) after }
+        ensures stepped { OnOk result ((D : Loading V.Units) → AnsweredFrom D Event.Moved (opens_member (reverse tasks.items) after) self.old (V.seen view.now) self.new) }
         ensures core { OnOk result (IsCore (V.seen view.now).fixed (V.seen view.now).units self.new) }
         ensures members { OnOk result (length self.new.stages ≡ length self.old.stages) }
     {
         let tag = as_tag(self.frames.len());
         self.machine.mark(alloc, view, tag)?;
-        self.frames.push(Pending {
-            tasks,
-            after: After::GiveHandle(member),
-        })?;
+        self.frames.push(Pending { tasks, after })?;
         Ok(())
     }
 
@@ -457,5 +469,22 @@ impl<'m> Core<'m> {
         self.machine.unmark(view);
         self.machine.give(view, member + 1);
         self.drop_top();
+    }
+
+    /// The same where the closure of the member, which is one of a linked set, is promoted in the step that gives its handle.
+    pub fn promote<V: View<'m>>(&mut self, view: &V, linked: &Linked, member: u32)
+        requires core { IsCore (V.seen view.now).fixed (V.seen view.now).units self.old }
+        requires marked { IsMarked self.old.machine }
+        requires last { (top_frame self.old).tasks ≡ [] }
+        requires handle { (top_frame self.old).after ≡ follows.GiveAndPromote member }
+        requires linked { length self.old.stages ≡ length linked.now.set.members }
+        ensures stepped { (D : Loading V.Units) (L : LinkedSet) → IsLinked L linked.now → D.promote ≡ promoted_with L.set → StepsFrom D Event.Moved self.old (V.seen view.now) self.new (V.seen view.now) }
+        ensures core { IsCore (V.seen view.now).fixed (V.seen view.now).units self.new }
+        ensures members { length self.new.stages ≡ length self.old.stages }
+    {
+        self.machine.unmark(view);
+        self.machine.give(view, member + 1);
+        self.drop_top();
+        self.promoted.add(linked, member);
     }
 }

@@ -1,12 +1,8 @@
 -- The first name of a function is that of the first export at whose place it is noted.
-use Rattle.std.proofs.Common.{◌≡◌, ℕ, suc, ◌+◌, Bool, true, false, List, [], ◌∷◌, find, Option, Some, None, unwrap_or, slice_get, refl, ap, sym, ◌∙◌, zero-add, arith}
+use Rattle.std.proofs.Common.{◌≡◌, ℕ, suc, ◌+◌, Bool, true, false, List, [], ◌∷◌, find, Option, Some, None, slice_get, refl, ap, sym, ◌∙◌, zero-add, arith}
 use Rattle.std.specs.List.{position_from}
-use Rattle.std.specs.Option.{option_map}
 use Rattle.spec_hosts.specs.spec_binary.Options.{◌>>=◌}
 use Rattle.spec_linking.specs.Definitions.{or_other}
-use Rattle.spec_linking.specs.Sets.{Member}
-use Rattle.dyl_front.specs.Listing.{is_name_of, function_name}
-use Rattle.dyl_front.specs.KeptListing.{exports_in}
 
 pub or_nothing : (o : Option ℕ) → or_other o None ≡ o
 or_nothing None = refl
@@ -27,7 +23,3 @@ module _ {X : Type 0} (p : X → Bool) where
   -- what is found is at the place that is found
   pub find_placed : (xs : List X) → find p xs ≡ (position_from p 0 xs >>= slice_get xs)
   find_placed xs = find_from xs xs 0 (λ k. ap (slice_get xs) (zero-add k))
-
-pub name_in : (member : Option Member) (f : ℕ) → unwrap_or (option_map (λ e. e.name) (find (is_name_of f) (exports_in member))) [] ≡ function_name member f
-name_in None f = refl
-name_in (Some member) f = refl

@@ -1,5 +1,5 @@
 -- What further steps of code make of the run of a set.
-use Rattle.std.proofs.Common.{◌≡◌, ◌⊎◌, ℕ, suc, ◌<◌, Bool, true, false, sym, ap, ◌∙◌, subst, inl, inr, refl, arith}
+use Rattle.std.proofs.Common.{◌≡◌, ℕ, suc, ◌<◌, Bool, true, false, sym, ap, ◌∙◌, subst, inl, inr, refl}
 use Rattle.std.proofs.lemmas.Bool.{false≢true}
 use Rattle.spec_loading.specs.spec_runs.Systems.{Moving}
 use Rattle.spec_loading.specs.spec_runtime.Recorded.{Recorded}

@@ -24,7 +24,7 @@ use Rattle.spec_loading.specs.declared.task.Phase.{Phase}
 use Rattle.spec_loading.specs.declared.task.Phase.TheVariants.{Place, Start, Relocate, Construct}
 use Rattle.spec_loading.specs.declared.task.Task.{Task}
 use Rattle.spec_loading.specs.declared.task.After.{After}
-use Rattle.spec_loading.specs.declared.task.After.TheVariants.{CallEntry, GiveHandle}
+use Rattle.spec_loading.specs.declared.task.After.TheVariants.{CallEntry, GiveHandle, GiveAndPromote}
 use Rattle.spec_loading.specs.Phases.{stage_of, LoaderFrame}
 use Rattle.spec_loading.specs.Loading as loading
 use Rattle.spec_loading.specs.Loading.{LoaderAnswer, Gives, Opens, Comes, with_run, goes_on, comes_by_itself, comes_to, call_next, ended_by, place_next, work_next, raised, stage_in, task_next, after_next, frame_next, loaded_next, answered, came_to, loaded_step}
@@ -78,6 +78,7 @@ module _ (L : LinkedSet) where
   well_after : (s : SetState) (under : List (Frame LoaderFrame)) (after : After) → IfSome (after_next (set_loading L) s under after) IsWell
   well_after s under CallEntry = each IsWell (set_loading L).entry (λ r. call_next (set_loading L) s under (Some r)) (λ r. well_call s under (Some r))
   well_after s under (GiveHandle m) = returned_goes s.run (Num (m + 1) ∷ []) under
+  well_after s under (GiveAndPromote m) = returned_goes s.run (Num (m + 1) ∷ []) under
 
   well_frame : (s : SetState) (under : List (Frame LoaderFrame)) (after : After) (tasks : List Task) → IfSome (frame_next (set_loading L) s under after tasks) IsWell
   well_frame s under after [] = well_after s under after

@@ -15,14 +15,16 @@ use Rattle.spec_loading.specs.declared.answers.Opening.TheVariants as opening
 use Rattle.spec_loading.specs.declared.answers.Finding.{Finding}
 use Rattle.spec_loading.specs.declared.answers.Finding.TheVariants as finding
 use Rattle.spec_loading.specs.Loading.{LoaderState, LoaderAnswer, Gives}
-use Rattle.spec_loading.specs.LoaderAnswers.{string_at, other_flags, member_named, begin_or, open_named, open_answer, is_handle, handle_list, found_number, find_named, symbol_answer, close_answer, error_answer, opened, found, closed, with_error, loader_answer}
+use Rattle.spec_loading.specs.LoaderAnswers.{string_at, other_flags, global_flag, member_named, begin_or, open_named, open_answer, is_handle, handle_list, found_number, find_named, symbol_answer, close_answer, error_answer, opened, found, closed, with_error, loader_answer}
 use Rattle.spec_loading.specs.LoadedSet.{set_loading}
 use Rattle.wasm_machine.specs.declared.event.Event.{Event}
 use Rattle.wasm_machine.specs.declared.event.Event.TheVariants as event
 use Rattle.wasm_machine.specs.declared.machine.Standing.TheVariants as standing
+use Rattle.dyl_world.specs.Promoted.{PromotedMembers}
 use Rattle.dyl_frames.specs.Next.{next_answer}
 use Rattle.dyl_frames.specs.Cores.{loader_arguments}
-use Rattle.dyl_link.specs.Kept.{IsLinked}
+use Rattle.dyl_link.specs.Kept.{Kept, IsLinked}
+use Rattle.dyl_addresses.proofs.Linked.{members_count}
 use Rattle.dyl_store.specs.declared.running.Running.{Running}
 use Rattle.dyl_store.specs.Runs.{IsSomewhere, StepsTo}
 use Rattle.dyl_store.specs.Calls.{is_loader, loader_of, AnswersWith, Answers}
@@ -32,12 +34,9 @@ use Rattle.dyl_store.specs.Calls.{is_loader, loader_of, AnswersWith, Answers}
 -- each function answers as many arguments as it takes
 answer_there : (L : LinkedSet) (call : LoaderCall) (first second : ℕ) (memory : MemoryInstance) (loader : LoaderState) → (x : LoaderAnswer) × (loader_answer L call (loader_arguments call first second) memory loader ≡ Some x)
 answer_there L Dlopen first second memory loader = (opened L loader (open_answer L memory first second), refl)
-answer_there L Dlsym first second memory loader = (found loader (symbol_answer L loader.stages memory first second), refl)
+answer_there L Dlsym first second memory loader = (found loader (symbol_answer L loader.stages loader.promoted memory first second), refl)
 answer_there L Dlclose first second memory loader = (closed loader (close_answer loader.stages first), refl)
 answer_there L Dlerror first second memory loader = (Gives (error_answer L loader.error) (with_error loader 0), refl)
-
-loader_same : (x : LoaderState) (stages : List ℕ) (error : ℕ) → x.stages ≡ stages → x.error ≡ error → x ≡ record { stages = stages; error = error }
-loader_same x stages error a b = rw (← a, ← b) refl
 
 module _ (L : LinkedSet) (call : LoaderCall) where
   -- there is one answer
@@ -49,9 +48,8 @@ module _ (L : LinkedSet) (call : LoaderCall) where
   answered_steps first second e old mid new steps answers = λ s at.
       let told = steps s at in
       let there = answer_there L call first second mid.world.memory (loader_of mid) in
-      let keeps : s.loader ≡ loader_of mid = loader_same s.loader mid.core.stages mid.core.error told.1.stages told.1.error in
       let next : next_answer (set_loading L) s ≡ Some there.0 =
-      told.2.answer ∙ ap (λ (l : LoaderState). loader_answer L call (loader_arguments call first second) mid.world.memory l) keeps ∙ there.1 in
+      told.2.answer ∙ ap (λ (l : LoaderState). loader_answer L call (loader_arguments call first second) mid.world.memory l) told.1.loader ∙ there.1 in
       answers there.0 there.1 s told.1 next
 
 -- a machine that tells a call waits for its answer
@@ -83,19 +81,24 @@ OpensWell count opening.Main = Unit {0}
 OpensWell count opening.Trapped = Unit {0}
 OpensWell count (opening.Refused e) = IsError e
 OpensWell count (opening.Begin m) = m < count
+OpensWell count (opening.BeginGlobal m) = m < count
 
-named_step : (b : Bool) (k n : ℕ) (o : Option ℕ) → k < n → OpensWell n (begin_or o) → OpensWell n (begin_or (cond b (Some k) o))
-named_step true k n o lt h = lt
-named_step false k n o lt h = h
+begin_well : (flags m n : ℕ) → m < n → OpensWell n (begin_or flags (Some m))
+begin_well flags m n lt = either (OpensWell n) (nat_eq (bit_and flags global_flag) 0) (opening.Begin m) (opening.BeginGlobal m) lt lt
 
-named_well : (test : Member → Bool) (k : ℕ) (xs : List Member) (n : ℕ) → k + length xs ≡ n → OpensWell n (begin_or (position_from test k xs))
-named_well test k [] n e = (omega arith, omega arith)
-named_well test k (x ∷ xs) n e = named_step (test x) k n (position_from test (k + 1) xs) (omega arith) (named_well test (k + 1) xs n (omega arith))
+named_step : (flags : ℕ) (b : Bool) (k n : ℕ) (o : Option ℕ) → k < n → OpensWell n (begin_or flags o) → OpensWell n (begin_or flags (cond b (Some k) o))
+named_step flags true k n o lt h = begin_well flags k n lt
+named_step flags false k n o lt h = h
+
+named_well : (flags : ℕ) (test : Member → Bool) (k : ℕ) (xs : List Member) (n : ℕ) → k + length xs ≡ n → OpensWell n (begin_or flags (position_from test k xs))
+named_well flags test k [] n e = (omega arith, omega arith)
+named_well flags test k (x ∷ xs) n e = named_step flags (test x) k n (position_from test (k + 1) xs) (omega arith) (named_well flags test (k + 1) xs n (omega arith))
 
 opened_well : (L : LinkedSet) (flags : ℕ) (o : Option (List ℕ)) → OpensWell (length L.set.members) (open_named L flags o)
 opened_well L flags None = tt
 opened_well L flags (Some name) =
-    either (OpensWell (length L.set.members)) (nat_eq (bit_and flags other_flags) 0) (begin_or (member_named L.set name)) (opening.Refused 1) (named_well (λ m. bytes_eq name m.name) 0 L.set.members (length L.set.members) (omega arith)) (omega arith, omega arith)
+    either (OpensWell (length L.set.members)) (nat_eq (bit_and flags other_flags) 0) (begin_or flags (member_named L.set name)) (opening.Refused 1)
+    (named_well flags (λ m. bytes_eq name m.name) 0 L.set.members (length L.set.members) (omega arith)) (omega arith, omega arith)
 
 pub opens_well : (L : LinkedSet) (memory : MemoryInstance) (name flags : ℕ) → OpensWell (length L.set.members) (open_answer L memory name flags)
 opens_well L memory zero flags = tt
@@ -110,13 +113,14 @@ number_well : (o : Option ℕ) → FindsWell (found_number o)
 number_well None = (omega arith, omega arith)
 number_well (Some n) = tt
 
-found_well : (L : LinkedSet) (stages : List ℕ) (handle : ℕ) (o : Option (List ℕ)) → FindsWell (find_named L stages handle o)
-found_well L stages handle None = tt
-found_well L stages handle (Some name) =
-    either FindsWell (nat_eq handle 0 || is_handle stages handle) (found_number (cell_number L name (searched L.set (handle_list L.set handle) name))) (finding.Refused 3) (number_well (cell_number L name (searched L.set (handle_list L.set handle) name))) (omega arith, omega arith)
+found_well : (L : LinkedSet) (stages promoted : List ℕ) (handle : ℕ) (o : Option (List ℕ)) → FindsWell (find_named L stages promoted handle o)
+found_well L stages promoted handle None = tt
+found_well L stages promoted handle (Some name) =
+    let number = cell_number L name (searched L.set (handle_list L.set promoted handle) name) in
+    either FindsWell (nat_eq handle 0 || is_handle stages handle) (found_number number) (finding.Refused 3) (number_well number) (omega arith, omega arith)
 
-pub finds_well : (L : LinkedSet) (stages : List ℕ) (memory : MemoryInstance) (handle name : ℕ) → FindsWell (symbol_answer L stages memory handle name)
-finds_well L stages memory handle name = found_well L stages handle (string_at memory name)
+pub finds_well : (L : LinkedSet) (stages promoted : List ℕ) (memory : MemoryInstance) (handle name : ℕ) → FindsWell (symbol_answer L stages promoted memory handle name)
+finds_well L stages promoted memory handle name = found_well L stages promoted handle (string_at memory name)
 
 -- ---- what the functions come to, by what they were answered
 
@@ -127,20 +131,22 @@ module _ (L : LinkedSet) (old new : Running) (e : Event) (memory : MemoryInstanc
         let there : open_answer L old.world.memory name flags ≡ x = ap (λ (m : MemoryInstance). open_answer L m name flags) (sym space) ∙ sym is ∙ same in
         answers_by L Dlopen (name ∷ flags ∷ []) e old new (opened L (loader_of old) x) (ap (λ (y : Opening). Some (opened L (loader_of old) y)) there) answers
 
-  module _ (stages : List ℕ) (kept : stages ≡ old.core.stages) (handle name : ℕ) (r : Finding) (is : r ≡ symbol_answer L stages memory handle name) where
+  module _ (stages : List ℕ) (kept : stages ≡ old.core.stages) (promoted : PromotedMembers) (same_promoted : promoted ≡ old.core.promoted) (handle name : ℕ) (r : Finding) (is : r ≡ symbol_answer L stages promoted.list memory handle name) where
     pub finds_by : (x : Finding) → r ≡ x → AnswersWith L (found (loader_of old) x) e old new → Answers L Dlsym (handle ∷ name ∷ []) e old new
     finds_by x same answers =
-        let there : symbol_answer L old.core.stages old.world.memory handle name ≡ x =
-        ap (λ (m : MemoryInstance). symbol_answer L old.core.stages m handle name) (sym space) ∙ ap (λ (xs : List ℕ). symbol_answer L xs memory handle name) (sym kept) ∙ sym is ∙ same in
+        let there : symbol_answer L old.core.stages old.core.promoted.list old.world.memory handle name ≡ x =
+        ap (λ (m : MemoryInstance). symbol_answer L old.core.stages old.core.promoted.list m handle name) (sym space)
+        ∙ ap₂ (λ (xs : List ℕ) (ps : PromotedMembers). symbol_answer L xs ps.list memory handle name) (sym kept) (sym same_promoted) ∙ sym is ∙ same in
         answers_by L Dlsym (handle ∷ name ∷ []) e old new (found (loader_of old) x) (ap (λ (y : Finding). Some (found (loader_of old) y)) there) answers
 
 -- what is opened is a member, and errors are in their range
 module _ (L : LinkedSet) (memory : MemoryInstance) where
-  pub opened_range : (name flags : ℕ) (r x : Opening) → r ≡ open_answer L memory name flags → r ≡ x → OpensWell (length L.set.members) x
-  opened_range name flags r x is same = subst (OpensWell (length L.set.members)) (sym is ∙ same) (opens_well L memory name flags)
+  pub opened_range : (k : Kept) → IsLinked L k → (name flags : ℕ) (r x : Opening) → r ≡ open_answer L memory name flags → r ≡ x → OpensWell (length k.set.members) x
+  opened_range k h name flags r x is same =
+      subst (λ (n : ℕ). OpensWell n x) (members_count L k h) (subst (OpensWell (length L.set.members)) (sym is ∙ same) (opens_well L memory name flags))
 
-  pub found_range : (stages : List ℕ) (handle name : ℕ) (r x : Finding) → r ≡ symbol_answer L stages memory handle name → r ≡ x → FindsWell x
-  found_range stages handle name r x is same = subst FindsWell (sym is ∙ same) (finds_well L stages memory handle name)
+  pub found_range : (stages promoted : List ℕ) (handle name : ℕ) (r x : Finding) → r ≡ symbol_answer L stages promoted memory handle name → r ≡ x → FindsWell x
+  found_range stages promoted handle name r x is same = subst FindsWell (sym is ∙ same) (finds_well L stages promoted memory handle name)
 
 module _ (L : LinkedSet) (old new : Running) (e : Event) where
   pub closes_by : (stages : List ℕ) → stages ≡ old.core.stages → (handle : ℕ) (r x : Bool) → r ≡ close_answer stages handle → r ≡ x → AnswersWith L (closed (loader_of old) x) e old new → Answers L Dlclose (handle ∷ []) e old new

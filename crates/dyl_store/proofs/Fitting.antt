@@ -1,9 +1,8 @@
 -- An answer fits what a run waits for where it fits the host function that the machine asks.
 use Rattle.std.proofs.Common.{◌≡◌, ℕ, Option, Some, IsTrue, IfSome, refl, sym, ap, ◌∙◌, subst}
 use Rattle.wasm_form.specs.declared.types.FuncType.{FuncType}
-use Rattle.wasm_form.specs.declared.runtime.Trap.{Trap}
 use Rattle.wasm_form.specs.declared.runtime.Answer.{Answer}
-use Rattle.spec_loading.specs.spec_runs.Systems.{Status, Moving, Waits, Returned, Exited, Trapped}
+use Rattle.spec_loading.specs.spec_runs.Systems.{Moving, Waits, Returned, Exited, Trapped}
 use Rattle.spec_loading.specs.spec_runtime.Memories.{MemoryInstance}
 use Rattle.spec_loading.specs.spec_runtime.Hosts.{HostCall, fits_results, answer_fits}
 use Rattle.spec_loading.specs.spec_runtime.Recorded.{FitsWait}

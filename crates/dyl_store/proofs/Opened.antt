@@ -29,6 +29,7 @@ use Rattle.spec_loading.specs.Texts.{error_texts}
 use Rattle.spec_loading.proofs.Rows.{texts_length}
 use Rattle.spec_loading.specs.Phases.{opening_tasks, startup_frame, open_frame}
 use Rattle.spec_loading.specs.Members.{set_view, opening_store}
+use Rattle.spec_loading.specs.Loading.{LoaderState}
 use Rattle.spec_loading.specs.LoadedSet.{set_loading, set_opening, opening_memory}
 use Rattle.spec_loading.specs.Laws.{LinkedIsThere, OpeningHolds, SizesArePlanned}
 use Rattle.dyl_addresses.specs.Sets.{AreOf}
@@ -189,8 +190,7 @@ pub core_at : (L : LinkedSet) (k : Kept) → IsLinked L k → (w : WorldState) �
     → OpensAt (set_loading L) count tasks (record { fixed = kept_view w.linked; units = w.store; memory = w.memory }) c → IsState (set_loading L) c w.store w.memory (set_opening L)
 core_at L k h w opened count many tasks are c opens =
     opens (set_opening L) (record {
-      stages = no_stages L.set.members ∙ ap (λ (n : ℕ). replicate n 0) (members_count L k h ∙ sym many);
-      error = refl;
+      loader = ap (λ (xs : List ℕ). record { stages = xs; error = 0; promoted = [] }) (no_stages L.set.members ∙ ap (λ (n : ℕ). replicate n 0) (members_count L k h ∙ sym many));
       units = sym (opened.store L h);
       space = sym (opened.memory L h);
       status = refl;
@@ -209,7 +209,7 @@ running_is x set opened core at placements =
       set = set;
       fixed = ap kept_view opened.linked;
       core = core;
-      members = ap length (sym (at L h).stages) ∙ length-map L.set.members (λ (m : Member). 0) ∙ members_count L k h;
+      members = ap (λ (l : LoaderState). length l.stages) (sym (at L h).loader) ∙ length-map L.set.members (λ (m : Member). 0) ∙ members_count L k h;
       placements = placements;
     }
 

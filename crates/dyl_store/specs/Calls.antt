@@ -8,6 +8,7 @@ use Rattle.spec_loading.specs.LoadedSet.{SetState, set_loading}
 use Rattle.wasm_machine.specs.declared.event.Event.{Event}
 use Rattle.wasm_machine.specs.declared.event.Event.TheVariants as event
 use Rattle.dyl_frames.specs.Next.{next_answer}
+use Rattle.dyl_frames.specs.Cores as cores
 use Rattle.dyl_frames.specs.Cores.{IsAtCall, Steps}
 use Rattle.dyl_store.specs.declared.running.Running.{Running}
 
@@ -18,7 +19,7 @@ is_loader _ = false
 
 -- what the loader keeps
 abbrev pub loader_of : Running → LoaderState
-loader_of x = record { stages = x.core.stages; error = x.core.error }
+loader_of x = cores.loader_of x.core
 
 -- the step that calls a function of the loader was made, which came to this answer
 abbrev pub AnswersWith : LinkedSet → LoaderAnswer → Event → Running → Running → Type 0

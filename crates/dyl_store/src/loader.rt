@@ -5,12 +5,13 @@ ghost use Rattle.spec_loading.specs.spec_linking.LinkedSets.{LinkedSet};
 ghost use Rattle.spec_loading.specs.Phases.{open_frame};
 ghost use Rattle.spec_loading.specs.Loading.{Opens, Traps};
 ghost use Rattle.dyl_link.specs.Kept.{IsLinked};
-ghost use Rattle.dyl_frames.specs.Cores.{loader_arguments, gives_number};
+ghost use Rattle.dyl_frames.specs.Cores.{loader_arguments, gives_number, GivesHandle, IsHandle};
 ghost use Rattle.dyl_store.specs.Runs.{IsRunning};
 ghost use Rattle.dyl_store.specs.Calls.{is_loader, AnswersWith, Answers};
 
 use crate::running::Running;
 use crate::tasks::member_tasks;
+use dyl_frames::After;
 use dyl_world::{Errors, close_answer, error_answer, open_answer, symbol_answer};
 use spec_loading::{Finding, Opening};
 use std::alloc::Global;
@@ -70,7 +71,8 @@ impl<'m> Running<'m> {
             Opening::Main => Ok(self.give(1)),
             Opening::Trapped => Ok(self.trap(Trap::MemoryBounds)),
             Opening::Refused(e) => Ok(self.refuse(0, e)),
-            Opening::Begin(m) => self.open_member(alloc, m),
+            Opening::Begin(m) => self.open_member(alloc, m, After::GiveHandle(m)),
+            Opening::BeginGlobal(m) => self.open_member(alloc, m, After::GiveAndPromote(m)),
         }
     }
 
@@ -86,6 +88,7 @@ impl<'m> Running<'m> {
         match symbol_answer(
             self.linked,
             self.core.stages(),
+            self.core.promoted(),
             self.world.memory(),
             handle,
             name,
@@ -126,18 +129,20 @@ impl<'m> Running<'m> {
         self.give_with(address, errors)
     }
 
-    // A member is opened: a frame with its tasks is put over what called.
-    fn open_member(&mut self, alloc: Global, m: u32) -> Result<Event, Memory>
+    // A member is opened: a frame with its tasks, which are followed by a handle, is put over what called.
+    fn open_member(&mut self, alloc: Global, m: u32, after: After) -> Result<Event, Memory>
         requires running { IsRunning self.old }
         requires loading { self.old.core.machine.standing ≡ Standing.Loading }
         requires member { m < length self.old.linked.now.set.members }
-        ensures answers { IfOk result (λ e. (L : LinkedSet) → IsLinked L self.old.linked.now → AnswersWith L (Opens (open_frame L.set m)) e self.old self.new) }
+        requires hands { GivesHandle after }
+        requires handle { IsHandle (length self.old.linked.now.set.members) after }
+        ensures answers { IfOk result (λ e. (L : LinkedSet) → IsLinked L self.old.linked.now → AnswersWith L (Opens (record (open_frame L.set m) { after = after })) e self.old self.new) }
         ensures answered { IfOk result (λ e. is_loader e ≡ false) }
         ensures running { OnOk result (IsRunning self.new) }
         ensures linked { self.new.linked ≡ self.old.linked }
     {
         let tasks = member_tasks(alloc, self.linked, m)?;
-        self.core.open(alloc, &self.world, tasks, m)?;
+        self.core.open(alloc, &self.world, tasks, after)?;
         Ok(Event::Moved)
     }
 

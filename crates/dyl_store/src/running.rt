@@ -134,6 +134,10 @@ impl<'m> Running<'m> {
                 self.core.hand_over(&self.world, m);
                 Ok(Event::Moved)
             }
+            After::GiveAndPromote(m) => {
+                self.core.promote(&self.world, self.linked, m);
+                Ok(Event::Moved)
+            }
         }
     }
 

@@ -1,22 +1,24 @@
 -- What is known of what is kept of a linked set.
-use Rattle.std.proofs.Common.{◌≡◌, ℕ, zero, suc, ◌+◌, ◌-◌, ◌<◌, ◌≤◌, List, [], ◌∷◌, length, map, Bool, true, false, Option, Some, None, nat_eq, refl, ap, sym, ◌∙◌, subst, bytes_eq, slice_get, arith}
-use Rattle.std.specs.Prelude.{unwrap_or, All}
-use Rattle.std.specs.List.{position_from}
+use Rattle.std.proofs.Common.{◌≡◌, ℕ, zero, suc, ◌+◌, ◌-◌, ◌<◌, ◌≤◌, List, [], ◌∷◌, ◌++◌, length, map, Bool, true, false, Option, Some, None, nat_eq, refl, ap, ap₂, sym, ◌∙◌, subst, drop, bytes_eq, slice_get, arith}
+use Rattle.std.specs.Prelude.{unwrap_or, not, All}
+use Rattle.std.specs.List.{position_from, filter}
 use Rattle.std.proofs.lemmas.Bool.Decides.{nat_tests}
-use Rattle.std.proofs.lemmas.List.{length-map}
+use Rattle.std.proofs.lemmas.List.{length-map, drop_all}
 use Rattle.std.proofs.lemmas.List.Elements.{All-map}
 use Rattle.std.proofs.lemmas.Option.{slice_get_within}
 use Rattle.spec_loading.specs.spec_linking.Sets as sets
 use Rattle.spec_loading.specs.spec_linking.Plans.{Plan, stack_end, texts_size, sizes_of, region_of, regions_of, end_of}
 use Rattle.spec_loading.specs.spec_linking.LinkedSets.{LinkedSet}
-use Rattle.spec_loading.specs.spec_linking.Slots.{linked_plan, cell_number}
-use Rattle.spec_loading.specs.spec_linking.Definitions.{searched}
+use Rattle.spec_loading.specs.spec_linking.Orders.{is_among, with_numbers, closure}
+use Rattle.spec_loading.specs.spec_linking.Slots.{linked_plan}
+use Rattle.spec_loading.specs.spec_linking.Definitions.{Undefined, searched}
 use Rattle.spec_loading.proofs.of_spec_linking.Placing.{above, end_above, bases_length}
-use Rattle.spec_loading.specs.LoaderAnswers.{is_handle, member_named, error_answer, error_offsets}
+use Rattle.spec_loading.specs.LoaderAnswers.{is_handle, handle_list, promoted_with, member_named, error_answer, error_offsets}
 use Rattle.dyl_link.specs.dyl_search.declared.set.Member.{Member}
 use Rattle.dyl_link.specs.dyl_search.declared.set.ClosedSet.{ClosedSet}
 use Rattle.dyl_link.specs.dyl_search.Gathers.{member_of, set_of}
 use Rattle.dyl_link.specs.Kept.{Kept, IsLinked}
+use Rattle.dyl_addresses.proofs.Ranges.{closure_inside}
 use Rattle.dyl_world.specs.Found.{is_named, AreWithout}
 use Rattle.dyl_world.proofs.Texts.{ExportsNo, none_searched}
 
@@ -82,6 +84,26 @@ module _ (L : LinkedSet) (k : Kept) (h : IsLinked L k) where
   text_there plan e offset some same is =
       (λ i. (same i).stack_top + is i) ∙ (λ i. (h.plan i).stack_top + unwrap_or (slice_get error_offsets (e - 1)) 0) ∙ text_of L e some
 
+  pub startup_is : (startup : List ℕ) (set : ClosedSet) → startup ≡ set.startup → set ≡ k.set → startup ≡ L.set.startup
+  startup_is startup set is same = is ∙ ap (λ (S : ClosedSet). S.startup) same ∙ ap (λ (S : sets.ClosedSet). S.startup) h.set
+
+  -- ---- closures
+
+  pub closure_below : (m : ℕ) → m < length k.set.members → (xs : List ℕ) → xs ≡ closure L.set m → All (λ n. n < length k.set.members) xs
+  closure_below m lt xs is =
+      let all = closure_inside L.set h.shape m (subst (λ n. m < n) count lt) in
+      subst (λ n. All (λ i. i < n) xs) (sym count) (subst (All (λ i. i < length L.set.members)) (sym is) all)
+
+-- ---- promoted members
+
+abbrev pub later : List ℕ → List ℕ → List ℕ
+later startup members = filter (λ k. not (is_among k startup)) members
+
+pub all_promoted : (S : sets.ClosedSet) (m : ℕ) (startup members list old : List ℕ) (i : ℕ) → startup ≡ S.startup → members ≡ closure S m → length members ≤ i
+    → with_numbers list (later startup (drop i members)) ≡ with_numbers old (later startup members) → list ≡ promoted_with S m old
+all_promoted S m startup members list old i starts reached all is =
+    ap (λ ms. with_numbers list (later startup ms)) (sym (drop_all i members all)) ∙ is ∙ ap₂ (λ ss ms. with_numbers old (later ss ms)) starts reached
+
 -- ---- handles
 
 pub handle_inside : (stages : List ℕ) (handle : ℕ) → 0 < length stages → is_handle stages handle ≡ true → handle ≤ length stages
@@ -92,6 +114,16 @@ handle_inside stages (suc m) some known = by (nat_eq m 0) refl (slice_get stages
     by true p o q = (let first : m ≡ 0 = grind (arith, nat_tests) in omega arith)
     by false p None q = absurd (let h = rw (p, q) at known in cc)
     by false p (Some stage) q = (let inside = slice_get_within stages m stage q in omega arith)
+
+pub handle_program : (S : sets.ClosedSet) (promoted : List ℕ) (handle : ℕ) → handle < 2 → S.startup ++ promoted ≡ handle_list S promoted handle
+handle_program S promoted zero lt = refl
+handle_program S promoted (suc zero) lt = refl
+handle_program S promoted (suc (suc m)) lt = absurd (omega arith)
+
+pub handle_closure : (S : sets.ClosedSet) (promoted : List ℕ) (handle : ℕ) → 2 ≤ handle → closure S (handle - 1) ≡ handle_list S promoted handle
+handle_closure S promoted zero le = absurd (omega arith)
+handle_closure S promoted (suc zero) le = absurd (omega arith)
+handle_closure S promoted (suc (suc m)) le = ap (closure S) (omega arith)
 
 -- ---- the first member that has a name
 
@@ -112,8 +144,8 @@ named_in_set S name = sym (named_from name 0 S.members)
 
 -- ---- a name that no member exports
 
-pub nothing_found : (L : LinkedSet) (k : Kept) → IsLinked L k → (members : List Member) → members ≡ k.set.members → (name : List ℕ) → AreWithout name members → (ms : List ℕ) → None ≡ cell_number L name (searched L.set ms name)
-nothing_found L k h members same name without ms =
+pub none_defined : (L : LinkedSet) (k : Kept) → IsLinked L k → (members : List Member) → members ≡ k.set.members → (name : List ℕ) → AreWithout name members → (ms : List ℕ) → Undefined ≡ searched L.set ms name
+none_defined L k h members same name without ms =
     let here : map member_of members ≡ L.set.members = ap (map member_of) same ∙ ap (λ (S : sets.ClosedSet). S.members) h.set in
     let none : All (ExportsNo name) L.set.members = subst (All (ExportsNo name)) here (All-map (ExportsNo name) member_of members without) in
-    sym (ap (cell_number L name) (none_searched name L.set none ms))
+    sym (none_searched name L.set none ms)

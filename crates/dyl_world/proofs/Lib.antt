@@ -3,3 +3,4 @@ mod Pieces
 mod Texts
 mod Found
 mod Known
+mod Room

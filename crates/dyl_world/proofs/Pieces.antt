@@ -5,7 +5,6 @@ use Rattle.std.proofs.Math.Nat.{min-le_right}
 use Rattle.std.proofs.lemmas.Slice.Eq.{bytes_eq-Decides}
 use Rattle.std.proofs.Math.Seq.{take-add}
 use Rattle.std.specs.Str.{bytes_eq}
-use Rattle.spec_loading.specs.spec_binary.Options.{◌>>=◌}
 use Rattle.spec_loading.specs.spec_runtime.Numerics.{W32}
 use Rattle.spec_loading.specs.spec_execution.Values.{low}
 use Rattle.spec_loading.specs.LoaderAnswers.{before_zero}

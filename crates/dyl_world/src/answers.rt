@@ -6,7 +6,8 @@ ghost use Rattle.dyl_link.specs.dyl_search.Gathers.{set_of};
 ghost use Rattle.dyl_link.specs.Kept.{IsLinked};
 
 use crate::errors::Errors;
-use crate::searching::{handle_list, member_named, search_name};
+use crate::promoted::Promoted;
+use crate::searching::{member_named, search_handle};
 use crate::stages::Stages;
 use crate::strings::{Name, name_at};
 use dyl_link::Linked;
@@ -24,8 +25,11 @@ const BAD_HANDLE: u8 = 3;
 
 const NO_SYMBOL: u8 = 4;
 
-// Every bit of the flags of `dlopen` but 1, 2 and 4096.
-const OTHER_FLAGS: u32 = 4_294_963_196;
+// Every bit of the flags of `dlopen` but 1, 2, 256 and 4096.
+const OTHER_FLAGS: u32 = 4_294_962_940;
+
+// The flag by which the closure of a member is promoted.
+const GLOBAL_FLAG: u32 = 256;
 
 // Where the texts of the errors stand, from the end of the stack on.
 const TEXT_OFFSETS: [u32; 5] = [0, 18, 41, 59, 81];
@@ -39,7 +43,8 @@ fn open_named(set: &ClosedSet, name: &Name<'_>, flags: u32) -> Opening
         return Opening::Refused(BAD_FLAGS);
     }
     match member_named(set, name) {
-        Some(m) => Opening::Begin(m),
+        Some(m) if flags & GLOBAL_FLAG == 0 => Opening::Begin(m),
+        Some(m) => Opening::BeginGlobal(m),
         None => Opening::Refused(NO_MODULE),
     }
 }
@@ -70,34 +75,42 @@ fn is_handle(stages: &Stages, handle: u32) -> bool
 }
 
 // What `dlsym` comes to for a name that was read. The handle is tested before the name.
-fn find_named(linked: &Linked, stages: &Stages, handle: u32, name: &Name<'_>) -> Finding
+fn find_named(
+    linked: &Linked,
+    stages: &Stages,
+    promoted: &Promoted,
+    handle: u32,
+    name: &Name<'_>,
+) -> Finding
     requires linked { (L : LinkedSet) × IsLinked L linked.now }
     requires stages { length stages.now ≡ length linked.now.set.members }
-    ensures { (L : LinkedSet) → IsLinked L linked.now → result ≡ loader.find_named L stages.now handle (Some name.now) }
+    ensures { (L : LinkedSet) → IsLinked L linked.now → result ≡ loader.find_named L stages.now promoted.now.list handle (Some name.now) }
 {
     if handle != 0 && !is_handle(stages, handle) {
         return Finding::Refused(BAD_HANDLE);
     }
-    match search_name(linked, handle_list(linked, handle), name) {
+    match search_handle(linked, promoted, handle, name) {
         Some(n) => Finding::Address(n),
         None => Finding::Refused(NO_SYMBOL),
     }
 }
 
-/// What `dlsym` comes to, whose name stands at an address in memory. The stages are those of the set's members.
+/// What `dlsym` comes to, whose name stands at an address in memory. The stages are those of the set's members. Handles 0 and 1 search the
+/// startup list and then the promoted members, and the handle of a member its closure.
 pub fn symbol_answer(
     linked: &Linked,
     stages: &Stages,
+    promoted: &Promoted,
     memory: &Space,
     handle: u32,
     name: u32,
 ) -> Finding
     requires stages { length stages.now ≡ length linked.now.set.members }
-    ensures { (L : LinkedSet) → IsLinked L linked.now → result ≡ loader.symbol_answer L stages.now memory.now handle name }
+    ensures { (L : LinkedSet) → IsLinked L linked.now → result ≡ loader.symbol_answer L stages.now promoted.now.list memory.now handle name }
 {
     linked.links();
     match name_at(memory, name) {
-        Some(text) => find_named(linked, stages, handle, &text),
+        Some(text) => find_named(linked, stages, promoted, handle, &text),
         None => Finding::Trapped,
     }
 }

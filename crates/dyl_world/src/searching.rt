@@ -1,5 +1,5 @@
 // How members and names are found.
-ghost use Rattle.std.specs.Prelude.{◌≡◌, ◌<◌, ◌≤◌, ◌+◌, ℕ, List, Some, None, length, MatchOption};
+ghost use Rattle.std.specs.Prelude.{◌≡◌, ◌<◌, ◌≤◌, ◌+◌, ◌++◌, ℕ, List, Some, None, length, MatchOption};
 ghost use Rattle.std.specs.List.{position_from};
 ghost use Rattle.spec_loading.specs.spec_binary.Exports.{exported_as};
 ghost use Rattle.spec_loading.specs.spec_linking.Definitions.{searched};
@@ -11,6 +11,7 @@ ghost use Rattle.dyl_link.specs.dyl_scope.Scopes.{meaning_of};
 ghost use Rattle.dyl_link.specs.Kept.{IsLinked, address_in};
 ghost use Rattle.dyl_world.specs.Found.{IsFound, is_named, AreWithout};
 
+use crate::promoted::Promoted;
 use crate::strings::Name;
 use dyl_link::Linked;
 use dyl_link::dyl_scope::Def;
@@ -36,18 +37,6 @@ pub(crate) fn member_named(set: &ClosedSet, name: &Name<'_>) -> Option<u32>
     ensures { result ≡ loader.member_named (set_of set.now) name.now }
 {
     first_named(set.members.items(), name)
-}
-
-// The members that a handle leads to: those that start with the main module, or the closure of one.
-pub(crate) fn handle_list(linked: &Linked, handle: u32) -> &[u32]
-    requires { handle ≤ length linked.now.symbols.names }
-    ensures { (L : LinkedSet) → IsLinked L linked.now → result.now ≡ loader.handle_list L.set handle }
-{
-    if handle < 2 {
-        linked.set().startup.items()
-    } else {
-        linked.symbols().closure(handle - 1)
-    }
 }
 
 // What the first of some members defines a name as. A name that isn't UTF-8 is defined by none.
@@ -118,25 +107,61 @@ fn exported_by<'a>(members: &'a [Member], name: &Name<'_>) -> Option<&'a str>
     None
 }
 
-// The same for a name that crosses pages: it is searched by the name of an export that is the same, since it has no slice of its own.
+// What the first of some members defines a name as that crosses pages: it is searched by the name of an export that is the same, since it
+// has no slice of its own.
 #[cold]
-fn search_across(linked: &Linked, members: &[u32], name: &Name<'_>) -> Option<u32>
-    requires { length linked.now.plan.bases ≡ length linked.now.set.members }
-    ensures { (L : LinkedSet) → IsLinked L linked.now → result ≡ slots.cell_number L name.now (searched L.set members.now name.now) }
+fn definition_across(linked: &Linked, members: &[u32], name: &Name<'_>) -> Def
+    ensures { (L : LinkedSet) → IsLinked L linked.now → meaning_of result ≡ searched L.set members.now name.now }
 {
     match exported_by(linked.set().members.items(), name) {
-        Some(key) => search(linked, members, key.as_bytes()),
-        None => None,
+        Some(key) => definition(linked, members, key.as_bytes()),
+        None => Def::Nothing,
     }
 }
 
-/// The slot of the function, or the address of the data, that the first of some members defines a name in memory as, if one does.
-pub(crate) fn search_name(linked: &Linked, members: &[u32], name: &Name<'_>) -> Option<u32>
-    requires { length linked.now.plan.bases ≡ length linked.now.set.members }
-    ensures { (L : LinkedSet) → IsLinked L linked.now → result ≡ slots.cell_number L name.now (searched L.set members.now name.now) }
+// What the first of some members defines a name in memory as.
+fn definition_in(linked: &Linked, members: &[u32], name: &Name<'_>) -> Def
+    ensures { (L : LinkedSet) → IsLinked L linked.now → meaning_of result ≡ searched L.set members.now name.now }
 {
     match name.in_one_page() {
-        Some(bytes) => search(linked, members, bytes),
-        None => search_across(linked, members, name),
+        Some(bytes) => definition(linked, members, bytes),
+        None => definition_across(linked, members, name),
     }
+}
+
+// The same of the members that start with the main module, or else of the promoted ones.
+fn definition_in_program(linked: &Linked, promoted: &Promoted, name: &Name<'_>) -> Def
+    ensures { (L : LinkedSet) → IsLinked L linked.now → meaning_of result ≡ searched L.set (L.set.startup ++ promoted.now.list) name.now }
+{
+    match definition_in(linked, linked.set().startup.items(), name) {
+        Def::Nothing => definition_in(linked, promoted.list(), name),
+        found => found,
+    }
+}
+
+// What the first of the members that a handle leads to defines a name in memory as.
+fn definition_by(linked: &Linked, promoted: &Promoted, handle: u32, name: &Name<'_>) -> Def
+    requires { handle ≤ length linked.now.symbols.names }
+    ensures { (L : LinkedSet) → IsLinked L linked.now → meaning_of result ≡ searched L.set (loader.handle_list L.set promoted.now.list handle) name.now }
+{
+    if handle < 2 {
+        definition_in_program(linked, promoted, name)
+    } else {
+        definition_in(linked, linked.symbols().closure(handle - 1), name)
+    }
+}
+
+/// The slot of the function, or the address of the data, that the first of the members that a handle leads to defines a name in memory as, if
+/// one does.
+pub(crate) fn search_handle(
+    linked: &Linked,
+    promoted: &Promoted,
+    handle: u32,
+    name: &Name<'_>,
+) -> Option<u32>
+    requires handle { handle ≤ length linked.now.symbols.names }
+    requires bases { length linked.now.plan.bases ≡ length linked.now.set.members }
+    ensures { (L : LinkedSet) → IsLinked L linked.now → result ≡ slots.cell_number L name.now (searched L.set (loader.handle_list L.set promoted.now.list handle) name.now) }
+{
+    number_of(linked, definition_by(linked, promoted, handle, name))
 }

@@ -32,32 +32,35 @@ use Rattle.spec_loading.specs.declared.answers.Opening.{Opening}
 use Rattle.spec_loading.specs.declared.answers.Opening.TheVariants as opening
 use Rattle.spec_loading.specs.declared.answers.Finding.{Finding}
 use Rattle.spec_loading.specs.declared.answers.Finding.TheVariants as finding
-use Rattle.spec_loading.specs.Phases.{LoaderFrame, open_frame}
+use Rattle.spec_loading.specs.Phases.{LoaderFrame, open_frame, open_global_frame}
 use Rattle.spec_loading.specs.Loading.{LoaderState, LoaderAnswer, answered, went}
 use Rattle.spec_loading.specs.Loading as loading
-use Rattle.spec_loading.specs.LoaderAnswers.{other_flags, begin_or, member_named, open_named, open_answer, find_named, found_number, symbol_answer, close_answer, error_answer, handle_list, with_error, opened, found, closed, string_at, is_handle}
+use Rattle.spec_loading.specs.LoaderAnswers.{other_flags, global_flag, begin_or, member_named, open_named, open_answer, find_named, found_number, symbol_answer, close_answer, error_answer, handle_list, with_error, opened, found, closed, string_at, is_handle}
 use Rattle.spec_loading.specs.Members.{set_view, uses_loader}
 use Rattle.spec_loading.specs.LoadedSet.{SetState, set_loading}
 use Rattle.merge_match.specs.Renumbering.{Numbers, values, activation}
 use Rattle.merge_match.specs.Bounded.{IsBounded}
 use Rattle.merge_match.specs.Matching.{Below, Alike, Met}
-use Rattle.merge_start.specs.Words.{Starts}
+use Rattle.merge_start.specs.Words.{Starts, promote_code}
 use Rattle.merge_start.specs.Running.{Changing, trapped_at, Reaches, there, goes}
 use Rattle.merge_start.specs.Started.{Same}
-use Rattle.merge_start.specs.Points.{places}
+use Rattle.merge_start.specs.Points.{Promotes, places}
 use Rattle.merge_start.proofs.Reaching.{reaches_then, silent_of, with_global}
 use Rattle.merge_start.proofs.Keeping.{guard_there, error_there, error_same}
-use Rattle.merge_start.proofs.Nested.{members_open_as_merged}
+use Rattle.merge_start.proofs.Nested.{members_open_as_merged, members_promote_as_merged}
+use Rattle.merge_start.proofs.Promoted.{few_promoted, later_inside, place_there}
 use Rattle.merge_dl.specs.Words.{Finders, call_body}
 use Rattle.merge_dl.specs.Ready.{LoaderReady}
 use Rattle.merge_dl.specs.Laws.{LoaderIsAnswered}
-use Rattle.merge_dl.proofs.Sites.{Site, back_with, Outcome, Gives, Opens, Leads, Answers, bottom}
+use Rattle.merge_dl.proofs.Sites.{Site, back_with, Outcome, Gives, Opens, OpensThen, Leads, Answers, bottom}
 use Rattle.merge_dl.proofs.Calls.{locals_of, begins_body}
 use Rattle.merge_dl.proofs.SlotWords.{position_within}
 use Rattle.merge_dl.proofs.Grounds.{Ground}
 use Rattle.merge_dl.proofs.Tries.{finding_outcome}
+use Rattle.merge_dl.proofs.Preferred.{PlacesHeld}
 use Rattle.merge_dl.proofs.Handles.{symbol_answers}
 use Rattle.merge_dl.proofs.Closes.{closing_outcome, close_answers}
+use Rattle.merge_find.specs.Finding.{SearchComes}
 use Rattle.merge_dl.proofs.Opens.{opening_outcome, open_answers}
 use Rattle.merge_dl.proofs.Texts.{error_answers}
 
@@ -98,6 +101,16 @@ module _ (L : LinkedSet) (n : Numbers) (x : Starts) (merged : Module) where
           let silent = silent_of (reaches_then leads.2 (goes refl opened.1 there)) in
           (silent.0, t0, opened.0, refl, silent.1, opened.2)
 
+      promotes_met : (t0 : ModuleState) (m : ℕ) → m < length L.set.members → Leads merged x t0 site (OpensThen (promote_code L x m) start m)
+          → Reached (Some (answered s caller (loading.Opens (open_global_frame L.set m)))) (Some t0)
+      promotes_met t0 m lt leads =
+          let hs : List (Frame Starting) = frames.Active (with_values (activation n a) (values n rest)) ∷ gs in
+          let promotes : Promotes L x m leads.0 =
+          record { hands = leads.1; used = used; number = ready.promoted; later = later_inside L set m lt } in
+          let opened = members_promote_as_merged L n x merged set m lt (ready.opens m lt) s t.units alike.units caller hs (gs, refl, below) leads.0 promotes in
+          let silent = silent_of (reaches_then leads.2 (goes refl opened.1 there)) in
+          (silent.0, t0, opened.0, refl, silent.1, opened.2)
+
       -- an error is kept
       abbrev faulty : ℕ → Changing
       faulty e = with_global start d.error (Num e)
@@ -119,13 +132,15 @@ module _ (L : LinkedSet) (n : Numbers) (x : Starts) (merged : Module) where
       IsOpening opening.Trapped = Unit {0}
       IsOpening (opening.Refused e) = e ≤ 5
       IsOpening (opening.Begin m) = m < length L.set.members
+      IsOpening (opening.BeginGlobal m) = m < length L.set.members
 
-      open_met : (t0 : ModuleState) (y : Opening) → IsOpening y → Leads merged x t0 site (opening_outcome start d y)
+      open_met : (t0 : ModuleState) (y : Opening) → IsOpening y → Leads merged x t0 site (opening_outcome L x start d y)
           → Reached (Some (answered s caller (opened L s.loader y))) (Some t0)
       open_met t0 opening.Main is leads = gives_met t0 start 1 s.loader refl alike.units leads
       open_met t0 opening.Trapped is leads = traps_met t0 MemoryBounds leads
       open_met t0 (opening.Refused e) is leads = faults_met t0 e 0 is leads
       open_met t0 (opening.Begin m) is leads = opens_met t0 m is leads
+      open_met t0 (opening.BeginGlobal m) is leads = promotes_met t0 m is leads
 
       abbrev IsFinding : Finding → Type 0
       IsFinding finding.Trapped = Unit {0}
@@ -150,17 +165,25 @@ module _ (L : LinkedSet) where
   Sound opening.Trapped = Unit {0}
   Sound (opening.Refused e) = e ≤ 5
   Sound (opening.Begin m) = m < length L.set.members
+  Sound (opening.BeginGlobal m) = m < length L.set.members
 
-  begun_sound : (name : List ℕ) (o : Option ℕ) → member_named L.set name ≡ o → Sound (begin_or o)
-  begun_sound name None e = omega arith
-  begun_sound name (Some m) e = (let inside = position_within (λ y. bytes_eq name y.name) 0 L.set.members m e in omega arith)
+  begun_sound : (flags : ℕ) (name : List ℕ) (o : Option ℕ) → member_named L.set name ≡ o → Sound (begin_or flags o)
+  begun_sound flags name None e = omega arith
+  begun_sound flags name (Some m) e = go (nat_eq (bit_and flags global_flag) 0)
+    where
+      inside : m < length L.set.members
+      inside = (let within = position_within (λ y. bytes_eq name y.name) 0 L.set.members m e in omega arith)
+
+      go : (z : Bool) → Sound (if z then opening.Begin m else opening.BeginGlobal m)
+      go true = inside
+      go false = inside
 
   named_sound : (flags : ℕ) (o : Option (List ℕ)) → Sound (open_named L flags o)
   named_sound flags None = tt
   named_sound flags (Some name) = go (nat_eq (bit_and flags other_flags) 0)
     where
-      go : (z : Bool) → Sound (if z then begin_or (member_named L.set name) else opening.Refused 1)
-      go true = begun_sound name (member_named L.set name) refl
+      go : (z : Bool) → Sound (if z then begin_or flags (member_named L.set name) else opening.Refused 1)
+      go true = begun_sound flags name (member_named L.set name) refl
       go false = omega arith
 
   pub open_sound : (memory : MemoryInstance) (name flags : ℕ) → Sound (open_answer L memory name flags)
@@ -176,17 +199,17 @@ module _ (L : LinkedSet) where
   number_sound None = omega arith
   number_sound (Some k) = tt
 
-  pub find_sound : (stages : List ℕ) (handle : ℕ) (o : Option (List ℕ)) → SoundFinding (find_named L stages handle o)
-  find_sound stages handle None = tt
-  find_sound stages handle (Some name) = go (nat_eq handle 0 || is_handle stages handle)
+  pub find_sound : (stages promoted : List ℕ) (handle : ℕ) (o : Option (List ℕ)) → SoundFinding (find_named L stages promoted handle o)
+  find_sound stages promoted handle None = tt
+  find_sound stages promoted handle (Some name) = go (nat_eq handle 0 || is_handle stages handle)
     where
-      go : (z : Bool) → SoundFinding (if z then found_number (cell_number L name (searched L.set (handle_list L.set handle) name)) else finding.Refused 3)
-      go true = number_sound (cell_number L name (searched L.set (handle_list L.set handle) name))
+      go : (z : Bool) → SoundFinding (if z then found_number (cell_number L name (searched L.set (handle_list L.set promoted handle) name)) else finding.Refused 3)
+      go true = number_sound (cell_number L name (searched L.set (handle_list L.set promoted handle) name))
       go false = omega arith
 
 -- ---- the calls
 
-module _ (L : LinkedSet) (n : Numbers) (x : Starts) (d : Finders) (merged : Module) (set : IsSet L.set) (links : Links L)
+module _ (comes : SearchComes) (L : LinkedSet) (n : Numbers) (x : Starts) (d : Finders) (merged : Module) (set : IsSet L.set) (links : Links L)
     (used : uses_loader L ≡ true) (ready : LoaderReady L n x d merged) (s : SetState) (t : ModuleState) (alike : Alike (Same L n x) s t)
     (bounded : IsBounded s.run.memory) (a : Activation) (fs : List (Frame LoaderFrame)) (gs : List (Frame Starting))
     (below : Below n (places L n x) a.results fs gs) where
@@ -207,6 +230,13 @@ module _ (L : LinkedSet) (n : Numbers) (x : Starts) (d : Finders) (merged : Modu
     held = error_held;
     guards = λ m stage held. (guard_there L n x s.loader s.run.units t.units alike.units m stage held, alike.units.store.kept.low m stage held);
     sized = alike.units.store.kept.sized;
+  }
+
+  placed : PlacesHeld L x s.loader.promoted begin
+  placed = record {
+    few = (let few = few_promoted L s.loader.promoted alike.units.store.kept.later alike.units.store.kept.apart in let members = set.few in omega (arith, few, members));
+    later = alike.units.store.kept.later;
+    places = place_there L n x s.loader s.run.units t.units alike.units used ready.promoted;
   }
 
   module _ (which : LoaderCall) (vs : List Value) where
@@ -270,8 +300,8 @@ module _ (L : LinkedSet) (n : Numbers) (x : Starts) (d : Finders) (merged : Modu
   open_called (Num flags ∷ Num name ∷ rest) =
       let y = open_answer L s.run.memory (low W32 name) (low W32 flags) in
       let vs : List Value = Num flags ∷ Num name ∷ rest in
-      both Dlopen vs (Num flags ∷ Num name ∷ []) rest (opened L s.loader y) (opening_outcome begin d y) refl (taken_by_set Dlopen vs) (taken_by_code Dlopen vs)
-      (open_answers ground name flags)
+      both Dlopen vs (Num flags ∷ Num name ∷ []) rest (opened L s.loader y) (opening_outcome L x begin d y) refl (taken_by_set Dlopen vs) (taken_by_code Dlopen vs)
+      (open_answers ground comes name flags)
       (λ t0 leads. open_met L n x merged s t alike a fs gs below rest (n.function (Loader Dlopen)) set d ready used t0 y (open_sound L s.run.memory (low W32 name) (low W32 flags)) leads)
   open_called [] = neither Dlopen [] (taken_by_set Dlopen []) (taken_by_code Dlopen [])
   open_called (Func r ∷ vs) = neither Dlopen (Func r ∷ vs) (taken_by_set Dlopen (Func r ∷ vs)) (taken_by_code Dlopen (Func r ∷ vs))
@@ -281,12 +311,12 @@ module _ (L : LinkedSet) (n : Numbers) (x : Starts) (d : Finders) (merged : Modu
 
   symbol_called : (vs : List Value) → Reached L n x merged (set_call Dlsym vs) (code_call Dlsym vs)
   symbol_called (Num name ∷ Num handle ∷ rest) =
-      let y = symbol_answer L s.loader.stages s.run.memory (low W32 handle) (low W32 name) in
+      let y = symbol_answer L s.loader.stages s.loader.promoted s.run.memory (low W32 handle) (low W32 name) in
       let vs : List Value = Num name ∷ Num handle ∷ rest in
       both Dlsym vs (Num name ∷ Num handle ∷ []) rest (found s.loader y) (finding_outcome begin d y) refl (taken_by_set Dlsym vs) (taken_by_code Dlsym vs)
-      (symbol_answers ground set links handle name)
+      (symbol_answers ground placed set links handle name)
       (λ t0 leads. find_met L n x merged s t alike a fs gs below rest (n.function (Loader Dlsym)) set d ready used t0 y
-      (find_sound L s.loader.stages (low W32 handle) (string_at s.run.memory (low W32 name))) leads)
+      (find_sound L s.loader.stages s.loader.promoted (low W32 handle) (string_at s.run.memory (low W32 name))) leads)
   symbol_called [] = neither Dlsym [] (taken_by_set Dlsym []) (taken_by_code Dlsym [])
   symbol_called (Func r ∷ vs) = neither Dlsym (Func r ∷ vs) (taken_by_set Dlsym (Func r ∷ vs)) (taken_by_code Dlsym (Func r ∷ vs))
   symbol_called (Num name ∷ []) = neither Dlsym (Num name ∷ []) (taken_by_set Dlsym (Num name ∷ [])) (taken_by_code Dlsym (Num name ∷ []))
@@ -317,6 +347,6 @@ module _ (L : LinkedSet) (n : Numbers) (x : Starts) (d : Finders) (merged : Modu
   calls_answered Dlclose = close_called a.values
   calls_answered Dlerror = error_called a.values
 
-pub loader_is_answered : LoaderIsAnswered
-loader_is_answered L n x d merged set links used is ready s t alike bounded a fs gs below which =
-    calls_answered L n x d merged set links used ready s t alike bounded a fs gs below which
+pub loader_is_answered : SearchComes → LoaderIsAnswered
+loader_is_answered comes L n x d merged set links used is ready s t alike bounded a fs gs below which =
+    calls_answered comes L n x d merged set links used ready s t alike bounded a fs gs below which

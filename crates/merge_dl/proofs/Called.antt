@@ -1,5 +1,6 @@
 -- The code for the length of a string, and for the search of a member, does what is said of it, at whatever number of a module it stands.
-use Rattle.std.proofs.Common.{◌≡◌, ℕ, zero, suc, ◌+◌, List, [], ◌∷◌, length, slice_get, Option, Some, None, refl, sym, ap, ◌∙◌, subst, arith}
+use Rattle.std.proofs.Common.{◌≡◌, ℕ, zero, suc, ◌+◌, ◌*◌, List, [], ◌∷◌, length, slice_get, Option, Some, None, refl, sym, ap, ◌∙◌, subst, arith}
+use Rattle.wasm_form.specs.declared.instr.Instr.{Index}
 use Rattle.wasm_form.specs.declared.module.Module.{Module}
 use Rattle.wasm_form.specs.declared.runtime.Trap.TheVariants.{MemoryBounds}
 use Rattle.wasm_form.specs.declared.runtime.Value.{Value}
@@ -8,7 +9,10 @@ use Rattle.spec_loading.specs.spec_binary.Options.{◌>>=◌}
 use Rattle.spec_loading.specs.spec_runtime.Numerics.{W32}
 use Rattle.spec_loading.specs.spec_execution.Values.{low}
 use Rattle.spec_loading.specs.spec_linking.Sets.{Member}
-use Rattle.spec_loading.specs.spec_linking.LinkedSets.{LinkedSet}
+use Rattle.spec_loading.specs.spec_linking.Gathering.{IsMember, IsSet}
+use Rattle.spec_loading.specs.spec_linking.LinkedSets.{LinkedSet, wasm_of}
+use Rattle.spec_loading.proofs.of_spec_binary.Lists.{holds_at}
+use Rattle.spec_loading.proofs.of_spec_binary.SpelledParts.{decoded_text}
 use Rattle.spec_loading.specs.spec_linking.Links.{Links}
 use Rattle.spec_loading.specs.LoaderAnswers.{string_at}
 use Rattle.spec_loading.specs.Members.{from_members}
@@ -16,21 +20,26 @@ use Rattle.merge_match.specs.Bounded.{IsBounded}
 use Rattle.merge_start.specs.Words.{Starts}
 use Rattle.merge_start.specs.Running.{Changing}
 use Rattle.wasm_form.specs.declared.module.Part.{Part}
-use Rattle.merge_dl.specs.Words.{unary_type, name_numbers, length_code, find_code, length_body}
-use Rattle.merge_dl.specs.Called.{HasFunction, CallGives, GivesLength, defined_number, search_value, IsLengthPart, IsSearchPart, AreSearchParts}
+use Rattle.merge_find.specs.Counted.{DoesWithin}
+use Rattle.merge_find.specs.Finding.{first_named, SearchFindsAny, SearchFinds}
+use Rattle.merge_find.specs.Exports.{ExportsAreTexts, ExportsAreApart}
+use Rattle.merge_find.specs.Typed.{BodyIsTyped}
+use Rattle.merge_pieces.specs.Opcodes as op
+use Rattle.merge_dl.specs.Words.{unary_type, search_type, name_numbers, length_code, length_body, find_body}
+use Rattle.merge_dl.specs.Called.{HasFunction, CallGives, GivesLength, defined_number, search_value, IsLengthPart, IsSearchPart, AreSearchParts, AreQuick}
 use Rattle.merge_dl.specs.Listed.{starts_in, length_part, find_part, find_parts}
 use Rattle.merge_dl.specs.Laws.{LengthsAreGiven, MembersAreSearched, DefinedIsNumbered}
 use Rattle.merge_dl.proofs.Sites.{Gives, Answers}
-use Rattle.merge_dl.proofs.Calls.{call_gives, call_traps}
+use Rattle.merge_dl.proofs.Calls.{call_gives, call_traps, does_within}
 use Rattle.merge_dl.proofs.Lengths.{measured, measures}
-use Rattle.merge_dl.proofs.Names.{string_begins, string_short}
+use Rattle.merge_dl.proofs.Names.{string_lies}
 use Rattle.merge_dl.proofs.Defined.{definition_numbered}
-use Rattle.merge_dl.proofs.Searches.{searches, finds_defined, all_small}
+use Rattle.merge_dl.proofs.Searches.{finds_defined, words, texts, apart}
 use Rattle.merge_dl.proofs.Typed.{length_height, find_height}
 
 -- the code opens no member
 abbrev no_starts : Starts
-no_starts = starts_in (record { error = 0; guard = 0; first_function = 0; opens = [] })
+no_starts = starts_in (record { error = 0; guard = 0; first_function = 0; opens = []; promoted = 0 })
 
 -- ---- the length of a string
 
@@ -47,19 +56,15 @@ lengths_given merged f has = record {
 
 -- ---- the search of a member
 
-pub members_searched : MembersAreSearched
-members_searched L links m wasm found merged f has = record { calls = calls }
+pub members_searched : SearchFindsAny → MembersAreSearched
+members_searched any L links m wasm found merged f has = record { calls = calls }
   where
     calls : (c : Changing) → IsBounded c.memory → (a : ℕ) (s : List ℕ) → string_at c.memory (low W32 a) ≡ Some s
         → CallGives merged f c (Num (length s) ∷ Num a ∷ []) (Num (search_value (defined_number L m s)))
     calls c bounded a s known =
-        let short = string_short c.memory (low W32 a) s known bounded in
-        let begins = string_begins c.memory (low W32 a) s known in
-        let ls : List Value = Num a ∷ Num (length s) ∷ [] in
-        let given : Answers merged no_starts (find_code L m wasm) c ls (Gives c (Num (search_value (defined_number L m s)))) =
-        subst (λ o. Answers merged no_starts (find_code L m wasm) c ls (Gives c (Num (search_value o)))) (finds_defined L m wasm found s)
-        (searches merged no_starts c a s short begins (name_numbers L m wasm) (all_small L m links wasm.exports)) in
-        call_gives has (Num (length s) ∷ Num a ∷ []) (refl, λ rest. refl) (Num (search_value (defined_number L m s))) given
+        let r = any merged f (name_numbers L m wasm) has (words L m links wasm.exports) c.units c.memory a s (string_lies c.memory a s known bounded) in
+        let given : CallGives merged f c (Num (length s) ∷ Num a ∷ []) (Num (search_value (first_named (name_numbers L m wasm) s))) = does_within r.1 in
+        subst (λ o. CallGives merged f c (Num (length s) ∷ Num a ∷ []) (Num (search_value o))) (finds_defined L m wasm found s) given
 
 pub defined_numbered : DefinedIsNumbered
 defined_numbered L links m name = definition_numbered L links m name
@@ -91,18 +96,36 @@ module _ (L : LinkedSet) where
       let later = part_at (k + 1) ms m p e in
       (later.0, later.1, later.2 ∙ ap (λ j. find_part L j later.0.wasm) next)
 
-  search_works : Links L → (m : ℕ) (y : Member) → slice_get L.set.members m ≡ Some y → IsSearchPart L m (find_part L m y.wasm)
-  search_works links m y at = record {
+  search_works : SearchFindsAny → BodyIsTyped → Links L → (m : ℕ) (y : Member) → slice_get L.set.members m ≡ Some y → IsSearchPart L m (find_part L m y.wasm)
+  search_works any typed links m y at = record {
     ty = refl;
-    typed = λ c memory. find_height L m y.wasm c memory;
-    works = λ merged f has. members_searched L links m y.wasm (ap (λ (o : Option Member). o >>= λ x. Some x.wasm) at) merged f has;
+    typed = λ c memory. find_height typed L m y.wasm c memory;
+    works = λ merged f has. members_searched any L links m y.wasm (ap (λ (o : Option Member). o >>= λ x. Some x.wasm) at) merged f has;
   }
 
-  pub searches_work : Links L → (parts : List Part) → parts ≡ from_members (find_parts L) 0 L.set.members → AreSearchParts L parts
-  searches_work links parts is = record {
-    count = ap length is ∙ parts_many 0 L.set.members;
-    each = λ m p at.
+  module _ (parts : List Part) (is : parts ≡ from_members (find_parts L) 0 L.set.members) where
+    -- each is that of its member
+    of_member : (m : ℕ) (p : Part) → slice_get parts m ≡ Some p → (y : Member) × (slice_get L.set.members m ≡ Some y) × (p ≡ find_part L m y.wasm)
+    of_member m p at =
         let first : 0 + m ≡ m = omega arith in
         let here = part_at 0 L.set.members m p (ap (λ (l : List Part). slice_get l m) (sym is) ∙ at) in
-        subst (IsSearchPart L m) (sym (here.2 ∙ ap (λ j. find_part L j here.0.wasm) first)) (search_works links m here.0 here.1);
-  }
+        (here.0, here.1, here.2 ∙ ap (λ j. find_part L j here.0.wasm) first)
+
+    pub searches_work : SearchFindsAny → BodyIsTyped → Links L → AreSearchParts L parts
+    searches_work any typed links = record {
+      count = ap length is ∙ parts_many 0 L.set.members;
+      each = λ m p at. (let here = of_member m p at in subst (IsSearchPart L m) (sym here.2) (search_works any typed links m here.0 here.1));
+    }
+
+    pub searches_quick : SearchFinds → ExportsAreTexts → ExportsAreApart → IsSet L.set → Links L → AreQuick L parts
+    searches_quick soon are_texts are_apart set links m p at wasm f has c bounded a s known =
+        let here = of_member m p at in
+        let y = here.0 in
+        let read = (holds_at IsMember L.set.members m y set.members here.1).read in
+        let spelled = decoded_text _ _ read.told y.wasm refl in
+        let function : HasFunction wasm f search_type (find_body L m y.wasm) = subst (λ (q : Part). HasFunction wasm f q.ty q.code) here.2 has in
+        let found : wasm_of L m ≡ Some y.wasm = ap (λ (o : Option Member). o >>= λ x. Some x.wasm) here.1 in
+        let quick = soon wasm f (name_numbers L m y.wasm) function (words L m links y.wasm.exports) (texts L m y.wasm.exports (are_texts y.wasm _ spelled))
+        (apart L m y.wasm.exports (are_apart y.wasm read.valid)) c.units c.memory a s (string_lies c.memory a s known bounded) in
+        subst (λ o. DoesWithin wasm (200 * (length s + 8)) (Index op.call f ∷ []) c.units c.memory (Num (length s) ∷ Num a ∷ []) (Num (search_value o) ∷ []))
+        (finds_defined L m y.wasm found s) quick

@@ -1,5 +1,5 @@
 -- dlsym: what a handle leads to is searched.
-use Rattle.std.proofs.Common.{◌≡◌, ℕ, zero, suc, ◌+◌, ◌^◌, ◌<◌, ◌≤◌, Bool, true, false, List, [], ◌∷◌, ◌++◌, length, nat_eq, nat_lt, slice_get, Option, Some, None, refl, sym, ap, ◌∙◌, subst, arith, append_assoc, mod-eq_of_lt, if◌then◌else◌}
+use Rattle.std.proofs.Common.{◌≡◌, ℕ, zero, suc, ◌+◌, ◌^◌, ◌<◌, ◌≤◌, Bool, true, false, List, [], ◌∷◌, ◌++◌, length, nat_eq, nat_lt, slice_get, Option, Some, None, refl, sym, ap, ◌∙◌, subst, arith, append_assoc, append-nil, mod-eq_of_lt, if◌then◌else◌}
 use Rattle.std.specs.List.{All}
 use Rattle.std.proofs.lemmas.Bool.Decides.{nat_tests}
 use Rattle.std.proofs.lemmas.List.{length-drop}
@@ -20,15 +20,16 @@ use Rattle.spec_loading.specs.spec_linking.LinkedSets.{LinkedSet}
 use Rattle.spec_loading.specs.spec_linking.Links.{Links}
 use Rattle.spec_loading.specs.declared.answers.Finding.{Finding}
 use Rattle.spec_loading.specs.declared.answers.Finding.TheVariants as finding
-use Rattle.spec_loading.specs.LoaderAnswers.{bad_handle_error, is_placed, find_named, symbol_answer, string_at}
+use Rattle.spec_loading.specs.LoaderAnswers.{bad_handle_error, is_placed, find_named, symbol_answer, string_at, no_symbol_error}
 use Rattle.spec_loading.proofs.of_spec_safety.Lookups.{got}
 use Rattle.merge_start.specs.Words.{Starts, number}
 use Rattle.merge_start.specs.Running.{Changing}
 use Rattle.merge_start.proofs.Reaching.{does_number, does_global, does_less}
 use Rattle.dyl_addresses.proofs.Ranges.{closure_inside}
-use Rattle.merge_dl.specs.Words.{Finders, when, fault_code, tries_code, handle_code, handles_code, libraries, symbol_call_code}
+use Rattle.merge_dl.specs.Words.{Finders, when, fault_code, tries_code, handle_code, handles_code, libraries, symbol_call_code, tries_then, promoted_code}
 use Rattle.merge_dl.proofs.Sites.{Outcome, Passes, Fails, Runs, Answers, runs_then, runs_ends, runs_does, runs_get, runs_set, runs_when, runs_over, answers_runs}
 use Rattle.merge_dl.proofs.Grounds.{Ground, runs_length, fails_length}
+use Rattle.merge_dl.proofs.Preferred.{PlacesHeld, runs_promoted}
 use Rattle.merge_dl.proofs.Tries.{runs_fault, runs_if_local, runs_not_local, finding_outcome, finding_ends, search_locals, sought, runs_tries}
 
 -- what a handle of a member comes to
@@ -46,14 +47,23 @@ low_some zero small q = absurd (let no : 0 < 0 = grind (arith, nat_tests) in ome
 low_some (suc k) small q = (k, low_small (suc k) (omega arith))
 
 module _ {L : LinkedSet} {x : Starts} {d : Finders} {merged : Module} {stages : List ℕ} {c : Changing} (ground : Ground L x d merged stages c)
-    (set : IsSet L.set) (links : Links L) (h p : ℕ) (s : List ℕ) (known : string_at c.memory (low W32 p) ≡ Some s) where
+    {promoted : List ℕ} (placed : PlacesHeld L x promoted c) (set : IsSet L.set) (links : Links L) (h p : ℕ) (s : List ℕ) (known : string_at c.memory (low W32 p) ≡ Some s) where
   abbrev ls : ℕ → List Value
-  ls v = search_locals h p s v
+  ls v = search_locals h p s v 0 0
 
   tries : (ms : List ℕ) → All (λ m. m < length L.set.members) ms → (v : ℕ)
       → Runs merged x (tries_code d ms) c (ls v) [] (finding_outcome c d (sought L s ms))
   tries ms all v =
-      runs_tries merged x c ground.bounded h p s known L links d ground.finds ground.old ground.held ms all v
+      subst (λ list. Runs merged x (tries_code d ms) c (ls v) [] (finding_outcome c d (sought L s list))) (append-nil ms)
+      (runs_tries merged x c ground.bounded h p s known L links d ground.finds 0 0 (fault_code d no_symbol_error 0) []
+      (λ u. runs_fault (ls u) d no_symbol_error 0 ground.old (omega arith) (omega arith) ground.held) ms all v)
+
+  -- the startup list, and then what is promoted
+  tries_all : (ms : List ℕ) → All (λ m. m < length L.set.members) ms → (v : ℕ)
+      → Runs merged x (tries_then d (promoted_code L x d) ms) c (ls v) [] (finding_outcome c d (sought L s (ms ++ promoted)))
+  tries_all ms all v =
+      runs_tries merged x c ground.bounded h p s known L links d ground.finds 0 0 (promoted_code L x d) promoted
+      (λ u. runs_promoted merged x c ground.bounded h p s known L links d ground.finds promoted placed ground.old ground.held u 0) ms all v
 
   refuses : (v : ℕ) → Runs merged x (fault_code d bad_handle_error 0) c (ls v) [] (finding_outcome c d (finding.Refused bad_handle_error))
   refuses v = runs_fault (ls v) d bad_handle_error 0 ground.old (omega arith) (omega arith) ground.held
@@ -141,7 +151,7 @@ module _ {L : LinkedSet} {x : Starts} {d : Finders} {merged : Module} {stages : 
   less_code = Index 0x20 0 ∷ number 2 ∷ Plain 0x49 ∷ []
 
   abbrev search_code : List Instr
-  search_code = less_code ++ when (tries_code d L.set.startup) ∷ (handles_code L x d 1 (libraries L) ++ fault_code d bad_handle_error 0)
+  search_code = less_code ++ when (tries_then d (promoted_code L x d) L.set.startup) ∷ (handles_code L x d 1 (libraries L) ++ fault_code d bad_handle_error 0)
 
   less_tested : (v a : ℕ) (z : Bool) → low W32 h ≡ a → nat_lt a 2 ≡ z → Runs merged x less_code c (ls v) [] (Passes c (ls v) (Num (one_if z) ∷ []))
   less_tested v a z e q =
@@ -150,49 +160,49 @@ module _ {L : LinkedSet} {x : Starts} {d : Finders} {merged : Module} {stages : 
       subst (λ b. Runs merged x less_code c (ls v) [] (Passes c (ls v) (Num (one_if b) ∷ []))) same
       (runs_then o (runs_get 0 (Num h) [] refl) (runs_then o (runs_does (ls v) (does_number 2 (Num h ∷ []) (omega arith))) (runs_does (ls v) (does_less h 2 []))))
 
-  from_main : (a : ℕ) → low W32 h ≡ a → nat_lt a 2 ≡ true → Runs merged x search_code c (ls 0) [] (finding_outcome c d (sought L s L.set.startup))
+  from_main : (a : ℕ) → low W32 h ≡ a → nat_lt a 2 ≡ true → Runs merged x search_code c (ls 0) [] (finding_outcome c d (sought L s (L.set.startup ++ promoted)))
   from_main a e q =
-      let o = finding_outcome c d (sought L s L.set.startup) in
-      let end = finding_ends c d (sought L s L.set.startup) in
+      let o = finding_outcome c d (sought L s (L.set.startup ++ promoted)) in
+      let end = finding_ends c d (sought L s (L.set.startup ++ promoted)) in
       let all = All-same (λ m. m < length L.set.members) L.set.startup (closure L.set 0) set.startup (closure_inside L.set set 0 set.some) in
       runs_then o (less_tested 0 a true e q)
-      (runs_ends (handles_code L x d 1 (libraries L) ++ fault_code d bad_handle_error 0) o end (runs_when 1 0 o refl end (tries L.set.startup all 0)))
+      (runs_ends (handles_code L x d 1 (libraries L) ++ fault_code d bad_handle_error 0) o end (runs_when 1 0 o refl end (tries_all L.set.startup all 0)))
 
   from_handle : (i : ℕ) → low W32 h ≡ suc (suc i) → Runs merged x search_code c (ls 0) [] (finding_outcome c d (placed_finding L stages s (suc i)))
   from_handle i e =
       let o = finding_outcome c d (placed_finding L stages s (suc i)) in
       let many : 1 + length (libraries L) ≡ length L.set.members = (let some = set.some in let rest = length-drop 1 L.set.members in omega arith) in
       runs_then o (less_tested 0 (suc (suc i)) false e (grind (arith, nat_tests)))
-      (runs_then o (runs_over (tries_code d L.set.startup) 0 refl) (handles 0 (suc i) 1 (libraries L) many e (omega arith)))
+      (runs_then o (runs_over (tries_then d (promoted_code L x d) L.set.startup) 0 refl) (handles 0 (suc i) 1 (libraries L) many e (omega arith)))
 
   -- what is found by a handle
-  by_handle : (a : ℕ) → low W32 h ≡ a → Runs merged x search_code c (ls 0) [] (finding_outcome c d (find_named L stages a (Some s)))
+  by_handle : (a : ℕ) → low W32 h ≡ a → Runs merged x search_code c (ls 0) [] (finding_outcome c d (find_named L stages promoted a (Some s)))
   by_handle zero e = from_main 0 e refl
   by_handle (suc zero) e = from_main 1 e refl
   by_handle (suc (suc i)) e = subst (λ f. Runs merged x search_code c (ls 0) [] (finding_outcome c d f)) (sym same) (from_handle i e)
     where
-      same : find_named L stages (suc (suc i)) (Some s) ≡ placed_finding L stages s (suc i)
+      same : find_named L stages promoted (suc (suc i)) (Some s) ≡ placed_finding L stages s (suc i)
       same = rw (not_zero (suc i), not_zero i) refl
 
 module _ {L : LinkedSet} {x : Starts} {d : Finders} {merged : Module} {stages : List ℕ} {c : Changing} (ground : Ground L x d merged stages c)
-    (set : IsSet L.set) (links : Links L) (h : ℕ) where
+    {promoted : List ℕ} (placed : PlacesHeld L x promoted c) (set : IsSet L.set) (links : Links L) (h : ℕ) where
   pub symbol_answers : (p : ℕ)
-      → Answers merged x (symbol_call_code L x d) c (Num h ∷ Num p ∷ Num 0 ∷ Num 0 ∷ []) (finding_outcome c d (symbol_answer L stages c.memory (low W32 h) (low W32 p)))
+      → Answers merged x (symbol_call_code L x d) c (Num h ∷ Num p ∷ Num 0 ∷ Num 0 ∷ Num 0 ∷ Num 0 ∷ []) (finding_outcome c d (symbol_answer L stages promoted c.memory (low W32 h) (low W32 p)))
   unfolding symbol_call_code
   symbol_answers p = answers_runs (go (string_at c.memory (low W32 p)) refl)
     where
       begun : List Value
-      begun = Num h ∷ Num p ∷ Num 0 ∷ Num 0 ∷ []
+      begun = Num h ∷ Num p ∷ Num 0 ∷ Num 0 ∷ Num 0 ∷ Num 0 ∷ []
 
       rest : List Instr
-      rest = Index 0x21 2 ∷ Index 0x20 0 ∷ number 2 ∷ Plain 0x49 ∷ when (tries_code d L.set.startup) ∷ (handles_code L x d 1 (libraries L) ++ fault_code d bad_handle_error 0)
+      rest = Index 0x21 2 ∷ Index 0x20 0 ∷ number 2 ∷ Plain 0x49 ∷ when (tries_then d (promoted_code L x d) L.set.startup) ∷ (handles_code L x d 1 (libraries L) ++ fault_code d bad_handle_error 0)
 
       go : (o : Option (List ℕ)) → string_at c.memory (low W32 p) ≡ o
-          → Runs merged x (Index 0x20 1 ∷ Index 0x10 d.length ∷ rest) c begun [] (finding_outcome c d (find_named L stages (low W32 h) o))
+          → Runs merged x (Index 0x20 1 ∷ Index 0x10 d.length ∷ rest) c begun [] (finding_outcome c d (find_named L stages promoted (low W32 h) o))
       go None q =
           let o = Fails c MemoryBounds in
           runs_then o (runs_get 1 (Num p) [] refl) (runs_ends rest o tt (fails_length ground p begun q))
       go (Some s) q =
-          let o = finding_outcome c d (find_named L stages (low W32 h) (Some s)) in
+          let o = finding_outcome c d (find_named L stages promoted (low W32 h) (Some s)) in
           runs_then o (runs_get 1 (Num p) [] refl) (runs_then o (runs_length ground p begun s q)
-          (runs_then o (runs_set 2 (Num (length s)) (Num 0) [] refl) (by_handle ground set links h p s q (low W32 h) refl)))
+          (runs_then o (runs_set 2 (Num (length s)) (Num 0) [] refl) (by_handle ground placed set links h p s q (low W32 h) refl)))

@@ -23,9 +23,9 @@ use Rattle.merge_match.specs.Bounded.{IsBounded}
 use Rattle.merge_match.proofs.Bounded.{bounded_ends}
 use Rattle.merge_start.specs.Words.{Starts, number}
 use Rattle.merge_start.specs.Running.{Changing, trapped_at, Reaches}
-use Rattle.merge_start.proofs.Reaching.{reaches_then, one_step, does_number}
+use Rattle.merge_start.proofs.Reaching.{reaches_then, one_step, does_number, does_add}
 use Rattle.merge_dl.specs.Words.{when, length_code}
-use Rattle.merge_dl.proofs.Operators.{does_add, does_sub, does_load, does_load_past}
+use Rattle.merge_dl.proofs.Operators.{does_sub, does_load, does_load_past}
 use Rattle.merge_dl.proofs.Sites.{bottom, back_with, leaves_with, Leads, Site, spot, Outcome, Passes, Gives, Fails, Runs, Answers, inner, into_when, over_when, runs_then, runs_does, runs_fails, runs_get, runs_set}
 
 -- ---- lists

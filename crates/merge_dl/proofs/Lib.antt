@@ -7,6 +7,9 @@ pub mod SlotWords
 pub mod Defined
 pub mod Searches
 pub mod Tries
+pub mod Firsts
+pub mod Candidates
+pub mod Preferred
 pub mod Grounds
 pub mod Handles
 pub mod Closes

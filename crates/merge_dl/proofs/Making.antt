@@ -1,11 +1,12 @@
 -- What is made of what is kept of a linked set is what the set has.
-use Rattle.std.proofs.Common.{◌≡◌, ◌<◌, ◌≤◌, ℕ, zero, suc, ◌+◌, ◌^◌, List, [], ◌∷◌, ◌++◌, length, map, drop, get_or, nat_lt, ◌&&◌, true, if◌then◌else◌, Option, Some, None, refl, sym, ap, ap₂, ◌∙◌, arith, append_assoc, append-nil}
+use Rattle.std.proofs.Common.{◌≡◌, ◌<◌, ◌≤◌, ℕ, zero, suc, ◌+◌, ◌-◌, ◌^◌, List, [], ◌∷◌, ◌++◌, length, map, drop, get_or, nat_lt, ◌&&◌, Bool, true, false, if◌then◌else◌, Option, Some, None, refl, sym, ap, ap₂, ◌∙◌, arith, append_assoc, append-nil}
 use Rattle.std.proofs.Math.Path.{fun_ext}
 use Rattle.std.proofs.lemmas.Bool.{lt-ltb}
 use Rattle.std.proofs.lemmas.List.{drop_all, at_drop_more}
-use Rattle.std.specs.List.{list_all, filter_map, flat_map, cons_option}
+use Rattle.std.specs.Prelude.{not}
+use Rattle.std.specs.List.{list_all, filter, filter_map, flat_map, cons_option, range_with_len}
 use Rattle.wasm_form.specs.declared.types.FuncType.{FuncType}
-use Rattle.wasm_form.specs.declared.instr.Instr.{Instr, Index}
+use Rattle.wasm_form.specs.declared.instr.Instr.{Instr, Plain, Index}
 use Rattle.wasm_form.specs.declared.module.Group.{Group}
 use Rattle.wasm_form.specs.declared.module.Export.{Export}
 use Rattle.wasm_form.specs.declared.module.Module.{Module}
@@ -15,33 +16,20 @@ use Rattle.spec_loading.specs.spec_linking.Plans.{texts_size, end_of, regions_of
 use Rattle.spec_loading.specs.spec_linking.Slots.{linked_plan}
 use Rattle.spec_loading.proofs.of_spec_linking.Placing.{above, end_above}
 use Rattle.spec_loading.specs.spec_linking.Definitions.{Definition, MemberFunction, MemberData, LoaderFunction, HeapBase, HeapEnd, HostFunction, WeakSymbol, Undefined, or_defined}
-use Rattle.spec_loading.specs.spec_linking.Orders.{closure}
+use Rattle.spec_loading.specs.spec_linking.Orders.{is_among, closure}
 use Rattle.spec_loading.specs.spec_linking.LinkedSets.{LinkedSet}
-use Rattle.spec_loading.specs.LoaderAnswers.{no_module_error, bad_handle_error, bad_close_error, not_closed}
+use Rattle.spec_loading.specs.LoaderAnswers.{no_module_error, bad_handle_error, bad_close_error, not_closed, global_flag, later_members}
 use Rattle.spec_loading.specs.Members.{from_members}
 use Rattle.dyl_link.specs.dyl_search.declared.set.Member as declared
 use Rattle.dyl_link.specs.dyl_search.Gathers.{member_of}
 use Rattle.merge_match.specs.Parts.{number_of}
-use Rattle.merge_start.specs.Words.{Starts}
+use Rattle.merge_start.specs.Words.{Starts, number, promote_one, promote_each}
 use Rattle.wasm_form.specs.declared.module.Part.{Part}
-use Rattle.merge_dl.specs.Words.{Finders, may_be_string, named_code, named_codes, name_number, search_code, wide, return_code, members_code, open_call_code, tries_code, handles_code, libraries, symbol_call_code, closes_code, close_call_code, error_call_code, when, give_code, fault_code, is_local, code_with, handle_type, unary_type, binary_type, one_i32, one_i64}
-use Rattle.merge_dl.specs.Listed.{AreDlNumbers, starts_in, finders_in, open_begin, symbol_begin, found_code, export_code, call_part}
+use Rattle.merge_find.specs.Decisions.{Named, search_code, strings}
+use Rattle.merge_dl.specs.Words.{Finders, return_code, opens_code, named_members, open_goal, members_code, open_call_code, tries_code, tries_then, prefer_code, prefers_code, preferred_code, promoted_code, candidates, last_place, handles_code, libraries, symbol_locals, symbol_call_code, closes_code, close_call_code, error_call_code, when, give_code, fault_code, is_local, code_with, handle_type, unary_type, binary_type, one_i32}
+use Rattle.merge_dl.specs.Listed.{AreDlNumbers, starts_in, finders_in, open_begin, call_part}
+use Rattle.merge_dl.proofs.Searches.{strings_then}
 use Rattle.merge_dl.specs.declared.numbers.DlNumbers.{DlNumbers}
-
--- ---- names
-
-abbrev AreBytes : List ℕ → Type 0
-AreBytes text = (i : ℕ) → get_or text i 0 < 256
-
-bytes_all : (bs : List ℕ) → AreBytes bs → list_all (λ b. nat_lt b (2 ^ 32)) bs ≡ true
-bytes_all [] f = refl
-bytes_all (b ∷ bs) f = rw (lt-ltb b (2 ^ 32) (omega (arith, f 0)), bytes_all bs (λ i. f (suc i))) refl
-
-pub named_made : (len : ℕ) (name : List ℕ) (code : List Instr) → length name < 2 ^ 32 → AreBytes name
-    → named_code len name code ∷ [] ≡ named_codes len name code
-named_made len name code short bytes =
-    let so : may_be_string name ≡ true = ap₂ (λ a b. a && b) (lt-ltb (length name) (2 ^ 32) short) (bytes_all name bytes) in
-    sym (ap (λ b. if b then named_code len name code ∷ [] else []) so)
 
 -- ---- the names of a member
 
@@ -54,18 +42,6 @@ or_nothing (MemberData k place) = refl
 or_nothing HostFunction = refl
 or_nothing WeakSymbol = refl
 or_nothing Undefined = refl
-
-search_next : (o : Option (List ℕ × ℕ)) (xs : List (List ℕ × ℕ)) → search_code (cons_option o xs) ≡ found_code o ++ search_code xs
-search_next None xs = refl
-search_next (Some x) xs = refl
-
-pub search_made : (L : LinkedSet) (m : ℕ) (es : List Export)
-    → search_code (filter_map (name_number L m) es) ≡ flat_map (export_code L m) es ++ wide 0 ∷ []
-search_made L m [] = refl
-search_made L m (e ∷ es) =
-    search_next (name_number L m e) (filter_map (name_number L m) es)
-    ∙ ap (λ l. export_code L m e ++ l) (search_made L m es)
-    ∙ sym (append_assoc (export_code L m e) (flat_map (export_code L m) es) (wide 0 ∷ []))
 
 -- ---- the texts of errors
 
@@ -124,25 +100,92 @@ put_last all none m xs le to whole before = sym (append-nil to) ∙ ap (λ l. to
 
 -- ---- the code of the functions of the loader
 
-module _ (L : LinkedSet) (x : Starts) (d : Finders) (begun put all : List Instr) (ms : List Member) (same : ms ≡ L.set.members) where
-  pub open_made : begun ≡ open_begin d → put ≡ begun ++ members_code x 0 ms → all ≡ put ++ fault_code d no_module_error 0 → all ≡ open_call_code L x d
-  unfolding open_call_code
-  open_made a b c =
-      let last = fault_code d no_module_error 0 in
-      c
-      ∙ ap (λ l. l ++ last) (b ∙ ap₂ (λ u v. u ++ members_code x 0 v) a same)
-      ∙ append_assoc (open_begin d) (members_code x 0 L.set.members) last
+pub open_made : (L : LinkedSet) (x : Starts) (d : Finders) (begun search all : List Instr) → begun ≡ open_begin d → search ≡ members_code L x d → all ≡ begun ++ search
+    → all ≡ open_call_code L x d
+unfolding open_call_code
+open_made L x d begun search all a b c = c ∙ ap₂ (λ u v. u ++ v) a b
+
+-- the name of a member comes before the names of those behind it
+pub named_next : (L : LinkedSet) (x : Starts) (ms : List declared.Member) (j : ℕ) (y : declared.Member) → j < length ms → y ≡ get_or ms j y → (m : ℕ)
+    → (to more whole : List Named) → more ≡ to ++ strings (((member_of y).name, opens_code L x m) ∷ [])
+    → to ++ strings (named_members L x m (map member_of (drop j ms))) ≡ whole → more ++ strings (named_members L x (m + 1) (map member_of (drop (j + 1) ms))) ≡ whole
+named_next L x ms j y lt item m to more whole put before =
+    let rest = drop (j + 1) ms in
+    let later = named_members L x (m + 1) (map member_of rest) in
+    let this : Named = ((member_of y).name, opens_code L x m) in
+    let from : List declared.Member → List Named = λ l. to ++ strings (named_members L x m (map member_of l)) in
+    ap (λ l. l ++ strings later) put
+    ∙ append_assoc to (strings (this ∷ [])) (strings later)
+    ∙ ap (λ l. to ++ l) (sym (strings_then this later))
+    ∙ ap (λ (z : declared.Member). from (z ∷ rest)) item
+    ∙ sym (at_drop_more from ms j y lt)
+    ∙ before
+
+-- ---- promoted members
+
+module _ (L : LinkedSet) (x : Starts) (d : Finders) (put all : List Instr) where
+  pub promoted_made : {one : Instr} {code preferred : List Instr} {startup : List ℕ} {count : ℕ} → startup ≡ L.set.startup → count ≡ length L.set.members
+      → one ≡ number last_place → code ≡ one ∷ Index 0x21 5 ∷ [] → put ≡ code ++ prefers_code x d (filter (λ k. not (is_among k startup)) (range_with_len 0 count))
+      → preferred ≡ preferred_code d → all ≡ put ++ preferred → all ≡ promoted_code L x d
+  promoted_made {one} {code} {preferred} {startup} {count} a b first begins puts last whole =
+      let searched : List ℕ → ℕ → List Instr = λ ms k. prefers_code x d (filter (λ i. not (is_among i ms)) (range_with_len 0 k)) in
+      whole
+      ∙ ap₂ (λ u v. u ++ v) (puts ∙ ap₂ (λ u v. u ++ v) (begins ∙ ap (λ i. i ∷ Index 0x21 5 ∷ []) first) (ap₂ searched a b)) last
+
+prefers_joined : (x : Starts) (d : Finders) (ks js : List ℕ) → prefers_code x d (ks ++ js) ≡ prefers_code x d ks ++ prefers_code x d js
+prefers_joined x d [] js = refl
+prefers_joined x d (k ∷ ks) js =
+    ap (λ l. prefer_code x d k ++ l) (prefers_joined x d ks js)
+    ∙ sym (append_assoc (prefer_code x d k) (prefers_code x d ks) (prefers_code x d js))
+
+kept_first : (test : ℕ → Bool) (k : ℕ) (ks : List ℕ) → filter test (k ∷ ks) ≡ filter test (k ∷ []) ++ filter test ks
+kept_first test k ks = go (test k) refl
+  where
+    go : (z : Bool) → test k ≡ z → filter test (k ∷ ks) ≡ filter test (k ∷ []) ++ filter test ks
+    go true e = rw e refl
+    go false e = rw e refl
+
+-- the first of some members, and then the others
+pub prefers_next : (x : Starts) (d : Finders) (test : ℕ → Bool) (k count : ℕ) → k < count → (to more whole : List Instr)
+    → more ≡ to ++ prefers_code x d (filter test (k ∷ [])) → to ++ prefers_code x d (filter test (range_with_len k (count - k))) ≡ whole
+    → more ++ prefers_code x d (filter test (range_with_len (k + 1) (count - (k + 1)))) ≡ whole
+prefers_next x d test k count lt to more whole put before =
+    let rest = range_with_len (k + 1) (count - (k + 1)) in
+    let many : count - k ≡ suc (count - (k + 1)) = omega (arith, lt) in
+    let code = prefers_code x d in
+    ap (λ l. l ++ code (filter test rest)) put
+    ∙ append_assoc to (code (filter test (k ∷ []))) (code (filter test rest))
+    ∙ ap (λ l. to ++ l) (sym (prefers_joined x d (filter test (k ∷ [])) (filter test rest)) ∙ ap code (sym (kept_first test k rest)))
+    ∙ ap (λ i. to ++ code (filter test (range_with_len k i))) (sym many)
+    ∙ before
 
 -- ---- by the numbers of a set
 
-members_same : (x y : Starts) (m : ℕ) (ms : List Member) → ((j : ℕ) → j < length ms → x.opening (m + j) ≡ y.opening (m + j))
-    → members_code x m ms ≡ members_code y m ms
-members_same x y m [] same = refl
-members_same x y m (a ∷ ms) same =
-    let first : m ≡ m + 0 = omega arith in
-    let here : x.opening m ≡ y.opening m = ap x.opening first ∙ same 0 (omega arith) ∙ ap y.opening (sym first) in
-    ap₂ (λ f l. named_codes 2 a.name (Index 0x10 f ∷ return_code) ++ l) here
-    (members_same x y (m + 1) ms (λ j lt. let on : m + 1 + j ≡ m + suc j = omega arith in ap x.opening on ∙ same (suc j) (omega arith) ∙ ap y.opening (sym on)))
+module _ (x y : Starts) (promoted : x.promoted ≡ y.promoted) where
+  promote_same : (ks : List ℕ) → promote_each x ks ≡ promote_each y ks
+  promote_same [] = refl
+  promote_same (k ∷ ks) = ap₂ (λ p l. promote_one (record x { promoted = p }) k ++ l) promoted (promote_same ks)
+
+  prefers_same : (d : Finders) (ks : List ℕ) → prefers_code x d ks ≡ prefers_code y d ks
+  prefers_same d [] = refl
+  prefers_same d (k ∷ ks) = ap₂ (λ p l. prefer_code (record x { promoted = p }) d k ++ l) promoted (prefers_same d ks)
+
+  promoted_same : (L : LinkedSet) (d : Finders) → promoted_code L x d ≡ promoted_code L y d
+  promoted_same L d = ap (λ l. number last_place ∷ Index 0x21 5 ∷ (l ++ preferred_code d)) (prefers_same d (candidates L.set))
+
+  opens_same : (L : LinkedSet) (m : ℕ) → x.opening m ≡ y.opening m → opens_code L x m ≡ opens_code L y m
+  opens_same L m same =
+      ap₂ (λ f l. Index 0x20 1 ∷ number global_flag ∷ Plain 0x71 ∷ when (Index 0x10 f ∷ (l ++ return_code)) ∷ Index 0x10 f ∷ return_code) same
+      (promote_same (later_members L.set m))
+
+  members_same : (L : LinkedSet) (m : ℕ) (ms : List Member) → ((j : ℕ) → j < length ms → x.opening (m + j) ≡ y.opening (m + j))
+      → named_members L x m ms ≡ named_members L y m ms
+  members_same L m [] same = refl
+  members_same L m (a ∷ ms) same =
+      let first : m ≡ m + 0 = omega arith in
+      let here : x.opening m ≡ y.opening m = ap x.opening first ∙ same 0 (omega arith) ∙ ap y.opening (sym first) in
+      ap₂ (λ c l. (a.name, c) ∷ l) (opens_same L m here)
+      (members_same L (m + 1) ms (λ j lt. let on : m + 1 + j ≡ m + suc j = omega arith in ap x.opening on ∙ same (suc j) (omega arith) ∙ ap y.opening (sym on)))
 
 handles_same : (L : LinkedSet) (x y : Starts) (d : Finders) → x.guards ≡ y.guards → (m : ℕ) (ms : List Member) → handles_code L x d m ms ≡ handles_code L y d m ms
 handles_same L x y d same m [] = refl
@@ -174,20 +217,23 @@ module _ (L : LinkedSet) (n : DlNumbers) (x : Starts) (d : Finders) (h : AreDlNu
   guards_same : (starts_in n).guards ≡ x.guards
   guards_same = sym h.guards
 
-  opens_same : (j : ℕ) → j < length L.set.members → (starts_in n).opening (0 + j) ≡ x.opening (0 + j)
-  opens_same j lt = (let first : 0 + j ≡ j = omega arith in rw first (ap number_of (h.opens j lt)))
+  opening_same : (j : ℕ) → j < length L.set.members → (starts_in n).opening (0 + j) ≡ x.opening (0 + j)
+  opening_same j lt = (let first : 0 + j ≡ j = omega arith in rw first (ap number_of (h.opens j lt)))
 
   open_same : open_call_code L (starts_in n) (finders_in n) ≡ open_call_code L x d
   unfolding open_call_code
   open_same =
       ap (λ f. open_call_code L (starts_in n) f) finders_same
-      ∙ ap (λ l. open_begin d ++ (l ++ fault_code d no_module_error 0)) (members_same (starts_in n) x 0 L.set.members opens_same)
+      ∙ ap (λ l. open_begin d ++ search_code (open_goal d) (strings l)) (members_same (starts_in n) x (sym h.promoted) L 0 L.set.members opening_same)
 
   symbol_same : symbol_call_code L (starts_in n) (finders_in n) ≡ symbol_call_code L x d
   unfolding symbol_call_code
   symbol_same =
       ap (λ f. symbol_call_code L (starts_in n) f) finders_same
-      ∙ ap (λ l. symbol_begin d L.set.startup ++ (l ++ fault_code d bad_handle_error 0)) (handles_same L (starts_in n) x d guards_same 1 (libraries L))
+      ∙ ap₂ (λ p l.
+      Index 0x20 1 ∷ Index 0x10 d.length ∷ Index 0x21 2 ∷ Index 0x20 0 ∷ number 2 ∷ Plain 0x49 ∷ when (tries_then d p L.set.startup)
+      ∷ (l ++ fault_code d bad_handle_error 0))
+      (promoted_same (starts_in n) x (sym h.promoted) L d) (handles_same L (starts_in n) x d guards_same 1 (libraries L))
 
   close_same : close_call_code L (starts_in n) (finders_in n) ≡ close_call_code L x d
   unfolding close_call_code
@@ -200,9 +246,9 @@ module _ (L : LinkedSet) (n : DlNumbers) (x : Starts) (d : Finders) (h : AreDlNu
         → record { ty = ty; code = code_with locals code } ≡ call_part L x d Dlopen
     open_part a b c = part_same ty binary_type locals (one_i32 ∷ []) code (open_call_code L x d) a b (c ∙ open_same)
 
-    pub symbol_part : ty ≡ binary_type → locals ≡ one_i32 ∷ one_i64 ∷ [] → code ≡ symbol_call_code L (starts_in n) (finders_in n)
+    pub symbol_part : ty ≡ binary_type → locals ≡ symbol_locals → code ≡ symbol_call_code L (starts_in n) (finders_in n)
         → record { ty = ty; code = code_with locals code } ≡ call_part L x d Dlsym
-    symbol_part a b c = part_same ty binary_type locals (one_i32 ∷ one_i64 ∷ []) code (symbol_call_code L x d) a b (c ∙ symbol_same)
+    symbol_part a b c = part_same ty binary_type locals symbol_locals code (symbol_call_code L x d) a b (c ∙ symbol_same)
 
     pub close_part : ty ≡ unary_type → locals ≡ [] → code ≡ close_call_code L (starts_in n) (finders_in n)
         → record { ty = ty; code = code_with locals code } ≡ call_part L x d Dlclose

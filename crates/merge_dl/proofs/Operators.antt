@@ -11,25 +11,14 @@ use Rattle.wasm_form.specs.declared.runtime.Trap.TheVariants.{MemoryBounds}
 use Rattle.wasm_form.specs.declared.runtime.Value.{Value}
 use Rattle.wasm_form.specs.declared.runtime.Value.TheVariants.{Num}
 use Rattle.spec_loading.specs.spec_runtime.Memories.{little_value, bytes_at}
-use Rattle.spec_loading.specs.spec_runtime.Numerics.{W32, W64, iadd, isub}
+use Rattle.spec_loading.specs.spec_runtime.Numerics.{W32, W64, isub}
 use Rattle.spec_loading.specs.spec_execution.Values.{low}
 use Rattle.spec_loading.specs.spec_execution.Activations.{one_if}
 use Rattle.merge_start.specs.Running.{Changing, Does}
 use Rattle.merge_start.proofs.Reaching.{one_step}
-use Rattle.merge_dl.specs.Words.{wide}
+use Rattle.merge_find.proofs.Steps.{byte_there}
 
 -- ---- reading a byte
-
-one_item : (bytes : List ℕ) (i b : ℕ) → slice_get bytes i ≡ Some b → take 1 (drop i bytes) ≡ b ∷ []
-one_item [] i b e = absurd cc
-one_item (x ∷ xs) zero b e = (let same : x ≡ b = cc in ap (λ y. y ∷ []) same)
-one_item (x ∷ xs) (suc i) b e = one_item xs i b e
-
-byte_there : (bytes : List ℕ) (i b : ℕ) → slice_get bytes i ≡ Some b → option_map little_value (bytes_at bytes i 1) ≡ Some b
-byte_there bytes i b e =
-    let inside = slice_get_within bytes i b e in
-    let fits : nat_le (i + 1) (length bytes) ≡ true = grind (arith, nat_tests) in
-    rw (fits, one_item bytes i b e) (ap Some (omega arith))
 
 byte_past : (bytes : List ℕ) (i : ℕ) → slice_get bytes i ≡ None → option_map little_value (bytes_at bytes i 1) ≡ None
 byte_past bytes i e = go (nat_le (i + 1) (length bytes)) refl
@@ -42,25 +31,10 @@ byte_past bytes i e = go (nat_le (i + 1) (length bytes)) refl
         absurd cc
 
 module _ {wasm : Module} where
-  pub does_eqz : {c : Changing} (a : ℕ) (vs : List Value)
-      → Does wasm (Plain 0x45 ∷ []) c (Num a ∷ vs) c (Num (one_if (nat_eq (low W32 a) 0)) ∷ vs) None
-  unfolding out-Instr out
-  does_eqz a vs = record { runs = λ x. one_step refl refl }
-
   pub does_equal : {c : Changing} (a b : ℕ) (vs : List Value)
       → Does wasm (Plain 0x46 ∷ []) c (Num b ∷ Num a ∷ vs) c (Num (one_if (nat_eq (low W32 a) (low W32 b))) ∷ vs) None
   unfolding out-Instr out
   does_equal a b vs = record { runs = λ x. one_step refl refl }
-
-  pub does_differ : {c : Changing} (a b : ℕ) (vs : List Value)
-      → Does wasm (Plain 0x47 ∷ []) c (Num b ∷ Num a ∷ vs) c (Num (one_if (not (nat_eq (low W32 a) (low W32 b)))) ∷ vs) None
-  unfolding out-Instr out
-  does_differ a b vs = record { runs = λ x. one_step refl refl }
-
-  pub does_add : {c : Changing} (a b : ℕ) (vs : List Value)
-      → Does wasm (Plain 0x6A ∷ []) c (Num b ∷ Num a ∷ vs) c (Num (iadd 32 (low W32 a) (low W32 b)) ∷ vs) None
-  unfolding out-Instr out
-  does_add a b vs = record { runs = λ x. one_step refl refl }
 
   pub does_sub : {c : Changing} (a b : ℕ) (vs : List Value)
       → Does wasm (Plain 0x6B ∷ []) c (Num b ∷ Num a ∷ vs) c (Num (isub 32 (low W32 a) (low W32 b)) ∷ vs) None
@@ -81,12 +55,6 @@ module _ {wasm : Module} where
       → Does wasm (Plain 0xA7 ∷ []) c (Num a ∷ vs) c (Num (low W64 a % 2 ^ 32) ∷ vs) None
   unfolding out-Instr out
   does_wrap a vs = record { runs = λ x. one_step refl refl }
-
-  pub does_wide : {c : Changing} (k : ℕ) (vs : List Value) → k < 2 ^ 64 → Does wasm (wide k ∷ []) c vs c (Num k ∷ vs) None
-  unfolding out-Instr out
-  does_wide {c} k vs small = record {
-    runs = λ x. one_step refl (let q : cast_unsigned w64 (cast_signed w64 k) ≡ k = of_z-to_z w64 k small in rw q refl);
-  }
 
   pub does_load : {c : Changing} (a offset b : ℕ) (vs : List Value) → slice_get c.memory.bytes (low W32 a + offset) ≡ Some b
       → Does wasm (Access 0x2D 0 offset ∷ []) c (Num a ∷ vs) c (Num b ∷ vs) None

@@ -20,7 +20,7 @@ use Rattle.spec_loading.specs.spec_execution.Runs as frames
 use Rattle.spec_loading.specs.spec_execution.OneModule.{Starting, ModuleState}
 use Rattle.merge_start.specs.Words.{Starts}
 use Rattle.merge_start.specs.Running.{Changing, Around, at, trapped_at, Reaches, Does}
-use Rattle.merge_start.specs.Points.{HandsOn}
+use Rattle.merge_start.specs.Points.{HandsOn, HandsOnAfter}
 use Rattle.merge_start.specs.Laws.{calls_opening}
 use Rattle.merge_start.proofs.Reaching.{reaches_then, one_step}
 use Rattle.merge_dl.specs.Words.{when}
@@ -63,12 +63,15 @@ pub data Outcome : Type 0 where
   Gives : Changing → Value → Outcome
   Fails : Changing → Trap → Outcome
   Opens : Changing → ℕ → Outcome
+  -- the same, and then some code is gone through before the handle is returned
+  OpensThen : List Instr → Changing → ℕ → Outcome
 
 abbrev pub IsEnd : Outcome → Type 0
 IsEnd (Passes d ms ws) = ⊥
 IsEnd (Gives d v) = Unit {0}
 IsEnd (Fails d why) = Unit {0}
 IsEnd (Opens d m) = Unit {0}
+IsEnd (OpensThen code d m) = Unit {0}
 
 -- silent steps lead from a state to an outcome
 abbrev pub Leads : Module → Starts → ModuleState → Site → Outcome → Type 0
@@ -77,6 +80,8 @@ Leads wasm x t w (Gives d v) = Reaches wasm t (back_with d w v)
 Leads wasm x t w (Fails d why) = Reaches wasm t (trapped_at d why)
 Leads wasm x t w (Opens d m) =
     (b : Activation) × HandsOn b × Reaches wasm t (calls_opening x m b (frames.Active w.caller ∷ w.under) d.units d.memory)
+Leads wasm x t w (OpensThen code d m) =
+    (b : Activation) × HandsOnAfter code b × Reaches wasm t (calls_opening x m b (frames.Active w.caller ∷ w.under) d.units d.memory)
 
 -- wherever this code stands
 pub record Runs (wasm : Module) (x : Starts) (code : List Instr) (c : Changing) (ls vs : List Value) (o : Outcome) : Type 0 where
@@ -115,16 +120,6 @@ module _ {wasm : Module} where
   over_when {c} ls w p a e =
       reaches_then (one_step refl (rw (outs-If Empty (record { list = p }) None, e, leb-zero (length w.below)) refl)) (off_inner ls w)
 
-  pub into_block : {c : Changing} (ls : List Value) (w : Site) (p : List Instr)
-      → Reaches wasm (spot c ls w [] (Block Empty (record { list = p }) ∷ [])) (spot c ls (inner w) [] p)
-  into_block {c} ls w p = rw (append-nil p) (one_step refl (rw (outs-Block Empty (record { list = p }), leb-zero (length w.below)) refl))
-
-  -- a branch out of the innermost block
-  pub breaks_off : {c : Changing} (ls : List Value) (w : Site) (a k : ℕ) (code : List Instr) → low W32 a ≡ suc k
-      → Reaches wasm (spot c ls (inner w) (Num a ∷ []) (Index 0x0D 0 ∷ code)) (spot c ls w [] [])
-  unfolding out-Instr out
-  breaks_off ls w a k code e = one_step refl (rw e refl)
-
   -- the body is done with a number on top, and this is returned
   pub leaves_with : {c : Changing} (ls : List Value) (v : Value) (w : Site)
       → Reaches wasm (spot c ls (record w { below = []; more = []; levels = [] }) (v ∷ []) []) (back_with c w v)
@@ -144,6 +139,7 @@ module _ {wasm : Module} (x : Starts) where
   leads_after w (Gives d v) a b = reaches_then a b
   leads_after w (Fails d why) a b = reaches_then a b
   leads_after w (Opens d m) a b = (b.0, b.1, reaches_then a b.2)
+  leads_after w (OpensThen code d m) a b = (b.0, b.1, reaches_then a b.2)
 
 module _ (wasm : Module) (x : Starts) where
   -- what ends doesn't ask what follows, or in which blocks the code stands
@@ -153,6 +149,7 @@ module _ (wasm : Module) (x : Starts) where
   leads_end t w (Gives d v) end below more levels a = a
   leads_end t w (Fails d why) end below more levels a = a
   leads_end t w (Opens d m) end below more levels a = a
+  leads_end t w (OpensThen code d m) end below more levels a = a
 
   -- code inside a block that ends
   pub out_of : (t : ModuleState) (w : Site) (o : Outcome) → IsEnd o → Leads wasm x t (inner w) o → Leads wasm x t w o
@@ -216,11 +213,6 @@ module _ {wasm : Module} {x : Starts} where
   pub runs_over : {c : Changing} {ls : List Value} (p : List Instr) (a : ℕ) → low W32 a ≡ 0
       → Runs wasm x (when p ∷ []) c ls (Num a ∷ []) (Passes c ls [])
   runs_over {c} {ls} p a e = record { runs = λ w. over_when ls w p a e }
-
-  pub runs_stays : {c : Changing} {ls : List Value} (a : ℕ) → low W32 a ≡ 0
-      → Runs wasm x (Index 0x0D 0 ∷ []) c ls (Num a ∷ []) (Passes c ls [])
-  unfolding out-Instr out
-  runs_stays a e = record { runs = λ w. one_step refl (rw e refl) }
 
   -- ---- returns
 

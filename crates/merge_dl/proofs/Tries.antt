@@ -22,10 +22,10 @@ use Rattle.merge_match.specs.Bounded.{IsBounded}
 use Rattle.merge_start.specs.Words.{Starts}
 use Rattle.merge_start.specs.Running.{Changing}
 use Rattle.merge_start.specs.Started.{IsWord}
-use Rattle.merge_start.proofs.Reaching.{with_global, does_number, does_set}
-use Rattle.merge_dl.specs.Words.{Finders, when, return_code, give_code, fault_code, is_local, found_value, try_code, tries_code}
+use Rattle.merge_start.proofs.Reaching.{with_global, does_number, does_set, does_eqz}
+use Rattle.merge_dl.specs.Words.{Finders, when, return_code, give_code, fault_code, is_local, found_value, try_code, tries_then}
 use Rattle.merge_dl.specs.Called.{defined_number, search_value, SearchesMember}
-use Rattle.merge_dl.proofs.Operators.{does_eqz, does_equal, does_wide_eqz, does_wrap}
+use Rattle.merge_dl.proofs.Operators.{does_equal, does_wide_eqz, does_wrap}
 use Rattle.merge_dl.proofs.Sites.{Outcome, Passes, Gives, Fails, IsEnd, Runs, runs_then, runs_ends, runs_does, runs_get, runs_tee, runs_when, runs_when_on, runs_over, runs_return}
 use Rattle.merge_dl.proofs.Defined.{definition_numbered}
 
@@ -78,28 +78,28 @@ finding_ends c d finding.Trapped = tt
 finding_ends c d (finding.Refused e) = tt
 finding_ends c d (finding.Address k) = tt
 
--- a handle, the address of a name, its length, and what the last search gave
-abbrev pub search_locals : ℕ → ℕ → List ℕ → ℕ → List Value
-search_locals h p s v = Num h ∷ Num p ∷ Num (length s) ∷ Num v ∷ []
+-- a handle, the address of a name, its length, what the last search gave, and what the best of them gave, with its place
+abbrev pub search_locals : ℕ → ℕ → List ℕ → ℕ → ℕ → ℕ → List Value
+search_locals h p s v w b = Num h ∷ Num p ∷ Num (length s) ∷ Num v ∷ Num w ∷ Num b ∷ []
 
 abbrev gets : List Instr
 gets = Index 0x20 3 ∷ Plain 0xA7 ∷ return_code
 
 -- whether there was a number
-abbrev asked : ℕ → ℕ
+abbrev pub asked : ℕ → ℕ
 asked v = one_if (nat_eq (low W32 (one_if (nat_eq (low W64 v) 0))) 0)
 
 abbrev pub sought : LinkedSet → List ℕ → List ℕ → Finding
 sought L s ms = found_number (cell_number L s (searched L.set ms s))
 
-found_wide : (k : ℕ) → k < 2 ^ 32 → nat_eq (low W64 (found_value k)) 0 ≡ false
+pub found_wide : (k : ℕ) → k < 2 ^ 32 → nat_eq (low W64 (found_value k)) 0 ≡ false
 found_wide k small = (let whole : low W64 (found_value k) ≡ found_value k = mod-eq_of_lt (omega arith) in rw whole (grind (arith, nat_tests)))
 
-found_low : (k : ℕ) → k < 2 ^ 32 → low W64 (found_value k) % 2 ^ 32 ≡ k
+pub found_low : (k : ℕ) → k < 2 ^ 32 → low W64 (found_value k) % 2 ^ 32 ≡ k
 found_low k small = (let whole : low W64 (found_value k) ≡ found_value k = mod-eq_of_lt (omega arith) in rw whole (omega arith))
 
 -- the first of two definitions, where it has a number
-first_numbered : (L : LinkedSet) (s : List ℕ) (d other : Definition) (k : ℕ) → cell_number L s d ≡ Some k → cell_number L s (or_defined d other) ≡ Some k
+pub first_numbered : (L : LinkedSet) (s : List ℕ) (d other : Definition) (k : ℕ) → cell_number L s d ≡ Some k → cell_number L s (or_defined d other) ≡ Some k
 first_numbered L s (LoaderFunction call) other k e = e
 first_numbered L s HeapBase other k e = e
 first_numbered L s HeapEnd other k e = e
@@ -111,14 +111,14 @@ first_numbered L s Undefined other k e = absurd cc
 
 module _ (merged : Module) (x : Starts) (c : Changing) (bounded : IsBounded c.memory) (h p : ℕ) (s : List ℕ)
     (known : string_at c.memory (low W32 p) ≡ Some s) (L : LinkedSet) (links : Links L) (d : Finders)
-    (finds : (m : ℕ) → m < length L.set.members → SearchesMember L m merged (d.find m)) (old : Value) (held : slice_get c.units.globals d.error ≡ Some old) where
+    (finds : (m : ℕ) → m < length L.set.members → SearchesMember L m merged (d.find m)) (w b : ℕ) where
   abbrev locals : ℕ → List Value
-  locals v = search_locals h p s v
+  locals v = search_locals h p s v w b
 
   abbrev value : ℕ → ℕ
   value m = search_value (defined_number L m s)
 
-  asks : (m v : ℕ) → m < length L.set.members
+  pub asks : (m v : ℕ) → m < length L.set.members
       → Runs merged x (Index 0x20 1 ∷ Index 0x20 2 ∷ Index 0x10 (d.find m) ∷ Index 0x22 3 ∷ []) c (locals v) [] (Passes c (locals (value m)) (Num (value m) ∷ []))
   asks m v lt =
       let o = Passes c (locals (value m)) (Num (value m) ∷ []) in
@@ -126,7 +126,7 @@ module _ (merged : Module) (x : Starts) (c : Changing) (bounded : IsBounded c.me
       (runs_then o (runs_does (locals v) ((finds m lt).calls c bounded p s known))
       (runs_tee 3 (Num (value m)) (Num v) [] refl)))
 
-  tests : (ls : List Value) (v : ℕ) → Runs merged x (Plain 0x50 ∷ Plain 0x45 ∷ []) c ls (Num v ∷ []) (Passes c ls (Num (asked v) ∷ []))
+  pub tests : (ls : List Value) (v : ℕ) → Runs merged x (Plain 0x50 ∷ Plain 0x45 ∷ []) c ls (Num v ∷ []) (Passes c ls (Num (asked v) ∷ []))
   tests ls v = runs_then (Passes c ls (Num (asked v) ∷ [])) (runs_does ls (does_wide_eqz v [])) (runs_does ls (does_eqz (one_if (nat_eq (low W64 v) 0)) []))
 
   tries_none : (m v : ℕ) → m < length L.set.members → defined_number L m s ≡ None → Runs merged x (try_code d m) c (locals v) [] (Passes c (locals 0) [])
@@ -148,26 +148,29 @@ module _ (merged : Module) (x : Starts) (c : Changing) (bounded : IsBounded c.me
       (runs_return (Num k))) in
       runs_then o asked_it (runs_then o (tests ls (found_value k)) (runs_when (asked (found_value k)) 0 o yes tt gets_it))
 
-  pub runs_tries : (ms : List ℕ) → All (λ m. m < length L.set.members) ms → (v : ℕ)
-      → Runs merged x (tries_code d ms) c (locals v) [] (finding_outcome c d (sought L s ms))
-  runs_tries [] all v = runs_fault (locals v) d no_symbol_error 0 old (omega arith) (omega arith) held
-  runs_tries (m ∷ ms) all v =
-      let later = runs_tries ms (All-tail (λ k. k < length L.set.members) m ms all) 0 in
+  -- the others are searched last
+  pub runs_tries : (last : List Instr) (others : List ℕ) → ((v : ℕ) → Runs merged x last c (locals v) [] (finding_outcome c d (sought L s others)))
+      → (ms : List ℕ) → All (λ m. m < length L.set.members) ms → (v : ℕ)
+      → Runs merged x (tries_then d last ms) c (locals v) [] (finding_outcome c d (sought L s (ms ++ others)))
+  runs_tries last others does [] all v = does v
+  runs_tries last others does (m ∷ ms) all v =
+      let later = runs_tries last others does ms (All-tail (λ k. k < length L.set.members) m ms all) 0 in
       ⊎_elim (none later) some (definition_numbered L links m s)
     where
       lt : m < length L.set.members
       lt = All-head (λ k. k < length L.set.members) m ms all
 
-      none : Runs merged x (tries_code d ms) c (locals 0) [] (finding_outcome c d (sought L s ms)) → member_definition L.set m s ≡ Undefined
-          → Runs merged x (tries_code d (m ∷ ms)) c (locals v) [] (finding_outcome c d (sought L s (m ∷ ms)))
+      none : Runs merged x (tries_then d last ms) c (locals 0) [] (finding_outcome c d (sought L s (ms ++ others))) → member_definition L.set m s ≡ Undefined
+          → Runs merged x (tries_then d last (m ∷ ms)) c (locals v) [] (finding_outcome c d (sought L s (m ∷ (ms ++ others))))
       none later e =
-          let same : sought L s (m ∷ ms) ≡ sought L s ms = ap (λ z. found_number (cell_number L s (or_defined z (searched L.set ms s)))) e in
-          subst (λ f. Runs merged x (tries_code d (m ∷ ms)) c (locals v) [] (finding_outcome c d f)) (sym same)
-          (runs_then (finding_outcome c d (sought L s ms)) (tries_none m v lt (ap (cell_number L s) e)) later)
+          let same : sought L s (m ∷ (ms ++ others)) ≡ sought L s (ms ++ others) = ap (λ z. found_number (cell_number L s (or_defined z (searched L.set (ms ++ others) s)))) e in
+          subst (λ f. Runs merged x (tries_then d last (m ∷ ms)) c (locals v) [] (finding_outcome c d f)) (sym same)
+          (runs_then (finding_outcome c d (sought L s (ms ++ others))) (tries_none m v lt (ap (cell_number L s) e)) later)
 
-      some : (k : ℕ) × (defined_number L m s ≡ Some k) × (k < 2 ^ 32) → Runs merged x (tries_code d (m ∷ ms)) c (locals v) [] (finding_outcome c d (sought L s (m ∷ ms)))
+      some : (k : ℕ) × (defined_number L m s ≡ Some k) × (k < 2 ^ 32)
+          → Runs merged x (tries_then d last (m ∷ ms)) c (locals v) [] (finding_outcome c d (sought L s (m ∷ (ms ++ others))))
       some t =
-          let same : sought L s (m ∷ ms) ≡ finding.Address t.0 =
-          ap found_number (first_numbered L s (member_definition L.set m s) (searched L.set ms s) t.0 t.1) in
-          subst (λ f. Runs merged x (tries_code d (m ∷ ms)) c (locals v) [] (finding_outcome c d f)) (sym same)
-          (runs_ends (tries_code d ms) (Gives c (Num t.0)) tt (tries_some m v t.0 lt t.1 t.2))
+          let same : sought L s (m ∷ (ms ++ others)) ≡ finding.Address t.0 =
+          ap found_number (first_numbered L s (member_definition L.set m s) (searched L.set (ms ++ others) s) t.0 t.1) in
+          subst (λ f. Runs merged x (tries_then d last (m ∷ ms)) c (locals v) [] (finding_outcome c d f)) (sym same)
+          (runs_ends (tries_then d last ms) (Gives c (Num t.0)) tt (tries_some m v t.0 lt t.1 t.2))

@@ -1,7 +1,7 @@
 -- What the functions do that the functions of the loader call: one that gives the length of a string, and for each member one that searches the
 -- names which it defines. Each is said of a call, from wherever it is made, over any store, and over any memory that ends before the last address.
 -- Nothing is said of their code: other code may do the same.
-use Rattle.std.specs.Prelude.{◌≡◌, ℕ, List, [], ◌∷◌, length, Option, Some, None, true, slice_get}
+use Rattle.std.specs.Prelude.{◌≡◌, ℕ, ◌+◌, ◌*◌, List, [], ◌∷◌, length, Option, Some, None, true, slice_get}
 use Rattle.wasm_form.specs.declared.types.FuncType.{FuncType}
 use Rattle.wasm_form.specs.declared.instr.Instr.{Index}
 use Rattle.wasm_form.specs.declared.module.Code.{Code}
@@ -24,15 +24,12 @@ use Rattle.merge_match.specs.Bounded.{IsBounded}
 use Rattle.merge_pieces.specs.Opcodes as op
 use Rattle.merge_start.specs.Running.{Changing, Does}
 use Rattle.wasm_form.specs.declared.module.Part.{Part}
-use Rattle.merge_dl.specs.Words.{found_value, unary_type, search_type}
+pub use Rattle.merge_find.specs.Finding.{HasFunction, search_value}
+use Rattle.merge_find.specs.Counted.{DoesWithin}
+use Rattle.merge_dl.specs.Words.{unary_type, search_type}
 use Rattle.merge_dl.specs.Typed.{HasHeight}
 
 -- ---- calls
-
--- the module itself defines a function of this number, type and code
-pub record HasFunction (merged : Module) (f : ℕ) (ty : FuncType) (body : Code) : Type 0 where
-  pub target : module_target merged f ≡ Some (Own 0 f)
-  pub code : function_at merged f ≡ Some (function_with ty body)
 
 -- A call of the function with these numbers, the last argument first, gives this value, and changes nothing else.
 abbrev pub CallGives : Module → ℕ → Changing → List Value → Value → Type 0
@@ -60,11 +57,6 @@ pub record GivesLengths (wasm : Module) (f : ℕ) : Type 0 where
 abbrev pub defined_number : LinkedSet → ℕ → List ℕ → Option ℕ
 defined_number L m name = cell_number L name (member_definition L.set m name)
 
--- what a search gives: 2^32 with the number that it has found, or 0 where the name isn't defined
-abbrev pub search_value : Option ℕ → ℕ
-search_value None = 0
-search_value (Some k) = found_value k
-
 -- With the address of a string and its length, the function gives what member m defines the name as, or 0.
 pub record SearchesMember (L : LinkedSet) (m : ℕ) (wasm : Module) (f : ℕ) : Type 0 where
   pub calls : (c : Changing) → IsBounded c.memory → (a : ℕ) (s : List ℕ) → string_at c.memory (low W32 a) ≡ Some s
@@ -88,3 +80,11 @@ pub record IsSearchPart (L : LinkedSet) (m : ℕ) (p : Part) : Type 0 where
 pub record AreSearchParts (L : LinkedSet) (parts : List Part) : Type 0 where
   pub count : length parts ≡ length L.set.members
   pub each : (m : ℕ) (p : Part) → slice_get parts m ≡ Some p → IsSearchPart L m p
+
+-- A search makes few steps: at most 200 for each byte of the string, and 1,600, from the state before its call to that after its return. It
+-- calls nothing else.
+abbrev pub AreQuick : LinkedSet → List Part → Type 0
+AreQuick L parts = (m : ℕ) (p : Part) → slice_get parts m ≡ Some p → (wasm : Module) (f : ℕ) → HasFunction wasm f p.ty p.code
+    → (c : Changing) → IsBounded c.memory → (a : ℕ) (s : List ℕ) → string_at c.memory (low W32 a) ≡ Some s
+    → DoesWithin wasm (200 * (length s + 8)) (Index op.call f ∷ []) c.units c.memory (Num (length s) ∷ Num a ∷ [])
+    (Num (search_value (defined_number L m s)) ∷ [])

@@ -13,7 +13,9 @@ use Rattle.merge_match.specs.Parts.{nowhere, number_of}
 use Rattle.merge_pieces.specs.Opcodes as op
 use Rattle.merge_start.specs.Words.{Starts, number}
 use Rattle.wasm_form.specs.declared.module.Part.{Part}
-use Rattle.merge_dl.specs.Words.{Finders, handle_type, unary_type, binary_type, search_type, length_body, find_body, call_body, when, give_code, return_code, fault_code, is_local, tries_code, wide, found_value, named_codes, name_number}
+use Rattle.merge_dl.specs.Words.{Finders, handle_type, unary_type, binary_type, search_type, length_body, find_body, call_body, when, give_code, return_code, fault_code, is_local, tries_then, promoted_code, name_number}
+use Rattle.merge_find.specs.Decisions.{Named, strings}
+use Rattle.merge_find.specs.Finding.{number_code}
 use Rattle.merge_dl.specs.declared.numbers.DlNumbers.{DlNumbers}
 
 -- ---- numbers
@@ -24,6 +26,7 @@ pub record AreDlNumbers (L : LinkedSet) (n : DlNumbers) (x : Starts) (d : Finder
   pub error : d.error ≡ n.error
   pub first : d.length ≡ n.first_function
   pub find : (m : ℕ) → d.find m ≡ n.first_function + 1 + m
+  pub promoted : x.promoted ≡ n.promoted
   pub opens : (m : ℕ) → m < length L.set.members → slice_get n.opens m ≡ Some (x.opening m)
 
 -- what code of the loader's functions takes of them
@@ -34,6 +37,7 @@ starts_in n = record {
   phase = λ m p. nowhere;
   starting = nowhere;
   opening = λ m. number_of (slice_get n.opens m);
+  promoted = n.promoted;
 }
 
 abbrev pub finders_in : DlNumbers → Finders
@@ -70,18 +74,14 @@ byte_code =
 
 -- ---- names
 
--- the byte at a place of a string is compared
-abbrev pub compared_code : ℕ → ℕ → List Instr
-compared_code i b = Index op.local_get 0 ∷ Access op.i32_load8_u 0 i ∷ number b ∷ Plain op.i32_ne ∷ Index op.br_if 0 ∷ []
+-- a name that has a number, with the code of a search for it
+abbrev pub found_names : Option (List ℕ × ℕ) → List Named
+found_names None = []
+found_names (Some x) = strings ((x.0, number_code x.1) ∷ [])
 
--- the code of a name that has a number
-abbrev pub found_code : Option (List ℕ × ℕ) → List Instr
-found_code None = []
-found_code (Some x) = named_codes 1 x.0 (wide (found_value x.1) ∷ return_code)
-
--- the code of a name that an export of a member defines
-abbrev pub export_code : LinkedSet → ℕ → Export → List Instr
-export_code L m e = found_code (name_number L m e)
+-- the name that an export of a member defines
+abbrev pub export_names : LinkedSet → ℕ → Export → List Named
+export_names L m e = found_names (name_number L m e)
 
 -- ---- how dlopen and dlsym begin
 
@@ -92,11 +92,11 @@ open_begin d =
     ∷ Index op.local_get 0 ∷ Index op.call d.length ∷ Index op.local_set 2
     ∷ Index op.local_get 1 ∷ number other_flags ∷ Plain op.i32_and ∷ when (fault_code d bad_flags_error 0) ∷ []
 
--- the length of the name is in local 2; for the handles 0 and 1 some members are searched
-abbrev pub symbol_begin : Finders → List ℕ → List Instr
-symbol_begin d startup =
+-- the length of the name is in local 2; for the handles 0 and 1 the startup list is searched, and then what is promoted
+abbrev pub symbol_begin : LinkedSet → Starts → Finders → List Instr
+symbol_begin L x d =
     Index op.local_get 1 ∷ Index op.call d.length ∷ Index op.local_set 2 ∷ Index op.local_get 0 ∷ number 2 ∷ Plain op.i32_lt_u
-    ∷ when (tries_code d startup) ∷ []
+    ∷ when (tries_then d (promoted_code L x d) L.set.startup) ∷ []
 
 -- ---- errors
 

@@ -15,10 +15,11 @@ pub use Rattle.merge_dl.specs.Called.{HasFunction}
 use Rattle.merge_dl.specs.Called.{GivesLengths, SearchesMember}
 
 -- The texts of errors have addresses; the functions of the loader stand at their numbers, and what stands at those of the length of a string
--- and of the searches does what these do; the global of the error comes behind the guards.
+-- and of the searches does what these do; the global of the error comes behind the guards, and those of promoted members behind that.
 pub record LoaderReady (L : LinkedSet) (n : Numbers) (x : Starts) (d : Finders) (merged : Module) : Type 0 where
   pub texts : (linked_plan L).stack_top + texts_size < 2 ^ 32
   pub error : d.error ≡ x.guards + length L.set.members
+  pub promoted : x.promoted ≡ x.guards + length L.set.members + 1
   pub lengths : GivesLengths merged d.length
   pub finds : (m : ℕ) → m < length L.set.members → SearchesMember L m merged (d.find m)
   pub calls : (which : LoaderCall) → HasFunction merged (n.function (Loader which)) (loader_type which) (call_body L x d which)

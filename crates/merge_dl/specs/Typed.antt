@@ -1,5 +1,5 @@
 -- When the code of the functions of the loader is well typed (WebAssembly Core 2.0, section 3.3): the module has what the code names.
-use Rattle.std.specs.Prelude.{◌≡◌, ℕ, ◌+◌, ◌<◌, ◌++◌, length, Some, true}
+use Rattle.std.specs.Prelude.{◌≡◌, ℕ, ◌+◌, ◌<◌, ◌≤◌, ◌++◌, length, Some, true}
 use Rattle.wasm_form.specs.declared.types.ValType.TheVariants.{I32}
 use Rattle.wasm_form.specs.declared.types.GlobalType.{GlobalType}
 use Rattle.wasm_form.specs.declared.types.FuncType.{FuncType}
@@ -26,6 +26,7 @@ number_type = record { value = I32; mutable = true }
 pub record HasNamed (c : Context) (L : LinkedSet) (x : Starts) (d : Finders) : Type 0 where
   pub memory : c.memory ≡ true
   pub error : c.globals d.error ≡ Some number_type
+  pub promoted : (i : ℕ) → i ≤ length L.set.members → c.globals (x.promoted + i) ≡ Some number_type
   pub guards : (m : ℕ) → m < length L.set.members → c.globals (x.guards + m) ≡ Some number_type
   pub lengths : c.functions d.length ≡ Some unary_type
   pub finds : (m : ℕ) → m < length L.set.members → c.functions (d.find m) ≡ Some search_type

@@ -1,12 +1,11 @@
 -- The code that a merged module has for the functions of the loader: the length of a string, the search among the names of a member, and
 -- `dlopen`, `dlsym`, `dlclose` and `dlerror` themselves. Names stand in code alone, so nothing that a program writes changes an answer.
-use Rattle.std.specs.Prelude.{ℕ, ◌+◌, ◌^◌, List, [], ◌∷◌, ◌++◌, length, drop, nat_lt, Bool, ◌&&◌, Option, Some, None, unwrap_or, slice_get, if◌then◌else◌}
-use Rattle.std.specs.Int.{cast_signed, w64}
-use Rattle.std.specs.List.{filter_map, list_all}
+use Rattle.std.specs.Prelude.{ℕ, ◌+◌, ◌^◌, List, [], ◌∷◌, ◌++◌, length, drop, not, Option, Some, None, unwrap_or, slice_get}
+use Rattle.std.specs.List.{filter, filter_map, range_with_len}
 use Rattle.wasm_form.specs.declared.types.ValType.TheVariants.{I32, I64}
 use Rattle.wasm_form.specs.declared.types.FuncType.{FuncType}
 use Rattle.wasm_form.specs.declared.instr.BlockType.TheVariants.{Empty}
-use Rattle.wasm_form.specs.declared.instr.Instr.{Instr, Plain, Index, Block, Loop, If, Access, I64Const}
+use Rattle.wasm_form.specs.declared.instr.Instr.{Instr, Plain, Index, Loop, Access}
 use Rattle.wasm_form.specs.declared.module.Group.{Group}
 use Rattle.wasm_form.specs.declared.module.Code.{Code}
 use Rattle.wasm_form.specs.declared.module.Export.{Export}
@@ -14,14 +13,18 @@ use Rattle.wasm_form.specs.declared.module.Module.{Module}
 use Rattle.wasm_form.specs.declared.runtime.LoaderCall.{LoaderCall}
 use Rattle.wasm_form.specs.declared.runtime.LoaderCall.TheVariants.{Dlopen, Dlsym, Dlclose, Dlerror}
 use Rattle.spec_loading.specs.spec_binary.Options.{◌>>=◌}
-use Rattle.spec_loading.specs.spec_linking.Sets.{Member}
-use Rattle.spec_loading.specs.spec_linking.Orders.{closure}
+use Rattle.spec_loading.specs.spec_linking.Sets.{Member, ClosedSet}
+use Rattle.spec_loading.specs.spec_linking.Orders.{closure, is_among}
 use Rattle.spec_loading.specs.spec_linking.Definitions.{member_definition}
 use Rattle.spec_loading.specs.spec_linking.LinkedSets.{LinkedSet}
 use Rattle.spec_loading.specs.spec_linking.Slots.{linked_plan, cell_number}
-use Rattle.spec_loading.specs.LoaderAnswers.{bad_flags_error, no_module_error, bad_handle_error, no_symbol_error, bad_close_error, error_offsets, other_flags, not_closed}
+use Rattle.spec_loading.specs.LoaderAnswers.{bad_flags_error, no_module_error, bad_handle_error, no_symbol_error, bad_close_error, error_offsets, other_flags, not_closed, global_flag}
 use Rattle.merge_pieces.specs.Opcodes as op
-use Rattle.merge_start.specs.Words.{Starts, number}
+use Rattle.merge_start.specs.Words.{Starts, number, place_global, promote_code}
+pub use Rattle.merge_find.specs.Decisions.{when, return_code}
+use Rattle.merge_find.specs.Decisions.{Named, Goal, search_code, strings}
+pub use Rattle.merge_find.specs.Finding.{search_type}
+use Rattle.merge_find.specs.Finding.{search_body}
 
 -- The numbers of what is added for them: the global that holds the number of the last error, or 0; the function that gives the length of a
 -- string; and, for each member, the function that searches the names that it defines.
@@ -31,13 +34,6 @@ pub record Finders : Type 0 where
   pub find : ℕ → ℕ
 
 -- ---- pieces
-
--- code that is done once, where a condition holds
-abbrev pub when : List Instr → Instr
-when code = If Empty (record { list = code }) None
-
-abbrev pub return_code : List Instr
-return_code = Plain op.return_ ∷ []
 
 -- the function returns a number
 abbrev pub give_code : ℕ → List Instr
@@ -65,28 +61,6 @@ length_code =
     })
     ∷ Index op.local_get 1 ∷ Index op.local_get 0 ∷ Plain op.i32_sub ∷ []
 
--- ---- names
-
--- the bytes from place i on of the string at the address in local 0 are compared with these; the block is left where one is another
-abbrev pub bytes_code : ℕ → List ℕ → List Instr
-bytes_code i [] = []
-bytes_code i (b ∷ bs) =
-    Index op.local_get 0 ∷ Access op.i32_load8_u 0 i ∷ number b ∷ Plain op.i32_ne ∷ Index op.br_if 0 ∷ bytes_code (i + 1) bs
-
--- Where the string at the address in local 0 is this name, some code is done, which returns. Its length is in a local.
-unfoldable pub named_code : ℕ → List ℕ → List Instr → Instr
-named_code len name code =
-    Block Empty
-    (record { list = Index op.local_get len ∷ number (length name) ∷ Plain op.i32_ne ∷ Index op.br_if 0 ∷ (bytes_code 0 name ++ code) })
-
--- A string in a memory has fewer bytes than there are addresses, each of which is a word.
-abbrev pub may_be_string : List ℕ → Bool
-may_be_string name = nat_lt (length name) (2 ^ 32) && list_all (λ b. nat_lt b (2 ^ 32)) name
-
--- a name that no string is needs no code
-abbrev pub named_codes : ℕ → List ℕ → List Instr → List Instr
-named_codes len name code = if may_be_string name then named_code len name code ∷ [] else []
-
 -- ---- the names that a member defines
 
 -- the slot of the function, or the address of the data, that an export of a member defines
@@ -101,34 +75,32 @@ name_numbers L m wasm = filter_map (name_number L m) wasm.exports
 abbrev pub found_value : ℕ → ℕ
 found_value k = 2 ^ 32 + k
 
-abbrev pub wide : ℕ → Instr
-wide k = I64Const (cast_signed w64 k)
-
--- the names are compared one after the other
-abbrev pub search_code : List (List ℕ × ℕ) → List Instr
-search_code [] = wide 0 ∷ []
-search_code (x ∷ xs) = named_codes 1 x.0 (wide (found_value x.1) ∷ return_code) ++ search_code xs
-
-abbrev pub find_code : LinkedSet → ℕ → Module → List Instr
-find_code L m wasm = search_code (name_numbers L m wasm)
-
 -- ---- dlopen: the address of the name in local 0, flags in local 1
 
--- the function that opens a member is called, and what it gives is returned
-abbrev pub opens_code : Starts → ℕ → List Instr
-opens_code x m = Index op.call (x.opening m) ∷ return_code
+-- The function that opens a member is called, and what it gives is returned; where the flag is set, once the closure is promoted.
+abbrev pub opens_code : LinkedSet → Starts → ℕ → List Instr
+opens_code L x m =
+    Index op.local_get 1 ∷ number global_flag ∷ Plain op.i32_and ∷ when (Index op.call (x.opening m) ∷ (promote_code L x m ++ return_code))
+    ∷ Index op.call (x.opening m) ∷ return_code
 
--- the names of members, numbered from m on
-abbrev pub members_code : Starts → ℕ → List Member → List Instr
-members_code x m [] = []
-members_code x m (member ∷ members) = named_codes 2 member.name (opens_code x m) ++ members_code x (m + 1) members
+-- the names of members, numbered from m on, with what opens them
+abbrev pub named_members : LinkedSet → Starts → ℕ → List Member → List Named
+named_members L x m [] = []
+named_members L x m (member ∷ members) = (member.name, opens_code L x m) ∷ named_members L x (m + 1) members
+
+-- the length of the name is in local 2
+abbrev pub open_goal : Finders → Goal
+open_goal d = record { len = 2; missed = fault_code d no_module_error 0 }
+
+abbrev pub members_code : LinkedSet → Starts → Finders → List Instr
+members_code L x d = search_code (open_goal d) (strings (named_members L x 0 L.set.members))
 
 unfoldable pub open_call_code : LinkedSet → Starts → Finders → List Instr
 open_call_code L x d =
     Index op.local_get 0 ∷ Plain op.i32_eqz ∷ when (give_code 1)
     ∷ Index op.local_get 0 ∷ Index op.call d.length ∷ Index op.local_set 2
     ∷ Index op.local_get 1 ∷ number other_flags ∷ Plain op.i32_and ∷ when (fault_code d bad_flags_error 0)
-    ∷ (members_code x 0 L.set.members ++ fault_code d no_module_error 0)
+    ∷ members_code L x d
 
 -- ---- dlsym: a handle in local 0, the address of the name in local 1
 
@@ -138,10 +110,53 @@ try_code d m =
     Index op.local_get 1 ∷ Index op.local_get 2 ∷ Index op.call (d.find m) ∷ Index op.local_tee 3 ∷ Plain op.i64_eqz ∷ Plain op.i32_eqz
     ∷ when (Index op.local_get 3 ∷ Plain op.i32_wrap_i64 ∷ return_code) ∷ []
 
--- members are searched in order
+-- members are searched in order, and then some other code is done
+abbrev pub tries_then : Finders → List Instr → List ℕ → List Instr
+tries_then d last [] = last
+tries_then d last (m ∷ ms) = try_code d m ++ tries_then d last ms
+
 abbrev pub tries_code : Finders → List ℕ → List Instr
-tries_code d [] = fault_code d no_symbol_error 0
-tries_code d (m ∷ ms) = try_code d m ++ tries_code d ms
+tries_code d ms = tries_then d (fault_code d no_symbol_error 0) ms
+
+-- The place of a member among the promoted ones, counted from 0; a member that isn't promoted has the last place of all.
+abbrev pub before_code : Starts → ℕ → List Instr
+before_code x k = Index op.global_get (place_global x k) ∷ number 1 ∷ Plain op.i32_sub ∷ []
+
+-- what was found goes to local 4, and its place to local 5
+abbrev pub keep_code : Starts → ℕ → List Instr
+keep_code x k = before_code x k ++ (Index op.local_set 5 ∷ Index op.local_get 3 ∷ Index op.local_set 4 ∷ [])
+
+-- a member is searched, and a number that it has is kept
+abbrev pub ask_code : Starts → Finders → ℕ → List Instr
+ask_code x d k =
+    Index op.local_get 1 ∷ Index op.local_get 2 ∷ Index op.call (d.find k) ∷ Index op.local_tee 3 ∷ Plain op.i64_eqz ∷ Plain op.i32_eqz
+    ∷ when (keep_code x k) ∷ []
+
+-- where its place is before the one in local 5
+abbrev pub prefer_code : Starts → Finders → ℕ → List Instr
+prefer_code x d k = before_code x k ++ (Index op.local_get 5 ∷ Plain op.i32_lt_u ∷ when (ask_code x d k) ∷ [])
+
+abbrev pub prefers_code : Starts → Finders → List ℕ → List Instr
+prefers_code x d [] = []
+prefers_code x d (k ∷ ks) = prefer_code x d k ++ prefers_code x d ks
+
+-- the members that may be promoted
+abbrev pub candidates : ClosedSet → List ℕ
+candidates S = filter (λ k. not (is_among k S.startup)) (range_with_len 0 (length S.members))
+
+-- every other place is before it
+abbrev pub last_place : ℕ
+last_place = 4294967295
+
+-- the number that was kept is returned, if there is one
+abbrev pub preferred_code : Finders → List Instr
+preferred_code d =
+    Index op.local_get 4 ∷ Plain op.i64_eqz ∷ Plain op.i32_eqz ∷ when (Index op.local_get 4 ∷ Plain op.i32_wrap_i64 ∷ return_code)
+    ∷ fault_code d no_symbol_error 0
+
+-- of the promoted members that have a number, that of the first is returned
+abbrev pub promoted_code : LinkedSet → Starts → Finders → List Instr
+promoted_code L x d = number last_place ∷ Index op.local_set 5 ∷ (prefers_code x d (candidates L.set) ++ preferred_code d)
 
 -- where local 0 is the handle of a member that has been placed, its closure is searched
 abbrev pub handle_code : LinkedSet → Starts → Finders → ℕ → List Instr
@@ -161,7 +176,7 @@ libraries L = drop 1 L.set.members
 unfoldable pub symbol_call_code : LinkedSet → Starts → Finders → List Instr
 symbol_call_code L x d =
     Index op.local_get 1 ∷ Index op.call d.length ∷ Index op.local_set 2
-    ∷ Index op.local_get 0 ∷ number 2 ∷ Plain op.i32_lt_u ∷ when (tries_code d L.set.startup)
+    ∷ Index op.local_get 0 ∷ number 2 ∷ Plain op.i32_lt_u ∷ when (tries_then d (promoted_code L x d) L.set.startup)
     ∷ (handles_code L x d 1 (libraries L) ++ fault_code d bad_handle_error 0)
 
 -- ---- dlclose: a handle in local 0
@@ -200,9 +215,6 @@ unary_type = record { params = I32 ∷ []; results = I32 ∷ [] }
 abbrev pub binary_type : FuncType
 binary_type = record { params = I32 ∷ I32 ∷ []; results = I32 ∷ [] }
 
-abbrev pub search_type : FuncType
-search_type = record { params = I32 ∷ I32 ∷ []; results = I64 ∷ [] }
-
 abbrev pub code_with : List Group → List Instr → Code
 code_with groups is = record { locals = groups; body = record { list = is } }
 
@@ -212,14 +224,19 @@ one_i32 = record { count = 1; ty = I32 }
 abbrev pub one_i64 : Group
 one_i64 = record { count = 1; ty = I64 }
 
+-- the locals of `dlsym`: the length of the name, what the last search gave, what was kept of them, and its place
+abbrev pub symbol_locals : List Group
+symbol_locals = one_i32 ∷ one_i64 ∷ one_i64 ∷ one_i32 ∷ []
+
 abbrev pub length_body : Code
 length_body = code_with (one_i32 ∷ []) length_code
 
+-- the search among the names that a member defines
 abbrev pub find_body : LinkedSet → ℕ → Module → Code
-find_body L m wasm = code_with [] (find_code L m wasm)
+find_body L m wasm = search_body (name_numbers L m wasm)
 
 abbrev pub call_body : LinkedSet → Starts → Finders → LoaderCall → Code
 call_body L x d Dlopen = code_with (one_i32 ∷ []) (open_call_code L x d)
-call_body L x d Dlsym = code_with (one_i32 ∷ one_i64 ∷ []) (symbol_call_code L x d)
+call_body L x d Dlsym = code_with symbol_locals (symbol_call_code L x d)
 call_body L x d Dlclose = code_with [] (close_call_code L x d)
 call_body L x d Dlerror = code_with (one_i32 ∷ []) (error_call_code L d)

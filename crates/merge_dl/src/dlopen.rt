@@ -1,51 +1,97 @@
 // `dlopen`.
-ghost use Rattle.std.specs.Prelude.{◌≡◌, ◌≤◌, ◌++◌, length, map, IfOk, OnOk};
+ghost use Rattle.std.specs.Prelude.{◌≡◌, ◌<◌, ◌^◌, ◌∷◌, ◌++◌, length, IfOk};
+ghost use Rattle.std.specs.List.{All};
+ghost use Rattle.wasm_form.specs.declared.instr.Instr.{Index};
 ghost use Rattle.wasm_form.specs.declared.runtime.LoaderCall.TheVariants.{Dlopen};
 ghost use Rattle.spec_loading.specs.spec_linking.LinkedSets.{LinkedSet};
-ghost use Rattle.dyl_link.specs.dyl_search.Gathers.{member_of};
 ghost use Rattle.dyl_link.specs.Kept.{IsLinked};
 ghost use Rattle.dyl_addresses.specs.Sets.{IsOfSet};
-ghost use Rattle.merge_start.specs.Words.{Starts};
-ghost use Rattle.merge_dl.specs.Words.{Finders, opens_code, members_code, open_call_code};
+ghost use Rattle.merge_pieces.specs.Opcodes as op;
+ghost use Rattle.merge_start.specs.Words.{Starts, promote_code};
+ghost use Rattle.merge_find.specs.Decisions.{strings};
+ghost use Rattle.merge_find.specs.Building.{names_of, IsShort};
+ghost use Rattle.merge_dl.specs.Words.{Finders, return_code, opens_code, named_members, members_code, open_call_code};
 ghost use Rattle.merge_dl.specs.Listed.{AreDlNumbers, starts_in, finders_in, open_begin, call_part};
 
-use crate::comparing::put_named;
 use crate::numbers::{DlNumbers, opening};
 use crate::parts::{binary_type, one_local, part};
+use crate::promoted::promote_code;
 use crate::words::{fault, give, number, when};
 use dyl_link::Linked;
-use dyl_link::dyl_search::Member;
+use merge_find::{Missed, Named, Search, put_named, search_code};
 use merge_pieces::opcodes;
 use std::alloc::Global;
 use wasm_form::{Instr, Memory, Part, ValType};
 
-// The function that opens member m is called, and what it gives is returned.
-fn opens_code(alloc: Global, n: &DlNumbers, m: u32) -> Result<Vec<Instr>, Memory>
-    ensures { IfOk result (λ x. x.items ≡ opens_code (starts_in n.now) m) }
+// The function that opens member m is called, its closure is promoted, and what the function gives is returned.
+fn open_and_promote(
+    alloc: Global,
+    linked: &Linked,
+    n: &DlNumbers,
+    m: u32,
+) -> Result<Vec<Instr>, Memory>
+    requires set { IsOfSet linked.now }
+    requires member { m < length linked.now.set.members }
+    requires promoted { n.now.promoted < 2 ^ 31 }
+    ensures { IfOk result (λ x. (L : LinkedSet) → IsLinked L linked.now → x.items ≡ Index op.call ((starts_in n.now).opening m) ∷ (promote_code L (starts_in n.now) m ++ return_code)) }
 {
+    let mut promotes = promote_code(alloc, linked, n, m)?;
+    let mut code = vec![in alloc; Instr::Index(opcodes::CALL, opening(n, m))]?;
+    code.append(&mut promotes)?;
+    code.push(Instr::Plain(opcodes::RETURN))?;
+    Ok(code)
+}
+
+// The function that opens member m is called, and what it gives is returned; where the flag is set, once the closure is promoted.
+fn opens_code(alloc: Global, linked: &Linked, n: &DlNumbers, m: u32) -> Result<Vec<Instr>, Memory>
+    requires set { IsOfSet linked.now }
+    requires member { m < length linked.now.set.members }
+    requires promoted { n.now.promoted < 2 ^ 31 }
+    ensures { IfOk result (λ x. (L : LinkedSet) → IsLinked L linked.now → x.items ≡ opens_code L (starts_in n.now) m) }
+{
+    let promotes = open_and_promote(alloc, linked, n, m)?;
     Ok(vec![in alloc;
+        Instr::Index(opcodes::LOCAL_GET, 1),
+        number(256),
+        Instr::Plain(opcodes::I32_AND),
+        when(promotes),
         Instr::Index(opcodes::CALL, opening(n, m)),
         Instr::Plain(opcodes::RETURN),
     ]?)
 }
 
-// The names of members are compared one after the other.
-fn put_members(
-    to: &mut Vec<Instr>,
-    alloc: Global,
-    n: &DlNumbers,
-    members: &[Member],
-) -> Result<(), Memory>
-    requires { length members.now ≤ 256 }
-    ensures { OnOk result (to.new.items ≡ to.old.items ++ members_code (starts_in n.now) 0 (map member_of members.now)) }
+// The names of members, with what opens them.
+fn named_members(alloc: Global, linked: &Linked, n: &DlNumbers) -> Result<Vec<Named>, Memory>
+    requires set { IsOfSet linked.now }
+    requires promoted { n.now.promoted < 2 ^ 31 }
+    ensures names { IfOk result (λ x. (L : LinkedSet) → IsLinked L linked.now → names_of x.items ≡ strings (named_members L (starts_in n.now) 0 L.set.members)) }
+    ensures short { IfOk result (λ x. All IsShort x.items) }
 {
+    let mut names = Vec::new(alloc);
     let mut m: u32 = 0;
-    for member in members {
-        let code = opens_code(alloc, n, m)?;
-        put_named(to, alloc, 2, member.name.as_str().as_bytes(), code)?;
+    for member in linked.set().members.items() {
+        let code = opens_code(alloc, linked, n, m)?;
+        put_named(&mut names, alloc, member.name.as_str().as_bytes(), code)?;
         m += 1;
     }
-    Ok(())
+    Ok(names)
+}
+
+// A member of the name is opened, or an error is kept.
+fn members_code(alloc: Global, linked: &Linked, n: &DlNumbers) -> Result<Vec<Instr>, Memory>
+    requires set { IsOfSet linked.now }
+    requires promoted { n.now.promoted < 2 ^ 31 }
+    ensures { IfOk result (λ x. (L : LinkedSet) → IsLinked L linked.now → x.items ≡ members_code L (starts_in n.now) (finders_in n.now)) }
+{
+    let names = named_members(alloc, linked, n)?;
+    let search = Search {
+        len: 2,
+        missed: Missed::Fault {
+            error: 2,
+            global: n.error,
+        },
+    };
+    search_code(alloc, &search, names)
 }
 
 // No name is the program itself; the length of the name is in local 2; the flags are tested.
@@ -62,7 +108,7 @@ fn open_begin(alloc: Global, n: &DlNumbers) -> Result<Vec<Instr>, Memory>
         Instr::Index(opcodes::CALL, n.first_function),
         Instr::Index(opcodes::LOCAL_SET, 2),
         Instr::Index(opcodes::LOCAL_GET, 1),
-        number(4_294_963_196),
+        number(4_294_962_940),
         Instr::Plain(opcodes::I32_AND),
         when(refused),
     ]?)
@@ -70,18 +116,19 @@ fn open_begin(alloc: Global, n: &DlNumbers) -> Result<Vec<Instr>, Memory>
 
 #[tactic(auto, unfolding(crate::specs::Words::open_call_code))]
 fn open_call_code(alloc: Global, linked: &Linked, n: &DlNumbers) -> Result<Vec<Instr>, Memory>
-    requires { IsOfSet linked.now }
+    requires set { IsOfSet linked.now }
+    requires promoted { n.now.promoted < 2 ^ 31 }
     ensures { IfOk result (λ x. (L : LinkedSet) → IsLinked L linked.now → x.items ≡ open_call_code L (starts_in n.now) (finders_in n.now)) }
 {
     let mut code = open_begin(alloc, n)?;
-    put_members(&mut code, alloc, n, linked.set().members.items())?;
-    let mut unknown = fault(alloc, n, 2, 0)?;
-    code.append(&mut unknown)?;
+    let mut search = members_code(alloc, linked, n)?;
+    code.append(&mut search)?;
     Ok(code)
 }
 
 pub(crate) fn open_function(alloc: Global, linked: &Linked, n: &DlNumbers) -> Result<Part, Memory>
-    requires { IsOfSet linked.now }
+    requires set { IsOfSet linked.now }
+    requires promoted { n.now.promoted < 2 ^ 31 }
     ensures { IfOk result (λ p. (L : LinkedSet) (x : Starts) (d : Finders) → IsLinked L linked.now → AreDlNumbers L n.now x d → p ≡ call_part L x d Dlopen) }
 {
     let ty = binary_type(alloc)?;

@@ -7,16 +7,17 @@ ghost use Rattle.dyl_link.specs.Kept.{IsLinked};
 ghost use Rattle.merge_start.specs.Words.{Starts};
 ghost use Rattle.merge_start.specs.Listed.{AreFew};
 ghost use Rattle.dyl_addresses.specs.Sets.{IsOfSet};
-ghost use Rattle.merge_dl.specs.Words.{Finders, try_code, tries_code, handle_code, handles_code, symbol_call_code};
+ghost use Rattle.merge_dl.specs.Words.{Finders, try_code, tries_then, handle_code, handles_code, symbol_locals, symbol_call_code};
 ghost use Rattle.merge_dl.specs.Listed.{AreDlNumbers, starts_in, finders_in, symbol_begin, call_part};
 
 use crate::numbers::DlNumbers;
-use crate::parts::{binary_type, part, two_locals};
+use crate::parts::{binary_type, one, part};
+use crate::promoted::promoted_code;
 use crate::words::{fault, number, when, where_first};
 use dyl_link::Linked;
 use merge_pieces::opcodes;
 use std::alloc::Global;
-use wasm_form::{Instr, Memory, Part, ValType};
+use wasm_form::{Group, Instr, Memory, Part, ValType};
 
 // Member m is searched, and a number that it has is returned.
 fn try_code(alloc: Global, n: &DlNumbers, m: u32) -> Result<Vec<Instr>, Memory>
@@ -41,19 +42,24 @@ fn try_code(alloc: Global, n: &DlNumbers, m: u32) -> Result<Vec<Instr>, Memory>
     ]?)
 }
 
-// Members are searched in order.
-fn tries_code(alloc: Global, n: &DlNumbers, members: &[u32]) -> Result<Vec<Instr>, Memory>
+// Members are searched in order, and then some other code is done.
+fn tries_then(
+    alloc: Global,
+    n: &DlNumbers,
+    members: &[u32],
+    last: Vec<Instr>,
+) -> Result<Vec<Instr>, Memory>
     requires few { AreFew members.now }
     requires first { n.now.first_function < 2 ^ 31 }
-    ensures { IfOk result (λ x. x.items ≡ tries_code (finders_in n.now) members.now) }
+    ensures { IfOk result (λ x. x.items ≡ tries_then (finders_in n.now) last.items members.now) }
 {
+    let mut last = last;
     let mut code = Vec::new(alloc);
     for m in members {
         let mut one = try_code(alloc, n, *m)?;
         code.append(&mut one)?;
     }
-    let mut unknown = fault(alloc, n, 4, 0)?;
-    code.append(&mut unknown)?;
+    code.append(&mut last)?;
     Ok(code)
 }
 
@@ -65,7 +71,8 @@ fn handle_code(alloc: Global, linked: &Linked, n: &DlNumbers, m: u32) -> Result<
     requires first { n.now.first_function < 2 ^ 31 }
     ensures { IfOk result (λ x. (L : LinkedSet) → IsLinked L linked.now → x.items ≡ handle_code L (starts_in n.now) (finders_in n.now) m) }
 {
-    let searched = tries_code(alloc, n, linked.symbols().closure(m))?;
+    let unknown = fault(alloc, n, 4, 0)?;
+    let searched = tries_then(alloc, n, linked.symbols().closure(m), unknown)?;
     let mut code = vec![in alloc;
         Instr::Index(opcodes::GLOBAL_GET, n.guard + m),
         when(searched),
@@ -95,13 +102,16 @@ fn put_handles(
     Ok(())
 }
 
-// The length of the name is in local 2; for the handles 0 and 1 the members that start with the main module are searched.
-fn symbol_begin(alloc: Global, n: &DlNumbers, startup: &[u32]) -> Result<Vec<Instr>, Memory>
-    requires few { AreFew startup.now }
+// The length of the name is in local 2; for the handles 0 and 1 the members that start with the main module are searched, and then those that
+// are promoted.
+fn symbol_begin(alloc: Global, linked: &Linked, n: &DlNumbers) -> Result<Vec<Instr>, Memory>
+    requires set { IsOfSet linked.now }
     requires first { n.now.first_function < 2 ^ 31 }
-    ensures { IfOk result (λ x. x.items ≡ symbol_begin (finders_in n.now) startup.now) }
+    requires promoted { n.now.promoted < 2 ^ 31 }
+    ensures { IfOk result (λ x. (L : LinkedSet) → IsLinked L linked.now → x.items ≡ symbol_begin L (starts_in n.now) (finders_in n.now)) }
 {
-    let searched = tries_code(alloc, n, startup)?;
+    let promoted = promoted_code(alloc, linked, n)?;
+    let searched = tries_then(alloc, n, linked.set().startup.items(), promoted)?;
     Ok(vec![in alloc;
         Instr::Index(opcodes::LOCAL_GET, 1),
         Instr::Index(opcodes::CALL, n.first_function),
@@ -118,23 +128,36 @@ fn symbol_call_code(alloc: Global, linked: &Linked, n: &DlNumbers) -> Result<Vec
     requires set { IsOfSet linked.now }
     requires guard { n.now.guard < 2 ^ 31 }
     requires first { n.now.first_function < 2 ^ 31 }
+    requires promoted { n.now.promoted < 2 ^ 31 }
     ensures { IfOk result (λ x. (L : LinkedSet) → IsLinked L linked.now → x.items ≡ symbol_call_code L (starts_in n.now) (finders_in n.now)) }
 {
-    let mut code = symbol_begin(alloc, n, linked.set().startup.items())?;
+    let mut code = symbol_begin(alloc, linked, n)?;
     put_handles(&mut code, alloc, linked, n)?;
     let mut refused = fault(alloc, n, 3, 0)?;
     code.append(&mut refused)?;
     Ok(code)
 }
 
+// The length of the name, what the last search gave, what was kept of them, and its place.
+fn symbol_locals(alloc: Global) -> Result<Vec<Group>, Memory>
+    ensures { IfOk result (λ x. x.items ≡ symbol_locals) }
+{
+    let length = one(ValType::I32);
+    let found = one(ValType::I64);
+    let kept = one(ValType::I64);
+    let place = one(ValType::I32);
+    Ok(vec![in alloc; length, found, kept, place]?)
+}
+
 pub(crate) fn symbol_function(alloc: Global, linked: &Linked, n: &DlNumbers) -> Result<Part, Memory>
     requires set { IsOfSet linked.now }
     requires guard { n.now.guard < 2 ^ 31 }
     requires first { n.now.first_function < 2 ^ 31 }
+    requires promoted { n.now.promoted < 2 ^ 31 }
     ensures { IfOk result (λ p. (L : LinkedSet) (x : Starts) (d : Finders) → IsLinked L linked.now → AreDlNumbers L n.now x d → p ≡ call_part L x d Dlsym) }
 {
     let ty = binary_type(alloc)?;
-    let locals = two_locals(alloc, ValType::I32, ValType::I64)?;
+    let locals = symbol_locals(alloc)?;
     let code = symbol_call_code(alloc, linked, n)?;
     Ok(part(ty, locals, code))
 }

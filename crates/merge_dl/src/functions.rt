@@ -20,6 +20,7 @@ use wasm_form::{List, Memory, Part};
 pub fn dl_functions(alloc: Global, linked: &Linked, n: &DlNumbers) -> Result<List<Part>, Memory>
     requires guard { n.now.guard < 2 ^ 31 }
     requires first { n.now.first_function < 2 ^ 31 }
+    requires promoted { n.now.promoted < 2 ^ 31 }
     ensures { IfOk result (λ parts. (L : LinkedSet) (x : Starts) (d : Finders) → IsLinked L linked.now → AreDlNumbers L n.now x d → parts ≡ call_parts L x d) }
 {
     linked.links();

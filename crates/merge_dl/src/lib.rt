@@ -3,7 +3,6 @@
 //! `specs/` has the words of the code, what the functions do that the functions of the loader call, and what a merged module must have for it.
 #![tactic(auto)]
 
-mod comparing;
 mod dlclose;
 mod dlerror;
 mod dlopen;
@@ -12,6 +11,7 @@ mod finding;
 mod functions;
 mod numbers;
 mod parts;
+mod promoted;
 mod strings;
 mod words;
 
@@ -20,6 +20,7 @@ ghost use Rattle.merge_dl.specs.Typed.{LoaderIsTyped};
 
 pub use finding::find_functions;
 pub use functions::dl_functions;
+use merge_find::{searches_are_typed, searches_come, searches_find};
 pub use numbers::DlNumbers;
 pub use parts::loader_types;
 pub use strings::length_function;
@@ -35,14 +36,20 @@ pub fn lengths_are_given()
 pub fn members_are_searched()
     ensures searches { MembersAreSearched }
     ensures numbers { DefinedIsNumbered }
-{}
+{
+    searches_find();
+}
 
 /// A call of a function of the loader comes to what it comes to in the set.
 pub fn loader_calls_are_answered()
     ensures { LoaderIsAnswered }
-{}
+{
+    searches_come();
+}
 
-/// The code of the functions of the loader is well typed (WebAssembly Core 2.0, section 3.3), where the module has what it names.
+/// The code of the functions of the loader is well typed, where the module has what it names.
 pub fn loader_code_is_typed()
     ensures { LoaderIsTyped }
-{}
+{
+    searches_are_typed();
+}

@@ -70,14 +70,15 @@ pub(crate) fn part(ty: FuncType, locals: Vec<Group>, code: Vec<Instr>) -> Part
     }
 }
 
+// One local.
+pub(crate) fn one(ty: ValType) -> Group
+    ensures { result ≡ record { count = 1; ty = ty } }
+{
+    Group { count: 1, ty }
+}
+
 pub(crate) fn one_local(alloc: Global, ty: ValType) -> Result<Vec<Group>, Memory>
     ensures { IfOk result (λ x. x.items ≡ record { count = 1; ty = ty } ∷ []) }
 {
-    Ok(vec![in alloc; Group { count: 1, ty }]?)
-}
-
-pub(crate) fn two_locals(alloc: Global, a: ValType, b: ValType) -> Result<Vec<Group>, Memory>
-    ensures { IfOk result (λ x. x.items ≡ record { count = 1; ty = a } ∷ record { count = 1; ty = b } ∷ []) }
-{
-    Ok(vec![in alloc; Group { count: 1, ty: a }, Group { count: 1, ty: b }]?)
+    Ok(vec![in alloc; one(ty)]?)
 }

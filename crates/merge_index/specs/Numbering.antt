@@ -134,7 +134,8 @@ numbers_of L = record {
   segment = λ m d. number_of (data_address L m d);
 }
 
--- Guards come behind the globals of the store, and the segments of fresh slots behind its element segments.
+-- Guards come behind the globals of the store, and the segments of fresh slots behind its element segments. Behind the guards comes the global
+-- of the error, and then that of the number of promoted members.
 abbrev pub starts_of : LinkedSet → Starts
 starts_of L = record {
   guards = 1 + sum_of globals_size L;
@@ -142,4 +143,5 @@ starts_of L = record {
   phase = phase_number L;
   starting = entry_number L;
   opening = λ m. first_opening L + m;
+  promoted = 1 + sum_of globals_size L + length L.set.members + 1;
 }

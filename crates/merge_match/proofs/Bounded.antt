@@ -30,7 +30,7 @@ use Rattle.spec_loading.specs.declared.task.Phase.{Phase}
 use Rattle.spec_loading.specs.declared.task.Phase.TheVariants.{Place, Start, Relocate, Construct}
 use Rattle.spec_loading.specs.declared.task.Task.{Task}
 use Rattle.spec_loading.specs.declared.task.After.{After}
-use Rattle.spec_loading.specs.declared.task.After.TheVariants.{CallEntry, GiveHandle}
+use Rattle.spec_loading.specs.declared.task.After.TheVariants.{CallEntry, GiveHandle, GiveAndPromote}
 use Rattle.spec_loading.specs.Phases.{LoaderFrame, stage_of}
 use Rattle.spec_loading.specs.Loading.{Loading, LoadedState, with_run, goes_on, stage_in, comes_by_itself, LoaderAnswer, Comes, comes_to, call_next, ended_by, place_next, work_next, raised, task_next, after_next, frame_next, loaded_next, answered, went, came_to, loaded_step}
 use Rattle.spec_loading.specs.Loading as loading
@@ -296,6 +296,8 @@ module _ {Units : Type 0} (D : Loading Units) (placed : (m : ℕ) (us : Units) (
   after_bounded s is under CallEntry = looked V ComesBounded D.entry _ (λ r. call_next_bounded s is under (Some r))
   after_bounded s is [] (GiveHandle m) = (is, tt)
   after_bounded s is (f ∷ fs) (GiveHandle m) = (is, tt)
+  after_bounded s is [] (GiveAndPromote m) = (is, tt)
+  after_bounded s is (f ∷ fs) (GiveAndPromote m) = (is, tt)
 
   frame_bounded : (s : LoadedState Units) → StateBounded s → (under : List (Frame LoaderFrame)) (after : After) (tasks : List Task)
       → IfSome (frame_next D s under after tasks) ComesBounded

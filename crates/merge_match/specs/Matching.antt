@@ -19,7 +19,7 @@ use Rattle.spec_loading.specs.spec_execution.Runs.{Frame, Next, State, carried_o
 use Rattle.spec_loading.specs.spec_execution.Runs as frames
 use Rattle.spec_loading.specs.Phases.{LoaderFrame}
 use Rattle.spec_loading.specs.declared.task.After.{After}
-use Rattle.spec_loading.specs.declared.task.After.TheVariants.{CallEntry, GiveHandle}
+use Rattle.spec_loading.specs.declared.task.After.TheVariants.{CallEntry, GiveHandle, GiveAndPromote}
 use Rattle.spec_loading.specs.Loading.{LoaderState, Loading, LoadedState, with_run, went, loaded_step}
 use Rattle.merge_match.specs.Renumbering.{Numbers, reference, values, activation}
 use Rattle.merge_match.specs.Following.{Sharing}
@@ -30,6 +30,7 @@ use Rattle.merge_match.specs.Following.{Sharing}
 abbrev pub gives_back : After → ℕ
 gives_back CallEntry = 0
 gives_back (GiveHandle m) = 1
+gives_back (GiveAndPromote m) = 1
 
 -- What stands for the frames of the loader: for the bottom of the stack, for a frame below a call that it made, and for a frame that goes
 -- on. The numbers say how many values come back to the bottom or to the frame. A relation of a frame takes the frames that stand for it

@@ -5,7 +5,6 @@ use Rattle.std.specs.Cmp.Lexicographic.{pointwise}
 use Rattle.std.proofs.lemmas.Bool.{or_left, or_right}
 use Rattle.std.proofs.lemmas.List.Folds.{list_any-append, find_at}
 use Rattle.spec_reading.specs.wasm_form.declared.types.ValType.{ValType}
-use Rattle.spec_reading.specs.wasm_form.declared.types.ValType.TheVariants.{I32, I64, F32, F64, FuncRef, ExternRef}
 use Rattle.spec_reading.specs.wasm_form.declared.types.FuncType.{FuncType}
 use Rattle.spec_reading.specs.spec_binary.SameTypes.{same_type, same_function_type}
 use Rattle.spec_reading.proofs.of_spec_binary.OneType.{itself, one_function_type}

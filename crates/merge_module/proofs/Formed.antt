@@ -35,7 +35,7 @@ use Rattle.merge_match.specs.Joined.{renumbered_code}
 use Rattle.merge_start.specs.Words.{Starts}
 use Rattle.merge_dl.specs.Words.{handle_type, unary_type, binary_type, search_type}
 use Rattle.merge_index.specs.Numbering.{stubs_of, starts_of}
-use Rattle.merge_module.specs.MergedModule.{with_loader, members_types, generated_functions_types, added_types, host_type_number, host_imports, stub_types, generated_types, stub_codes, trap_code, shared_table_type, number_global, constant_instr, own_global, member_globals, guard_globals, merged_globals, passive_elem, slots_elem, outside_elem, named_functions, exported_functions, declared_elem, merged_elems, passive_data, texts_segment, merged_module}
+use Rattle.merge_module.specs.MergedModule.{with_loader, members_types, generated_functions_types, added_types, host_type_number, host_imports, stub_types, generated_types, stub_codes, trap_code, shared_table_type, number_global, constant_instr, own_global, member_globals, guard_globals, merged_globals, passive_elem, slots_elem, outside_elem, named_functions, exported_functions, declared_elem, merged_elems, passive_data, texts_segment, merged_module, zero_globals, loader_globals}
 use Rattle.merge_module.specs.Shape.{IsFunction, HasShape}
 use Rattle.merge_module.proofs.Known.{IsKnown}
 use Rattle.merge_module.proofs.WithLoader.{with_all}
@@ -52,6 +52,7 @@ use Rattle.merge_module.proofs.Opens.{N, X, M}
 use Rattle.merge_module.proofs.Faultless.{all_of}
 use Rattle.merge_module.proofs.Pieces.{constant_step}
 use Rattle.merge_module.proofs.GeneratedBodies.{stubs_all, generated_all}
+use Rattle.merge_find.specs.Shape.{SearchIsSmall}
 use Rattle.merge_module.proofs.FormedModule.{alone, code_formed, elem_formed, data_formed, number_formed, map_all, always}
 
 named_one : (d : ExportDesc) → length (named_functions d) ≤ 1
@@ -142,22 +143,23 @@ module _ (L : LinkedSet) (K : IsKnown L) (few : (linked_plan L).pages_max ≤ 16
 
   -- ---- the parts
 
-  codes_formed : All IsFormedCode merged.codes
-  codes_formed =
+  codes_formed : SearchIsSmall → All IsFormedCode merged.codes
+  codes_formed small =
       let own = from_members (λ m wasm. map (renumbered_code n m) wasm.codes) 0 members in
       let stubs = from_members (stub_codes L) 0 members in
       All-append IsFormedCode own (stubs ++ generated_codes L n x)
       (each_formed IsFormedCode (λ m wasm. map (renumbered_code n m) wasm.codes) (λ m y lt is. map_all IsFormedCode IsFormedCode (renumbered_code n m) (code_formed n m) y.wasm.codes is.codes.1))
       (All-append IsFormedCode stubs (generated_codes L n x) (each_formed IsFormedCode (stub_codes L) (λ m y lt is. stubs_all IsFormedCode (λ size c is. is.formed) L m y.wasm))
-      (generated_all IsFormedCode (λ size c is. is.formed) L K.set n x))
+      (generated_all IsFormedCode (λ size c is. is.formed) small L K.set n x))
 
   globals_all : All IsFormedGlobal merged.globals
   globals_all =
+      let zeros = always IsFormedGlobal (λ y. number_global true 0) (λ y. number_formed 0) members in
       All-cons IsFormedGlobal (number_global true (linked_plan L).stack_top) (from_members (member_globals L n) 0 members ++ guard_globals L) (number_formed (linked_plan L).stack_top)
       (All-append IsFormedGlobal (from_members (member_globals L n) 0 members) (guard_globals L) (each_formed IsFormedGlobal (member_globals L n) (λ m y lt is. globals_formed m y.wasm))
-      (All-append IsFormedGlobal (map (λ (y : Member). number_global true 0) members) (with_loader L (number_global true 0 ∷ []))
-      (always IsFormedGlobal (λ y. number_global true 0) (λ y. number_formed 0) members)
-      (with_all L IsFormedGlobal (number_global true 0 ∷ []) (λ used. All-cons IsFormedGlobal (number_global true 0) [] (number_formed 0) (All-nil IsFormedGlobal)))))
+      (All-append IsFormedGlobal (zero_globals L) (with_loader L (loader_globals L)) zeros
+      (with_all L IsFormedGlobal (loader_globals L) (λ used. All-cons IsFormedGlobal (number_global true 0) (number_global true 0 ∷ zero_globals L) (number_formed 0)
+      (All-cons IsFormedGlobal (number_global true 0) (zero_globals L) (number_formed 0) zeros)))))
 
   outside_formed : IsFormedElem (outside_elem L n)
   outside_formed =
@@ -250,8 +252,8 @@ module _ (L : LinkedSet) (K : IsKnown L) (few : (linked_plan L).pages_max ≤ 16
       let five = length-append (from_members (stub_types L n) 0 members) (generated_types L) in
       omega arith
 
-  pub merged_formed : All IsFormedType (added_types L) → IsWellFormed merged
-  merged_formed added =
+  pub merged_formed : SearchIsSmall → All IsFormedType (added_types L) → IsWellFormed merged
+  merged_formed small added =
       let types = few_types L n x K.set in
       let funcs = few_funcs L n x K.set in
       let bodies = few_codes L n x K.set in
@@ -268,7 +270,7 @@ module _ (L : LinkedSet) (K : IsKnown L) (few : (linked_plan L).pages_max ≤ 16
               (All-cons IsFormedExport (record { name = codes "memory"; desc = exported.Space 0 }) [] (omega arith) (All-nil IsFormedExport)),
         );
         elems = (elems_few, elems_formed);
-        codes = (omega arith, codes_formed);
+        codes = (omega arith, codes_formed small);
         datas = (datas_few, datas_formed);
         customs = formed.none;
         counts = record { bodies = bodies_same; datas = refl };

@@ -22,7 +22,8 @@ use Rattle.merge_module.proofs.Faultless.{all_of}
 use Rattle.merge_module.proofs.FormedModule.{always}
 use Rattle.merge_module.proofs.Pieces.{IsBody}
 use Rattle.merge_module.proofs.GeneratedCode.{phase_body, entry_body, open_body, trap_body}
-use Rattle.merge_module.proofs.LoaderCode.{length_written, find_written, call_written}
+use Rattle.merge_find.specs.Shape.{SearchIsSmall}
+use Rattle.merge_module.proofs.LoaderCode.{length_written, find_written, call_written, exports_few}
 
 module _ (P : Code → Type 0) (holds : (size : ℕ) (c : Code) → IsBody size c → P c) where
   one : {size : ℕ} {c : Code} → IsBody size c → P c
@@ -31,7 +32,7 @@ module _ (P : Code → Type 0) (holds : (size : ℕ) (c : Code) → IsBody size 
   pub stubs_all : (L : LinkedSet) (m : ℕ) (wasm : Module) → All P (stub_codes L m wasm)
   stubs_all L m wasm = always P (λ f. trap_code) (λ f. one trap_body) (stubs_of L m wasm)
 
-  module _ (L : LinkedSet) (set : IsSet L.set) (n : Numbers) (x : Starts) where
+  module _ (small : SearchIsSmall) (L : LinkedSet) (set : IsSet L.set) (n : Numbers) (x : Starts) where
     abbrev members : List Member
     members = L.set.members
 
@@ -58,17 +59,17 @@ module _ (P : Code → Type 0) (holds : (size : ℕ) (c : Code) → IsBody size 
 
     calls_all : All P (call_codes L x)
     calls_all =
-        All-cons P (call_body L x d Dlopen) (call_body L x d Dlsym ∷ call_body L x d Dlclose ∷ call_body L x d Dlerror ∷ []) (one (call_written L set x d Dlopen))
-        (All-cons P (call_body L x d Dlsym) (call_body L x d Dlclose ∷ call_body L x d Dlerror ∷ []) (one (call_written L set x d Dlsym))
-        (All-cons P (call_body L x d Dlclose) (call_body L x d Dlerror ∷ []) (one (call_written L set x d Dlclose))
-        (All-cons P (call_body L x d Dlerror) [] (one (call_written L set x d Dlerror)) (All-nil P))))
+        All-cons P (call_body L x d Dlopen) (call_body L x d Dlsym ∷ call_body L x d Dlclose ∷ call_body L x d Dlerror ∷ []) (one (call_written small L set x d Dlopen))
+        (All-cons P (call_body L x d Dlsym) (call_body L x d Dlclose ∷ call_body L x d Dlerror ∷ []) (one (call_written small L set x d Dlsym))
+        (All-cons P (call_body L x d Dlclose) (call_body L x d Dlerror ∷ []) (one (call_written small L set x d Dlclose))
+        (All-cons P (call_body L x d Dlerror) [] (one (call_written small L set x d Dlerror)) (All-nil P))))
 
     loader_all : All P (loader_codes L n x)
     loader_all =
         All-append P (open_codes L n x) (length_body ∷ (find_codes L ++ call_codes L x)) opens_all
         (All-cons P length_body (find_codes L ++ call_codes L x) (one length_written)
         (All-append P (find_codes L) (call_codes L x)
-        (all_of P (λ m wasm. find_body L m wasm ∷ []) 0 members (λ j y at. All-cons P (find_body L (0 + j) y.wasm) [] (one (find_written L (0 + j) y.wasm)) (All-nil P))) calls_all))
+        (all_of P (λ m wasm. find_body L m wasm ∷ []) 0 members (λ j y at. All-cons P (find_body L (0 + j) y.wasm) [] (one (find_written small L (0 + j) y.wasm (exports_few L set j y at))) (All-nil P))) calls_all))
 
     pub generated_all : All P (generated_codes L n x)
     generated_all =

@@ -21,7 +21,7 @@ module _ (laws : HasCodeLaws) (L : LinkedSet) (K : IsKnown L) (few : (linked_pla
     (hosts : All (λ (h : HostName). IsTrue (is_function_supported h.ty)) (hosts_of L)) where
   pub stands : StandsFor L (merged_module L)
   stands = record {
-    valid = merged_valid L K few laws.generated laws.loader hosts;
+    valid = merged_valid L K few laws.small laws.generated laws.loader hosts;
     opening = opened_state (M L K few) (X L K few).starting (opened L K few) (opening_memory L);
     opens = module_opens L K few;
     agrees = runs_agree laws.unused laws.lengths laws.searches laws.answered L K few laws.runs;

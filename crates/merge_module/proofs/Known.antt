@@ -21,6 +21,7 @@ use Rattle.spec_loading.specs.Laws.{LinkedIsThere, LinkedIsTyped, IsCallable, Ca
 use Rattle.merge_start.specs.Laws.{SetsRunAsMerged, UnusedIsAnswered}
 use Rattle.merge_start.specs.Typed.{GeneratedIsTyped}
 use Rattle.merge_dl.specs.Laws.{LengthsAreGiven, MembersAreSearched, LoaderIsAnswered}
+use Rattle.merge_find.specs.Shape.{SearchIsSmall}
 use Rattle.merge_dl.specs.Typed.{LoaderIsTyped}
 
 pub record IsKnown (L : LinkedSet) : Type 0 where
@@ -69,3 +70,4 @@ pub record HasCodeLaws : Type 0 where
   pub answered : LoaderIsAnswered
   pub generated : GeneratedIsTyped
   pub loader : LoaderIsTyped
+  pub small : SearchIsSmall

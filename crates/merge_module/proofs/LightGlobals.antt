@@ -9,7 +9,7 @@ use Rattle.spec_loading.specs.spec_linking.Slots.{linked_plan, memory_base, tabl
 use Rattle.spec_loading.specs.Members.{from_members, opened_global}
 use Rattle.wasm_encode.specs.Weight.{sum_of, global_weight}
 use Rattle.merge_match.specs.Renumbering.{Numbers}
-use Rattle.merge_module.specs.MergedModule.{with_loader, number_global, own_global, member_globals, guard_globals}
+use Rattle.merge_module.specs.MergedModule.{with_loader, number_global, own_global, member_globals, guard_globals, zero_globals, loader_globals}
 use Rattle.merge_module.proofs.Known.{IsKnown}
 use Rattle.merge_module.proofs.WithLoader.{with_either}
 use Rattle.merge_index.proofs.Counted.{few_bytes, few_members, few_of}
@@ -47,9 +47,9 @@ members_fours L n k (x ∷ xs) = then_fours (member_globals L n k x.wasm) (from_
 
 guards_fours : (L : LinkedSet) → AreFours (guard_globals L)
 guards_fours L =
-    then_fours (map (λ (y : Member). number_global true 0) L.set.members) (with_loader L (number_global true 0 ∷ []))
-    (map_fours (λ (y : Member). number_global true 0) (λ y. four 0 true) L.set.members)
-    (with_either L AreFours (number_global true 0 ∷ []) refl (λ used. (let one = four 0 true in omega arith)))
+    let zeros = map_fours (λ (y : Member). number_global true 0) (λ y. four 0 true) L.set.members in
+    then_fours (zero_globals L) (with_loader L (loader_globals L)) zeros
+    (with_either L AreFours (loader_globals L) refl (λ used. (let one = four 0 true in omega (arith, zeros))))
 
 module _ (L : LinkedSet) (K : IsKnown L) (few : (linked_plan L).pages_max ≤ 16384) where
   abbrev n : Numbers
@@ -61,7 +61,7 @@ module _ (L : LinkedSet) (K : IsKnown L) (few : (linked_plan L).pages_max ≤ 16
   abbrev members : List Member
   members = L.set.members
 
-  pub globals_light : sum_of global_weight merged.globals ≤ 67112964
+  pub globals_light : sum_of global_weight merged.globals ≤ 67112972
   globals_light =
       let all = two_each (member_globals L n) (λ k y is. (let fit = member_globals_fit L n k y.wasm in let cells = cells_few y.wasm in let all = is.all in omega arith)) 0 members K.set.members in
       let bytes = few_bytes L K.set in

@@ -1,6 +1,5 @@
 -- The effects of the active segments of a member name what the store has, and their numbers are words.
 use Rattle.std.proofs.Common.{◌≡◌, ℕ, ◌+◌, ◌<◌, ◌≤◌, true, false, List, [], ◌∷◌, ◌++◌, length, Option, Some, None, refl, sym, ap, ◌∙◌, subst, arith, slice_get}
-use Rattle.std.specs.Int.{cast_unsigned, w32}
 use Rattle.std.specs.Prelude.{is_some, nat_lt, IsTrue}
 use Rattle.std.specs.List.{All, list_all}
 use Rattle.std.proofs.lemmas.Bool.{and_parts}
@@ -8,10 +7,7 @@ use Rattle.std.proofs.lemmas.List.Elements.{All-head, All-tail}
 use Rattle.std.proofs.lemmas.Option.{slice_get_within}
 use Rattle.spec_reading.specs.wasm_form.declared.types.ValType.TheVariants.{I32}
 use Rattle.spec_reading.specs.wasm_form.declared.types.TableType.{TableType}
-use Rattle.spec_reading.specs.wasm_form.declared.instr.Instr.{Instr, out-Instr}
-use Rattle.spec_reading.specs.wasm_form.declared.instr.Instr.TheOpen as Open
 use Rattle.spec_reading.specs.wasm_form.declared.instr.Expr.{Expr}
-use Rattle.spec_reading.specs.wasm_form.declared.module.Import.{Import}
 use Rattle.spec_reading.specs.wasm_form.declared.module.ElemMode.{ElemMode}
 use Rattle.spec_reading.specs.wasm_form.declared.module.ElemMode.TheVariants as elem_mode
 use Rattle.spec_reading.specs.wasm_form.declared.module.ElemItems.{ElemItems}
@@ -21,31 +17,25 @@ use Rattle.spec_reading.specs.wasm_form.declared.module.DataMode.{DataMode}
 use Rattle.spec_reading.specs.wasm_form.declared.module.DataMode.TheVariants as data_mode
 use Rattle.spec_reading.specs.wasm_form.declared.module.Data.{Data}
 use Rattle.spec_reading.specs.wasm_form.declared.module.Module.{Module}
-use Rattle.spec_reading.specs.wasm_form.declared.runtime.Ref.{Ref}
-use Rattle.spec_reading.specs.wasm_form.declared.index.IndexForm.{IndexForm}
-use Rattle.spec_reading.specs.wasm_form.declared.index.IndexForm.TheVariants.{RefFunc, GlobalGet}
-use Rattle.spec_reading.specs.wasm_form.Index.{index_form}
 use Rattle.spec_reading.specs.wasm_form.declared.runtime.Value.{Value}
 use Rattle.spec_reading.specs.wasm_form.declared.runtime.Value.TheVariants.{Num, Func}
 use Rattle.spec_reading.specs.spec_binary.Options.{◌>>=◌}
-use Rattle.spec_reading.specs.spec_binary.IndexSpaces.{table_space, memory_space, globals_in}
+use Rattle.spec_reading.specs.spec_binary.IndexSpaces.{table_space, memory_space}
 use Rattle.spec_reading.specs.spec_binary.WellFormed.{IsFormedItems, IsFormedElem, IsFormedData}
 use Rattle.spec_loading.specs.spec_validation.Faults.{is_constant, has_functions, elem_mode_fits, items_fit, elem_fits, data_mode_fits, data_fits}
 use Rattle.spec_loading.specs.spec_runtime.Constants.{constant_of, number_in}
 use Rattle.spec_loading.specs.spec_execution.Activations.{Effect, TableInit, ElemDrop, MemoryInit, DataDrop}
 use Rattle.spec_loading.specs.spec_execution.Segments.{items_count, effects_at, elem_effects, data_effects, all_effects, segment_effects}
-use Rattle.spec_loading.specs.spec_linking.Imports.{ImportUse, MemoryBase, TableBase, use_of, importing}
 use Rattle.spec_loading.specs.spec_linking.Sets.{Member}
-use Rattle.spec_loading.specs.spec_linking.LinkedSets.{LinkedSet, wasm_of, function_ref}
-use Rattle.spec_loading.specs.spec_linking.Slots.{linked_plan, memory_base, table_base, as_number, base_as, base_value, imported_base, member_number}
+use Rattle.spec_loading.specs.spec_linking.LinkedSets.{LinkedSet, function_ref}
+use Rattle.spec_loading.specs.spec_linking.Slots.{linked_plan, imported_base, member_number}
 use Rattle.spec_loading.proofs.of_spec_safety.Lookups.{went_on}
 use Rattle.spec_loading.specs.Addresses.{table_address, elem_address, data_address}
 use Rattle.spec_loading.specs.Members.{Store, counts_of, set_view, opening_store}
 use Rattle.merge_start.specs.Started.{IsWord, HasAddress, AreEffectsReady}
 use Rattle.merge_module.proofs.Known.{IsKnown}
 use Rattle.merge_module.proofs.GlobalValues.{IsValue, constant_given}
-use Rattle.merge_module.proofs.SpelledConstants.{FitsHere, Fit, ModeFits, DataModeFits, ConstantsFit}
-use Rattle.merge_module.proofs.PlannedWords.{memory_base_within, table_base_within}
+use Rattle.merge_module.proofs.SpelledConstants.{Fit, ModeFits, DataModeFits, ConstantsFit}
 
 append_ready : (L : LinkedSet) (m : ℕ) (xs ys : List Effect) → AreEffectsReady L m xs → AreEffectsReady L m ys → AreEffectsReady L m (xs ++ ys)
 append_ready L m [] ys a b = b

@@ -22,7 +22,7 @@ use Rattle.spec_loading.specs.spec_linking.LinkedSets.{LinkedSet}
 use Rattle.spec_loading.specs.spec_linking.Slots.{linked_plan, memory_base, table_base, CellName, cells_of, cell_value}
 use Rattle.spec_loading.specs.Members.{opened_global, opened_globals, opening_store, from_members}
 use Rattle.merge_match.specs.Renumbering.{Numbers, reference, value}
-use Rattle.merge_module.specs.MergedModule.{with_loader, number_global, own_global, member_globals, guard_globals, merged_globals}
+use Rattle.merge_module.specs.MergedModule.{with_loader, number_global, own_global, member_globals, zero_globals, loader_globals, guard_globals, merged_globals}
 use Rattle.merge_module.proofs.Known.{IsKnown}
 use Rattle.merge_module.proofs.WithLoader.{with_map}
 use Rattle.merge_index.proofs.FewItems.{member_spelled}
@@ -32,6 +32,14 @@ use Rattle.merge_module.proofs.Slots.{cell_word, base_word, table_base_word}
 use Rattle.merge_module.proofs.GlobalValues.{IsNamed, opened_is}
 use Rattle.merge_module.proofs.Constants.{number_value, value_kept}
 use Rattle.merge_module.proofs.OpenedItems.{members_mapped}
+
+-- a zero for each member
+abbrev pub zeros : LinkedSet → List Value
+zeros L = map (λ m. Num 0) L.set.members
+
+-- the error, how many members are promoted, and their places
+abbrev pub loader_zeros : LinkedSet → List Value
+loader_zeros L = Num 0 ∷ Num 0 ∷ zeros L
 
 module _ (L : LinkedSet) (K : IsKnown L) (few : (linked_plan L).pages_max ≤ 16384) (n : Numbers) (merged : Module)
     (targets : (r : Ref) → IsNamed L r → module_target merged (n.function r) ≡ Some (reference n r)) where
@@ -70,26 +78,30 @@ module _ (L : LinkedSet) (K : IsKnown L) (few : (linked_plan L).pages_max ≤ 16
 
   -- ---- all
 
-  guards_opened : (xs : List Member) → map (global_value merged) (map (λ m. number_global true 0) xs) ≡ map (λ m. Num 0) xs
-  guards_opened [] = refl
-  guards_opened (y ∷ ys) = (let here = number_opened true 0 (omega arith) in let rest = guards_opened ys in cc)
+  zeros_opened : (xs : List Member) → map (global_value merged) (map (λ m. number_global true 0) xs) ≡ map (λ m. Num 0) xs
+  zeros_opened [] = refl
+  zeros_opened (y ∷ ys) = (let here = number_opened true 0 (omega arith) in let rest = zeros_opened ys in cc)
 
-  -- and of the error, where there is one
-  error_opened : map (global_value merged) (with_loader L (number_global true 0 ∷ [])) ≡ with_loader L (Num 0 ∷ [])
-  error_opened = with_map L (global_value merged) (number_global true 0 ∷ []) ∙ ap (λ v. with_loader L (v ∷ [])) (number_opened true 0 (omega arith))
+  -- those of the loader, where there are any
+  loader_opened : map (global_value merged) (with_loader L (loader_globals L)) ≡ with_loader L (loader_zeros L)
+  loader_opened =
+      let zero = number_opened true 0 (omega arith) in
+      let rest = zeros_opened L.set.members in
+      let all : map (global_value merged) (loader_globals L) ≡ loader_zeros L = cc in
+      with_map L (global_value merged) (loader_globals L) ∙ ap (with_loader L) all
 
-  all_guards_opened : map (global_value merged) (guard_globals L) ≡ map (λ m. Num 0) L.set.members ++ with_loader L (Num 0 ∷ [])
+  all_guards_opened : map (global_value merged) (guard_globals L) ≡ zeros L ++ with_loader L (loader_zeros L)
   all_guards_opened =
-      map-append (global_value merged) (map (λ m. number_global true 0) L.set.members) (with_loader L (number_global true 0 ∷ []))
-      ∙ ap₂ (λ a b. a ++ b) (guards_opened L.set.members) error_opened
+      map-append (global_value merged) (zero_globals L) (with_loader L (loader_globals L))
+      ∙ ap₂ (λ a b. a ++ b) (zeros_opened L.set.members) loader_opened
 
-  pub globals_opened : map (global_value merged) (merged_globals L n) ≡ map (value n) (opening_store L).globals ++ (map (λ m. Num 0) L.set.members ++ with_loader L (Num 0 ∷ []))
+  pub globals_opened : map (global_value merged) (merged_globals L n) ≡ map (value n) (opening_store L).globals ++ (zeros L ++ with_loader L (loader_zeros L))
   globals_opened =
       let all = members_mapped (global_value merged) (value n) (member_globals L n) (opened_globals L) 0 L.set.members
       (λ i y at. (let place : i ≡ 0 + i = omega arith in subst (λ m. map (global_value merged) (member_globals L n m y.wasm) ≡ map (value n) (opened_globals L m y.wasm)) place (member_opened i y at))) in
       let stack = stack_within L K.links few in
       let first = number_opened true (linked_plan L).stack_top (omega arith) in
       let rest : map (global_value merged) (from_members (member_globals L n) 0 L.set.members ++ guard_globals L)
-      ≡ map (value n) (from_members (opened_globals L) 0 L.set.members) ++ (map (λ m. Num 0) L.set.members ++ with_loader L (Num 0 ∷ [])) =
+      ≡ map (value n) (from_members (opened_globals L) 0 L.set.members) ++ (zeros L ++ with_loader L (loader_zeros L)) =
       map-append (global_value merged) (from_members (member_globals L n) 0 L.set.members) (guard_globals L) ∙ ap₂ (λ a b. a ++ b) all all_guards_opened in
       ap₂ (λ a l. a ∷ l) first rest

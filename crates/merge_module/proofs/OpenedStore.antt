@@ -1,5 +1,5 @@
 -- The merged module opens with what the set begins with, and behind it the guards and the segments of fresh slots.
-use Rattle.std.proofs.Common.{◌≡◌, ℕ, zero, suc, ◌+◌, ◌*◌, ◌<◌, ◌≤◌, true, List, [], ◌∷◌, ◌++◌, length, map, slice_get, slice_set, Option, Some, refl, sym, ap, ap₂, ◌∙◌, subst, arith, length-append, append-nil}
+use Rattle.std.proofs.Common.{◌≡◌, ℕ, zero, suc, ◌+◌, ◌*◌, ◌<◌, ◌≤◌, true, List, [], ◌∷◌, ◌++◌, length, map, slice_get, slice_set, Option, Some, refl, sym, ap, ap₂, ◌∙◌, subst, arith, length-append, append-nil, option_map}
 use Rattle.std.specs.List.{All}
 use Rattle.std.proofs.lemmas.List.{length-map, map-append}
 use Rattle.std.proofs.lemmas.List.Elements.{All-head, All-tail}
@@ -29,7 +29,7 @@ use Rattle.merge_match.proofs.JoinedParts.{named_own}
 use Rattle.merge_start.specs.Words.{Starts}
 use Rattle.merge_start.specs.Started.{slot_items, IsOpened}
 use Rattle.merge_index.specs.Numbering.{function_number}
-use Rattle.merge_module.specs.MergedModule.{with_loader, passive_elem, slots_elem, outside_elem, declared_elem, merged_elems, passive_data, texts_segment, merged_datas, merged_globals, member_globals, guard_globals, own_global, number_global, merged_tables}
+use Rattle.merge_module.specs.MergedModule.{with_loader, passive_elem, slots_elem, outside_elem, declared_elem, merged_elems, passive_data, texts_segment, merged_datas, merged_globals, member_globals, guard_globals, own_global, number_global, merged_tables, zero_globals, loader_globals}
 use Rattle.merge_module.proofs.Known.{IsKnown}
 use Rattle.merge_module.proofs.WithLoader.{with_used, with_few}
 pub use Rattle.spec_loading.proofs.of_spec_linking.FewImports.{cells_few}
@@ -40,9 +40,11 @@ use Rattle.merge_index.proofs.Counted.{joined_length, few_bytes, few_members, fe
 use Rattle.merge_module.proofs.MergedSpaces.{in_front, one_each, host_many}
 use Rattle.merge_module.proofs.OwnNumbers.{own_number, own_typed}
 use Rattle.merge_module.proofs.OpenedItems.{members_mapped, elems_same}
-use Rattle.merge_module.proofs.OpenedGlobals.{globals_opened}
+use Rattle.merge_module.proofs.OpenedGlobals.{globals_opened, zeros, loader_zeros}
 use Rattle.merge_module.proofs.SlotFunctions.{IsOwnIn, fresh_own, own_is_defined}
 use Rattle.merge_module.proofs.Applied.{own_datas, outside_number, texts_number}
+use Rattle.std.proofs.lemmas.Option.{slice_get-map}
+use Rattle.spec_loading.proofs.of_spec_safety.Lookups.{got}
 use Rattle.merge_module.proofs.Opens.{N, X, M, has_parts, named_target, nulls_same, us, items_of, own, slots, bytes_of, elems_apart, number_is, datas_apart, texts_is, set_past, opened}
 
 -- ---- lists
@@ -85,12 +87,12 @@ module _ (L : LinkedSet) where
       let both = length-append (map (λ c. number_global true (cell_value L k c)) (cells_of w)) (map (own_global L n k) w.globals) in
       omega arith
 
--- a guard for each member, and the error
-pub guards_few : (L : LinkedSet) → length (guard_globals L) ≤ length L.set.members + 1
+-- a guard and a place for each member, the error, and how many are promoted
+pub guards_few : (L : LinkedSet) → length (guard_globals L) ≤ 2 * length L.set.members + 2
 guards_few L =
     let guards = length-map L.set.members (λ (y : Member). number_global true 0) in
-    let error = with_few L (number_global true 0 ∷ []) in
-    omega (arith, length-append (map (λ (y : Member). number_global true 0) L.set.members) (with_loader L (number_global true 0 ∷ [])))
+    let more = with_few L (loader_globals L) in
+    omega (arith, length-append (zero_globals L) (with_loader L (loader_globals L)))
 
 module _ (L : LinkedSet) (K : IsKnown L) (few : (linked_plan L).pages_max ≤ 16384) where
   abbrev n : Numbers
@@ -141,7 +143,7 @@ module _ (L : LinkedSet) (K : IsKnown L) (few : (linked_plan L).pages_max ≤ 16
   last_elems = map (items_of L K few) (slots L K few) ++ [] ∷ [] ∷ []
 
   abbrev behind : ModuleParts
-  behind = record { globals = map (λ y. Num 0) members ++ with_loader L (Num 0 ∷ []); tables = []; elems = last_elems; datas = [] ∷ [] }
+  behind = record { globals = zeros L ++ with_loader L (loader_zeros L); tables = []; elems = last_elems; datas = [] ∷ [] }
 
   tables_of_member : (ts : List TableType) → map (table_instance n) (map opened_table ts) ≡ map opened_table ts
   tables_of_member [] = refl
@@ -185,6 +187,14 @@ module _ (L : LinkedSet) (K : IsKnown L) (few : (linked_plan L).pages_max ≤ 16
   parts_whole =
       let globals = globals_opened L K few n m (named_target L K few) in
       λ i. record { globals = globals i; tables = tables_whole i; elems = elems_whole i; datas = datas_whole i }
+
+  -- the count and the places are behind the error
+  promoted_zero : (k : ℕ) → k ≤ length members → slice_get (loader_zeros L) (1 + k) ≡ Some (Num 0)
+  promoted_zero zero le = refl
+  promoted_zero (suc k) le =
+      let found = got members k (omega arith) in
+      let place : 1 + suc k ≡ suc (suc k) = omega arith in
+      ap (slice_get (loader_zeros L)) place ∙ slice_get-map (λ (y : Member). Num 0) members k ∙ ap (option_map (λ (y : Member). Num 0)) found.1
 
   -- ---- there is little
 
@@ -230,9 +240,10 @@ module _ (L : LinkedSet) (K : IsKnown L) (few : (linked_plan L).pages_max ≤ 16
     more = behind;
     whole = parts_whole;
     few = record { globals = globals_many; tables = tables_many; elems = elems_many; datas = datas_many };
-    others = with_loader L (Num 0 ∷ []);
+    others = with_loader L (loader_zeros L);
     guards = refl;
-    error = λ used. ap (λ (l : List Value). slice_get l 0) (with_used L (Num 0 ∷ []) used);
+    error = λ used. ap (λ (l : List Value). slice_get l 0) (with_used L (loader_zeros L) used);
+    promoted = λ used k le. ap (λ (l : List Value). slice_get l (1 + k)) (with_used L (loader_zeros L) used) ∙ promoted_zero k le;
     slots = λ k lt. in_front (map (items_of L K few) (slots L K few)) ([] ∷ [] ∷ []) k (slot_items L n k)
         (slots_at 0 members k k (λ l y at. (let place : l ≡ 0 + l = omega arith in subst (λ a. wasm_of L a ≡ Some y.wasm) place (ap (λ (o : Option Member). o >>= λ z. Some z.wasm) at))) lt (omega arith));
     first_guard = (let all = joined_length (opened_globals L) globals_size (globals_fit L) 0 members in omega arith);

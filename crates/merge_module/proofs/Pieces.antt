@@ -235,9 +235,10 @@ pub record IsBody (size : ℕ) (c : Code) : Type 0 where
   pub supported : (wasm : Module) → SupportedBody wasm c
   pub light : code_weight c ≤ size
 
--- with the locals that it declares
-pub body_by : (deep size : ℕ) (c : Code) → IsPiece deep size c.body.list → deep ≤ 1000 → length c.locals ≤ 2 → local_count c.locals ≤ 2 → list_all is_group_supported c.locals ≡ true → IsBody (size + 5) c
-body_by deep size c p low few count fine =
+-- with the locals that it declares, in so many groups
+pub body_with : (groups deep size : ℕ) (c : Code) → IsPiece deep size c.body.list → deep ≤ 1000 → length c.locals ≤ groups → groups ≤ 4 → local_count c.locals ≤ 4
+    → list_all is_group_supported c.locals ≡ true → IsBody (size + (groups + 3)) c
+body_with groups deep size c p low many few count fine =
     let nested = p.nested in
     let light = p.light in
     record {
@@ -245,3 +246,7 @@ body_by deep size c p low few count fine =
       supported = λ wasm k. rw fine (p.supported wasm k);
       light = omega arith;
     }
+
+-- two groups
+pub body_by : (deep size : ℕ) (c : Code) → IsPiece deep size c.body.list → deep ≤ 1000 → length c.locals ≤ 2 → local_count c.locals ≤ 2 → list_all is_group_supported c.locals ≡ true → IsBody (size + 5) c
+body_by deep size c p low few count fine = body_with 2 deep size c p low few (omega arith) (omega arith) fine

@@ -123,6 +123,7 @@ module _ (lengths : LengthsAreGiven) (searches : MembersAreSearched) (L : Linked
   loader_ready = record {
     texts = (let within = stack_within L K.links few in omega arith);
     error = refl;
+    promoted = refl;
     lengths = lengths (merged L K.set) (finders_of L (x L K.set)).length (length_there L K.set used);
     finds = find_ready;
     calls = call_there L K.set used;

@@ -29,7 +29,7 @@ use Rattle.spec_reading.specs.spec_binary.IndexSpaces.{function_space}
 use Rattle.spec_loading.specs.spec_validation.Faults.{is_function, constant_index, is_constant, global_fits, refers_step, instr_refers, expr_refers, items_refer, elem_refers, desc_refers, export_refers, global_refers, refers}
 use Rattle.spec_loading.proofs.of_spec_validation.Parts.{parts_fit}
 use Rattle.spec_loading.specs.spec_binary.SameTypes.{same_type}
-use Rattle.spec_loading.specs.spec_binary.Counted.{Step, Puts, Other, after_step, left}
+use Rattle.spec_loading.specs.spec_binary.Counted.{Puts, Other, after_step, left}
 use Rattle.spec_loading.specs.spec_validation.Counted.{PutsOne, kind_of, step_at, step_of}
 use Rattle.spec_loading.proofs.of_spec_binary.OneType.{one_type}
 use Rattle.spec_loading.proofs.of_spec_validation.Constants.{constant_counts}

@@ -16,9 +16,10 @@ use Rattle.merge_module.proofs.MergedSpaces.{few_funcs}
 use Rattle.merge_module.proofs.Opens.{N, X, M}
 use Rattle.merge_module.proofs.Bounds.{IsLight, members_light, types_light, elems_light, datas_light}
 use Rattle.merge_module.proofs.LightGlobals.{globals_light, few_tables}
+use Rattle.merge_find.specs.Shape.{SearchIsSmall}
 use Rattle.merge_module.proofs.LightCode.{codes_light}
 
-module _ (least : WeightIsLeast) (sections : SectionsAreBounded) (bodies : BodiesAreBounded) (L : LinkedSet) (K : IsKnown L) (few : (linked_plan L).pages_max ≤ 16384) (brief : IsBrief L) where
+module _ (small : SearchIsSmall) (least : WeightIsLeast) (sections : SectionsAreBounded) (bodies : BodiesAreBounded) (L : LinkedSet) (K : IsKnown L) (few : (linked_plan L).pages_max ≤ 16384) (brief : IsBrief L) where
   abbrev merged : Module
   merged = M L K few
 
@@ -55,7 +56,7 @@ module _ (least : WeightIsLeast) (sections : SectionsAreBounded) (bodies : Bodie
       omega arith
   contents_short {w} (codes s) =
       let most : length w ≤ 16 * sum_of code_weight merged.codes + 16 = sections merged 10 w (codes s) in
-      let all = codes_light L K few light brief.names in
+      let all = codes_light small L K few light brief.names in
       omega arith
   contents_short {w} (datas s) =
       let most : length w ≤ 16 * sum_of data_weight merged.datas + 16 = sections merged 11 w (datas s) in
@@ -66,5 +67,5 @@ module _ (least : WeightIsLeast) (sections : SectionsAreBounded) (bodies : Bodie
   merged_short = record {
     contents = contents_short;
     bodies = λ c has w s.
-        (let most : length w ≤ 16 * sum_of code_weight merged.codes = bodies merged c has w s in let all = codes_light L K few light brief.names in omega arith);
+        (let most : length w ≤ 16 * sum_of code_weight merged.codes = bodies merged c has w s in let all = codes_light small L K few light brief.names in omega arith);
   }

@@ -61,7 +61,7 @@ use Rattle.merge_start.specs.Typed.{GeneratedIsTyped}
 use Rattle.merge_dl.specs.Words.{handle_type, unary_type, binary_type, search_type}
 use Rattle.merge_dl.specs.Typed.{LoaderIsTyped}
 use Rattle.merge_index.specs.Numbering.{is_stub, stubs_of}
-use Rattle.merge_module.specs.MergedModule.{with_loader, nullary_number, handle_number, unary_number, binary_number, search_number, host_type_number, host_imports, stub_types, loader_funcs, generated_types, stub_codes, shared_table_type, number_expr, number_global, constant_instr, own_global, member_globals, guard_globals, passive_mode, renumbered_items, passive_elem, slots_elem, outside_elem, declared_elem, named_functions, exported_functions, passive_data, texts_segment}
+use Rattle.merge_module.specs.MergedModule.{with_loader, nullary_number, handle_number, unary_number, binary_number, search_number, host_type_number, host_imports, stub_types, loader_funcs, generated_types, stub_codes, shared_table_type, number_expr, number_global, constant_instr, own_global, member_globals, guard_globals, passive_mode, renumbered_items, passive_elem, slots_elem, outside_elem, declared_elem, named_functions, exported_functions, passive_data, texts_segment, zero_globals, loader_globals}
 use Rattle.merge_module.proofs.Known.{IsKnown}
 use Rattle.merge_module.proofs.WithLoader.{with_all}
 use Rattle.merge_module.proofs.LoaderFunctions.{handle_there, unary_there, binary_there, search_there}
@@ -86,6 +86,7 @@ use Rattle.merge_module.proofs.ValidBodies.{memory_is, mapped_there, filter_hold
 use Rattle.merge_module.proofs.ValidLoader.{bodies_none}
 use Rattle.merge_module.proofs.SupportedCode.{body_kept}
 use Rattle.merge_module.proofs.GeneratedBodies.{stubs_all, generated_all}
+use Rattle.merge_find.specs.Shape.{SearchIsSmall}
 use Rattle.merge_module.proofs.Faultless.{all_pass, pass_all, all_both, all_mapped, all_of, ImportFits, TypeFits, GlobalFits, ElemFits, SupportedBody, TableFits, fits_valid, IsSupported, valid_supported}
 
 -- ---- lists
@@ -449,13 +450,14 @@ module _ (L : LinkedSet) (K : IsKnown L) (few : (linked_plan L).pages_max ≤ 16
 
   globals_all : All (GlobalFits merged) merged.globals
   globals_all =
-      let guards = map (λ (y : Member). number_global true 0) members in
       let zero_fits : GlobalFits merged (number_global true 0) = (refl, number_constant merged 0) in
+      let zeros_fit : All (GlobalFits merged) (zero_globals L) =
+      all_by (GlobalFits merged) (zero_globals L) (λ i g e. (let found = mapped_there (λ y. number_global true 0) members i g e in subst (GlobalFits merged) found.2 zero_fits)) in
       All-cons (GlobalFits merged) (number_global true (linked_plan L).stack_top) (from_members (member_globals L n) 0 members ++ guard_globals L) (refl, number_constant merged (linked_plan L).stack_top)
       (All-append (GlobalFits merged) (from_members (member_globals L n) 0 members) (guard_globals L) (of_each (GlobalFits merged) (member_globals L n) globals_fit)
-      (All-append (GlobalFits merged) guards (with_loader L (number_global true 0 ∷ []))
-      (all_by (GlobalFits merged) guards (λ i g e. (let found = mapped_there (λ y. number_global true 0) members i g e in subst (GlobalFits merged) found.2 zero_fits)))
-      (with_all L (GlobalFits merged) (number_global true 0 ∷ []) (λ used. All-cons (GlobalFits merged) (number_global true 0) [] zero_fits (All-nil (GlobalFits merged))))))
+      (All-append (GlobalFits merged) (zero_globals L) (with_loader L (loader_globals L)) zeros_fit
+      (with_all L (GlobalFits merged) (loader_globals L) (λ used. All-cons (GlobalFits merged) (number_global true 0) (number_global true 0 ∷ zero_globals L) zero_fits
+      (All-cons (GlobalFits merged) (number_global true 0) (zero_globals L) zero_fits zeros_fit)))))
 
   exports_fit : list_all (export_fits merged) merged.exports ≡ true
   exports_fit =
@@ -504,17 +506,17 @@ module _ (L : LinkedSet) (K : IsKnown L) (few : (linked_plan L).pages_max ≤ 16
       (of_each (λ d. data_fits merged d ≡ true) (λ m wasm. map passive_data wasm.datas) data_too)
       (All-cons (λ d. data_fits merged d ≡ true) (texts_segment L) [] texts_fit (All-nil (λ d. data_fits merged d ≡ true))))
 
-  codes_all : All (SupportedBody merged) merged.codes
-  codes_all =
+  codes_all : SearchIsSmall → All (SupportedBody merged) merged.codes
+  codes_all small =
       let own = from_members (λ m wasm. map (renumbered_code n m) wasm.codes) 0 members in
       let stubs = from_members (stub_codes L) 0 members in
       All-append (SupportedBody merged) own (stubs ++ generated_codes L n x) (of_each (SupportedBody merged) (λ m wasm. map (renumbered_code n m) wasm.codes) codes_fit)
       (All-append (SupportedBody merged) stubs (generated_codes L n x)
       (of_each (SupportedBody merged) (stub_codes L) (λ m y at. stubs_all (SupportedBody merged) (λ size c is. is.supported merged) L m y.wasm))
-      (generated_all (SupportedBody merged) (λ size c is. is.supported merged) L K.set n x))
+      (generated_all (SupportedBody merged) (λ size c is. is.supported merged) small L K.set n x))
 
-  pub merged_valid : GeneratedIsTyped → LoaderIsTyped → All (λ (h : HostName). IsTrue (is_function_supported h.ty)) (hosts_of L) → fault merged ≡ None
-  merged_valid typing loader_typing hosts = fits_valid merged (record {
+  pub merged_valid : SearchIsSmall → GeneratedIsTyped → LoaderIsTyped → All (λ (h : HostName). IsTrue (is_function_supported h.ty)) (hosts_of L) → fault merged ≡ None
+  merged_valid small typing loader_typing hosts = fits_valid merged (record {
     imports = hosts_fit (host_type_number L) 0 (hosts_of L) (host_types L K n x) hosts;
     funcs = funcs_all;
     tables = tables_all;
@@ -526,6 +528,6 @@ module _ (L : LinkedSet) (K : IsKnown L) (few : (linked_plan L).pages_max ≤ 16
     start = refl;
     elems = elems_all;
     datas = datas_all;
-    supported = codes_all;
+    supported = codes_all small;
     typed = bodies_none L K few typing loader_typing;
   })

@@ -49,7 +49,7 @@ use Rattle.dyl_addresses.specs.Sets.{AreOf}
 use Rattle.merge_start.specs.Typed.{IsEffectTyped, AreEffectsTyped, IsPhaseTyped, AreTasksTyped, IsEntryTyped, GeneratedIsTyped}
 use Rattle.dyl_addresses.proofs.Ranges.{of_startup}
 use Rattle.merge_index.specs.Numbering.{stubs_of, function_number}
-use Rattle.merge_module.specs.MergedModule.{with_loader, nullary_number, number_global, member_globals, guard_globals, merged_globals, shared_table_type, passive_elem, slots_elem, outside_elem, declared_elem, stub_types, generated_types, stub_codes, phase_codes, plain_code}
+use Rattle.merge_module.specs.MergedModule.{with_loader, nullary_number, number_global, member_globals, guard_globals, merged_globals, shared_table_type, passive_elem, slots_elem, outside_elem, declared_elem, stub_types, generated_types, stub_codes, phase_codes, plain_code, zero_globals, loader_globals}
 use Rattle.merge_module.proofs.Known.{IsKnown}
 use Rattle.merge_module.proofs.WithLoader.{with_used}
 use Rattle.merge_module.proofs.SetMembers.{is_sound}
@@ -110,15 +110,35 @@ module _ (L : LinkedSet) (K : IsKnown L) (few : (linked_plan L).pages_max ≤ 16
   guard_typed m lt =
       let found = got members m lt in
       let there : slice_get (map (λ y. number_global true 0) members) m ≡ Some (number_global true 0) = slice_get-map (λ y. number_global true 0) members m ∙ ap (option_map (λ y. number_global true 0)) found.1 in
-      guards_at m (number_global true 0) (in_front (map (λ y. number_global true 0) members) (with_loader L (number_global true 0 ∷ [])) m (number_global true 0) there)
+      guards_at m (number_global true 0) (in_front (zero_globals L) (with_loader L (loader_globals L)) m (number_global true 0) there)
+
+  -- the globals of the loader are behind the guards
+  loader_typed : uses_loader L ≡ true → (i : ℕ) → slice_get (loader_globals L) i ≡ Some (number_global true 0)
+      → slice_get (global_space merged) (x.guards + (length members + i)) ≡ Some (record { value = I32; mutable = true })
+  loader_typed used i there =
+      let many = length-map members (λ (y : Member). number_global true 0) in
+      let place : length members + i ≡ length (zero_globals L) + i = omega arith in
+      guards_at (length members + i) (number_global true 0)
+      (ap (slice_get (guard_globals L)) place ∙ past_front (zero_globals L) (with_loader L (loader_globals L)) i
+      ∙ ap (λ (l : List GlobalDef). slice_get l i) (with_used L (loader_globals L) used) ∙ there)
 
   pub error_typed : uses_loader L ≡ true → slice_get (global_space merged) (x.guards + length members) ≡ Some (record { value = I32; mutable = true })
   error_typed used =
-      let many = length-map members (λ (y : Member). number_global true 0) in
-      let place : length members ≡ length (map (λ (y : Member). number_global true 0) members) + 0 = omega arith in
-      guards_at (length members) (number_global true 0)
-      (ap (slice_get (guard_globals L)) place ∙ past_front (map (λ (y : Member). number_global true 0) members) (with_loader L (number_global true 0 ∷ [])) 0
-      ∙ ap (λ (l : List GlobalDef). slice_get l 0) (with_used L (number_global true 0 ∷ []) used))
+      let place : x.guards + (length members + 0) ≡ x.guards + length members = omega arith in
+      subst (λ k. slice_get (global_space merged) k ≡ Some (record { value = I32; mutable = true })) place (loader_typed used 0 refl)
+
+  promoted_there : (i : ℕ) → i ≤ length members → slice_get (loader_globals L) (1 + i) ≡ Some (number_global true 0)
+  promoted_there zero le = refl
+  promoted_there (suc i) le =
+      let found = got members i (omega arith) in
+      let place : 1 + suc i ≡ suc (suc i) = omega arith in
+      ap (slice_get (loader_globals L)) place ∙ slice_get-map (λ y. number_global true 0) members i ∙ ap (option_map (λ y. number_global true 0)) found.1
+
+  pub promoted_typed : uses_loader L ≡ true → (i : ℕ) → i ≤ length members
+      → slice_get (global_space merged) (x.promoted + i) ≡ Some (record { value = I32; mutable = true })
+  promoted_typed used i le =
+      let place : x.guards + (length members + (1 + i)) ≡ x.promoted + i = omega arith in
+      subst (λ k. slice_get (global_space merged) k ≡ Some (record { value = I32; mutable = true })) place (loader_typed used (1 + i) (promoted_there i le))
 
   -- ---- a member
 

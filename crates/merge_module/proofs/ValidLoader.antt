@@ -31,7 +31,7 @@ use Rattle.merge_module.proofs.MergedSpaces.{own_codes, phases_many}
 use Rattle.merge_module.proofs.LoaderFunctions.{loader_listed, handle_there, unary_there, binary_there, search_there, open_listed, open_there, open_codes_many, behind_listed, length_there, find_listed, find_there, find_codes_many, last_listed}
 use Rattle.merge_module.proofs.Opens.{N, X, M}
 use Rattle.merge_module.proofs.ValidBodies.{memory_is, find, body_none, some_so, own_none, stubs_none}
-use Rattle.merge_module.proofs.ValidGenerated.{start, generated_type, guard_typed, error_typed, tasks_typed, phases_none, entry_none}
+use Rattle.merge_module.proofs.ValidGenerated.{start, generated_type, guard_typed, error_typed, promoted_typed, tasks_typed, phases_none, entry_none}
 use Rattle.merge_module.proofs.Faultless.{none_append, both_none, singles_none}
 
 module _ (L : LinkedSet) (K : IsKnown L) (few : (linked_plan L).pages_max ≤ 16384) (typing : GeneratedIsTyped) (loader_typing : LoaderIsTyped) where
@@ -63,6 +63,7 @@ module _ (L : LinkedSet) (K : IsKnown L) (few : (linked_plan L).pages_max ≤ 16
     has_named ty c = record {
       memory = rw (memory_is L K few) refl;
       error = error_typed L K few typing used;
+      promoted = promoted_typed L K few typing used;
       guards = guard_typed L K few typing;
       lengths = function_is d.length unary_type length_body (length_there L K.set used);
       finds = λ m lt. (let y = got members m lt in function_is (d.find m) search_type (find_body L m y.0.wasm) (find_there L K.set used m y.0 y.1));

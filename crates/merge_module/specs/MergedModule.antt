@@ -241,9 +241,17 @@ member_globals L n m wasm =
     number_global false (unwrap_or (memory_base L m) 0) ∷ number_global false (unwrap_or (table_base L m) 0)
     ∷ (map (λ c. number_global true (cell_value L m c)) (cells_of wasm) ++ map (own_global L n m) wasm.globals)
 
--- the guards begin with 0, and so does the number of the error
+-- one that begins with 0 for each member
+abbrev pub zero_globals : LinkedSet → List GlobalDef
+zero_globals L = map (λ m. number_global true 0) L.set.members
+
+-- the number of the error, how many members are promoted, and the place of each member among these
+abbrev pub loader_globals : LinkedSet → List GlobalDef
+loader_globals L = number_global true 0 ∷ number_global true 0 ∷ zero_globals L
+
+-- the guards begin with 0, and so do the globals of the loader
 abbrev pub guard_globals : LinkedSet → List GlobalDef
-guard_globals L = map (λ m. number_global true 0) L.set.members ++ with_loader L (number_global true 0 ∷ [])
+guard_globals L = zero_globals L ++ with_loader L (loader_globals L)
 
 abbrev pub merged_globals : LinkedSet → Numbers → List GlobalDef
 merged_globals L n = number_global true (linked_plan L).stack_top ∷ (of_members L (member_globals L n) ++ guard_globals L)
@@ -332,6 +340,6 @@ module_with L n x = record {
 -- come one after the other, by their numbers; segments are passive, for they are applied when their member is placed. Behind them come what
 -- stands for imports that nothing defines, a function for each phase of each member and one that calls these for main and then the entry,
 -- a guard for each member, which says how far it has come, and the segments of fresh slots. Where a member uses the loader, there are its
--- functions, with what they call and the number of the last error.
+-- functions, with what they call, the number of the last error, and the members that are promoted.
 abbrev pub merged_module : LinkedSet → Module
 merged_module L = module_with L (numbers_of L) (starts_of L)

@@ -6,6 +6,7 @@ ghost use Rattle.merge_module.specs.Laws.{MergedIsReady, MergedStands, SpelledMe
 use merge_dl::{
     lengths_are_given, loader_calls_are_answered, loader_code_is_typed, members_are_searched,
 };
+use merge_find::searches_are_small;
 use merge_start::{generated_code_is_typed, sets_run_as_merged, unused_loader_is_not_called};
 use spec_loading::{linked_code_is_there, linked_functions_are_typed, slots_fit};
 use wasm_encode::weights_bound_lengths;
@@ -41,6 +42,7 @@ pub fn spelled_modules_merge()
     loader_calls_are_answered();
     generated_code_is_typed();
     loader_code_is_typed();
+    searches_are_small();
 }
 
 /// The merged module of a linked set has a form that can be written, and imports functions alone; it has the planned table and memory, and
@@ -54,4 +56,5 @@ pub fn merged_modules_are_formed()
     linked_functions_are_typed();
     slots_fit();
     weights_bound_lengths();
+    searches_are_small();
 }

@@ -54,6 +54,9 @@ i32_ne = 0x47
 abbrev pub i32_lt_u : ℕ
 i32_lt_u = 0x49
 
+abbrev pub i32_ge_u : ℕ
+i32_ge_u = 0x4F
+
 abbrev pub i64_eqz : ℕ
 i64_eqz = 0x50
 

@@ -30,6 +30,8 @@ pub const I32_EQ: u8 = 0x46;
 pub const I32_NE: u8 = 0x47;
 /// Whether a number is below another, both unsigned.
 pub const I32_LT_U: u8 = 0x49;
+/// Whether a number is not below another, both unsigned.
+pub const I32_GE_U: u8 = 0x4F;
 /// Whether a number of 64 bits is 0.
 pub const I64_EQZ: u8 = 0x50;
 /// The sum of two numbers.

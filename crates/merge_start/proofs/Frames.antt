@@ -1,10 +1,10 @@
 -- The law of one step for the loader's frames: each step is one or more steps of generated code.
 use denote.Hole.Carrier.{out}
-use Rattle.std.proofs.Common.{◌≡◌, ℕ, suc, ◌+◌, ◌<◌, ◌≤◌, List, [], ◌∷◌, length, nat_lt, nat_le, slice_get, slice_set, Option, Some, None, option_map, Bool, true, false, if◌then◌else◌, refl, sym, ap, ◌∙◌, subst, arith, append-nil}
+use Rattle.std.proofs.Common.{◌≡◌, ℕ, suc, ◌+◌, ◌<◌, ◌≤◌, List, [], ◌∷◌, length, nat_lt, nat_le, slice_get, slice_set, Option, Some, None, option_map, Bool, true, false, if◌then◌else◌, ◌++◌, refl, sym, ap, ap₂, ◌∙◌, subst, arith, append-nil}
 use Rattle.std.specs.Int.{cast_unsigned, cast_signed, w32}
 use Rattle.std.proofs.lemmas.Int.{of_z-to_z}
 use Rattle.std.proofs.lemmas.Bool.Decides.{nat_tests}
-use Rattle.wasm_form.specs.declared.instr.Instr.{Instr, Index, out-Instr}
+use Rattle.wasm_form.specs.declared.instr.Instr.{Instr, Plain, Index, out-Instr}
 use Rattle.wasm_form.specs.declared.module.Module.{Module}
 use Rattle.wasm_form.specs.declared.runtime.Ref.TheVariants.{Own}
 use Rattle.wasm_form.specs.declared.runtime.Ref.{Ref}
@@ -17,7 +17,7 @@ use Rattle.spec_loading.proofs.of_spec_binary.Lists.{got}
 use Rattle.spec_loading.specs.spec_runtime.Memories.{MemoryInstance}
 use Rattle.spec_loading.specs.spec_execution.Activations.{Activation, with_values}
 use Rattle.spec_loading.specs.spec_execution.Segments.{Performed}
-use Rattle.spec_loading.specs.spec_execution.Runs.{Frame, Next, call, calling, stands, became}
+use Rattle.spec_loading.specs.spec_execution.Runs.{Frame, Next, call, calling, became}
 use Rattle.spec_loading.specs.spec_execution.Runs as frames
 use Rattle.spec_loading.specs.spec_execution.Instances.{ModuleParts, module_hosts, module_view, module_target}
 use Rattle.spec_loading.specs.spec_execution.OneModule.{Starting, ModuleState, module_next, module_step}
@@ -26,9 +26,9 @@ use Rattle.spec_loading.specs.declared.task.Phase.{Phase}
 use Rattle.spec_loading.specs.declared.task.Phase.TheVariants.{Place, Start, Relocate, Construct}
 use Rattle.spec_loading.specs.declared.task.Task.{Task}
 use Rattle.spec_loading.specs.declared.task.After.{After}
-use Rattle.spec_loading.specs.declared.task.After.TheVariants.{CallEntry, GiveHandle}
+use Rattle.spec_loading.specs.declared.task.After.TheVariants.{CallEntry, GiveHandle, GiveAndPromote}
 use Rattle.spec_loading.specs.Phases.{stage_of, phase_function, LoaderFrame}
-use Rattle.spec_loading.specs.Loading.{LoaderState, stage_in, goes_on, comes_to, call_next, place_next, work_next, raised, task_next, gives, after_next, frame_next, went, came_to}
+use Rattle.spec_loading.specs.Loading.{LoaderState, stage_in, goes_on, comes_to, call_next, place_next, work_next, raised, task_next, promoting, gives, after_next, frame_next, went, came_to}
 use Rattle.spec_loading.specs.Loading as loading
 use Rattle.spec_loading.specs.Members.{Store, set_view}
 use Rattle.spec_loading.specs.LoadedSet.{SetState, callee_of, phase_callee, set_loading}
@@ -37,14 +37,15 @@ use Rattle.merge_match.specs.Matching.{gives_back, Below, system_of, Answered}
 use Rattle.merge_match.specs.Endings.{at_end}
 use Rattle.merge_match.specs.Laws.{HasParts}
 use Rattle.merge_pieces.specs.Opcodes as op
-use Rattle.merge_start.specs.Words.{Starts, member_call, phase_code, work_code}
+use Rattle.merge_start.specs.Words.{Starts, member_call, phase_code, work_code, promote_code}
 use Rattle.merge_start.specs.Running.{Around, at, Reaches, goes, Does}
 use Rattle.merge_start.specs.Started.{IsWord, Same, HoldsSlots, MemberReady, IsReady}
 use Rattle.dyl_addresses.specs.Sets.{AreOf}
-use Rattle.merge_start.specs.Points.{before_code, before_tasks, behind_call, HandsOn, IsOuter, places, Matched}
+use Rattle.merge_start.specs.Points.{before_code, before_tasks, behind_call, HandsOn, IsOuter, places, Matched, Promotes}
 use Rattle.merge_start.proofs.Reaching.{reaches_then, one_step, silent_of, of_silent, does_nothing, does_passed, does_guarded, reaches_work, reaches_under, inside}
 use Rattle.merge_start.proofs.Keeping.{guard_there, slots_there, stage_same}
 use Rattle.merge_start.proofs.Placing.{changing, place_law}
+use Rattle.merge_start.proofs.Promoting.{promoting_law}
 use Rattle.merge_start.proofs.Returning.{marked, standing}
 use Rattle.merge_start.proofs.Calling.{code, Comes, called, called_own}
 
@@ -99,7 +100,7 @@ module _ (L : LinkedSet) (n : Numbers) (x : Starts) (merged : Module) (is : HasP
       (landed t e (reaches_then more (goes moving a.3 (of_silent a.0 a.4))) a.5)
 
   module _ (s : SetState) (parts : ModuleParts) (same : Same L n x s.loader s.run.units parts) (fs : List (Frame LoaderFrame)) (after : After)
-      (hs os : List (Frame Starting)) (outer : IsOuter x after os hs) (below : Below n (places L n x) (gives_back after) fs hs) where
+      (hs os : List (Frame Starting)) (outer : IsOuter L x after os hs) (below : Below n (places L n x) (gives_back after) fs hs) where
     abbrev marks : List Task → List (Frame LoaderFrame)
     marks ts = frames.Marked (frame_of after ts) ∷ fs
 
@@ -290,7 +291,14 @@ module _ (L : LinkedSet) (n : Numbers) (x : Starts) (merged : Module) (is : HasP
       (subst (λ (o : Option SetState). Reached o (module_step merged t)) (sym (found ∙ come.is_state))
       (subst (λ (p : Option ModuleState). Reached (Some come.state) p) (sym (calls_at merged t (n.named 0 e.function) b [] refl target)) come.answered))
 
-  -- the handle is pushed, and given to what hands it on
+  -- the handle is pushed
+  pushes : (parts : ModuleParts) (memory : MemoryInstance) (m : ℕ) (os : List (Frame Starting)) → IsWord (m + 1)
+      → module_step merged (standing L n x (frame_of (GiveHandle m) []) os parts memory)
+      ≡ Some (record { units = parts; memory = memory; stack = frames.Active (record (before_code (x.opening m) 1 []) { values = Num (m + 1) ∷ [] }) ∷ os; status = Moving })
+  unfolding out-Instr out
+  pushes parts memory m os small = (let q : cast_unsigned w32 (cast_signed w32 (m + 1)) ≡ m + 1 = of_z-to_z w32 (m + 1) small in rw q refl)
+
+  -- it is given to what hands it on
   module _ (s : SetState) (parts : ModuleParts) (same : Same L n x s.loader s.run.units parts) (hs : List (Frame Starting)) (m : ℕ)
       (a : Activation) (hands : HandsOn a) (small : IsWord (m + 1)) where
     abbrev handle : Value
@@ -299,18 +307,11 @@ module _ (L : LinkedSet) (n : Numbers) (x : Starts) (merged : Module) (is : HasP
     abbrev over : Activation → List (Frame Starting) → ModuleState
     over c gs = record { units = parts; memory = s.run.memory; stack = frames.Active c ∷ gs; status = Moving }
 
-    abbrev opened : ModuleState
-    opened = over (record (before_code (x.opening m) 1 []) { values = handle ∷ [] }) (frames.Active a ∷ hs)
-
     abbrev given_handle : ModuleState
     given_handle = over (record a { values = handle ∷ a.values }) hs
 
     abbrev returning : Activation
     returning = record a { results = 1; values = handle ∷ []; rest = []; levels = [] }
-
-    pushes : module_step merged (standing L n x (frame_of (GiveHandle m) []) (frames.Active a ∷ hs) parts s.run.memory) ≡ Some opened
-    unfolding out-Instr out
-    pushes = (let q : cast_unsigned w32 (cast_signed w32 (m + 1)) ≡ m + 1 = of_z-to_z w32 (m + 1) small in rw q refl)
 
     returns : module_step merged given_handle ≡ Some (over returning hs)
     unfolding out-Instr out
@@ -330,13 +331,50 @@ module _ (L : LinkedSet) (n : Numbers) (x : Starts) (merged : Module) (is : HasP
         (module_step merged (standing L n x (frame_of (GiveHandle m) []) (frames.Active a ∷ hs) parts s.run.memory))
     handle_law fs below =
         let end = given_law fs hs below in
-        landed (standing L n x (frame_of (GiveHandle m) []) (frames.Active a ∷ hs) parts s.run.memory) pushes
+        landed (standing L n x (frame_of (GiveHandle m) []) (frames.Active a ∷ hs) parts s.run.memory) (pushes parts s.run.memory m (frames.Active a ∷ hs) small)
         (goes {u = given_handle} refl refl (goes refl returns (one_step refl end.1))) end.2
+
+  -- the handle is pushed, the closure is promoted, and the handle given to what hands it on
+  module _ (s : SetState) (parts : ModuleParts) (same : Same L n x s.loader s.run.units parts) (hs : List (Frame Starting)) (m : ℕ)
+      (a : Activation) (p : Promotes L x m a) (small : IsWord (m + 1)) where
+    abbrev after_promoting : SetState
+    after_promoting = promoting (set_loading L) s m
+
+    abbrev handing : Activation
+    handing = record a { unit = 0; rest = Plain op.return_ ∷ p.hands.more }
+
+    abbrev place_around : Around
+    place_around = record {
+      func = a.func;
+      results = a.results;
+      locals = a.locals;
+      below = Num (m + 1) ∷ a.values;
+      more = Plain op.return_ ∷ p.hands.more;
+      levels = a.levels;
+      under = hs;
+    }
+
+    abbrev with_code : ℕ → List Instr → ModuleState
+    with_code unit code = record { units = parts; memory = s.run.memory; stack = frames.Active (record a { unit = unit; rest = code; values = Num (m + 1) ∷ a.values }) ∷ hs; status = Moving }
+
+    promote_law : (fs : List (Frame LoaderFrame)) → Below n (places L n x) 1 fs hs
+        → Reached (outcome L (after_next (set_loading L) s fs (GiveAndPromote m)))
+        (module_step merged (standing L n x (frame_of (GiveAndPromote m) []) (frames.Active a ∷ hs) parts s.run.memory))
+    promote_law fs below =
+        let law = promoting_law L n x merged p.used p.number s.loader s.run.units parts same s.run.memory m p.later in
+        let hands : HandsOn handing = record { more = p.hands.more; rest = refl; results = p.hands.results } in
+        let end = given_law after_promoting law.0 law.1 hs m handing hands small fs hs below in
+        let here : with_code a.unit a.rest ≡ with_code 0 (promote_code L x m ++ Plain op.return_ ∷ p.hands.more) = ap₂ with_code p.hands.unit p.hands.rest in
+        let promotes : Reaches merged (with_code a.unit a.rest) (given_handle after_promoting law.0 law.1 hs m handing hands small) =
+        subst (λ u. Reaches merged u (given_handle after_promoting law.0 law.1 hs m handing hands small)) (sym here) (law.2.runs place_around) in
+        landed (standing L n x (frame_of (GiveAndPromote m) []) (frames.Active a ∷ hs) parts s.run.memory)
+        (pushes parts s.run.memory m (frames.Active a ∷ hs) small)
+        (goes {u = with_code a.unit a.rest} refl refl (reaches_then promotes (goes refl (returns after_promoting law.0 law.1 hs m handing hands small) (one_step refl end.1)))) end.2
 
   -- ---- a frame
 
   pub frame_law : (s : SetState) (parts : ModuleParts) → Same L n x s.loader s.run.units parts → (fs : List (Frame LoaderFrame))
-      (hs os : List (Frame Starting)) (after : After) → IsOuter x after os hs → Below n (places L n x) (gives_back after) fs hs
+      (hs os : List (Frame Starting)) (after : After) → IsOuter L x after os hs → Below n (places L n x) (gives_back after) fs hs
       → (tasks : List Task) → AreOf L tasks
       → Reached (outcome L (frame_next (set_loading L) s fs after tasks)) (module_step merged (standing L n x (frame_of after tasks) os parts s.run.memory))
   frame_law s parts same fs hs os after outer below (task ∷ ts) of = task_law s parts same fs after hs os outer below task ts of.0 of.1
@@ -346,3 +384,6 @@ module _ (L : LinkedSet) (n : Numbers) (x : Starts) (merged : Module) (is : HasP
   frame_law s parts same fs hs os (GiveHandle m) outer below [] of =
       subst (λ (gs : List (Frame Starting)). Reached (outcome L (after_next (set_loading L) s fs (GiveHandle m))) (module_step merged (standing L n x (frame_of (GiveHandle m) []) gs parts s.run.memory))) (sym outer.1)
       (handle_law s parts same hs m outer.0 outer.2 outer.3 fs below)
+  frame_law s parts same fs hs os (GiveAndPromote m) outer below [] of =
+      subst (λ (gs : List (Frame Starting)). Reached (outcome L (after_next (set_loading L) s fs (GiveAndPromote m))) (module_step merged (standing L n x (frame_of (GiveAndPromote m) []) gs parts s.run.memory))) (sym outer.1)
+      (promote_law s parts same hs m outer.0 outer.2 outer.3 fs below)

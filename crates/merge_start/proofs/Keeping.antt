@@ -1,9 +1,11 @@
--- What is the same is kept: by the members' code, by a stage that is raised with its guard, by the number of the error, and by the shared
--- table that is written.
-use Rattle.std.proofs.Common.{◌≡◌, ℕ, zero, suc, ◌+◌, ◌<◌, ◌≤◌, List, [], ◌∷◌, ◌++◌, length, map, slice_get, slice_set, Some, true, option_map, refl, sym, ap, ◌∙◌, subst, arith}
+-- What is the same is kept: by the members' code, by a stage that is raised with its guard, by the globals behind the guards, of which the
+-- number of the error is one, and by the shared table that is written.
+use Rattle.std.proofs.Common.{◌≡◌, ℕ, zero, suc, ◌+◌, ◌<◌, ◌≤◌, List, [], ◌∷◌, ◌++◌, length, map, nat_eq, slice_get, slice_set, Some, true, option_map, refl, sym, ap, ◌∙◌, subst, arith, append_assoc, length-append}
+use Rattle.std.specs.List.{IsDistinct}
 use Rattle.std.proofs.lemmas.List.{length-map}
 use Rattle.std.proofs.lemmas.Option.{slice_get-map, slice_get_within}
 use Rattle.wasm_form.specs.declared.module.Module.{Module}
+use Rattle.wasm_form.specs.declared.runtime.Value.{Value}
 use Rattle.wasm_form.specs.declared.runtime.Value.TheVariants.{Num}
 use Rattle.spec_loading.proofs.of_spec_binary.Lists.{slice_get-append-left}
 use Rattle.spec_loading.specs.spec_runtime.Tables.{TableInstance}
@@ -21,17 +23,17 @@ use Rattle.merge_match.proofs.Lists.{slice_set-map, length-slice_set, slice_set-
 use Rattle.merge_match.proofs.Addresses.{length-set_at, read, written}
 use Rattle.merge_match.proofs.Merged.{follows_code, follows}
 use Rattle.merge_start.specs.Words.{Starts}
-use Rattle.merge_start.specs.Started.{Started, Same, HoldsSlots}
+use Rattle.merge_start.specs.Started.{AreLater, place_of, Started, Same, HoldsSlots}
 
 -- ---- lists
 
 module _ {A : Type 0} where
-  set_behind : (xs ys : List A) (i k : ℕ) (y : A) → k ≡ length xs + i → slice_set (xs ++ ys) k y ≡ xs ++ slice_set ys i y
+  pub set_behind : (xs ys : List A) (i k : ℕ) (y : A) → k ≡ length xs + i → slice_set (xs ++ ys) k y ≡ xs ++ slice_set ys i y
   set_behind [] ys i k y e = (let same : k ≡ i = omega (arith, e) in rw same refl)
   set_behind (x ∷ xs) ys i zero y e = absurd (omega (arith, e))
   set_behind (x ∷ xs) ys i (suc k) y e = ap (λ l. x ∷ l) (set_behind xs ys i k y (omega (arith, e)))
 
-  get_behind : (xs ys : List A) (i k : ℕ) → k ≡ length xs + i → slice_get (xs ++ ys) k ≡ slice_get ys i
+  pub get_behind : (xs ys : List A) (i k : ℕ) → k ≡ length xs + i → slice_get (xs ++ ys) k ≡ slice_get ys i
   get_behind [] ys i k e = (let same : k ≡ i = omega (arith, e) in rw same refl)
   get_behind (x ∷ xs) ys i zero e = absurd (omega (arith, e))
   get_behind (x ∷ xs) ys i (suc k) e = get_behind xs ys i k (omega (arith, e))
@@ -45,16 +47,18 @@ module _ {A : Type 0} where
   all_set P (x ∷ xs) (suc i) new is all zero y e = all zero y e
   all_set P (x ∷ xs) (suc i) new is all (suc k) y e = all_set P xs i new is (λ j z h. all (suc j) z h) k y e
 
-  -- what stands behind what is set is as before
-  pub get_past : (xs : List A) (i j : ℕ) (y : A) → i < j → slice_get (slice_set xs i y) j ≡ slice_get xs j
-  get_past [] i j y lt = refl
-  get_past (x ∷ xs) i zero y lt = absurd (omega arith)
-  get_past (x ∷ xs) zero (suc j) y lt = refl
-  get_past (x ∷ xs) (suc i) (suc j) y lt = get_past xs i j y (omega arith)
+  -- an item that is set is there, and the others are as before
+  pub get_same : (xs : List A) (i : ℕ) (old new : A) → slice_get xs i ≡ Some old → slice_get (slice_set xs i new) i ≡ Some new
+  get_same [] i old new e = absurd cc
+  get_same (x ∷ xs) zero old new e = refl
+  get_same (x ∷ xs) (suc i) old new e = get_same xs i old new e
 
-  set_first : (xs : List A) (old new : A) → slice_get xs 0 ≡ Some old → slice_get (slice_set xs 0 new) 0 ≡ Some new
-  set_first [] old new e = absurd cc
-  set_first (x ∷ xs) old new e = refl
+  pub get_other : (xs : List A) (i j : ℕ) (new : A) → (i ≡ j → ⊥) → slice_get (slice_set xs j new) i ≡ slice_get xs i
+  get_other [] i j new apart = refl
+  get_other (x ∷ xs) zero zero new apart = absurd (apart refl)
+  get_other (x ∷ xs) zero (suc j) new apart = refl
+  get_other (x ∷ xs) (suc i) zero new apart = refl
+  get_other (x ∷ xs) (suc i) (suc j) new apart = get_other xs i j new (λ e. apart (ap suc e))
 
 -- what is 0 was so before another number was set
 zero_before : (xs : List ℕ) (i k new : ℕ) → 0 < new → slice_get (slice_set xs i new) k ≡ Some 0 → slice_get xs k ≡ Some 0
@@ -63,6 +67,15 @@ zero_before (x ∷ xs) zero zero new up e = (let none : new ≡ 0 = cc in absurd
 zero_before (x ∷ xs) zero (suc k) new up e = e
 zero_before (x ∷ xs) (suc i) zero new up e = e
 zero_before (x ∷ xs) (suc i) (suc k) new up e = zero_before xs i k new up e
+
+-- what the globals behind the guards hold (`Started`)
+pub record AreBehind (L : LinkedSet) (loader : LoaderState) (others : List Value) : Type 0 where
+  pub error : uses_loader L ≡ true → slice_get others 0 ≡ Some (Num loader.error)
+  pub few : loader.error ≤ 5
+  pub count : uses_loader L ≡ true → slice_get others 1 ≡ Some (Num (length loader.promoted))
+  pub places : uses_loader L ≡ true → (m : ℕ) → m < length L.set.members → slice_get others (2 + m) ≡ Some (Num (place_of loader.promoted m))
+  pub later : AreLater L loader.promoted
+  pub apart : IsDistinct nat_eq loader.promoted
 
 module _ (L : LinkedSet) (n : Numbers) (x : Starts) where
   abbrev I : Instances
@@ -218,6 +231,10 @@ module _ (L : LinkedSet) (n : Numbers) (x : Starts) where
                   ∙ ap (λ l. l ++ kept.others) (slice_set-map Num loader.stages m new);
               error = kept.error;
               few = kept.few;
+              count = kept.count;
+              places = kept.places;
+              later = kept.later;
+              apart = kept.apart;
               slots = λ k here. kept.slots k (zero_before loader.stages m k new up here);
             };
             inside = same.store.inside;
@@ -231,61 +248,98 @@ module _ (L : LinkedSet) (n : Numbers) (x : Starts) where
           sized = same.sized;
         }
 
-    -- ---- the number of the error
+    -- ---- the globals behind the guards
 
-    -- it comes behind the guards
+    abbrev pub others : List Value
+    others = same.store.kept.others
+
+    -- those of the store, and the guards
+    abbrev pub first_globals : List Value
+    first_globals = map (value n) us.globals ++ map Num loader.stages
+
+    first_then : (ys : List Value) → map (value n) us.globals ++ (map Num loader.stages ++ ys) ≡ first_globals ++ ys
+    first_then ys = sym (append_assoc (map (value n) us.globals) (map Num loader.stages) ys)
+
+    pub whole_globals : parts.globals ≡ first_globals ++ others
+    whole_globals =
+        ap (λ (p : ModuleParts). p.globals) same.store.whole ∙ ap (λ l. map (value n) us.globals ++ l) same.store.kept.guards ∙ first_then others
+
+    first_end : (j : ℕ) → x.guards + length L.set.members + j ≡ length first_globals + j
+    first_end j =
+        let both = length-append (map (value n) us.globals) (map Num loader.stages) in
+        let store = length-map us.globals (value n) in
+        let guards = length-map loader.stages Num in
+        let sized = same.sized.globals in
+        let held = same.store.kept.sized in
+        omega (arith, both, store, guards, sized, held)
+
+    pub other_there : (j g : ℕ) → g ≡ x.guards + length L.set.members + j → slice_get parts.globals g ≡ slice_get others j
+    other_there j g e = ap (λ l. slice_get l g) whole_globals ∙ get_behind first_globals others j g (e ∙ first_end j)
+
+    pub other_set : (ys : List Value) (j g : ℕ) (v : Value) → g ≡ x.guards + length L.set.members + j
+        → slice_set (first_globals ++ ys) g v ≡ first_globals ++ slice_set ys j v
+    other_set ys j g v e = set_behind first_globals ys j g v (e ∙ first_end j)
+
+    -- they change with what the loader keeps beside the stages
+    pub behind_same : (error : ℕ) (promoted : List ℕ) (ys gs : List Value)
+        → AreBehind L (record loader { error = error; promoted = promoted }) ys → gs ≡ first_globals ++ ys → length gs ≡ length parts.globals
+        → Same L n x (record loader { error = error; promoted = promoted }) us (record parts { globals = gs })
+    behind_same error promoted ys gs behind is long =
+        let kept = same.store.kept in
+        let few = same.store.few in
+        record {
+          store = record {
+            more = record more { globals = map Num loader.stages ++ ys };
+            whole = ap (λ (p : ModuleParts). record p { globals = gs }) same.store.whole
+                ∙ ap (λ l. record (extended n us more) { globals = l }) (is ∙ sym (first_then ys));
+            kept = record {
+              sized = kept.sized;
+              low = kept.low;
+              others = ys;
+              guards = refl;
+              error = behind.error;
+              few = behind.few;
+              count = behind.count;
+              places = behind.places;
+              later = behind.later;
+              apart = behind.apart;
+              slots = kept.slots;
+            };
+            inside = same.store.inside;
+            few = record {
+              globals = rw long few.globals;
+              tables = few.tables;
+              elems = few.elems;
+              datas = few.datas;
+            };
+          };
+          sized = same.sized;
+        }
+
+    -- ---- the number of the error, which comes first of them
+
     module _ (used : uses_loader L ≡ true) where
       abbrev error_number : ℕ
       error_number = x.guards + length L.set.members
 
-      whole_globals : parts.globals ≡ map (value n) us.globals ++ more.globals
-      whole_globals = ap (λ (p : ModuleParts). p.globals) same.store.whole
-
-      behind_store : error_number ≡ length (map (value n) us.globals) + length L.set.members
-      behind_store = ap (λ k. k + length L.set.members) (sym (length-map us.globals (value n) ∙ same.sized.globals))
-
-      behind_guards : length L.set.members ≡ length (map Num loader.stages) + 0
-      behind_guards = (let sized = same.store.kept.sized in let held = length-map loader.stages Num in omega (arith, sized, held))
+      error_place : error_number ≡ x.guards + length L.set.members + 0
+      error_place = omega arith
 
       pub error_there : slice_get parts.globals error_number ≡ Some (Num loader.error)
-      error_there =
-          ap (λ l. slice_get l error_number) whole_globals
-          ∙ get_behind (map (value n) us.globals) more.globals (length L.set.members) error_number behind_store
-          ∙ ap (λ l. slice_get l (length L.set.members)) same.store.kept.guards
-          ∙ get_behind (map Num loader.stages) same.store.kept.others 0 (length L.set.members) behind_guards
-          ∙ same.store.kept.error used
+      error_there = other_there 0 error_number error_place ∙ same.store.kept.error used
 
       pub error_same : (e : ℕ) → e ≤ 5
           → Same L n x (with_error loader e) us (record parts { globals = slice_set parts.globals error_number (Num e) })
       error_same e small =
           let kept = same.store.kept in
-          let few = same.store.few in
-          let globals : slice_set parts.globals error_number (Num e)
-          ≡ map (value n) us.globals ++ slice_set more.globals (length L.set.members) (Num e) =
-          ap (λ l. slice_set l error_number (Num e)) whole_globals
-          ∙ set_behind (map (value n) us.globals) more.globals (length L.set.members) error_number (Num e) behind_store in
-          record {
-            store = record {
-              more = record more { globals = slice_set more.globals (length L.set.members) (Num e) };
-              whole = ap (λ (p : ModuleParts). record p { globals = slice_set parts.globals error_number (Num e) }) same.store.whole
-                  ∙ ap (λ l. record (extended n us more) { globals = l }) globals;
-              kept = record {
-                sized = kept.sized;
-                low = kept.low;
-                others = slice_set kept.others 0 (Num e);
-                guards = ap (λ l. slice_set l (length L.set.members) (Num e)) kept.guards
-                    ∙ set_behind (map Num loader.stages) kept.others 0 (length L.set.members) (Num e) behind_guards;
-                error = λ used. set_first kept.others (Num loader.error) (Num e) (kept.error used);
-                few = small;
-                slots = kept.slots;
-              };
-              inside = same.store.inside;
-              few = record {
-                globals = rw (length-slice_set parts.globals error_number (Num e)) few.globals;
-                tables = few.tables;
-                elems = few.elems;
-                datas = few.datas;
-              };
-            };
-            sized = same.sized;
-          }
+          behind_same e loader.promoted (slice_set others 0 (Num e)) (slice_set parts.globals error_number (Num e))
+          (record {
+            error = λ is. get_same others 0 (Num loader.error) (Num e) (kept.error is);
+            few = small;
+            count = λ is. get_other others 1 0 (Num e) (λ h. omega (arith, h)) ∙ kept.count is;
+            places = λ is m lt. get_other others (2 + m) 0 (Num e) (λ h. omega (arith, h)) ∙ kept.places is m lt;
+            later = kept.later;
+            apart = kept.apart;
+          })
+          (ap (λ l. slice_set l error_number (Num e)) whole_globals ∙ other_set others 0 error_number (Num e) error_place)
+          (length-slice_set parts.globals error_number (Num e))

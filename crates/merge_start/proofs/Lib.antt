@@ -1,6 +1,8 @@
 pub mod Reaching
 pub mod Keeping
+pub mod Promoted
 pub mod Placing
+pub mod Promoting
 pub mod Returning
 pub mod Calling
 pub mod Frames

@@ -1,6 +1,6 @@
 -- How runs of pieces of code are put together, and the run of each instruction.
 use denote.Hole.Carrier.{out}
-use Rattle.std.proofs.Common.{◌≡◌, ℕ, zero, suc, List, [], ◌∷◌, ◌++◌, Option, Some, None, Bool, true, false, refl, subst, append_assoc, append-nil, mod-eq_of_lt, nat_lt, length, slice_get, slice_set}
+use Rattle.std.proofs.Common.{◌≡◌, ℕ, zero, suc, List, [], ◌∷◌, ◌++◌, Option, Some, None, Bool, true, false, refl, subst, append_assoc, append-nil, mod-eq_of_lt, nat_lt, nat_eq, length, slice_get, slice_set}
 use Rattle.std.proofs.Math.Dec.{leb-zero}
 use Rattle.std.specs.Int.{cast_unsigned, cast_signed, w32}
 use Rattle.std.proofs.lemmas.Int.{of_z-to_z}
@@ -13,7 +13,7 @@ use Rattle.wasm_form.specs.declared.runtime.Value.{Value}
 use Rattle.wasm_form.specs.declared.runtime.Value.TheVariants.{Num}
 use Rattle.spec_loading.specs.spec_runs.Systems.{Moving}
 use Rattle.spec_loading.specs.spec_runs.Agreement.{Silent}
-use Rattle.spec_loading.specs.spec_runtime.Numerics.{W32}
+use Rattle.spec_loading.specs.spec_runtime.Numerics.{W32, iadd}
 use Rattle.spec_loading.specs.spec_execution.Values.{low}
 use Rattle.spec_loading.specs.spec_execution.Activations.{Level, Activation, Effect, TableInit, ElemDrop, MemoryInit, DataDrop, one_if}
 use Rattle.spec_loading.specs.spec_execution.Views.{Effected, Gives, Traps, performed}
@@ -127,6 +127,16 @@ module _ {wasm : Module} where
   unfolding out-Instr out
   does_less a b vs = record { runs = λ x. one_step refl refl }
 
+  pub does_eqz : {c : Changing} (a : ℕ) (vs : List Value)
+      → Does wasm (Plain op.i32_eqz ∷ []) c (Num a ∷ vs) c (Num (one_if (nat_eq (low W32 a) 0)) ∷ vs) None
+  unfolding out-Instr out
+  does_eqz a vs = record { runs = λ x. one_step refl refl }
+
+  pub does_add : {c : Changing} (a b : ℕ) (vs : List Value)
+      → Does wasm (Plain op.i32_add ∷ []) c (Num b ∷ Num a ∷ vs) c (Num (iadd 32 (low W32 a) (low W32 b)) ∷ vs) None
+  unfolding out-Instr out
+  does_add a b vs = record { runs = λ x. one_step refl refl }
+
   -- ---- blocks
 
   off_block : {c : Changing} (x : Around) (vs : List Value) → Reaches wasm (at c (inside x vs) [] []) (at c x vs [])
@@ -140,10 +150,10 @@ module _ {wasm : Module} where
       → Reaches wasm (at c x (Num 0 ∷ vs) (If Empty (record { list = p }) None ∷ [])) (at c (inside x vs) [] [])
   into_skip {c} x p vs = one_step refl (rw (outs-If Empty (record { list = p }) None, leb-zero (length (vs ++ x.below))) refl)
 
-  does_skip : {c : Changing} (p : List Instr) (vs : List Value) → Does wasm (If Empty (record { list = p }) None ∷ []) c (Num 0 ∷ vs) c vs None
+  pub does_skip : {c : Changing} (p : List Instr) (vs : List Value) → Does wasm (If Empty (record { list = p }) None ∷ []) c (Num 0 ∷ vs) c vs None
   does_skip p vs = record { runs = λ x. reaches_then (into_skip x p vs) (off_block x vs) }
 
-  does_if : {p : List Instr} {c d : Changing} {o : Option Trap} (vs : List Value) → Does wasm p c [] d [] o
+  pub does_if : {p : List Instr} {c d : Changing} {o : Option Trap} (vs : List Value) → Does wasm p c [] d [] o
       → Does wasm (If Empty (record { list = p }) None ∷ []) c (Num 1 ∷ vs) d vs o
   does_if {p} {c} {d} {o} vs a = record { runs = λ x. reaches_then (into_if x p vs) (reaches_then (a.runs (inside x vs)) (off o x)) }
     where

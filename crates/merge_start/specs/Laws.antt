@@ -16,7 +16,7 @@ use Rattle.spec_loading.specs.spec_execution.Instances.{ModuleParts, module_host
 use Rattle.spec_loading.specs.spec_execution.OneModule.{Starting, ModuleState, module_step, module_system, opened_state}
 use Rattle.spec_loading.specs.spec_linking.Gathering.{IsSet}
 use Rattle.spec_loading.specs.spec_linking.LinkedSets.{LinkedSet}
-use Rattle.spec_loading.specs.Phases.{LoaderFrame, open_frame}
+use Rattle.spec_loading.specs.Phases.{LoaderFrame, open_frame, open_global_frame}
 use Rattle.spec_loading.specs.Loading.{LoaderState, goes_on, went}
 use Rattle.spec_loading.specs.Members.{Store, set_view, uses_loader}
 use Rattle.spec_loading.specs.LoadedSet.{SetState, member_placed, set_loading, set_system, set_opening}
@@ -30,7 +30,7 @@ use Rattle.merge_pieces.specs.Opcodes as op
 use Rattle.merge_start.specs.Words.{Starts, place_code}
 use Rattle.merge_start.specs.Running.{Does}
 use Rattle.merge_start.specs.Started.{Same, HoldsSlots, IsOpened, MemberReady, IsReady, StartReady, OpenReady}
-use Rattle.merge_start.specs.Points.{HandsOn, places, Matched}
+use Rattle.merge_start.specs.Points.{HandsOn, Promotes, places, Matched}
 
 -- What placing comes to is what the code comes to: the store is the same after both, the memory is equal, and so is the trap.
 pub record PlacedAs (merged : Module) (Shared : Sharing Store ModuleParts) (o : Option (Performed Store)) (code : List Instr)
@@ -71,6 +71,14 @@ MembersOpenAsMerged = (L : LinkedSet) (n : Numbers) (x : Starts) (merged : Modul
     → (fs : List (Frame LoaderFrame)) (hs : List (Frame Starting)) → Below n (places L n x) 1 fs hs → (b : Activation) → HandsOn b
     → (u : ModuleState) × (module_step merged (calls_opening x m b hs parts s.run.memory) ≡ Some u)
     × Matched L n x (goes_on s (frames.Marked (open_frame L.set m) ∷ fs)) u
+
+-- the same, where what called promotes the closure of the member before it returns the handle
+abbrev pub MembersPromoteAsMerged : Type 0
+MembersPromoteAsMerged = (L : LinkedSet) (n : Numbers) (x : Starts) (merged : Module) → IsSet L.set → (m : ℕ) → m < length L.set.members
+    → OpenReady L n x merged m → (s : SetState) (parts : ModuleParts) → Same L n x s.loader s.run.units parts
+    → (fs : List (Frame LoaderFrame)) (hs : List (Frame Starting)) → Below n (places L n x) 1 fs hs → (b : Activation) → Promotes L x m b
+    → (u : ModuleState) × (module_step merged (calls_opening x m b hs parts s.run.memory) ≡ Some u)
+    × Matched L n x (goes_on s (frames.Marked (open_global_frame L.set m) ∷ fs)) u
 
 -- ---- the functions of the loader
 

@@ -1,5 +1,6 @@
 -- What a merged module must have for its code to do the loader's work, and what is the same of the loader's state.
-use Rattle.std.specs.Prelude.{◌≡◌, ℕ, ◌+◌, ◌<◌, ◌≤◌, ◌^◌, List, [], ◌∷◌, ◌++◌, length, map, Option, Some, None, slice_get, true}
+use Rattle.std.specs.Prelude.{◌≡◌, ℕ, ◌+◌, ◌<◌, ◌≤◌, ◌^◌, List, [], ◌∷◌, ◌++◌, length, map, nat_eq, Option, Some, None, slice_get, unwrap_or, true, false}
+use Rattle.std.specs.List.{All, IsDistinct, position_from}
 use Rattle.wasm_form.specs.declared.module.Module.{Module}
 use Rattle.wasm_form.specs.declared.runtime.Ref.{Ref}
 use Rattle.wasm_form.specs.declared.runtime.Ref.TheVariants.{Own}
@@ -9,6 +10,7 @@ use Rattle.spec_loading.specs.spec_binary.Indices.{function_at}
 use Rattle.spec_loading.specs.spec_execution.Activations.{Effect, TableInit, ElemDrop, MemoryInit, DataDrop}
 use Rattle.spec_loading.specs.spec_execution.Segments.{segment_effects}
 use Rattle.spec_loading.specs.spec_execution.Instances.{ModuleParts, module_target}
+use Rattle.spec_loading.specs.spec_linking.Orders.{is_among}
 use Rattle.spec_loading.specs.spec_linking.LinkedSets.{LinkedSet, wasm_of}
 use Rattle.spec_loading.specs.spec_linking.Slots.{member_number}
 use Rattle.spec_loading.specs.spec_linking.Links.{set_entry}
@@ -29,6 +31,14 @@ use Rattle.merge_start.specs.Words.{Starts, phase_code, entry_code, open_code, n
 abbrev pub slot_items : LinkedSet → Numbers → ℕ → List (Option Ref)
 slot_items L n m = map (entry n) (map Some (own_functions L m))
 
+-- members of the set that aren't in the startup list
+abbrev pub AreLater : LinkedSet → List ℕ → Type 0
+AreLater L ks = All (λ k. (k < length L.set.members) × (is_among k L.set.startup ≡ false)) ks
+
+-- a member's place among the promoted ones, counted from 1, or 0 where it is none of them
+abbrev pub place_of : List ℕ → ℕ → ℕ
+place_of promoted m = unwrap_or (position_from (λ k. nat_eq k m) 1 promoted) 0
+
 -- What the merger adds, behind what the store has, by what the loader keeps.
 pub record Started (L : LinkedSet) (n : Numbers) (loader : LoaderState) (more : ModuleParts) : Type 0 where
   -- each member has a stage, from 0 to 4
@@ -40,6 +50,12 @@ pub record Started (L : LinkedSet) (n : Numbers) (loader : LoaderState) (more : 
   -- the first of these holds the number of the last error, where the set uses the loader
   pub error : uses_loader L ≡ true → slice_get others 0 ≡ Some (Num loader.error)
   pub few : loader.error ≤ 5
+  -- behind it, one holds how many members are promoted, and one for each member its place among them
+  pub count : uses_loader L ≡ true → slice_get others 1 ≡ Some (Num (length loader.promoted))
+  pub places : uses_loader L ≡ true → (m : ℕ) → m < length L.set.members → slice_get others (2 + m) ≡ Some (Num (place_of loader.promoted m))
+  -- the promoted members are distinct, and none of them is in the startup list
+  pub later : AreLater L loader.promoted
+  pub apart : IsDistinct nat_eq loader.promoted
   -- The first of the segments are those of the members' fresh slots. While a member's stage is 0, its segment holds the functions of these
   -- slots in slot order. Once it is placed, nothing is asked of the segment, which nothing reads again.
   pub slots : (m : ℕ) → stage_in loader m ≡ Some 0 → slice_get more.elems m ≡ Some (slot_items L n m)
@@ -59,7 +75,8 @@ pub record Same (L : LinkedSet) (n : Numbers) (x : Starts) (loader : LoaderState
 abbrev pub HoldsSlots : LinkedSet → Numbers → Starts → ModuleParts → ℕ → Type 0
 HoldsSlots L n x parts m = slice_get parts.elems (x.slots m) ≡ Some (slot_items L n m)
 
--- what the module's parts are in the beginning: what the members begin with, guards and an error that hold 0, and the segments of fresh slots
+-- What the module's parts are in the beginning: what the members begin with, guards, an error, a count of promoted members and their places that
+-- hold 0, and the segments of fresh slots.
 pub record IsOpened (L : LinkedSet) (n : Numbers) (x : Starts) (parts : ModuleParts) : Type 0 where
   pub more : ModuleParts
   pub whole : parts ≡ extended n (opening_store L) more
@@ -67,6 +84,7 @@ pub record IsOpened (L : LinkedSet) (n : Numbers) (x : Starts) (parts : ModulePa
   pub others : List Value
   pub guards : more.globals ≡ map (λ m. Num 0) L.set.members ++ others
   pub error : uses_loader L ≡ true → slice_get others 0 ≡ Some (Num 0)
+  pub promoted : uses_loader L ≡ true → (m : ℕ) → m ≤ length L.set.members → slice_get others (1 + m) ≡ Some (Num 0)
   pub slots : (m : ℕ) → m < length L.set.members → slice_get more.elems m ≡ Some (slot_items L n m)
   pub first_guard : length (opening_store L).globals ≡ x.guards
   pub first_slots : (m : ℕ) → m < length L.set.members → x.slots m ≡ length (opening_store L).elems + m

@@ -1,7 +1,8 @@
 -- The code that a merged module has for the loader's work: the phases of each member, and what goes through them.
 use Rattle.std.specs.Prelude.{ℕ, ◌+◌, List, [], ◌∷◌, ◌++◌, length, Option, Some, None, option_map}
 use Rattle.wasm_form.specs.declared.types.ValType.TheVariants.{I32}
-use Rattle.wasm_form.specs.declared.instr.Instr.{Instr, Index, Prefixed}
+use Rattle.wasm_form.specs.declared.instr.BlockType.TheVariants.{Empty}
+use Rattle.wasm_form.specs.declared.instr.Instr.{Instr, Plain, Index, If, Prefixed}
 use Rattle.wasm_form.specs.declared.module.Module.{Module}
 use Rattle.spec_loading.specs.spec_binary.Indices.{Function, nullary}
 use Rattle.spec_loading.specs.spec_execution.Activations.{Effect, TableInit, ElemDrop, MemoryInit, DataDrop}
@@ -13,9 +14,10 @@ use Rattle.spec_loading.specs.declared.task.Phase.{Phase}
 use Rattle.spec_loading.specs.declared.task.Phase.TheVariants.{Place, Start, Relocate, Construct}
 use Rattle.spec_loading.specs.declared.task.Task.{Task}
 use Rattle.spec_loading.specs.declared.task.After.{After}
-use Rattle.spec_loading.specs.declared.task.After.TheVariants.{CallEntry, GiveHandle}
+use Rattle.spec_loading.specs.declared.task.After.TheVariants.{CallEntry, GiveHandle, GiveAndPromote}
 use Rattle.spec_loading.specs.Phases.{stage_of, phase_function, LoaderFrame, startup_frame, open_frame}
 use Rattle.spec_loading.specs.Addresses.{shared_table_address}
+use Rattle.spec_loading.specs.LoaderAnswers.{later_members}
 use Rattle.spec_loading.specs.LoadedSet.{first_slot, own_functions}
 use Rattle.merge_match.specs.Renumbering.{Numbers}
 use Rattle.merge_match.specs.Moves.{effect}
@@ -24,13 +26,15 @@ pub use Rattle.merge_pieces.specs.Code.{number}
 unfoldable pub use Rattle.merge_pieces.specs.Code.{guarded}
 
 -- The numbers of what the merger adds. The guard of member m is the m-th of some globals, and holds its stage; there is a segment of its
--- fresh slots, a function of each phase of it, and one that opens it. The entry function opens main.
+-- fresh slots, a function of each phase of it, and one that opens it. The entry function opens main. A global holds how many members are
+-- promoted; behind it comes one for each member, which holds its place among them, counted from 1, or 0.
 pub record Starts : Type 0 where
   pub guards : ℕ
   pub slots : ℕ → ℕ
   pub phase : ℕ → Phase → ℕ
   pub starting : ℕ
   pub opening : ℕ → ℕ
+  pub promoted : ℕ
 
 -- ---- effects
 
@@ -89,6 +93,7 @@ tasks_code x (task ∷ tasks) = Index op.call (x.phase task.member task.phase) �
 abbrev pub after_code : LinkedSet → Numbers → After → List Instr
 after_code L n CallEntry = member_call n 0 (set_entry L.set.members)
 after_code L n (GiveHandle m) = number (m + 1) ∷ []
+after_code L n (GiveAndPromote m) = number (m + 1) ∷ []
 
 abbrev pub frame_code : LinkedSet → Numbers → Starts → LoaderFrame → List Instr
 frame_code L n x frame = tasks_code x frame.tasks ++ after_code L n frame.after
@@ -99,6 +104,29 @@ entry_code L n x = frame_code L n x (startup_frame L.set)
 
 abbrev pub open_code : LinkedSet → Numbers → Starts → ℕ → List Instr
 open_code L n x m = frame_code L n x (open_frame L.set m)
+
+-- ---- promoted members
+
+-- the global of the place of a member
+abbrev pub place_global : Starts → ℕ → ℕ
+place_global x k = x.promoted + 1 + k
+
+-- a member that has no place gets the next one
+abbrev pub next_place : Starts → ℕ → List Instr
+next_place x k =
+    Index op.global_get x.promoted ∷ number 1 ∷ Plain op.i32_add ∷ Index op.global_set x.promoted
+    ∷ Index op.global_get x.promoted ∷ Index op.global_set (place_global x k) ∷ []
+
+abbrev pub promote_one : Starts → ℕ → List Instr
+promote_one x k = Index op.global_get (place_global x k) ∷ Plain op.i32_eqz ∷ If Empty (record { list = next_place x k }) None ∷ []
+
+abbrev pub promote_each : Starts → List ℕ → List Instr
+promote_each x [] = []
+promote_each x (k ∷ ks) = promote_one x k ++ promote_each x ks
+
+-- those of the closure of a member are promoted that aren't in the startup list, breadth first
+abbrev pub promote_code : LinkedSet → Starts → ℕ → List Instr
+promote_code L x m = promote_each x (later_members L.set m)
 
 -- ---- functions
 

@@ -14,7 +14,7 @@ mod phases;
 mod segments;
 mod words;
 
-ghost use Rattle.merge_start.specs.Laws.{FramesStepAsMerged, MatchedRunsAgree, MembersOpenAsMerged, OtherRunsAgree, PlacingIsDone, SameCodeIsReady, SetsRunAsMerged, SetsStepAsMerged, SetsStepAsOthers, UnusedIsAnswered};
+ghost use Rattle.merge_start.specs.Laws.{FramesStepAsMerged, MatchedRunsAgree, MembersOpenAsMerged, MembersPromoteAsMerged, OtherRunsAgree, PlacingIsDone, SameCodeIsReady, SetsRunAsMerged, SetsStepAsMerged, SetsStepAsOthers, UnusedIsAnswered};
 ghost use Rattle.merge_start.specs.Typed.{GeneratedIsTyped};
 
 pub use functions::phase_functions;
@@ -28,14 +28,16 @@ pub fn generated_code_places()
 {}
 
 /// A frame of the loader on top of the call stack steps as the generated code does that stands for it: a task, the call of the entry, the
-/// answer of a handle.
+/// answer of a handle, alone or with the closure of the member promoted.
 pub fn frames_step_as_merged()
     ensures { FramesStepAsMerged }
 {}
 
-/// The call of the function that opens a member leads to what stands for the frame of the loader that opens it.
+/// The call of the function that opens a member leads to what stands for the frame of the loader that opens it, for itself or so that its
+/// closure is promoted.
 pub fn members_open_as_merged()
-    ensures { MembersOpenAsMerged }
+    ensures opens { MembersOpenAsMerged }
+    ensures promotes { MembersPromoteAsMerged }
 {}
 
 /// Where no member uses the loader, a call of one of its functions has no step, in the set or in the module.

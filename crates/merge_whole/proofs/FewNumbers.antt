@@ -91,7 +91,7 @@ module _ (L : LinkedSet) (k : Kept) (linked : IsLinked L k) where
   globals_each : (x : Member) → AreFew x.wasm x.size → globals_size x.wasm ≤ 2 + x.size
   globals_each x few = (let all = few.all in let cells = cells_few x.wasm in omega arith)
 
-  pub guards_few : (starts_of L).guards < 2147483648
+  pub guards_few : (starts_of L).guards < 1073741824
   guards_few =
       let most = sum_few globals_size 2 globals_each L.set.members linked.shape.members in
       let bytes = few_bytes L linked.shape in

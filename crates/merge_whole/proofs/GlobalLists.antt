@@ -37,14 +37,13 @@ use Rattle.dyl_addresses.specs.Globals.{CellKey, cell_of_key, cells_in, with_cel
 use Rattle.merge_index.specs.Numbering.{sum_of}
 use Rattle.dyl_addresses.proofs.Cells.{first_append}
 use Rattle.dyl_addresses.proofs.Keys.{key_eq, key_is, any_same}
-use Rattle.merge_module.specs.MergedModule.{with_loader, number_global, constant_instr, own_global, member_globals, merged_globals}
+use Rattle.merge_module.specs.MergedModule.{with_loader, number_global, constant_instr, own_global, member_globals, merged_globals, zero_globals, loader_globals}
 use Rattle.merge_index.proofs.Counted.{joined_length}
 use Rattle.merge_module.proofs.MergedSpaces.{past_front}
 use Rattle.merge_whole.specs.Built.{where_used}
-use Rattle.merge_whole.specs.Counts.{members_of}
 use Rattle.merge_whole.proofs.BuiltParts.{used_are}
 use Rattle.merge_whole.proofs.ElementLists.{from_same}
-use Rattle.merge_whole.specs.GlobalDefs.{bases_by, value_by, own_by, cells_by, globals_by, all_globals}
+use Rattle.merge_whole.specs.GlobalDefs.{bases_by, value_by, own_by, cells_by, globals_by, all_globals, zeros_for, loader_zeros}
 
 is_given : (d : ImportDesc) (may : Bool) (i : Import) (rest : List Import) → is_i32_global may d ≡ true → slice_get (map (λ x. i) (globals_in d) ++ rest) 0 ≡ Some i
 is_given (imported.Func t) may i rest e = absurd cc
@@ -260,15 +259,14 @@ module _ (L : LinkedSet) (k : Kept) (h : IsLinked L k) (n : Numbers) where
   pub many_are : length (all_globals k n) ≡ 1 + sum_of globals_size L
   many_are = ap length all_are ∙ (let many = joined_length (member_globals L n) globals_size (member_many L n) 0 L.set.members in omega arith)
 
-  -- the guards come behind them, and then the error
-  pub globals_are : (guarded all : List GlobalDef) → guarded ≡ all_globals k n ++ map (λ x. number_global true 0) (members_of k.set.members)
-      → all ≡ guarded ++ where_used k (number_global true 0 ∷ []) → all ≡ merged_globals L n
-  globals_are guarded all guards error =
+  -- the guards come behind them, and then what the functions of the loader keep
+  pub globals_are : (guarded all : List GlobalDef) → guarded ≡ all_globals k n ++ zeros_for k.set.members
+      → all ≡ guarded ++ where_used k (loader_zeros k) → all ≡ merged_globals L n
+  globals_are guarded all guards last =
       let own = number_global true (linked_plan L).stack_top ∷ from_members (member_globals L n) 0 L.set.members in
-      let these = map (λ x. number_global true 0) L.set.members in
-      let last : List GlobalDef = number_global true 0 ∷ [] in
-      error
+      let zeros : zeros_for k.set.members ≡ zero_globals L = ap (λ (ms : List Member). map (λ x. number_global true 0) ms) (members_are L k h) in
+      last
       ∙ ap₂ (λ (a b : List GlobalDef). a ++ b)
-      (guards ∙ ap₂ (λ a (ms : List Member). a ++ map (λ x. number_global true 0) ms) all_are (members_are L k h))
-      (used_are L k h last last refl)
-      ∙ append_assoc own these (with_loader L last)
+      (guards ∙ ap₂ (λ (a b : List GlobalDef). a ++ b) all_are zeros)
+      (used_are L k h (loader_zeros k) (loader_globals L) (ap (λ (l : List GlobalDef). number_global true 0 ∷ number_global true 0 ∷ l) zeros))
+      ∙ append_assoc own (zero_globals L) (with_loader L (loader_globals L))

@@ -1,9 +1,9 @@
 -- What is so of a linked set makes that its merged module can be written, and where there is little of it, no section of that is too long.
-use Rattle.std.proofs.Common.{◌≡◌, ℕ, ◌+◌, ◌*◌, ◌^◌, ◌≤◌, ◌<◌, min, Ok, List, [], ◌∷◌, ◌++◌, length, take, drop, get_or, refl, sym, ap, ◌∙◌, subst, arith}
+use Rattle.std.proofs.Common.{◌≡◌, ℕ, ◌+◌, ◌*◌, ◌^◌, ◌≤◌, ◌<◌, min, Ok, List, [], ◌∷◌, ◌++◌, length, take, get_or, refl, sym, ap, ◌∙◌, subst, arith}
 use Rattle.std.specs.Prelude.{sum_by, ◌↔◌}
 use Rattle.std.proofs.Math.Nat.{pow-le-pow_left}
 use Rattle.std.specs.List.{All}
-use Rattle.std.proofs.lemmas.List.{take_more, drop_more}
+use Rattle.std.proofs.lemmas.List.{take_more}
 use Rattle.std.proofs.lemmas.List.Elements.{All-nil, All-cons, All-tail, All-append}
 use Rattle.std.proofs.lemmas.List.Sums.{sum_by-append}
 use Rattle.wasm_form.specs.declared.types.FuncType.{FuncType}
@@ -17,14 +17,13 @@ use Rattle.spec_loading.specs.spec_linking.Sets.{Member}
 use Rattle.spec_loading.specs.spec_linking.Gathering.{total_size}
 use Rattle.spec_loading.specs.spec_linking.Plans.{Plan}
 use Rattle.spec_loading.specs.spec_linking.LinkedSets.{LinkedSet}
-use Rattle.dyl_link.specs.dyl_search.declared.set.Member as kept
 use Rattle.dyl_link.specs.Kept.{Kept, IsLinked}
 use Rattle.wasm_encode.specs.SectionSizes.{IsFirstTooLong}
 use Rattle.merge_module.specs.MergedModule.{members_types, generated_functions_types, added_types, merged_module}
 use Rattle.merge_module.specs.Shape.{HasShape}
 use Rattle.merge_module.specs.Laws.{IsSupported, IsMergeable, MergedStands, SpelledMerges, MergedIsFormed, MergedHasShape, types_bulk, names_bulk, IsBrief, MergedIsShort}
 use Rattle.merge_index.proofs.FewItems.{total_cons}
-use Rattle.merge_whole.specs.Counts.{members_of, sizes}
+use Rattle.merge_whole.specs.Counts.{sizes}
 use Rattle.merge_whole.specs.Merges.{Merges, bulk_of, bulk, IsTooLongFor}
 use Rattle.merge_whole.proofs.ShortFits.{never_first_long}
 
@@ -58,14 +57,6 @@ sizes_are (m ∷ ms) = (let later = sizes_are ms in let one = names_cons m ms in
 pub capped_next : (size name file rest named next : ℕ) → named ≡ min (size + name) 16777216 → next ≡ min (named + file) 16777216
     → min (next + rest) 16777216 ≡ min (size + (name + file + rest)) 16777216
 capped_next size name file rest named next one two = omega arith
-
-pub capped_more : (xs : List kept.Member) (i : ℕ) (x : kept.Member) → i < length xs → x ≡ get_or xs i x → (size named next total : ℕ)
-    → named ≡ min (size + length x.name) 16777216 → next ≡ min (named + x.size) 16777216
-    → min (size + sizes (members_of (drop i xs))) 16777216 ≡ total → min (next + sizes (members_of (drop (i + 1) xs))) 16777216 ≡ total
-capped_more xs i x lt is size named next total one two held =
-    let rest : drop i xs ≡ x ∷ drop (i + 1) xs = drop_more xs i x lt ∙ ap (λ y. y ∷ drop (i + 1) xs) (sym is) in
-    capped_next size (length x.name) x.size (sizes (members_of (drop (i + 1) xs))) named next one two
-    ∙ ap (λ l. min (size + sizes (members_of l)) 16777216) (sym rest) ∙ held
 
 pub square_few : (n : ℕ) → n ≤ 256 → n ^ 2 ≤ 65536
 square_few n le = (let squared = pow-le-pow_left le 2 in omega arith)

@@ -31,6 +31,7 @@ module _ (L : LinkedSet) (k : Kept) (h : IsLinked L k) (guard : ℕ) (is : guard
     error = ap₂ (λ (a b : ℕ). a + b) (sym is) (members_count L k h);
     first = sym long;
     find = λ m. ap (λ f. f + 1 + m) (sym long);
+    promoted = ap₂ (λ (a b : ℕ). a + b + 1) (sym is) (members_count L k h);
     opens = λ m lt. opening_is n.first_opening m begins lt;
   }
 

@@ -72,4 +72,5 @@ loader_by k guard n =
       guard = guard;
       first_function = n.length;
       opens = range_with_len n.first_opening count;
+      promoted = guard + count + 1;
     }

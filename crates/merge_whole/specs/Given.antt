@@ -19,7 +19,7 @@ HasLoader L x (Some d) = (uses_loader L ≡ true) × AreDlNumbers L d x (finders
 
 -- numbers that the functions of the loader can be made with
 abbrev pub AreSmall : DlNumbers → Type 0
-AreSmall d = (d.guard < 2 ^ 31) × (d.first_function < 2 ^ 31)
+AreSmall d = (d.guard < 2 ^ 31) × (d.first_function < 2 ^ 31) × (d.promoted < 2 ^ 31)
 
 -- those of a set
 pub record IsGiven (L : LinkedSet) (g : Given) : Type 0 where

@@ -1,5 +1,5 @@
 -- The globals of the merged module of a set, by what is kept of the set.
-use Rattle.std.specs.Prelude.{ℕ, ◌+◌, ◌<◌, ◌^◌, All, true, false, List, [], ◌∷◌, ◌++◌, length, map, slice_get, Option, Some, unwrap_or}
+use Rattle.std.specs.Prelude.{ℕ, ◌+◌, ◌<◌, ◌^◌, All, true, false, List, [], ◌∷◌, ◌++◌, length, map, slice_get, Option, unwrap_or}
 use Rattle.wasm_form.specs.declared.types.ValType.{ValType}
 use Rattle.wasm_form.specs.declared.types.ValType.TheVariants.{I64}
 use Rattle.wasm_form.specs.declared.instr.Expr.{Expr}
@@ -13,6 +13,7 @@ use Rattle.spec_loading.specs.spec_runtime.Constants.{constant_of}
 use Rattle.spec_loading.specs.spec_execution.Values.{zero_of}
 use Rattle.spec_loading.specs.spec_linking.Slots.{CellName, cell_of_import, first_cells}
 use Rattle.spec_loading.specs.Members.{from_members}
+use Rattle.dyl_link.specs.dyl_search.declared.set.Member as declared
 use Rattle.dyl_link.specs.Kept.{Kept, function_in, cell_in}
 use Rattle.merge_match.specs.Renumbering.{Numbers}
 use Rattle.dyl_addresses.specs.Bases.{bases_from}
@@ -63,6 +64,14 @@ globals_by k n m wasm =
     let table = unwrap_or (slice_get k.plan.table_bases m) 0 in
     number_global false memory ∷ number_global false table
     ∷ (cells_by k m [] 0 wasm.imports ++ map (own_by k n (bases_from memory table wasm.imports) m) wasm.globals)
+
+-- one that begins with 0 for each of them
+abbrev pub zeros_for : List declared.Member → List GlobalDef
+zeros_for ms = map (λ m. number_global true 0) (members_of ms)
+
+-- what the functions of the loader keep
+abbrev pub loader_zeros : Kept → List GlobalDef
+loader_zeros k = number_global true 0 ∷ number_global true 0 ∷ zeros_for k.set.members
 
 abbrev pub all_globals : Kept → Numbers → List GlobalDef
 all_globals k n = number_global true k.plan.stack_top ∷ from_members (globals_by k n) 0 (members_of k.set.members)

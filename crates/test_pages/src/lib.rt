@@ -1,6 +1,11 @@
 //! A memory as separate pages, through its public calls.
 #![tactic(auto)]
 
+#[cfg(test)]
+mod compared;
+#[cfg(test)]
+mod flat;
+
 use wasm_form::{Memory, Trap};
 use wasm_space::Space;
 

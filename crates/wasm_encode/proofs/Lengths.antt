@@ -144,16 +144,18 @@ import_about i _ (parts.import {w = w} {v = v} {u = u} from field desc) =
     let both = length-append v u in
     record { least = omega arith; most = omega arith }
 
-export_desc_short : (d : ExportDesc) (w : List ℕ) → SpellsExportDesc d w → length w ≤ 6
-export_desc_short _ _ (parts.function s) = (let short = unsigned_few s in omega arith)
-export_desc_short _ _ (parts.table s) = (let short = unsigned_few s in omega arith)
-export_desc_short _ _ (parts.memory s) = (let short = unsigned_few s in omega arith)
-export_desc_short _ _ (parts.global s) = (let short = unsigned_few s in omega arith)
+export_desc_short : (d : ExportDesc) (w : List ℕ) → SpellsExportDesc d w → (2 ≤ length w) × (length w ≤ 6)
+export_desc_short _ _ (parts.function s) = (let some = unsigned_some s in let short = unsigned_few s in (omega arith, omega arith))
+export_desc_short _ _ (parts.table s) = (let some = unsigned_some s in let short = unsigned_few s in (omega arith, omega arith))
+export_desc_short _ _ (parts.memory s) = (let some = unsigned_some s in let short = unsigned_few s in (omega arith, omega arith))
+export_desc_short _ _ (parts.global s) = (let some = unsigned_some s in let short = unsigned_few s in (omega arith, omega arith))
 
 export_about : (e : Export) (w : List ℕ) → SpellsExport e w → IsAbout (export_weight e) w
 export_about e _ (parts.export {w = w} {v = v} named desc) =
     let one = name_about named in
-    let short = export_desc_short e.desc v desc in
+    let there = export_desc_short e.desc v desc in
+    let some = there.0 in
+    let short = there.1 in
     let least = one.least in
     let most = one.most in
     let sum = length-append w v in

@@ -64,7 +64,7 @@ abbrev pub global_weight : GlobalDef → ℕ
 global_weight g = 2 + expr_weight g.init
 
 abbrev pub export_weight : Export → ℕ
-export_weight e = 1 + length e.name
+export_weight e = 3 + length e.name
 
 abbrev pub code_weight : Code → ℕ
 code_weight c = suc (suc (length c.locals) + expr_weight c.body)

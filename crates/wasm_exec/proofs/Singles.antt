@@ -1,5 +1,5 @@
 -- The run of one module, seen as a run of a course.
-use Rattle.std.proofs.Common.{◌≡◌, ℕ, List, map, slice_get, Option, Ok, refl, sym, ap, ◌∙◌, subst}
+use Rattle.std.proofs.Common.{◌≡◌, ℕ, List, map, slice_get, Option, Ok, sym, ap, ◌∙◌, subst}
 use Rattle.spec_hosts.specs.spec_runtime.Names.{HostName}
 use Rattle.spec_loading.specs.spec_execution.Instances.{imported_hosts}
 use Rattle.spec_loading.specs.spec_execution.OneModule.{ModuleState}

@@ -1,5 +1,5 @@
 -- A run that is driven: what is kept of it between its steps.
-use Rattle.std.specs.Prelude.{◌≡◌, ◌<◌, ℕ, List, [], ◌++◌, map, sum, Option, Some, None, true, false, Result, Ok, Err, OnOk, IsTrue}
+use Rattle.std.specs.Prelude.{◌≡◌, ◌<◌, ℕ, List, ◌++◌, map, sum, Option, Some, None, true, false, Result, Ok, Err, OnOk, IsTrue}
 use Rattle.spec_hosts.specs.wasm_form.declared.memory.Memory.{Memory}
 use Rattle.spec_hosts.specs.wasm_form.declared.runtime.Trap.{Trap}
 use Rattle.spec_hosts.specs.wasm_form.declared.runtime.Answer.{Answer}

@@ -3,7 +3,7 @@ use Rattle.merge_dl.proofs.Called.{members_searched, defined_numbered}
 use Rattle.merge_dl.proofs.members_are_searched.Goals as goal
 
 pub returns-clause-searches : goal.returns-clause-searches
-returns-clause-searches c = members_searched
+returns-clause-searches c = members_searched c.searches_find.ensures.any
 
 pub returns-clause-numbers : goal.returns-clause-numbers
 returns-clause-numbers c = defined_numbered

@@ -15,8 +15,9 @@ returns c =
       slots = c.slots_fit.ensures.slots;
     } in
     let bounds = c.weights_bound_lengths.ensures in
+    let small = c.searches_are_small.ensures in
     record {
-      formed = λ L is. merged_formed L (known laws L is.shape is.links) is.pages;
+      formed = λ L is. merged_formed L (known laws L is.shape is.links) is.pages small;
       shape = λ L is. merged_shaped L is.shape;
-      short = λ L is brief. merged_short bounds.least bounds.sections bounds.bodies L (known laws L is.shape is.links) is.pages brief;
+      short = λ L is brief. merged_short small bounds.least bounds.sections bounds.bodies L (known laws L is.shape is.links) is.pages brief;
     }

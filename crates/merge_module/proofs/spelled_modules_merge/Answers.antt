@@ -21,6 +21,7 @@ returns c =
       answered = c.loader_calls_are_answered.ensures;
       generated = c.generated_code_is_typed.ensures;
       loader = c.loader_code_is_typed.ensures;
+      small = c.searches_are_small.ensures;
     } in
     record {
       stands = λ L is. stands code L (known laws L is.shape is.links) is.pages is.hosts;

@@ -12,7 +12,7 @@ ghost use Rattle.dyl_link.specs.dyl_search.declared.set.Member as declared;
 ghost use Rattle.merge_module.specs.MergedModule.{number_global, merged_globals};
 ghost use Rattle.merge_whole.specs.Counts.{members_of};
 ghost use Rattle.merge_whole.specs.Built.{where_used};
-ghost use Rattle.merge_whole.specs.GlobalDefs.{FitsIn, AreFit, bases_by, value_by, own_by, cells_by, globals_by, all_globals};
+ghost use Rattle.merge_whole.specs.GlobalDefs.{FitsIn, AreFit, bases_by, value_by, own_by, cells_by, globals_by, all_globals, zeros_for, loader_zeros};
 
 use crate::built::constants::{constant, constant_instr, zero_of};
 use crate::built::elems::number_expr;
@@ -254,9 +254,9 @@ fn all_globals(alloc: Global, linked: &Linked, n: &Numbers) -> Result<Vec<Global
     Ok(list)
 }
 
-// A guard for each member.
-fn put_guards(to: &mut Vec<GlobalDef>, alloc: Global, members: &[Member]) -> Result<(), Memory>
-    ensures { OnOk result (to.new.items ≡ to.old.items ++ map (λ x. number_global true 0) (members_of members.now)) }
+// A global that begins with 0 for each member.
+fn put_zeros(to: &mut Vec<GlobalDef>, alloc: Global, members: &[Member]) -> Result<(), Memory>
+    ensures { OnOk result (to.new.items ≡ to.old.items ++ zeros_for members.now) }
 {
     for _member in members {
         to.push(number_global(alloc, true, 0)?)?;
@@ -264,12 +264,14 @@ fn put_guards(to: &mut Vec<GlobalDef>, alloc: Global, members: &[Member]) -> Res
     Ok(())
 }
 
-// The number of the last error, where a member uses the loader.
-fn put_error(to: &mut Vec<GlobalDef>, alloc: Global, linked: &Linked) -> Result<(), Memory>
-    ensures { OnOk result (to.new.items ≡ to.old.items ++ where_used linked.now (number_global true 0 ∷ [])) }
+// Where a member uses the loader, the number of the last error, how many members are promoted, and the place of each among these.
+fn put_loader(to: &mut Vec<GlobalDef>, alloc: Global, linked: &Linked) -> Result<(), Memory>
+    ensures { OnOk result (to.new.items ≡ to.old.items ++ where_used linked.now (loader_zeros linked.now)) }
 {
     if linked.uses_loader() {
         to.push(number_global(alloc, true, 0)?)?;
+        to.push(number_global(alloc, true, 0)?)?;
+        put_zeros(to, alloc, linked.set().members.items())?;
     }
     Ok(())
 }
@@ -282,7 +284,7 @@ pub(crate) fn merged_globals(
 ) -> Result<(List<GlobalDef>, u32), Memory>
     requires set { IsOfSet linked.now }
     ensures globals { IfOk result (λ x. (L : LinkedSet) → IsLinked L linked.now → numbers_in n.now ≡ numbers_of L → x.0 ≡ merged_globals L (numbers_of L)) }
-    ensures few { IfOk result (λ x. x.1 < 2 ^ 31) }
+    ensures few { IfOk result (λ x. x.1 < 2 ^ 30) }
     ensures guards { IfOk result (λ x. (L : LinkedSet) → IsLinked L linked.now → numbers_in n.now ≡ numbers_of L → x.1 ≡ (starts_of L).guards) }
 {
     linked.has_few_pages();
@@ -291,7 +293,7 @@ pub(crate) fn merged_globals(
     slots_fit();
     let mut list = all_globals(alloc, linked, n)?;
     let guard = list.len() as u32;
-    put_guards(&mut list, alloc, linked.set().members.items())?;
-    put_error(&mut list, alloc, linked)?;
+    put_zeros(&mut list, alloc, linked.set().members.items())?;
+    put_loader(&mut list, alloc, linked)?;
     Ok((List::of(list), guard))
 }

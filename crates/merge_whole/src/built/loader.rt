@@ -21,7 +21,7 @@ fn loader_by(
     n: LoaderNumbers,
 ) -> Result<DlNumbers, Memory>
     requires few { length linked.now.set.members ≤ 256 }
-    requires guard { guard < 2 ^ 31 }
+    requires guard { guard < 2 ^ 30 }
     requires first { n.first_opening < 2 ^ 31 }
     requires length { n.length < 2 ^ 31 }
     ensures is { IfOk result (λ d. d ≡ loader_by linked.now guard n) }
@@ -36,6 +36,7 @@ fn loader_by(
         guard,
         first_function: n.length,
         opens,
+        promoted: error + 1,
     })
 }
 
@@ -47,7 +48,7 @@ pub(crate) fn loader_numbers(
     guard: u32,
 ) -> Result<Option<DlNumbers>, Memory>
     requires few { length linked.now.set.members ≤ 256 }
-    requires guard { guard < 2 ^ 31 }
+    requires guard { guard < 2 ^ 30 }
     requires first { IfSome n.now.loader (λ l. l.first_opening < 2 ^ 31) }
     requires length { IfSome n.now.loader (λ l. l.length < 2 ^ 31) }
     ensures small { IfOk result (λ d. IfSome d AreSmall) }

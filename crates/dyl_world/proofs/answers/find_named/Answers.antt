@@ -4,8 +4,8 @@ use Rattle.dyl_world.proofs.Known.{some_members, names_count, bases_count, handl
 use Rattle.dyl_world.proofs.answers.find_named.Goals as goal
 use Rattle.dyl_world.proofs.answers.find_named.Goals.{else-handle-ne0-via-then-handle-ne0+else-not-is_handle, else-handle-ne0-via-else-handle-ne0}
 
-pub handle_list-requires : goal.handle_list-requires
-handle_list-requires c =
+pub search_handle-requires-clause-handle : goal.search_handle-requires-clause-handle
+search_handle-requires-clause-handle c =
     let some = some_members c.requires.linked.0 _ c.requires.linked.1 in
     let names = names_count c.requires.linked.0 _ c.requires.linked.1 in
     let stages = c.requires.stages in
@@ -17,5 +17,5 @@ handle_list-requires c =
       | else-handle-ne0-via-else-handle-ne0 w ↦ omega arith
     ]
 
-pub search_name-requires : goal.search_name-requires
-search_name-requires c = bases_count c.requires.linked.0 _ c.requires.linked.1
+pub search_handle-requires-clause-bases : goal.search_handle-requires-clause-bases
+search_handle-requires-clause-bases c = bases_count c.requires.linked.0 _ c.requires.linked.1

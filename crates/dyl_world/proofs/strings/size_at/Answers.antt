@@ -1,6 +1,5 @@
-use Rattle.std.proofs.Common.{◌≡◌, ◌∙◌, ap, sym, ◌+◌, ◌-◌, ◌≤◌, ◌<◌, length, take, drop, Some, arith}
-use Rattle.std.proofs.lemmas.List.{drop-drop, length-drop}
-use Rattle.dyl_world.proofs.Pieces.{nothing_plain, all_plain, more_plain, found, ends, piece_here, piece_fits}
+use Rattle.std.proofs.Common.{◌≡◌, ◌+◌, ◌-◌, length, drop, arith}
+use Rattle.dyl_world.proofs.Pieces.{more_plain, found, ends, piece_here, piece_fits}
 use Rattle.dyl_world.proofs.strings.size_at.Goals as goal
 
 pub returns-in-Some-clause-value : goal.returns-in-Some-clause-value

@@ -13,8 +13,8 @@ closure-requires c =
     let count = set.1.symbols.count in
     omega (arith, c.requires.member)
 
-pub tries_code-requires-clause-few : goal.tries_code-requires-clause-few
-tries_code-requires-clause-few c =
+pub tries_then-requires-clause-few : goal.tries_then-requires-clause-few
+tries_then-requires-clause-few c =
     let set = c.requires.set in
     let many = members_count set.0 c.args.linked.now set.1 in
     let inside : c.args.m < length set.0.set.members = omega (arith, c.requires.member) in

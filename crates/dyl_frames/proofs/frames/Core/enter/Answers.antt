@@ -21,12 +21,12 @@ mark-requires g c κs =
 pub returns-clause-stepped : goal.returns-clause-stepped
 returns-clause-stepped g c D loaded entry s k =
     entered_steps (g.V.View.seen c.args.view.now) c.args.self.now c.requires.core.sound c.requires.marked c.requires.entry c.args.r c.requires.own c.unmark.new.self c.begin.new.self c.unmark.ensures.unmarked c.in_ok-event.event c.in_ok-event.ensures.told c.in_ok-event.ensures.over
-    D loaded c.requires.last entry s k _ refl refl refl (sym c.is_deep.ensures ∙ c.if-is_deep.false)
+    D loaded c.requires.last entry s k _ refl refl (sym c.is_deep.ensures ∙ c.if-is_deep.false)
 
 pub returns-clause-core : goal.returns-clause-core
 returns-clause-core g c =
-    let new : Core = record { machine = c.begin.new.self; frames = c.clear.new.self; stages = c.args.self.now.stages; error = c.args.self.now.error } in
-    let few = few_entered c.args.self.now c.requires.core.few new c.clear.ensures.items refl in
+    let new : Core = record { machine = c.begin.new.self; frames = c.clear.new.self; stages = c.args.self.now.stages; promoted = c.args.self.now.promoted; error = c.args.self.now.error } in
+    let few = few_entered c.args.self.now c.requires.core.few new c.clear.ensures.items refl refl in
     let sound = entered_core (g.V.View.seen c.args.view.now) c.args.self.now c.requires.core.sound c.requires.marked c.requires.entry c.args.r c.requires.own c.unmark.new.self c.begin.new.self c.unmark.ensures.unmarked c.in_ok-event.event c.in_ok-event.ensures.told c.in_ok-event.ensures.over
     new refl c.clear.ensures.items refl (sym c.is_deep.ensures ∙ c.if-is_deep.false) in
     record { sound = sound; few = few }

@@ -13,5 +13,5 @@ returns-clause-core g c =
     let new : Core = record c.args.self.now { machine = c.give.new.self; error = c.args.errors } in
     record {
       sound = gives_core w c.args.self.now c.requires.core.sound c.requires.loading c.args.n c.args.errors c.give.new.self c.give.ensures.received c.give.ensures.over;
-      few = few_received c.args.self.now c.requires.core.few new (c.args.n ∷ []) refl refl c.give.ensures.received;
+      few = few_received c.args.self.now c.requires.core.few new (c.args.n ∷ []) refl refl refl c.give.ensures.received;
     }

@@ -2,7 +2,6 @@ use Rattle.std.specs.Prelude.{Result, Ok, Err, OnOk}
 use Rattle.spec_loading.specs.wasm_form.declared.Memory.{Memory}
 use Rattle.spec_loading.specs.spec_execution.Views.{View}
 use Rattle.wasm_step.specs.Moves.{between}
-use Rattle.wasm_machine.specs.Machines.{MachineState}
 use Rattle.wasm_machine.specs.declared.event.Event.{Event}
 use Rattle.dyl_frames.specs.declared.frames.Core.{Core}
 use Rattle.dyl_frames.specs.Cores.{IsSound, HasFewFrames, IsCore}

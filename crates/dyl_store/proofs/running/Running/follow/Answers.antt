@@ -19,3 +19,16 @@ pub returns-in-GiveHandle-clause-running : goal.returns-in-GiveHandle-clause-run
 returns-in-GiveHandle-clause-running c =
     let new : Running = record c.args.self.now { core = c.hand_over.new.self } in
     running_after c.args.self.now new c.requires.running refl refl refl c.hand_over.ensures.core c.hand_over.ensures.members
+
+pub promote-requires : goal.promote-requires
+promote-requires c κs =
+    let handle = sym c.follows.ensures ∙ c.in-GiveAndPromote.is in
+    ((refl, tt), (c.requires.running.core, (c.requires.marked, (c.requires.last, (handle, c.requires.running.members)))))
+
+pub returns-in-GiveAndPromote-clause-stepped : goal.returns-in-GiveAndPromote-clause-stepped
+returns-in-GiveAndPromote-clause-stepped c = λ L linked. c.promote.ensures.stepped (set_loading L) L linked refl
+
+pub returns-in-GiveAndPromote-clause-running : goal.returns-in-GiveAndPromote-clause-running
+returns-in-GiveAndPromote-clause-running c =
+    let new : Running = record c.args.self.now { core = c.promote.new.self } in
+    running_after c.args.self.now new c.requires.running refl refl refl c.promote.ensures.core c.promote.ensures.members

@@ -1,25 +1,37 @@
-use Rattle.std.proofs.Common.{◌<◌, ℕ, subst}
 use Rattle.std.proofs.lemmas.Result.{IfOk-weaker}
 use Rattle.spec_loading.specs.declared.answers.Opening.TheVariants as opening
-use Rattle.dyl_addresses.proofs.Linked.{members_count}
 use Rattle.dyl_store.proofs.Calling.{opens_by, opened_range}
 use Rattle.dyl_store.proofs.running.Running.open_module.Goals as goal
 
 pub refuse-requires-clause-some : goal.refuse-requires-clause-some
 refuse-requires-clause-some c =
     let set = c.requires.running.set in
-    (opened_range set.0 c.memory.result.now c.args.name c.args.flags c.open_answer.result (opening.Refused c.in-Refused.e) (c.open_answer.ensures set.0 set.1) c.in-Refused.is).0
+    (opened_range set.0 c.memory.result.now c.args.self.now.linked.now set.1 c.args.name c.args.flags c.open_answer.result (opening.Refused c.in-Refused.e) (c.open_answer.ensures set.0 set.1) c.in-Refused.is).0
 
 pub refuse-requires-clause-last : goal.refuse-requires-clause-last
 refuse-requires-clause-last c =
     let set = c.requires.running.set in
-    (opened_range set.0 c.memory.result.now c.args.name c.args.flags c.open_answer.result (opening.Refused c.in-Refused.e) (c.open_answer.ensures set.0 set.1) c.in-Refused.is).1
+    (opened_range set.0 c.memory.result.now c.args.self.now.linked.now set.1 c.args.name c.args.flags c.open_answer.result (opening.Refused c.in-Refused.e) (c.open_answer.ensures set.0 set.1) c.in-Refused.is).1
 
 pub open_member-requires-clause-member : goal.open_member-requires-clause-member
 open_member-requires-clause-member c =
     let set = c.requires.running.set in
-    subst (λ (n : ℕ). c.in-Begin.m < n) (members_count set.0 c.args.self.now.linked.now set.1)
-    (opened_range set.0 c.memory.result.now c.args.name c.args.flags c.open_answer.result (opening.Begin c.in-Begin.m) (c.open_answer.ensures set.0 set.1) c.in-Begin.is)
+    opened_range set.0 c.memory.result.now c.args.self.now.linked.now set.1 c.args.name c.args.flags c.open_answer.result (opening.Begin c.in-Begin.m) (c.open_answer.ensures set.0 set.1) c.in-Begin.is
+
+pub open_member-requires-clause-handle : goal.open_member-requires-clause-handle
+open_member-requires-clause-handle c =
+    let set = c.requires.running.set in
+    opened_range set.0 c.memory.result.now c.args.self.now.linked.now set.1 c.args.name c.args.flags c.open_answer.result (opening.Begin c.in-Begin.m) (c.open_answer.ensures set.0 set.1) c.in-Begin.is
+
+pub open_member-requires-in-BeginGlobal-clause-member : goal.open_member-requires-in-BeginGlobal-clause-member
+open_member-requires-in-BeginGlobal-clause-member c =
+    let set = c.requires.running.set in
+    opened_range set.0 c.memory.result.now c.args.self.now.linked.now set.1 c.args.name c.args.flags c.open_answer.result (opening.BeginGlobal c.in-BeginGlobal.m) (c.open_answer.ensures set.0 set.1) c.in-BeginGlobal.is
+
+pub open_member-requires-in-BeginGlobal-clause-handle : goal.open_member-requires-in-BeginGlobal-clause-handle
+open_member-requires-in-BeginGlobal-clause-handle c =
+    let set = c.requires.running.set in
+    opened_range set.0 c.memory.result.now c.args.self.now.linked.now set.1 c.args.name c.args.flags c.open_answer.result (opening.BeginGlobal c.in-BeginGlobal.m) (c.open_answer.ensures set.0 set.1) c.in-BeginGlobal.is
 
 pub returns-in-Main-clause-answers : goal.returns-in-Main-clause-answers
 returns-in-Main-clause-answers c = λ L h.
@@ -35,4 +47,10 @@ returns-in-Refused-clause-answers c = λ L h.
 
 pub returns-in-Begin-clause-answers : goal.returns-in-Begin-clause-answers
 returns-in-Begin-clause-answers c =
-    IfOk-weaker c.open_member.result _ _ (λ e steps L h. opens_by L c.args.self.now c.open_member.new.self e c.memory.result.now c.memory.ensures c.args.name c.args.flags c.open_answer.result (c.open_answer.ensures L h) (opening.Begin c.in-Begin.m) c.in-Begin.is (steps L h)) c.open_member.ensures.answers
+    IfOk-weaker c.open_member.result _ _
+    (λ e steps L h. opens_by L c.args.self.now c.open_member.new.self e c.memory.result.now c.memory.ensures c.args.name c.args.flags c.open_answer.result (c.open_answer.ensures L h) (opening.Begin c.in-Begin.m) c.in-Begin.is (steps L h)) c.open_member.ensures.answers
+
+pub returns-in-BeginGlobal-clause-answers : goal.returns-in-BeginGlobal-clause-answers
+returns-in-BeginGlobal-clause-answers c =
+    IfOk-weaker c.open_member-in-BeginGlobal.result _ _
+    (λ e steps L h. opens_by L c.args.self.now c.open_member-in-BeginGlobal.new.self e c.memory.result.now c.memory.ensures c.args.name c.args.flags c.open_answer.result (c.open_answer.ensures L h) (opening.BeginGlobal c.in-BeginGlobal.m) c.in-BeginGlobal.is (steps L h)) c.open_member-in-BeginGlobal.ensures.answers

@@ -1,11 +1,11 @@
-use Rattle.std.proofs.Common.{◌≡◌, List, length, map, true, ◌++◌, ap, ap₂, ◌∙◌, arith}
+use Rattle.std.proofs.Common.{◌≡◌, List, length, ◌++◌, ap, ap₂, ◌∙◌, arith}
 use Rattle.wasm_form.specs.declared.module.GlobalDef.{GlobalDef}
 use Rattle.dyl_link.specs.dyl_search.declared.set.Member.{Member}
 use Rattle.dyl_link.specs.dyl_search.declared.set.ClosedSet.{ClosedSet}
 use Rattle.merge_index.specs.Kept.{numbers_in}
 use Rattle.merge_index.specs.Numbering.{starts_of}
-use Rattle.merge_module.specs.MergedModule.{number_global, merged_globals}
-use Rattle.merge_whole.specs.Counts.{members_of}
+use Rattle.merge_module.specs.MergedModule.{merged_globals}
+use Rattle.merge_whole.specs.GlobalDefs.{zeros_for}
 use Rattle.merge_start.proofs.Linked.{few_members}
 use Rattle.merge_whole.proofs.GlobalLists.{many_are, globals_are}
 use Rattle.merge_whole.proofs.FewNumbers.{guards_few}
@@ -20,9 +20,8 @@ returns-clause-globals c = λ L h numbers.
     let members : c.items.result.now ≡ k.set.members = c.items.ensures ∙ ap (λ (S : ClosedSet). S.members) c.set.ensures in
     c.of.ensures
     ∙ globals_are L k h n _ _
-    (c.in_ok-put_guards.ensures
-    ∙ ap₂ (λ (gs : List GlobalDef) (ms : List Member). gs ++ map (λ x. number_global true 0) (members_of ms)) c.in_ok-list.ensures members)
-    c.in_ok-put_error.ensures
+    (c.in_ok-put_zeros.ensures ∙ ap₂ (λ (gs : List GlobalDef) (ms : List Member). gs ++ zeros_for ms) c.in_ok-list.ensures members)
+    c.in_ok-put_loader.ensures
     ∙ ap (merged_globals L) numbers
 
 pub returns-clause-guards : goal.returns-clause-guards

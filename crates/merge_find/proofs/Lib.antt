@@ -1,0 +1,12 @@
+pub mod Splits
+pub mod Halving
+pub mod Steps
+pub mod Questions
+pub mod Names
+pub mod Decided
+pub mod Finds
+pub mod Called
+pub mod Shapes
+pub mod Types
+pub mod Typed
+pub mod Exports

@@ -1,0 +1,171 @@
+-- How counted runs of pieces of code are put together, and the step of each instruction that a search has.
+use denote.Hole.Carrier.{out}
+use Rattle.std.proofs.Common.{◌≡◌, ℕ, zero, suc, ◌+◌, ◌^◌, ◌<◌, ◌≤◌, List, [], ◌∷◌, ◌++◌, length, take, drop, nat_eq, nat_lt, nat_le, not, slice_get, Some, None, option_map, true, refl, ap, arith, append_assoc, append-nil}
+use Rattle.std.specs.Int.{cast_unsigned, cast_signed, w32, w64}
+use Rattle.std.proofs.Math.Dec.{leb-zero}
+use Rattle.std.proofs.lemmas.Int.{of_z-to_z}
+use Rattle.std.proofs.lemmas.Option.{slice_get_within}
+use Rattle.std.proofs.lemmas.Bool.Decides.{nat_tests}
+use Rattle.wasm_form.specs.declared.instr.BlockType.TheVariants.{Empty}
+use Rattle.wasm_form.specs.declared.instr.Instr.{Instr, Plain, Index, Block, Access, out-Instr}
+use Rattle.wasm_form.specs.declared.instr.Instr.TheVariants.{outs-If, outs-Block}
+use Rattle.wasm_form.specs.declared.module.Module.{Module}
+use Rattle.wasm_form.specs.declared.runtime.Value.{Value}
+use Rattle.wasm_form.specs.declared.runtime.Value.TheVariants.{Num}
+use Rattle.spec_execution.specs.spec_runs.Systems.{Moving}
+use Rattle.spec_execution.specs.spec_runtime.Memories.{MemoryInstance, little_value, bytes_at}
+use Rattle.spec_execution.specs.spec_runtime.Numerics.{W32}
+use Rattle.spec_execution.specs.Values.{low}
+use Rattle.spec_execution.specs.Activations.{Activation, one_if}
+use Rattle.spec_execution.specs.Runs.{Frame}
+use Rattle.spec_execution.specs.Instances.{ModuleParts}
+use Rattle.spec_execution.specs.OneModule.{Starting, ModuleState, module_step}
+use Rattle.merge_pieces.specs.Opcodes as op
+use Rattle.merge_pieces.specs.Code.{number}
+use Rattle.merge_find.specs.Decisions.{wide, when}
+use Rattle.merge_find.specs.Counted.{Within, there, goes, standing, Comes}
+
+-- ---- counting
+
+pub within_more : {wasm : Module} {m : ℕ} {t u : ModuleState} (n : ℕ) → m ≤ n → Within wasm m t u → Within wasm n t u
+within_more n le there = there
+within_more n le (goes lt moving e more) = goes (omega arith) moving e more
+
+pub within_then : {wasm : Module} {j : ℕ} {t u v : ModuleState} (k n : ℕ) → j + k ≤ n → Within wasm j t u → Within wasm k u v → Within wasm n t v
+within_then k n le there b = within_more n (omega arith) b
+within_then k n le (goes {m} lt moving e more) b = goes {m = m + k} (omega arith) moving e (within_then k (m + k) (omega arith) more b)
+
+pub one : {wasm : Module} {t u : ModuleState} → t.status ≡ Moving → module_step wasm t ≡ Some u → Within wasm 1 t u
+one moving e = goes {m = 0} (omega arith) moving e there
+
+-- ---- where code stands
+
+-- with these locals
+abbrev pub spot : ModuleParts → MemoryInstance → List Value → Activation → List (Frame Starting) → List Value → List Instr → ModuleState
+spot us memory ls a under vs code = standing us memory (record a { locals = ls }) under vs code
+
+-- before other code
+abbrev pub before : List Instr → Activation → Activation
+before q a = record a { rest = q ++ a.rest }
+
+-- in a block without values of its own
+abbrev pub inner : Activation → Activation
+inner a = record a { values = []; rest = []; levels = record { below = a.values; arity = 0; again = None; after = a.rest } ∷ a.levels }
+
+-- code that is gone through
+pub record Steps (wasm : Module) (n : ℕ) (code : List Instr) (us : ModuleParts) (memory : MemoryInstance) (ls vs ws : List Value) : Type 0 where
+  pub runs : (a : Activation) (under : List (Frame Starting)) → Within wasm n (spot us memory ls a under vs code) (spot us memory ls a under ws [])
+
+-- ---- reading a byte
+
+one_item : (bytes : List ℕ) (i b : ℕ) → slice_get bytes i ≡ Some b → take 1 (drop i bytes) ≡ b ∷ []
+one_item [] i b e = absurd cc
+one_item (x ∷ xs) zero b e = (let same : x ≡ b = cc in ap (λ y. y ∷ []) same)
+one_item (x ∷ xs) (suc i) b e = one_item xs i b e
+
+pub byte_there : (bytes : List ℕ) (i b : ℕ) → slice_get bytes i ≡ Some b → option_map little_value (bytes_at bytes i 1) ≡ Some b
+byte_there bytes i b e =
+    let inside = slice_get_within bytes i b e in
+    let fits : nat_le (i + 1) (length bytes) ≡ true = grind (arith, nat_tests) in
+    rw (fits, one_item bytes i b e) (ap Some (omega arith))
+
+module _ {wasm : Module} {us : ModuleParts} {memory : MemoryInstance} {ls : List Value} where
+  pub steps_then : {p q : List Instr} {j : ℕ} {vs ws xs : List Value} (k n : ℕ) → j + k ≤ n → Steps wasm j p us memory ls vs ws
+      → Steps wasm k q us memory ls ws xs → Steps wasm n (p ++ q) us memory ls vs xs
+  steps_then {p} {q} k n le x y = record { runs = λ a under. rw append_assoc (within_then k n le (x.runs (before q a) under) (y.runs a under)) }
+
+  pub steps_nothing : {vs : List Value} → Steps wasm 0 [] us memory ls vs vs
+  steps_nothing = record { runs = λ a under. there }
+
+  pub steps_get : (k : ℕ) (v : Value) (vs : List Value) → slice_get ls k ≡ Some v → Steps wasm 1 (Index op.local_get k ∷ []) us memory ls vs (v ∷ vs)
+  unfolding out-Instr out
+  steps_get k v vs e = record { runs = λ a under. one refl (rw e refl) }
+
+  pub steps_number : (k : ℕ) (vs : List Value) → k < 2 ^ 32 → Steps wasm 1 (number k ∷ []) us memory ls vs (Num k ∷ vs)
+  unfolding out-Instr out
+  steps_number k vs small = record { runs = λ a under. one refl (let q : cast_unsigned w32 (cast_signed w32 k) ≡ k = of_z-to_z w32 k small in rw q refl) }
+
+  pub steps_wide : (k : ℕ) (vs : List Value) → k < 2 ^ 64 → Steps wasm 1 (wide k ∷ []) us memory ls vs (Num k ∷ vs)
+  unfolding out-Instr out
+  steps_wide k vs small = record { runs = λ a under. one refl (let q : cast_unsigned w64 (cast_signed w64 k) ≡ k = of_z-to_z w64 k small in rw q refl) }
+
+  pub steps_less : (x y : ℕ) (vs : List Value)
+      → Steps wasm 1 (Plain op.i32_lt_u ∷ []) us memory ls (Num y ∷ Num x ∷ vs) (Num (one_if (nat_lt (low W32 x) (low W32 y))) ∷ vs)
+  unfolding out-Instr out
+  steps_less x y vs = record { runs = λ a under. one refl refl }
+
+  pub steps_least : (x y : ℕ) (vs : List Value)
+      → Steps wasm 1 (Plain op.i32_ge_u ∷ []) us memory ls (Num y ∷ Num x ∷ vs) (Num (one_if (nat_le (low W32 y) (low W32 x))) ∷ vs)
+  unfolding out-Instr out
+  steps_least x y vs = record { runs = λ a under. one refl refl }
+
+  pub steps_differ : (x y : ℕ) (vs : List Value)
+      → Steps wasm 1 (Plain op.i32_ne ∷ []) us memory ls (Num y ∷ Num x ∷ vs) (Num (one_if (not (nat_eq (low W32 x) (low W32 y)))) ∷ vs)
+  unfolding out-Instr out
+  steps_differ x y vs = record { runs = λ a under. one refl refl }
+
+  pub steps_load : (x offset b : ℕ) (vs : List Value) → slice_get memory.bytes (low W32 x + offset) ≡ Some b
+      → Steps wasm 1 (Access op.i32_load8_u 0 offset ∷ []) us memory ls (Num x ∷ vs) (Num b ∷ vs)
+  unfolding out-Instr out
+  steps_load x offset b vs e = record { runs = λ a under. one refl (rw (byte_there memory.bytes (low W32 x + offset) b e) refl) }
+
+  -- ---- blocks
+
+  pub steps_stays : (x : ℕ) → low W32 x ≡ 0 → Steps wasm 1 (Index op.br_if 0 ∷ []) us memory ls (Num x ∷ []) []
+  unfolding out-Instr out
+  steps_stays x e = record { runs = λ a under. one refl (rw e refl) }
+
+  module _ (a : Activation) (under : List (Frame Starting)) where
+    off_inner : Within wasm 1 (spot us memory ls (inner a) under [] []) (spot us memory ls a under [] [])
+    off_inner = one refl refl
+
+    into_when : (p : List Instr) (x k : ℕ) → low W32 x ≡ suc k
+        → Within wasm 1 (spot us memory ls a under (Num x ∷ []) (when p ∷ [])) (spot us memory ls (inner a) under [] p)
+    into_when p x k e = rw (append-nil p) (one refl (rw (outs-If Empty (record { list = p }) None, e, leb-zero (length a.values)) refl))
+
+    over_when : (p : List Instr) (x : ℕ) → low W32 x ≡ 0
+        → Within wasm 2 (spot us memory ls a under (Num x ∷ []) (when p ∷ [])) (spot us memory ls a under [] [])
+    over_when p x e = within_then 1 2 (omega arith) (one refl (rw (outs-If Empty (record { list = p }) None, e, leb-zero (length a.values)) refl)) off_inner
+
+    pub into_block : (p : List Instr) → Within wasm 1 (spot us memory ls a under [] (Block Empty (record { list = p }) ∷ [])) (spot us memory ls (inner a) under [] p)
+    into_block p = rw (append-nil p) (one refl (rw (outs-Block Empty (record { list = p }), leb-zero (length a.values)) refl))
+
+    pub breaks_off : (x k : ℕ) (code : List Instr) → low W32 x ≡ suc k
+        → Within wasm 1 (spot us memory ls (inner a) under (Num x ∷ []) (Index op.br_if 0 ∷ code)) (spot us memory ls a under [] [])
+    unfolding out-Instr out
+    breaks_off x k code e = one refl (rw e refl)
+
+  -- ---- what is come to
+
+  pub comes_here : {code : List Instr} → Comes wasm 0 code us memory ls code
+  comes_here = record { runs = λ a under. (a.values, a.rest, a.levels, there) }
+
+  pub comes_more : {code end : List Instr} {m : ℕ} (n : ℕ) → m ≤ n → Comes wasm m code us memory ls end → Comes wasm n code us memory ls end
+  comes_more n le x = record { runs = λ a under. (let r = x.runs a under in (r.0, r.1, r.2, within_more n le r.3)) }
+
+  pub comes_after : {p q end : List Instr} {j : ℕ} (k n : ℕ) → j + k ≤ n → Steps wasm j p us memory ls [] [] → Comes wasm k q us memory ls end
+      → Comes wasm n (p ++ q) us memory ls end
+  comes_after {p} {q} k n le x y = record {
+    runs = λ a under. (let r = y.runs a under in (r.0, r.1, r.2, rw append_assoc (within_then k n le (x.runs (before q a) under) r.3)));
+  }
+
+  -- code in a block that is entered, whatever follows
+  pub comes_when : {p end : List Instr} {j : ℕ} (q code : List Instr) (x i : ℕ) (k n : ℕ) → j + 1 + k ≤ n → low W32 x ≡ suc i
+      → Steps wasm j p us memory ls [] (Num x ∷ []) → Comes wasm k code us memory ls end → Comes wasm n ((p ++ when code ∷ []) ++ q) us memory ls end
+  comes_when {p} q code x i k n le e s y = record {
+    runs = λ a under.
+        (let b = before q a in
+        let r = y.runs (inner b) under in
+        let enters = within_then k (1 + k) (omega arith) (into_when b under code x i e) r.3 in
+        (r.0, r.1, r.2, simp append_assoc (within_then (1 + k) n (omega arith) (s.runs (before (when code ∷ []) b) under) enters)));
+  }
+
+  pub comes_over : {p q end : List Instr} {j : ℕ} (code : List Instr) (x : ℕ) (k n : ℕ) → j + 2 + k ≤ n → low W32 x ≡ 0
+      → Steps wasm j p us memory ls [] (Num x ∷ []) → Comes wasm k q us memory ls end → Comes wasm n ((p ++ when code ∷ []) ++ q) us memory ls end
+  comes_over {p} {q} code x k n le e s y = record {
+    runs = λ a under.
+        (let b = before q a in
+        let r = y.runs a under in
+        let passes = within_then k (2 + k) (omega arith) (over_when b under code x e) r.3 in
+        (r.0, r.1, r.2, simp append_assoc (within_then (2 + k) n (omega arith) (s.runs (before (when code ∷ []) b) under) passes)));
+  }

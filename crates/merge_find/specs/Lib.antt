@@ -1,0 +1,7 @@
+pub mod Decisions
+pub mod Building
+pub mod Counted
+pub mod Finding
+pub mod Shape
+pub mod Typed
+pub mod Exports
