@@ -25,6 +25,7 @@ LIMITS = ("step limit", "depth limit", "host call limit")
 DONE = {
     "opened": "opened a member that hadn't started",
     "nested": "did so while a member was being opened",
+    "promoted": "promoted a member",
     "errors": "were told an error of the loader",
     "endless": "gave the loader a string without an end",
 }
