@@ -1,8 +1,7 @@
 -- The numbers of what the members of a set have are below 2^32.
-use Rattle.std.proofs.Common.{if◌then◌else◌, ◌≡◌, ℕ, zero, suc, ◌+◌, ◌*◌, ◌^◌, ◌<◌, ◌≤◌, Bool, true, false, List, [], ◌∷◌, ◌++◌, length, map, drop, get_or, slice_get, Some, option_map, refl, sym, ap, ◌∙◌, subst, arith, length-append}
+use Rattle.std.proofs.Common.{if◌then◌else◌, ◌≡◌, ℕ, zero, suc, ◌+◌, ◌*◌, ◌^◌, ◌<◌, ◌≤◌, Bool, true, false, List, [], ◌∷◌, ◌++◌, length, map, drop, get_or, slice_get, Some, option_map, sym, ap, ◌∙◌, arith, length-append}
 use Rattle.std.proofs.Math.Seq.{drop-cons}
 use Rattle.std.specs.List.{All, list_any}
-use Rattle.std.proofs.lemmas.List.{length-map}
 use Rattle.std.proofs.lemmas.List.Elements.{All-head, All-tail}
 use Rattle.std.proofs.lemmas.Option.{slice_get-map}
 use Rattle.spec_loading.proofs.of_spec_binary.Lists.{holds_at}
@@ -12,7 +11,7 @@ use Rattle.wasm_form.specs.declared.module.Module.{Module}
 use Rattle.spec_loading.specs.spec_linking.Sets as sets
 use Rattle.spec_loading.specs.spec_linking.Counts.{AreFew}
 use Rattle.spec_loading.specs.spec_linking.Imports.{ImportUse, DataCell, SlotCell, use_of}
-use Rattle.spec_loading.specs.spec_linking.Gathering.{total_size, IsMember, IsSet}
+use Rattle.spec_loading.specs.spec_linking.Gathering.{total_size, IsMember}
 use Rattle.spec_loading.specs.spec_linking.LinkedSets.{LinkedSet}
 use Rattle.spec_loading.specs.spec_linking.Slots.{CellName, same_cell, cell_as, cell_of_import, first_cells}
 use Rattle.dyl_link.specs.dyl_search.declared.set.Member.{Member}

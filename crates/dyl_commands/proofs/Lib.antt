@@ -1,4 +1,5 @@
 pub mod OneFile
+pub mod HeldNumbers
 pub mod Reading
 pub mod Dues
 pub mod Writing

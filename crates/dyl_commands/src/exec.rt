@@ -1,6 +1,7 @@
 // Running one module.
 ghost use Rattle.std.specs.Prelude.{◌≡◌, ◌≤◌, false, IfOk, Ok};
 ghost use Rattle.host_calls.specs.Embedders.{names_of};
+ghost use Rattle.spec_loading.specs.spec_safety.SoundModules.{HoldsNumbers};
 ghost use Rattle.dyl_commands.specs.Runs.{guest_arguments};
 ghost use Rattle.dyl_commands.specs.Due.{is_done};
 ghost use Rattle.dyl_commands.specs.Served.{Serves};
@@ -41,7 +42,8 @@ fn exec_module<I: Source, O: Sink, E: Sink, A: Ambient>(
     ambient: &mut A,
     host: &HostTable,
 ) -> Outcome
-    requires { steps ≤ 9223372036854775807 }
+    requires steps { steps ≤ 9223372036854775807 }
+    requires numbers { HoldsNumbers checked.now }
     ensures { ModuleDoes host.now checked.now args.now steps result (I.seen input.old) (O.seen output.old) (E.seen errors.old) (A.seen ambient.old) (I.seen input.new) (O.seen output.new) (E.seen errors.new) (A.seen ambient.new) }
 {
     let Ok(args) = guest_arguments(alloc, args) else {

@@ -5,6 +5,7 @@ ghost use Rattle.spec_reading.specs.spec_binary.DecodeAnswers.{DecodeAnswer};
 ghost use Rattle.spec_reading.specs.spec_binary.WellFormed.{IsWellFormed};
 ghost use Rattle.spec_loading.specs.spec_validation.Faults as validation;
 ghost use Rattle.spec_loading.specs.spec_execution.OneModule.{ModuleState, module_opening};
+ghost use Rattle.spec_loading.specs.spec_safety.SoundModules.{HoldsNumbers};
 ghost use Rattle.spec_loading.specs.spec_linking.LinkedSets.{LinkedSet};
 ghost use Rattle.host_calls.specs.Embedders.{names_of, embedder_of};
 ghost use Rattle.wasm_exec.specs.Executed.{HaveIntegers, IsLinkedOver};
@@ -185,6 +186,7 @@ fn merged_report(
     host: &HostTable,
 ) -> Result<Report, Memory>
     requires opens { (opening : ModuleState) × (module_opening checked.now (names_of host.now) ≡ Ok opening) }
+    requires numbers { HoldsNumbers checked.now }
     requires steps { steps ≤ 9223372036854775807 }
     ensures { IfOk result (RunsModule checked.now (embedder_of (guest_arguments []) host.now) steps) }
 {

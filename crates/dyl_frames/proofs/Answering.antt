@@ -91,8 +91,8 @@ live_after ps (f ∷ frames) results new marks at =
     let there : IsStacked ps (given values f ∷ frames) = record { some = λ e. cc; marks = given_over (LiesUnder ps) (length ps) values f frames marks } in
     subst (λ (st : Standing). IsLive st ps new.stack.frames) (sym at.standing_is) (subst (λ (fs : List (Frame ℕ)). IsStacked ps fs) (sym at.frames_are) there)
 
-pub taken_core : {Units : Type 0} (w w' : Seen Units) (c : Core) (n : MachineState) (a : Answer) → IsSound w.fixed w.units c → FitsHost w.fixed w.memory a c.machine.standing → Answered a c.machine n (between w w') → IsOver w.fixed w'.units n
-    → IsSound w.fixed w'.units (with_machine c n)
+pub taken_core : {Units : Type 0} (w w' : Seen Units) (c : Core) (n : MachineState) (a : Answer) → IsSound w.fixed w.units w.memory c → FitsHost w.fixed w.memory a c.machine.standing → Answered a c.machine n (between w w') → IsOver w.fixed w'.units w'.memory n
+    → IsSound w.fixed w'.units w'.memory (with_machine c n)
 taken_core w w' c n a h fits t over = record { over = over; live = go a fits t; pending = h.pending }
   where
     go : (x : Answer) → FitsHost w.fixed w.memory x c.machine.standing → Answered x c.machine n (between w w') → IsLive n.standing c.frames.items n.stack.frames

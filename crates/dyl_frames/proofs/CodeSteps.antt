@@ -1,6 +1,6 @@
 -- The steps of the machine are those of the run.
 use Rattle.std.proofs.Common.{◌≡◌, ◌≢◌, inl, inr, ℕ, List, [], ◌∷◌, Option, Some, None, refl, ap, sym, ◌∙◌, subst, true, false}
-use Rattle.std.specs.Prelude.{IfSome, length, Result, Ok, Err, IfOk, OnOk}
+use Rattle.std.specs.Prelude.{IfSome, length, Result, Ok, Err, IfOk, OnOk, OnErr}
 use Rattle.spec_loading.specs.wasm_form.declared.Memory.{Memory}
 use Rattle.spec_loading.specs.wasm_form.declared.runtime.LoaderCall.{LoaderCall}
 use Rattle.std.specs.Option.{option_map}
@@ -13,7 +13,7 @@ use Rattle.wasm_step.specs.Moves.{Changes, AreSame, between}
 use Rattle.wasm_step.specs.declared.done.Done.{Done}
 use Rattle.wasm_step.specs.declared.done.Done.TheVariants as done
 use Rattle.wasm_view.specs.Seen.{Seen}
-use Rattle.wasm_machine.specs.Machines.{MachineState, IsOver, next_of, LeavesCode, Told, Repeats, IsAtMark, IsMarked, IsCallingOutside, IsExited, Stepped, QuickStepped, second_of}
+use Rattle.wasm_machine.specs.Machines.{MachineState, IsOver, next_of, LeavesCode, Told, Repeats, IsAtMark, IsMarked, IsCallingOutside, IsExited, Stepped, QuickStepped, MayGrow, IsWanting, second_of}
 use Rattle.wasm_machine.specs.Marks.{marked_stack, marked_next, KeepsOver}
 use Rattle.wasm_machine.specs.declared.machine.Standing.{Standing}
 use Rattle.wasm_machine.specs.declared.machine.Standing.TheVariants as standing
@@ -24,13 +24,13 @@ use Rattle.wasm_machine.proofs.Under.{step_over}
 use Rattle.spec_loading.specs.Phases.{LoaderFrame}
 use Rattle.spec_loading.specs.Loading.{Loading, LoadedState, comes_to, loaded_next}
 use Rattle.dyl_frames.specs.declared.frames.Core.{Core}
-use Rattle.dyl_frames.specs.Next.{IsCodeNext}
-use Rattle.dyl_frames.specs.Cores.{frame_at, stack_of, LiesUnder, loader_arguments, IsStacked, IsLive, IsLoaded, IsSound, IsState, StandsAs, Steps, QuickSteps, StepsFrom, QuickStepsFrom, IsMarkTold, is_made, is_mark}
+use Rattle.dyl_frames.specs.Next.{IsCodeNext, CallsOrGrows, MayWant}
+use Rattle.dyl_frames.specs.Cores.{frame_at, stack_of, LiesUnder, loader_arguments, IsStacked, IsLive, IsLoaded, IsSound, IsState, StandsAs, Steps, QuickSteps, StepsFrom, QuickStepsFrom, WantsFrom, IsMarkTold, is_made, is_mark}
 use Rattle.dyl_frames.proofs.Loads.{IsLoad, step_load}
-use Rattle.dyl_frames.proofs.Telling.{ComesFrom, steps_told, stuck_told, loader_told, deep_told, live_told, leaves_moving}
+use Rattle.dyl_frames.proofs.Telling.{ComesFrom, steps_told, loader_told, deep_told, live_told, leaves_moving}
 
-pub core_live : {Units : Type 0} (V : View Units) (us : Units) (c : Core) → IsSound V us c → c.machine.standing ≡ standing.Moving → IsStacked c.frames.items c.machine.stack.frames
-core_live V us c h moving = subst (λ (st : Standing). IsLive st c.frames.items c.machine.stack.frames) moving h.live
+pub core_live : {Units : Type 0} (V : View Units) (us : Units) (memory : MemoryInstance) (c : Core) → IsSound V us memory c → c.machine.standing ≡ standing.Moving → IsStacked c.frames.items c.machine.stack.frames
+core_live V us memory c h moving = subst (λ (st : Standing). IsLive st c.frames.items c.machine.stack.frames) moving h.live
 
 pub state_moving : {Units : Type 0} (D : Loading Units) (c : Core) (us : Units) (memory : MemoryInstance) (s : LoadedState Units) → IsState D c us memory s → c.machine.standing ≡ standing.Moving
     → (s.run.status ≡ Moving) × (s.run.stack ≡ stack_of c)
@@ -54,32 +54,32 @@ repeats_nothing e st moving r = go e (subst (λ (x : Standing). Repeats e x) mov
     go (event.Trapped why) k = k
     go (event.Exited code) k = k
     go event.Deep k = k
-    go event.Stuck k = k
 
 at_mark : (e : Event) (frames : List (Frame ℕ)) → IsAtMark e frames → is_mark e ≡ true
 at_mark (event.Marked tag) frames k = refl
 at_mark e frames k = absurd k
 
-module _ {Units : Type 0} (V : View Units) (c : Core) (n : MachineState) (us us' : Units) (memory memory' : MemoryInstance) (h : IsSound V us c) where
+module _ {Units : Type 0} (V : View Units) (c : Core) (n : MachineState) (us us' : Units) (memory memory' : MemoryInstance) (h : IsSound V us memory c) where
   -- nothing has changed
-  pub same_core : n ≡ c.machine → AreSame (changes us us' memory memory') → IsSound V us' (with_machine c n)
+  pub same_core : n ≡ c.machine → AreSame (changes us us' memory memory') → IsSound V us' memory' (with_machine c n)
   same_core same kept = record {
-    over = subst (λ (x : Units). IsOver V x n) (sym kept.0) (subst (λ (x : MachineState). IsOver V us x) (sym same) h.over);
+    over = subst (λ (x : Units). IsOver V x memory' n) (sym kept.0)
+        (subst (λ (x : MemoryInstance). IsOver V us x n) (sym kept.1) (subst (λ (x : MachineState). IsOver V us memory x) (sym same) h.over));
     live = subst (λ (x : MachineState). IsLive x.standing c.frames.items x.stack.frames) (sym same) h.live;
     pending = h.pending;
   }
 
   module _ (moving : c.machine.standing ≡ standing.Moving) where
-    pub told_core : (e : Event) (next : Option (Next Units ℕ)) → Told V e next c.machine n (changes us us' memory memory') → IfSome next (KeepsOver (LiesUnder c.frames.items) V (length c.frames.items)) → IfSome next IsLoad → IsOver V us' n → IsSound V us' (with_machine c n)
+    pub told_core : (e : Event) (next : Option (Next Units ℕ)) → Told V e next c.machine n (changes us us' memory memory') → IfSome next (KeepsOver (LiesUnder c.frames.items) V (length c.frames.items)) → IfSome next IsLoad → IsOver V us' memory' n → IsSound V us' memory' (with_machine c n)
     told_core e next t under load over = record {
       over = over;
       live = live_told V c.frames.items c.machine n (changes us us' memory memory') e next t under load h.live;
       pending = h.pending;
     }
 
-    pub step_core : (e : Event) → Stepped V e c.machine n (changes us us' memory memory') → IsOver V us' n → IsSound V us' (with_machine c n)
+    pub step_core : (e : Event) → Stepped V e c.machine n (changes us us' memory memory') → IsOver V us' memory' n → IsSound V us' memory' (with_machine c n)
     step_core e (inl t) over =
-        told_core e (next_of V us memory c.machine.stack.frames) t.2 (step_over (LiesUnder c.frames.items) V us memory (length c.frames.items) c.machine.stack.frames (core_live V us c h moving).marks)
+        told_core e (next_of V us memory c.machine.stack.frames) t.2 (step_over (LiesUnder c.frames.items) V us memory (length c.frames.items) c.machine.stack.frames (core_live V us memory c h moving).marks)
         (step_load V us memory c.machine.stack.frames) over
     step_core e (inr (inl t)) over = same_core t.2 t.3
     step_core e (inr (inr t)) over = same_core t.1 t.2
@@ -93,15 +93,6 @@ deep_same V us us' memory memory' (Some Ends) old n t = absurd t
 deep_same V us us' memory memory' (Some (Traps why)) old n t = absurd t
 deep_same V us us' memory memory' None old n t = absurd t
 
-stuck_same : {Units : Type 0} (V : View Units) (us us' : Units) (memory memory' : MemoryInstance) (next : Option (Next Units ℕ)) (old n : MachineState) → Told V event.Stuck next old n (changes us us' memory memory')
-    → AreSame (changes us us' memory memory')
-stuck_same V us us' memory memory' None old n t = t.1
-stuck_same V us us' memory memory' (Some (Goes x y frames)) old n t = absurd t
-stuck_same V us us' memory memory' (Some (Asks entry args frames)) old n t = absurd t
-stuck_same V us us' memory memory' (Some (Loads which args frames)) old n t = absurd t
-stuck_same V us us' memory memory' (Some Ends) old n t = absurd t
-stuck_same V us us' memory memory' (Some (Traps why)) old n t = absurd t
-
 pub same_state : {Units : Type 0} (D : Loading Units) (c : Core) (n : MachineState) (us us' : Units) (memory memory' : MemoryInstance) → n ≡ c.machine → AreSame (changes us us' memory memory')
     → (s : LoadedState Units) → IsState D c us memory s → IsState D (with_machine c n) us' memory' s
 same_state D c n us us' memory memory' same kept s k = record {
@@ -110,6 +101,27 @@ same_state D c n us us' memory memory' same kept s k = record {
   space = k.space ∙ sym kept.1;
   standing = subst (λ (x : MachineState). StandsAs D (with_machine c x) s x.standing) (sym same) k.standing;
 }
+
+-- ---- where memory is wanting
+
+seen_grows : (h : ℕ → LoaderFrame) (frames : List (Frame ℕ)) → MayGrow frames → CallsOrGrows (marked_stack h frames)
+seen_grows h [] grows = absurd grows
+seen_grows h (Active a ∷ frames) grows = grows
+seen_grows h (Marked tag ∷ frames) grows = tt
+
+module _ {Units : Type 0} (D : Loading Units) (c : Core) (us : Units) (memory : MemoryInstance) (moving : c.machine.standing ≡ standing.Moving) (s : LoadedState Units) (k : IsState D c us memory s) where
+  may_grow : IsWanting c.machine → MayGrow c.machine.stack.frames
+  may_grow (inl lost) = absurd (let clash : standing.Moving ≡ standing.Lost = sym moving ∙ lost in cc)
+  may_grow (inr grows) = grows.1
+
+  pub may_want : IsWanting c.machine → MayWant s
+  may_want wanting =
+      let at = state_moving D c us memory s k moving in
+      (at.0, subst CallsOrGrows (sym at.1) (seen_grows (frame_at c.frames.items) c.machine.stack.frames (may_grow wanting)))
+
+pub wanting_after : {Units : Type 0} (w : Seen Units) (c : Core) → c.machine.standing ≡ standing.Moving → (r : Result Event Memory) → OnErr r (IsWanting c.machine) → OnErr r ((D : Loading Units) → WantsFrom D c w)
+wanting_after w c moving (Ok e) wanting = tt
+wanting_after w c moving (Err e) wanting = λ D s k. may_want D c w.units w.memory moving s k wanting
 
 -- ---- what the run's step comes to
 
@@ -123,7 +135,7 @@ module _ {Units : Type 0} (D : Loading Units) (s : LoadedState Units) (h : ℕ �
       ∙ ap (λ (x : MemoryInstance). comes_to s (option_map (marked_next h) (next_of D.view us x (Active a ∷ frames)))) space
   code_next us memory (Marked tag ∷ frames) code units space = absurd cc
 
-module _ {Units : Type 0} (D : Loading Units) (c : Core) (n : MachineState) (us us' : Units) (memory memory' : MemoryInstance) (hosts : IsLoaded D D.view) (core : IsSound D.view us c) (moving : c.machine.standing ≡ standing.Moving) (s : LoadedState Units) (k : IsState D c us memory s) where
+module _ {Units : Type 0} (D : Loading Units) (c : Core) (n : MachineState) (us us' : Units) (memory memory' : MemoryInstance) (hosts : IsLoaded D D.view) (core : IsSound D.view us memory c) (moving : c.machine.standing ≡ standing.Moving) (s : LoadedState Units) (k : IsState D c us memory s) where
   at : (s.run.status ≡ Moving) × (s.run.stack ≡ stack_of c)
   at = state_moving D c us memory s k moving
 
@@ -131,12 +143,12 @@ module _ {Units : Type 0} (D : Loading Units) (c : Core) (n : MachineState) (us 
   next_here = next_of D.view us memory c.machine.stack.frames
 
   under_here : IfSome next_here (KeepsOver (LiesUnder c.frames.items) D.view (length c.frames.items))
-  under_here = step_over (LiesUnder c.frames.items) D.view us memory (length c.frames.items) c.machine.stack.frames (core_live D.view us c core moving).marks
+  under_here = step_over (LiesUnder c.frames.items) D.view us memory (length c.frames.items) c.machine.stack.frames (core_live D.view us memory c core moving).marks
 
   comes_code : is_running c.machine.stack.frames ≡ true → ComesFrom D s s (with_machine c n) us' memory' (frame_at c.frames.items) next_here
   comes_code code = ap (loaded_next D s) at.1 ∙ code_next D s (frame_at c.frames.items) us memory c.machine.stack.frames code k.units k.space
 
-  module _ (e : Event) (code : is_running c.machine.stack.frames ≡ true) (t : Told D.view e next_here c.machine n (changes us us' memory memory')) (over : IsOver D.view us' n) where
+  module _ (e : Event) (code : is_running c.machine.stack.frames ≡ true) (t : Told D.view e next_here c.machine n (changes us us' memory memory')) (over : IsOver D.view us' memory' n) where
     -- over the state's own units and memory
     over_state : Told D.view e next_here c.machine n (changes s.run.units us' s.run.memory memory')
     over_state =
@@ -162,7 +174,7 @@ module _ {Units : Type 0} (D : Loading Units) (c : Core) (n : MachineState) (us 
       let given : args ≡ loader_arguments called first second = load.1 ∙ ap (λ (x : ℕ). loader_arguments called x (second_of args)) (sym t.2) ∙ ap (λ (x : ℕ). loader_arguments called first x) (sym t.3) in
       loader_told D s s (with_machine c n) us' memory' which called first second args frames keeps.0 comes refl t.0 t.1 given k.loader at.0 (k.units ∙ sym t.4.0) (k.space ∙ sym t.4.1)
 
-  told_steps : (e : Event) → is_mark e ≡ false → is_running c.machine.stack.frames ≡ true → Told D.view e next_here c.machine n (changes us us' memory memory') → IsOver D.view us' n
+  told_steps : (e : Event) → is_mark e ≡ false → is_running c.machine.stack.frames ≡ true → Told D.view e next_here c.machine n (changes us us' memory memory') → IsOver D.view us' memory' n
       → Steps D e s (with_machine c n) us' memory'
   told_steps event.Moved is code t over = made_steps event.Moved code t over refl
   told_steps (event.Waits asked) is code t over = made_steps (event.Waits asked) code t over refl
@@ -176,12 +188,8 @@ module _ {Units : Type 0} (D : Loading Units) (c : Core) (n : MachineState) (us 
       deep_told D s s (with_machine c n) us' memory' next_here c.machine (frame_at c.frames.items) (comes_code code) (over_state event.Deep code t over)
       (ap (λ (x : MachineState). x.standing) same.0 ∙ moving)
       (same_state D c n us us' memory memory' same.0 same.1 s k)
-  told_steps event.Stuck is code t over =
-      let still = stuck_same D.view us us' memory memory' next_here c.machine n t in
-      stuck_told D s s (with_machine c n) us' memory' next_here c.machine (frame_at c.frames.items) (comes_code code) (over_state event.Stuck code t over)
-      k.loader at.0 (k.units ∙ sym still.0) (k.space ∙ sym still.1)
 
-  pub step_steps : (e : Event) → Stepped D.view e c.machine n (changes us us' memory memory') → IsOver D.view us' n → is_mark e ≡ false → Steps D e s (with_machine c n) us' memory'
+  pub step_steps : (e : Event) → Stepped D.view e c.machine n (changes us us' memory memory') → IsOver D.view us' memory' n → is_mark e ≡ false → Steps D e s (with_machine c n) us' memory'
   step_steps e (inl t) over is = told_steps e is t.1 t.2 over
   step_steps e (inr (inl t)) over is = absurd (let wrong : true ≡ false = sym (at_mark e c.machine.stack.frames t.1) ∙ is in cc)
   step_steps e (inr (inr t)) over is = absurd (repeats_nothing e c.machine.standing moving t.0)
@@ -232,31 +240,31 @@ module _ {Units : Type 0} (D : Loading Units) (c : Core) (n : MachineState) (us 
       let on_top = calling_code c.machine.standing c.machine.stack.rooms c.machine.stack.frames calling in
       leaves_moving D s s (with_machine c n) us' memory' code.4 next_here (frame_at c.frames.items) (comes_code on_top) leaves code.3.0 code.3.1 code.3.2
 
-  pub quick_steps : (d : Done) → QuickStepped D.view d c.machine n (changes us us' memory memory') → IsOver D.view us' n → QuickSteps D d s (with_machine c n) us' memory'
+  pub quick_steps : (d : Done) → QuickStepped D.view d c.machine n (changes us us' memory memory') → IsOver D.view us' memory' n → QuickSteps D d s (with_machine c n) us' memory'
   quick_steps done.Goes t o = (goes_on t, step_steps event.Moved t o refl)
   quick_steps (done.Trapped why) t o = step_steps (event.Trapped why) t o refl
-  quick_steps done.Stuck t o = step_steps event.Stuck t o refl
+  quick_steps done.Stuck t o = t
   quick_steps done.Returned t o = step_steps event.Returned t o refl
   quick_steps done.Exited t o = subst IsExited moving t.0
   quick_steps done.Marked t o = stays_as (t.1, t.2) (marked_none t.0)
   quick_steps done.Deep t o = deep_none (step_steps event.Deep t o refl)
   quick_steps done.Outside t o = stays_as (t.1, t.2) (outside_none t.0 t.3)
-  quick_steps done.NoMemory t o = tt
+  quick_steps done.NoMemory t o = may_want D c us memory moving s k t.0
 
 -- ---- as the machine tells it over its own view
 
 pub by_view : {Units : Type 0} (D : Loading Units) (V : View Units) → IsLoaded D V → (P : View Units → Type 0) → P V → P D.view
 by_view D V loaded P p = subst P (sym loaded.view) p
 
-module _ {Units : Type 0} (D : Loading Units) (w w' : Seen Units) (loaded : IsLoaded D w.fixed) (c : Core) (n : MachineState) (core : IsSound w.fixed w.units c) (moving : c.machine.standing ≡ standing.Moving) (o : IsOver w.fixed w'.units n) where
+module _ {Units : Type 0} (D : Loading Units) (w w' : Seen Units) (loaded : IsLoaded D w.fixed) (c : Core) (n : MachineState) (core : IsSound w.fixed w.units w.memory c) (moving : c.machine.standing ≡ standing.Moving) (o : IsOver w.fixed w'.units w'.memory n) where
   own : IsLoaded D D.view
   own = record { view = refl; hosts = loaded.hosts }
 
-  core_seen : IsSound D.view w.units c
-  core_seen = by_view D w.fixed loaded (λ (W : View Units). IsSound W w.units c) core
+  core_seen : IsSound D.view w.units w.memory c
+  core_seen = by_view D w.fixed loaded (λ (W : View Units). IsSound W w.units w.memory c) core
 
-  over_seen : IsOver D.view w'.units n
-  over_seen = by_view D w.fixed loaded (λ (W : View Units). IsOver W w'.units n) o
+  over_seen : IsOver D.view w'.units w'.memory n
+  over_seen = by_view D w.fixed loaded (λ (W : View Units). IsOver W w'.units w'.memory n) o
 
   pub steps_from : (e : Event) → Stepped w.fixed e c.machine n (between w w') → is_mark e ≡ false → StepsFrom D e c w (with_machine c n) w'
   steps_from e t is s k =
@@ -266,11 +274,11 @@ module _ {Units : Type 0} (D : Loading Units) (w w' : Seen Units) (loaded : IsLo
   quick_from d t s k =
       quick_steps D c n w.units w'.units w.memory w'.memory own core_seen moving s k d (by_view D w.fixed loaded (λ (W : View Units). QuickStepped W d c.machine n (between w w')) t) over_seen
 
-pub quick_core : {Units : Type 0} (w w' : Seen Units) (c : Core) (n : MachineState) (core : IsSound w.fixed w.units c) (moving : c.machine.standing ≡ standing.Moving) (d : Done) → QuickStepped w.fixed d c.machine n (between w w') → IsOver w.fixed w'.units n → d ≢ done.NoMemory
-    → IsSound w.fixed w'.units (with_machine c n)
+pub quick_core : {Units : Type 0} (w w' : Seen Units) (c : Core) (n : MachineState) (core : IsSound w.fixed w.units w.memory c) (moving : c.machine.standing ≡ standing.Moving) (d : Done) → QuickStepped w.fixed d c.machine n (between w w') → IsOver w.fixed w'.units w'.memory n → d ≢ done.NoMemory
+    → IsSound w.fixed w'.units w'.memory (with_machine c n)
 quick_core w w' c n core moving done.Goes t o found = step_core w.fixed c n w.units w'.units w.memory w'.memory core moving event.Moved t o
 quick_core w w' c n core moving (done.Trapped why) t o found = step_core w.fixed c n w.units w'.units w.memory w'.memory core moving (event.Trapped why) t o
-quick_core w w' c n core moving done.Stuck t o found = step_core w.fixed c n w.units w'.units w.memory w'.memory core moving event.Stuck t o
+quick_core w w' c n core moving done.Stuck t o found = absurd t
 quick_core w w' c n core moving done.Returned t o found = step_core w.fixed c n w.units w'.units w.memory w'.memory core moving event.Returned t o
 quick_core w w' c n core moving done.Exited t o found = same_core w.fixed c n w.units w'.units w.memory w'.memory core t.1 t.2
 quick_core w w' c n core moving done.Marked t o found = same_core w.fixed c n w.units w'.units w.memory w'.memory core t.1 t.2
@@ -280,13 +288,13 @@ quick_core w w' c n core moving done.NoMemory t o found = absurd (found refl)
 
 -- ---- what is told of a call for a step
 
-pub core_after : {Units : Type 0} (w w' : Seen Units) (c : Core) (n : MachineState) → IsSound w.fixed w.units c → c.machine.standing ≡ standing.Moving → (r : Result Event Memory)
-    → IfOk r (λ e. Stepped w.fixed e c.machine n (between w w')) → IsOver w.fixed w'.units n → OnOk r (IsSound w.fixed w'.units (with_machine c n))
+pub core_after : {Units : Type 0} (w w' : Seen Units) (c : Core) (n : MachineState) → IsSound w.fixed w.units w.memory c → c.machine.standing ≡ standing.Moving → (r : Result Event Memory)
+    → IfOk r (λ e. Stepped w.fixed e c.machine n (between w w')) → IsOver w.fixed w'.units w'.memory n → OnOk r (IsSound w.fixed w'.units w'.memory (with_machine c n))
 core_after w w' c n core moving (Ok e) t over = step_core w.fixed c n w.units w'.units w.memory w'.memory core moving e t over
 core_after w w' c n core moving (Err e) t over = tt
 
-pub steps_after : {Units : Type 0} (w w' : Seen Units) (c : Core) (n : MachineState) → IsSound w.fixed w.units c → c.machine.standing ≡ standing.Moving → (r : Result Event Memory)
-    → IfOk r (λ e. Stepped w.fixed e c.machine n (between w w')) → IsOver w.fixed w'.units n
+pub steps_after : {Units : Type 0} (w w' : Seen Units) (c : Core) (n : MachineState) → IsSound w.fixed w.units w.memory c → c.machine.standing ≡ standing.Moving → (r : Result Event Memory)
+    → IfOk r (λ e. Stepped w.fixed e c.machine n (between w w')) → IsOver w.fixed w'.units w'.memory n
     → IfOk r (λ e. is_mark e ≡ false → (D : Loading Units) → IsLoaded D w.fixed → StepsFrom D e c w (with_machine c n) w')
 steps_after w w' c n core moving (Ok e) t over = λ is D loaded. steps_from D w w' loaded c n core moving over e t is
 steps_after w w' c n core moving (Err e) t over = tt
@@ -300,7 +308,6 @@ told_no_mark V event.Returned next old n c t = refl
 told_no_mark V (event.Trapped why) next old n c t = refl
 told_no_mark V (event.Exited code) next old n c t = refl
 told_no_mark V event.Deep next old n c t = refl
-told_no_mark V event.Stuck next old n c t = refl
 told_no_mark V (event.Marked tag) (Some (Goes us memory frames)) old n c t = absurd t
 told_no_mark V (event.Marked tag) (Some (Asks entry args frames)) old n c t = absurd t
 told_no_mark V (event.Marked tag) (Some (Loads which args frames)) old n c t = absurd t

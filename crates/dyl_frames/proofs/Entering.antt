@@ -32,7 +32,7 @@ use Rattle.dyl_frames.specs.declared.frames.Pending.{Pending}
 use Rattle.dyl_frames.specs.declared.frames.Core.{Core}
 use Rattle.dyl_frames.specs.Cores.{frame_at, LiesOver, LiesUnder, IsLive, IsLoaded, IsSound, loader_of, IsState, Steps, is_made, is_deep_event, IsOwn, top_frame}
 use Rattle.dyl_frames.proofs.Loads.{IsPlain}
-use Rattle.dyl_frames.proofs.Telling.{steps_told, stuck_told, deep_is, live_at}
+use Rattle.dyl_frames.proofs.Telling.{steps_told, deep_is, live_at}
 use Rattle.dyl_frames.proofs.CodeSteps.{changes, with_machine, state_moving, deep_same, same_state, by_view}
 use Rattle.dyl_frames.proofs.Tops.{OnMark}
 use Rattle.dyl_frames.proofs.Tasks.{live_mark}
@@ -104,7 +104,6 @@ live_begun V u n us memory (event.Waits a) (Some (Asks entry args frames)) t und
 live_begun V u n us memory (event.Loader which first second) (Some (Loads called args frames)) t under plain is = absurd plain
 live_begun V u n us memory event.Returned (Some Ends) t under plain is = live_at [] n [] standing.Returned t.0 tt
 live_begun V u n us memory (event.Trapped why) (Some (Traps cause)) t under plain is = live_at [] n [] (standing.Trapped why) t.0 tt
-live_begun V u n us memory event.Stuck None t under plain is = live_at [] n [] standing.Stuck t.0 tt
 live_begun V u n us memory e next t under plain is = absurd t
 
 -- an own function is entered over nothing
@@ -122,9 +121,9 @@ own_plain V us memory (Host entry) own = absurd own
 own_plain V us memory (Loader which) own = absurd own
 own_plain V us memory (Stub unit f) own = absurd own
 
-module _ {Units : Type 0} (w : Seen Units) (c : Core) (h : IsSound w.fixed w.units c) (marked : IsMarked c.machine) (enters : (top_frame c).after ≡ CallEntry) (r : Ref) (own : IsOwn r) (u n : MachineState) (off : Unmarks c.machine u) (e : Event) (told : Begins w e r u n) (over : IsOver w.fixed w.units n) where
+module _ {Units : Type 0} (w : Seen Units) (c : Core) (h : IsSound w.fixed w.units w.memory c) (marked : IsMarked c.machine) (enters : (top_frame c).after ≡ CallEntry) (r : Ref) (own : IsOwn r) (u n : MachineState) (off : Unmarks c.machine u) (e : Event) (told : Begins w e r u n) (over : IsOver w.fixed w.units w.memory n) where
   m : OnMark c
-  m = live_mark w.fixed w.units c h marked
+  m = live_mark w.fixed w.units w.memory c h marked
 
   told_bare : Told w.fixed e (call w.fixed w.units w.memory (λ values. []) [] r) u n (between w w)
   told_bare = subst (λ (fs : List (Frame ℕ)). Told w.fixed e (call w.fixed w.units w.memory (λ _. fs) [] r) u n (between w w)) (bare c m enters u off) told.1
@@ -143,7 +142,6 @@ module _ {Units : Type 0} (w : Seen Units) (c : Core) (h : IsSound w.fixed w.uni
         go event.Returned is = absurd cc
         go (event.Trapped why) is = absurd cc
         go (event.Exited code) is = absurd cc
-        go event.Stuck is = absurd cc
 
     unchanged : n ≡ u
     unchanged =
@@ -157,13 +155,13 @@ module _ {Units : Type 0} (w : Seen Units) (c : Core) (h : IsSound w.fixed w.uni
       pub back : n' ≡ c.machine
       back = remarked c.machine u n' (alone c m enters) marked.0 off (subst (λ (x : MachineState). Marks 0 x n') unchanged on)
 
-      pub back_core : IsSound w.fixed w.units (with_machine c n')
-      back_core = subst (λ (x : MachineState). IsSound w.fixed w.units (with_machine c x)) (sym back) h
+      pub back_core : IsSound w.fixed w.units w.memory (with_machine c n')
+      back_core = subst (λ (x : MachineState). IsSound w.fixed w.units w.memory (with_machine c x)) (sym back) h
 
   -- the core that is left once the entry was called
-  pub entered_core : (new : Core) → new.machine ≡ n → new.frames.items ≡ [] → new.stages ≡ c.stages → is_deep_event e ≡ false → IsSound w.fixed w.units new
+  pub entered_core : (new : Core) → new.machine ≡ n → new.frames.items ≡ [] → new.stages ≡ c.stages → is_deep_event e ≡ false → IsSound w.fixed w.units w.memory new
   entered_core new machine frames stages begun = record {
-    over = subst (λ (x : MachineState). IsOver w.fixed w.units x) (sym machine) over;
+    over = subst (λ (x : MachineState). IsOver w.fixed w.units w.memory x) (sym machine) over;
     live = subst (λ (x : MachineState). IsLive x.standing new.frames.items x.stack.frames) (sym machine) (subst (λ (xs : List Pending). IsLive n.standing xs n.stack.frames) (sym frames) (live e begun told_bare));
     pending = λ i p found. absurd (let none = sym (ap (λ (xs : List Pending). slice_get xs i) frames) ∙ found in cc);
   }
@@ -209,7 +207,7 @@ module _ {Units : Type 0} (w : Seen Units) (c : Core) (h : IsSound w.fixed w.uni
         made_go : (x : Event) → is_made x ≡ true → Told D.view x at_call u n (changes s.run.units w.units s.run.memory w.memory) → Steps D x s new w.units w.memory
         made_go x is t =
             steps_told D s s new w.units w.memory same_loader loaded.hosts x at_call u is (entry_comes (frame_at new.frames.items)) (told_new x t)
-            (subst (λ (y : MachineState). IsAsked D.view y.standing) (sym machine) (by_view D w.fixed loaded (λ (W : View Units). IsOver W w.units n) over).asked)
+            (subst (λ (y : MachineState). IsAsked D.view y.standing) (sym machine) (by_view D w.fixed loaded (λ (W : View Units). IsOver W w.units w.memory n) over).asked)
 
         no_mark : (tag : ℕ) (next : Option (Next Units ℕ)) → Told D.view (event.Marked tag) next u n (changes s.run.units w.units s.run.memory w.memory) → ⊥
         no_mark tag next t = absurd t
@@ -224,9 +222,6 @@ module _ {Units : Type 0} (w : Seen Units) (c : Core) (h : IsSound w.fixed w.uni
 
         go : (x : Event) → is_deep_event x ≡ false → Told D.view x at_call u n (changes s.run.units w.units s.run.memory w.memory) → Steps D x s new w.units w.memory
         go event.Deep b t = absurd cc
-        go event.Stuck b t =
-            stuck_told D s s new w.units w.memory at_call u (frame_at new.frames.items) (entry_comes (frame_at new.frames.items)) (told_new event.Stuck t)
-            same_loader (state_moving D c w.units w.memory s k marked.0).0 k.units k.space
         go (event.Marked tag) b t = absurd (no_mark tag at_call t)
         go event.Moved b t = made_go event.Moved refl t
         go (event.Waits a) b t = made_go (event.Waits a) refl t

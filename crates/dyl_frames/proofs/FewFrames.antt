@@ -24,7 +24,7 @@ use Rattle.wasm_machine.specs.declared.event.Event.{Event}
 use Rattle.wasm_machine.specs.declared.event.Event.TheVariants as event
 use Rattle.dyl_frames.specs.declared.frames.Pending.{Pending}
 use Rattle.dyl_frames.specs.declared.frames.Core.{Core}
-use Rattle.dyl_frames.specs.Cores.{HasFewFrames, is_below, is_behind, is_begun, raised_stages, Finishes}
+use Rattle.dyl_frames.specs.Cores.{HasFewFrames, is_below, is_behind, is_deep_event, raised_stages, Finishes}
 use Rattle.dyl_frames.proofs.CodeSteps.{with_machine}
 use Rattle.dyl_frames.proofs.Tops.{length_set}
 use Rattle.dyl_world.specs.Promoted.{PromotedMembers}
@@ -151,7 +151,7 @@ module _ (c : Core) (h : HasFewFrames c) where
   pub few_quick : {Units : Type 0} (V : View Units) (n : MachineState) (ch : Changes Units) (d : Done) → QuickStepped V d c.machine n ch → d ≢ done.NoMemory → HasFewFrames (with_machine c n)
   few_quick V n ch done.Goes t found = few_stepped V n ch event.Moved t
   few_quick V n ch (done.Trapped why) t found = few_stepped V n ch (event.Trapped why) t
-  few_quick V n ch done.Stuck t found = few_stepped V n ch event.Stuck t
+  few_quick V n ch done.Stuck t found = absurd t
   few_quick V n ch done.Returned t found = few_stepped V n ch event.Returned t
   few_quick V n ch done.Exited t found = few_same n t.1
   few_quick V n ch done.Marked t found = few_same n t.1
@@ -159,10 +159,9 @@ module _ (c : Core) (h : HasFewFrames c) where
   few_quick V n ch done.Outside t found = few_same n t.1
   few_quick V n ch done.NoMemory t found = absurd (found refl)
 
-  -- a call that isn't begun leaves what was there, or nothing
-  pub few_unmade : {Units : Type 0} (V : View Units) (next : Option (Next Units ℕ)) (n : MachineState) (ch : Changes Units) (e : Event) → Told V e next c.machine n ch → is_begun e ≡ false → HasFewFrames (with_machine c n)
+  -- a call that would be too deep leaves what was there
+  pub few_unmade : {Units : Type 0} (V : View Units) (next : Option (Next Units ℕ)) (n : MachineState) (ch : Changes Units) (e : Event) → Told V e next c.machine n ch → is_deep_event e ≡ true → HasFewFrames (with_machine c n)
   few_unmade V (Some (Goes us memory frames)) n ch event.Deep t b = few_same n t.1
-  few_unmade V None n ch event.Stuck t b = few_ended n t.0.frames_are
   few_unmade V next n ch event.Moved t b = absurd cc
   few_unmade V next n ch (event.Waits asked) t b = absurd cc
   few_unmade V next n ch (event.Loader which first second) t b = absurd cc

@@ -51,8 +51,8 @@ over_code (GiveAndPromote m) hands frames lies = lies
 
 -- ---- where a function of the loader is waited for
 
-pub loading_live : {Units : Type 0} (V : View Units) (us : Units) (c : Core) → IsSound V us c → c.machine.standing ≡ standing.Loading → IsStacked c.frames.items c.machine.stack.frames × (is_running c.machine.stack.frames ≡ true)
-loading_live V us c h is = subst (λ (st : Standing). IsLive st c.frames.items c.machine.stack.frames) is h.live
+pub loading_live : {Units : Type 0} (V : View Units) (us : Units) (memory : MemoryInstance) (c : Core) → IsSound V us memory c → c.machine.standing ≡ standing.Loading → IsStacked c.frames.items c.machine.stack.frames × (is_running c.machine.stack.frames ≡ true)
+loading_live V us memory c h is = subst (λ (st : Standing). IsLive st c.frames.items c.machine.stack.frames) is h.live
 
 -- a number that is given to code
 given_moving : (frames : List (Frame ℕ)) (results : List ℕ) (n : MachineState) → is_running frames ≡ true → Received frames results n → n.standing ≡ standing.Moving
@@ -76,9 +76,9 @@ module _ {Units : Type 0} (D : Loading Units) (c : Core) (s : LoadedState Units)
   answered_depth : loaded_too_deep D s ≡ false
   answered_depth = ap (λ (o : Option (Comes Units)). passes_limit D.view (o >>= λ y. y.next)) k.comes
 
-module _ {Units : Type 0} (w : Seen Units) (c : Core) (h : IsSound w.fixed w.units c) (loading : c.machine.standing ≡ standing.Loading) where
+module _ {Units : Type 0} (w : Seen Units) (c : Core) (h : IsSound w.fixed w.units w.memory c) (loading : c.machine.standing ≡ standing.Loading) where
   live : IsStacked c.frames.items c.machine.stack.frames × (is_running c.machine.stack.frames ≡ true)
-  live = loading_live w.fixed w.units c h loading
+  live = loading_live w.fixed w.units w.memory c h loading
 
   -- ---- a number
 
@@ -94,7 +94,7 @@ module _ {Units : Type 0} (w : Seen Units) (c : Core) (h : IsSound w.fixed w.uni
         (received D (record c { error = error }) m w.units w.memory (record s { loader = loader }) refl k.units (n ∷ []) s.run k.units k.space c.machine.stack.frames r)
         (given_moving c.machine.stack.frames (n ∷ []) m live.1 r)
 
-    pub gives_core : IsOver w.fixed w.units m → IsSound w.fixed w.units given_core
+    pub gives_core : IsOver w.fixed w.units w.memory m → IsSound w.fixed w.units w.memory given_core
     gives_core over = record { over = over; live = live_after c.frames.items c.machine.stack.frames (n ∷ []) m live.0.marks r; pending = h.pending }
 
   -- ---- a trap
@@ -112,8 +112,8 @@ module _ {Units : Type 0} (w : Seen Units) (c : Core) (h : IsSound w.fixed w.uni
           ),
         )
 
-    pub traps_core : IsSound w.fixed w.units (with_machine c m)
-    traps_core = trapped_core w.fixed w.units c why m h is
+    pub traps_core : IsSound w.fixed w.units w.memory (with_machine c m)
+    traps_core = trapped_core w.fixed w.units w.memory c why m h is
 
   -- ---- a frame
 
@@ -172,7 +172,7 @@ module _ {Units : Type 0} (w : Seen Units) (c : Core) (h : IsSound w.fixed w.uni
     appended (x ∷ xs) zero q e = inl e
     appended (x ∷ xs) (suc i) q e = appended xs i q e
 
-    module _ (over : IsOver w.fixed w.units m) (small : All (λ (t : Task). t.member < length c.stages) tasks) (handle : IsHandle (length c.stages) after) where
+    module _ (over : IsOver w.fixed w.units w.memory m) (small : All (λ (t : Task). t.member < length c.stages) tasks) (handle : IsHandle (length c.stages) after) where
       latest : IsPending (length c.stages) p
       latest = record {
         tasks = subst (λ (ts : List Task). All (λ (t : Task). t.member < length c.stages) (reverse ts)) (sym items) (tasks_small (length c.stages) tasks small);
@@ -186,9 +186,9 @@ module _ {Units : Type 0} (w : Seen Units) (c : Core) (h : IsSound w.fixed w.uni
           go (inl found) = h.pending i q found
           go (inr same) = subst (λ (x : Pending). IsPending (length c.stages) x) same latest
 
-      pub opens_core : IsSound w.fixed w.units new
+      pub opens_core : IsSound w.fixed w.units w.memory new
       opens_core = record {
-        over = subst (λ (x : MachineState). IsOver w.fixed w.units x) (sym machine) over;
+        over = subst (λ (x : MachineState). IsOver w.fixed w.units w.memory x) (sym machine) over;
         live = subst (λ (st : Standing). IsLive st new.frames.items new.machine.stack.frames) (sym moving) (subst (λ (fs : List (Frame ℕ)). IsStacked new.frames.items fs) (sym on_top) stacked);
         pending = λ i q e. subst (λ (xs : List ℕ). IsPending (length xs) q) (sym stages) (pending i q e);
       }
@@ -216,9 +216,9 @@ frame_done : {Units : Type 0} (D : Loading Units) (s : LoadedState Units) (f : L
 frame_done D s f under after tasks follows =
     ap (λ (ts : List Task). loaded_next D s (Marked (record f { tasks = ts }) ∷ under)) tasks ∙ ap (λ (a : After). after_next D s under a) follows
 
-module _ {Units : Type 0} (w : Seen Units) (c : Core) (h : IsSound w.fixed w.units c) (marked : IsMarked c.machine) (member : ℕ) (after : After) (hands : GivesHandle after) (handle : (top_frame c).after ≡ after) where
+module _ {Units : Type 0} (w : Seen Units) (c : Core) (h : IsSound w.fixed w.units w.memory c) (marked : IsMarked c.machine) (member : ℕ) (after : After) (hands : GivesHandle after) (handle : (top_frame c).after ≡ after) where
   m : OnMark c
-  m = live_mark w.fixed w.units c h marked
+  m = live_mark w.fixed w.units w.memory c h marked
 
   last_is : m.number ≡ length c.frames.items - 1
   last_is = let count = m.count in omega arith
@@ -259,9 +259,9 @@ module _ {Units : Type 0} (w : Seen Units) (c : Core) (h : IsSound w.fixed w.uni
     marks_new = subst (λ (i : ℕ). AreMarksOver (LiesUnder new.frames.items) i m.rest) left_count
         (marks_kept (LiesUnder c.frames.items) (LiesUnder new.frames.items) m.number m.rest m.marks (λ i lt fs l. subst (λ (x : LoaderFrame). LiesOver x.after fs) (kept_under i lt) l))
 
-    pub handed_core : IsOver w.fixed w.units n → IsSound w.fixed w.units new
+    pub handed_core : IsOver w.fixed w.units w.memory n → IsSound w.fixed w.units w.memory new
     handed_core over = record {
-      over = subst (λ (x : MachineState). IsOver w.fixed w.units x) (sym machine) over;
+      over = subst (λ (x : MachineState). IsOver w.fixed w.units w.memory x) (sym machine) over;
       live = subst (λ (x : MachineState). IsLive x.standing new.frames.items x.stack.frames) (sym machine) (live_after new.frames.items m.rest ((member + 1) ∷ []) n marks_new here);
       pending = λ i q e. subst (λ (xs : List ℕ). IsPending (length xs) q) (sym stages) (h.pending i q (taken_found m.number c.frames.items i q (sym (ap (λ (xs : List Pending). slice_get xs i) frames_are) ∙ e)));
     }

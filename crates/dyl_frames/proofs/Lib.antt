@@ -8,3 +8,4 @@ pub mod Answering
 pub mod Opening
 pub mod Giving
 pub mod FewFrames
+pub mod Placed

@@ -2,13 +2,10 @@
 use Rattle.std.proofs.Common.{◌≡◌, ◌<◌, ℕ, zero, suc, List, [], ◌∷◌, ◌++◌, Some, refl, ap, sym, ◌∙◌, subst, length, All}
 use Rattle.std.specs.Prelude.{slice_get, reverse, replicate}
 use Rattle.std.proofs.lemmas.List.{length-replicate}
-use Rattle.std.proofs.lemmas.List.Elements.{All-nil}
-use Rattle.spec_loading.specs.spec_execution.Views.{View}
-use Rattle.spec_loading.specs.spec_execution.Ranges.{IsFrameInRange, IsWhole, HoldsAll}
 use Rattle.spec_loading.specs.spec_execution.Runs.{Frame, Marked}
-use Rattle.spec_loading.proofs.of_spec_safety.StepsInRange.{All-reverse}
+use Rattle.spec_loading.proofs.of_spec_safety.Lookups.{All-reverse}
 use Rattle.wasm_view.specs.Seen.{Seen}
-use Rattle.wasm_machine.specs.Stacks.{CallStack, empty_stack}
+use Rattle.wasm_machine.specs.Stacks.{CallStack}
 use Rattle.wasm_machine.specs.Machines.{MachineState, IsOver, Marks}
 use Rattle.wasm_machine.specs.Marks.{marked_stack}
 use Rattle.wasm_machine.specs.declared.machine.Standing.{Standing}
@@ -22,11 +19,6 @@ use Rattle.dyl_world.specs.Promoted.{PromotedMembers}
 use Rattle.dyl_frames.specs.declared.frames.Pending.{Pending}
 use Rattle.dyl_frames.specs.declared.frames.Core.{Core}
 use Rattle.dyl_frames.specs.Cores.{frame_of, frame_at, LiesOver, IsHandle, IsPending, IsStacked, IsLive, IsSound, loader_of, StandsAs, OpensAt}
-
--- nothing runs over a whole view
-pub idle_over : {Units : Type 0} (V : View Units) (us : Units) (st : Standing) → IsWhole V → HoldsAll V us → st ≡ standing.Moving → IsOver V us (record { stack = empty_stack; standing = st })
-idle_over V us st whole holds is = subst (λ (x : Standing). IsOver V us (record { stack = empty_stack; standing = x })) (sym is)
-    (record { range = record { whole = whole; units = holds; stack = All-nil (IsFrameInRange V) }; rooms = refl; asked = tt })
 
 pub one_frame : (frames none : List Pending) (p : Pending) → frames ≡ none ++ p ∷ [] → none ≡ [] → frames ≡ p ∷ []
 one_frame frames none p is empty = is ∙ ap (λ (ps : List Pending). ps ++ p ∷ []) empty
@@ -59,7 +51,7 @@ module _ {Units : Type 0} (w : Seen Units) (members : ℕ) (tasks : List Task) (
       stack : s.run.stack ≡ marked_stack (frame_at c.frames.items) c.machine.stack.frames
       stack = o.stack ∙ ap (λ (f : LoaderFrame). Marked f ∷ []) (sym frame_is) ∙ ap (λ (fs : List (Frame ℕ)). marked_stack (frame_at c.frames.items) fs) (sym on_stack)
 
-  pub opened_core : IsOver w.fixed w.units c.machine → All (λ (t : Task). t.member < members) (reverse tasks) → IsSound w.fixed w.units c
+  pub opened_core : IsOver w.fixed w.units w.memory c.machine → All (λ (t : Task). t.member < members) (reverse tasks) → IsSound w.fixed w.units w.memory c
   opened_core over small = record {
     over = over;
     live = subst (λ (st : Standing). IsLive st c.frames.items c.machine.stack.frames) (sym marks.goes_on)

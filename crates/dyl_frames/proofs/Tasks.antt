@@ -3,7 +3,7 @@ use Rattle.std.proofs.Common.{◌≡◌, ◌≢◌, ◌⊎◌, inl, inr, ℕ, su
 use Rattle.std.specs.Prelude.{slice_get, slice_set, nat_lt, nat_eq, if◌then◌else◌, IfSome}
 use Rattle.std.specs.Option.{option_map}
 use Rattle.std.proofs.lemmas.Option.{slice_get-get_or}
-use Rattle.std.proofs.lemmas.List.Elements.{All-head, All-tail, All-nil}
+use Rattle.std.proofs.lemmas.List.Elements.{All-head, All-tail}
 use Rattle.spec_loading.specs.wasm_form.declared.runtime.Ref.{Ref}
 use Rattle.spec_loading.specs.wasm_form.declared.runtime.Trap.{Trap}
 use Rattle.spec_loading.specs.spec_binary.Options.{◌>>=◌}
@@ -13,7 +13,6 @@ use Rattle.spec_loading.specs.spec_execution.Views.{View, type_of}
 use Rattle.spec_loading.specs.spec_execution.Instances.{host_type}
 use Rattle.spec_loading.specs.spec_execution.Limits.{passes_limit}
 use Rattle.spec_loading.specs.spec_execution.Runs.{Frame, Marked, Next, Loads, call}
-use Rattle.spec_loading.specs.spec_execution.Ranges.{IsFrameInRange}
 use Rattle.spec_loading.specs.spec_execution.Segments.{Performed}
 use Rattle.wasm_view.specs.Seen.{Seen}
 use Rattle.wasm_step.specs.Moves.{Changes}
@@ -31,9 +30,9 @@ use Rattle.spec_loading.specs.Phases.{LoaderFrame, stage_of}
 use Rattle.spec_loading.specs.Loading.{Loading, LoaderState, LoadedState, Comes, comes_by_itself, comes_to, goes_on, ended_by, place_next, call_next, work_next, task_next, raised, loaded_next, loaded_step, with_run, came_to}
 use Rattle.dyl_frames.specs.declared.frames.Pending.{Pending}
 use Rattle.dyl_frames.specs.declared.frames.Core.{Core}
-use Rattle.dyl_frames.specs.Cores.{frame_of, frame_in, frame_at, stack_of, LiesUnder, IsHandle, IsPending, IsLive, IsLoaded, IsSound, loader_of, IsState, Steps, StepsFrom, is_made, is_begun, is_below, is_behind, raised_stages, top_frame, first_of, first_task, TakesTask, Finishes}
+use Rattle.dyl_frames.specs.Cores.{frame_of, frame_in, frame_at, stack_of, LiesUnder, IsHandle, IsPending, IsLive, IsLoaded, IsSound, loader_of, IsState, Steps, StepsFrom, is_made, is_deep_event, is_below, is_behind, raised_stages, top_frame, first_of, first_task, TakesTask, Finishes}
 use Rattle.dyl_frames.proofs.CodeSteps.{changes, with_machine, state_moving, core_live, told_core, deep_same, same_state, by_view}
-use Rattle.dyl_frames.proofs.Telling.{stays_at, steps_told, deep_told, stuck_told}
+use Rattle.dyl_frames.proofs.Telling.{stays_at, steps_told, deep_told}
 use Rattle.dyl_frames.proofs.Tops.{OnMark, on_mark, rest_of, finished_stack, finished_live, marks_alike, changed_or_kept, length_set, taken_frame, finished_loader}
 use Rattle.dyl_frames.proofs.Loads.{IsPlain, plain_load, nullary_plain}
 
@@ -51,7 +50,7 @@ taken_pending members p q t h =
       handle = subst (λ (f : LoaderFrame). IsHandle members f.after) (sym same) h.handle;
     }
 
-module _ {Units : Type 0} (V : View Units) (us : Units) (stages : List ℕ) (k : ℕ) (c new : Core) (f : Finishes stages c new) (count : length c.frames.items ≡ suc k) (h : IsSound V us c) (members : length stages ≡ length c.stages) where
+module _ {Units : Type 0} (V : View Units) (us : Units) (memory : MemoryInstance) (stages : List ℕ) (k : ℕ) (c new : Core) (f : Finishes stages c new) (count : length c.frames.items ≡ suc k) (h : IsSound V us memory c) (members : length stages ≡ length c.stages) where
   same_members : length new.stages ≡ length c.stages
   same_members = ap length f.stages_are ∙ members
 
@@ -64,9 +63,9 @@ module _ {Units : Type 0} (V : View Units) (us : Units) (stages : List ℕ) (k :
           (taken_pending (length c.stages) f.frames.0 f.frames.1 f.frames.4 (h.pending i f.frames.0 (ap (λ (n : ℕ). slice_get c.frames.items n) k.0 ∙ f.frames.2)))
       go (inr k) = h.pending i p k
 
-  pub finished_core : IsSound V us new
+  pub finished_core : IsSound V us memory new
   finished_core = record {
-    over = subst (λ (m : MachineState). IsOver V us m) (sym f.machine) h.over;
+    over = subst (λ (m : MachineState). IsOver V us memory m) (sym f.machine) h.over;
     live = finished_live stages c new f k count new.machine.standing new.machine.stack.frames (subst (λ (m : MachineState). IsLive m.standing c.frames.items m.stack.frames) (sym f.machine) h.live);
     pending = λ i p e. subst (λ (n : ℕ). IsPending n p) (sym same_members) (finished_pending i p e);
   }
@@ -256,7 +255,7 @@ module _ {Units : Type 0} (D : Loading Units) (s : LoadedState Units) (c : Core)
       ∙ ap (λ (fs : List (Frame LoaderFrame)). comes_to (raised_by s t) (call D.view s.run.units s.run.memory (λ _. fs) [] r)) (sym stack)
       ∙ ap (comes_to (raised_by s t)) (marked_call D.view s.run.units s.run.memory h (λ _. Marked m.number ∷ m.rest) [] r)
 
-  pub call_steps : (hosts : (entry : ℕ) → D.view.host entry ≡ host_type (D.names entry)) (over : IsOver D.view us n) (new : Core) (f : Finishes (raised_stages c t) (with_machine c n) new) → is_made e ≡ true → Steps D e s new us memory
+  pub call_steps : (hosts : (entry : ℕ) → D.view.host entry ≡ host_type (D.names entry)) (over : IsOver D.view us memory n) (new : Core) (f : Finishes (raised_stages c t) (with_machine c n) new) → is_made e ≡ true → Steps D e s new us memory
   call_steps hosts over new f is =
       steps_told D s (raised_by s t) new us memory (raised_loader s c t k.loader ∙ sym (finished_loader (raised_stages c t) (with_machine c n) new f)) hosts e next_here c.machine is
       (comes_here (frame_at new.frames.items) (finished_stack (raised_stages c t) (with_machine c n) new f m.number m.count (LiesUnder c.frames.items) m.rest m.marks))
@@ -272,31 +271,29 @@ module _ {Units : Type 0} (D : Loading Units) (s : LoadedState Units) (c : Core)
       let below = marks_alike frames_over (frame_at c.frames.items) (LiesUnder c.frames.items) m.number m.rest m.marks (λ i lt. rw (nat_eq-below i m.number lt) refl) in
       rw (here, below) refl
 
-  pub unmade_steps : is_begun e ≡ false → Steps D e s (with_machine c n) us memory
+  pub unmade_steps : is_deep_event e ≡ true → Steps D e s (with_machine c n) us memory
   unmade_steps is = go e is told_here told
     where
-      go : (x : Event) → is_begun x ≡ false → Told D.view x next_here c.machine n (changes s.run.units us s.run.memory memory) → Told D.view x (call D.view us memory (λ _. c.machine.stack.frames) [] r) c.machine n (changes us us memory memory)
+      go : (x : Event) → is_deep_event x ≡ true → Told D.view x next_here c.machine n (changes s.run.units us s.run.memory memory) → Told D.view x (call D.view us memory (λ _. c.machine.stack.frames) [] r) c.machine n (changes us us memory memory)
           → Steps D x s (with_machine c n) us memory
       go event.Deep is t here =
           let same = deep_same D.view us us memory memory (call D.view us memory (λ _. c.machine.stack.frames) [] r) c.machine n here in
           deep_told D s (raised_by s _) (with_machine c n) us memory next_here c.machine frames_over (comes_here frames_over stack_over) t (ap (λ (x : MachineState). x.standing) same.0 ∙ moving)
           (same_state D c n us us memory memory same.0 same.1 s k)
-      go event.Stuck is t here =
-          stuck_told D s (raised_by s _) (with_machine c n) us memory next_here c.machine frames_over (comes_here frames_over stack_over) t k.loader (state_moving D c us memory s k moving).0 k.units k.space
       go x is t here = absurd cc
 
 -- a mark on top of the core
-pub live_mark : {Units : Type 0} (V : View Units) (us : Units) (c : Core) → IsSound V us c → IsMarked c.machine → OnMark c
-live_mark V us c h marked = on_mark c marked (core_live V us c h marked.0)
+pub live_mark : {Units : Type 0} (V : View Units) (us : Units) (memory : MemoryInstance) (c : Core) → IsSound V us memory c → IsMarked c.machine → OnMark c
+live_mark V us memory c h marked = on_mark c marked (core_live V us memory c h marked.0)
 
 -- the members of its tasks are there
 first_holds : (P : Task → Type 0) (ts : List Task) (t : Task) → All P ts → first_of ts ≡ Some t → P t
 first_holds P [] t h e = absurd cc
 first_holds P (x ∷ xs) t h e = let same : x ≡ t = cc in subst P same (All-head P x xs h)
 
-module _ {Units : Type 0} (V : View Units) (us : Units) (c : Core) (h : IsSound V us c) (marked : IsMarked c.machine) where
+module _ {Units : Type 0} (V : View Units) (us : Units) (memory : MemoryInstance) (c : Core) (h : IsSound V us memory c) (marked : IsMarked c.machine) where
   pub frames_there : c.frames.items ≢ []
-  frames_there none = let count = (live_mark V us c h marked).count in let clash = sym (ap length none) ∙ count in cc
+  frames_there none = let count = (live_mark V us memory c h marked).count in let clash = sym (ap length none) ∙ count in cc
 
   pub task_inside : (t : Task) → first_task (top_frame c) ≡ Some t → t.member < length c.stages
   task_inside t first = go (slice_get c.frames.items (length c.frames.items - 1)) refl first
@@ -314,40 +311,39 @@ module _ {Units : Type 0} (V : View Units) (us : Units) (c : Core) (h : IsSound 
 abbrev pub CallTold : {Units : Type 0} → View Units → Units → MemoryInstance → Core → MachineState → Ref → Event → Type 0
 CallTold V us memory c n r e = Told V e (call V us memory (λ _. c.machine.stack.frames) [] r) c.machine n (changes us us memory memory)
 
-pub called_core : {Units : Type 0} (w : Seen Units) (c : Core) (n : MachineState) (h : IsSound w.fixed w.units c) (moving : c.machine.standing ≡ standing.Moving) (r : Ref) (e : Event) → type_of w.fixed r ≡ Some nullary
-    → Begins w e r c.machine n → IsOver w.fixed w.units n → IsSound w.fixed w.units (with_machine c n)
+pub called_core : {Units : Type 0} (w : Seen Units) (c : Core) (n : MachineState) (h : IsSound w.fixed w.units w.memory c) (moving : c.machine.standing ≡ standing.Moving) (r : Ref) (e : Event) → type_of w.fixed r ≡ Some nullary
+    → Begins w e r c.machine n → IsOver w.fixed w.units w.memory n → IsSound w.fixed w.units w.memory (with_machine c n)
 called_core w c n h moving r e plain told over =
     told_core w.fixed c n w.units w.units w.memory w.memory h moving e (call w.fixed w.units w.memory (λ _. c.machine.stack.frames) [] r) told.1
-    (call_over (LiesUnder c.frames.items) w.fixed w.units w.memory (length c.frames.items) (λ _. c.machine.stack.frames) [] (λ vs. core_live w.fixed w.units c h moving) r)
+    (call_over (LiesUnder c.frames.items) w.fixed w.units w.memory (length c.frames.items) (λ _. c.machine.stack.frames) [] (λ vs. core_live w.fixed w.units w.memory c h moving) r)
     (plain_load (call w.fixed w.units w.memory (λ _. c.machine.stack.frames) [] r) (nullary_plain w.fixed w.units w.memory (λ _. c.machine.stack.frames) r plain)) over
 
 -- a call that calls no function of the loader tells none
-plain_made : {Units : Type 0} (V : View Units) (next : Option (Next Units ℕ)) (old n : MachineState) (c : Changes Units) (e : Event) → IfSome next IsPlain → Told V e next old n c → is_begun e ≡ true → is_made e ≡ true
+plain_made : {Units : Type 0} (V : View Units) (next : Option (Next Units ℕ)) (old n : MachineState) (c : Changes Units) (e : Event) → IfSome next IsPlain → Told V e next old n c → is_deep_event e ≡ false → is_made e ≡ true
 plain_made V next old n c event.Moved plain t b = refl
 plain_made V next old n c (event.Waits a) plain t b = refl
 plain_made V (Some (Loads called args frames)) old n c (event.Loader which first second) plain t b = absurd plain
 plain_made V next old n c event.Returned plain t b = refl
 plain_made V next old n c (event.Trapped why) plain t b = refl
 plain_made V next old n c event.Deep plain t b = absurd cc
-plain_made V next old n c event.Stuck plain t b = absurd cc
 plain_made V next old n c e plain t b = absurd t
 
-module _ {Units : Type 0} (D : Loading Units) (w : Seen Units) (loaded : IsLoaded D w.fixed) (c : Core) (n : MachineState) (h : IsSound w.fixed w.units c) (marked : IsMarked c.machine) (t : Task) (first : first_task (top_frame c) ≡ Some t) (behind : is_behind c t ≡ true) (calls : t.phase ≢ Place) (r : Ref) (callee : D.callee t.phase t.member ≡ Some (Some r)) (e : Event) (told : Begins w e r c.machine n) where
+module _ {Units : Type 0} (D : Loading Units) (w : Seen Units) (loaded : IsLoaded D w.fixed) (c : Core) (n : MachineState) (h : IsSound w.fixed w.units w.memory c) (marked : IsMarked c.machine) (t : Task) (first : first_task (top_frame c) ≡ Some t) (behind : is_behind c t ≡ true) (calls : t.phase ≢ Place) (r : Ref) (callee : D.callee t.phase t.member ≡ Some (Some r)) (e : Event) (told : Begins w e r c.machine n) where
   told_by : CallTold D.view w.units w.memory c n r e
   told_by = by_view D w.fixed loaded (λ (W : View Units). CallTold W w.units w.memory c n r e) told.1
 
-  pub unmade_call : is_begun e ≡ false → StepsFrom D e c w (with_machine c n) w
-  unmade_call begun s k = unmade_steps D s c n w.units w.memory k marked.0 (live_mark w.fixed w.units c h marked) t first behind calls r callee e told_by begun
+  pub unmade_call : is_deep_event e ≡ true → StepsFrom D e c w (with_machine c n) w
+  unmade_call begun s k = unmade_steps D s c n w.units w.memory k marked.0 (live_mark w.fixed w.units w.memory c h marked) t first behind calls r callee e told_by begun
 
-  pub made_call : IsOver w.fixed w.units n → (new : Core) → Finishes (raised_stages c t) (with_machine c n) new → is_begun e ≡ true → type_of w.fixed r ≡ Some nullary → StepsFrom D e c w new w
+  pub made_call : IsOver w.fixed w.units w.memory n → (new : Core) → Finishes (raised_stages c t) (with_machine c n) new → is_deep_event e ≡ false → type_of w.fixed r ≡ Some nullary → StepsFrom D e c w new w
   made_call over new f begun plain s k =
-      call_steps D s c n w.units w.memory k marked.0 (live_mark w.fixed w.units c h marked) t first behind calls r callee e told_by loaded.hosts
-      (by_view D w.fixed loaded (λ (W : View Units). IsOver W w.units n) over) new f
+      call_steps D s c n w.units w.memory k marked.0 (live_mark w.fixed w.units w.memory c h marked) t first behind calls r callee e told_by loaded.hosts
+      (by_view D w.fixed loaded (λ (W : View Units). IsOver W w.units w.memory n) over) new f
       (plain_made w.fixed (call w.fixed w.units w.memory (λ _. c.machine.stack.frames) [] r) c.machine n (changes w.units w.units w.memory w.memory) e (nullary_plain w.fixed w.units w.memory (λ _. c.machine.stack.frames) r plain) told.1 begun)
 
-pub trapped_core : {Units : Type 0} (V : View Units) (us : Units) (c : Core) (why : Trap) (n : MachineState) → IsSound V us c → n ≡ ended (standing.Trapped why) → IsSound V us (with_machine c n)
-trapped_core V us c why n h is = subst (λ (x : MachineState). IsSound V us (with_machine c x)) (sym is) (record {
-  over = record { range = record { whole = h.over.range.whole; units = h.over.range.units; stack = All-nil (IsFrameInRange V) }; rooms = refl; asked = tt };
+pub trapped_core : {Units : Type 0} (V : View Units) (us : Units) (memory : MemoryInstance) (c : Core) (why : Trap) (n : MachineState) → IsSound V us memory c → n ≡ ended (standing.Trapped why) → IsSound V us memory (with_machine c n)
+trapped_core V us memory c why n h is = subst (λ (x : MachineState). IsSound V us memory (with_machine c x)) (sym is) (record {
+  over = record { view = h.over.view; units = h.over.units; memory = h.over.memory; stack = tt; locals = tt; rooms = refl; asked = tt };
   live = tt;
   pending = h.pending;
 })

@@ -108,20 +108,7 @@ module _ {Units : Type 0} (D : Loading Units) (s b : LoadedState Units) (new : C
       steps_told event.Returned (Some Ends) old is comes t host = returned comes t.0.standing_is (sym t.1.0) (sym t.1.1)
       steps_told (event.Trapped why) (Some (Traps cause)) old is comes t host = trapped why cause comes t.0.standing_is t.1 (sym t.2.0) (sym t.2.1)
       steps_told event.Deep (Some (Goes us' memory' frames)) old is comes t host = absurd cc
-      steps_told event.Stuck None old is comes t host = absurd cc
       steps_told e next old is comes t host = absurd t
-
-  -- code that is stuck
-  pub stuck_told : (next : Option (Next Units ℕ)) (old : MachineState) (h : ℕ → LoaderFrame) → ComesFrom h next → Told D.view event.Stuck next old new.machine since
-      → s.loader ≡ loader_of new → s.run.status ≡ Moving → s.run.units ≡ us → s.run.memory ≡ memory → Steps D event.Stuck s new us memory
-  stuck_told None old h comes t loader moving units space =
-      let none : loaded_step D s ≡ None = ap (λ (o : Option (Comes Units)). o >>= λ x. came_to D x.state x.next) comes in
-      (none, t.0.standing_is, stays_at s standing.Stuck loader units space t.0.standing_is (moving, none))
-  stuck_told (Some (Goes us' memory' frames)) old h comes t loader moving units space = absurd t
-  stuck_told (Some (Asks entry args frames)) old h comes t loader moving units space = absurd t
-  stuck_told (Some (Loads which args frames)) old h comes t loader moving units space = absurd t
-  stuck_told (Some Ends) old h comes t loader moving units space = absurd t
-  stuck_told (Some (Traps why)) old h comes t loader moving units space = absurd t
 
   -- a function of the loader is called
   pub loader_told : (which called : LoaderCall) (first second : ℕ) (args : List ℕ) (frames : List (Frame ℕ)) → D.view.has_loader ≡ true → ComesFrom (frame_at new.frames.items) (Some (Loads called args frames)) → b ≡ s
@@ -199,6 +186,5 @@ live_told V ps old n c (event.Waits a) (Some (Asks entry args frames)) t under l
 live_told V ps old n c (event.Loader which first second) (Some (Loads called args frames)) t under load h = live_at ps n frames standing.Loading t.0 (under.1, load.0)
 live_told V ps old n c event.Returned (Some Ends) t under load h = live_at ps n [] standing.Returned t.0 tt
 live_told V ps old n c (event.Trapped why) (Some (Traps cause)) t under load h = live_at ps n [] (standing.Trapped why) t.0 tt
-live_told V ps old n c event.Stuck None t under load h = live_at ps n [] standing.Stuck t.0 tt
 live_told V ps old n c event.Deep (Some (Goes us memory frames)) t under load h = subst (λ (x : MachineState). IsLive x.standing ps x.stack.frames) (sym t.1) h
 live_told V ps old n c e next t under load h = absurd t

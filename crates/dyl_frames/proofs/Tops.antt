@@ -136,7 +136,6 @@ module _ (xs ys : List Pending) (same : (i : ℕ) → (frame_at xs i).after ≡ 
   live_kept standing.Returned frames h = tt
   live_kept (standing.Trapped why) frames h = tt
   live_kept (standing.Exited code) frames h = tt
-  live_kept standing.Stuck frames h = tt
 
 set_after : (xs : List Pending) (j : ℕ) (p q : Pending) → slice_get xs j ≡ Some p → (frame_of p).after ≡ (frame_of q).after → (i : ℕ) → (frame_at xs i).after ≡ (frame_at (slice_set xs j q) i).after
 set_after [] j p q e same i = refl

@@ -31,7 +31,7 @@ use Rattle.spec_loading.specs.Loading.{Loading, LoaderState, LoadedState, Loader
 use Rattle.dyl_frames.specs.declared.frames.Pending.{Pending}
 use Rattle.dyl_frames.specs.declared.frames.Core.{Core}
 use Rattle.wasm_machine.specs.Steps.{TellsStatus}
-use Rattle.dyl_frames.specs.Next.{next_answer, IsCodeNext}
+use Rattle.dyl_frames.specs.Next.{next_answer, IsCodeNext, MayWant}
 
 -- ---- the frames
 
@@ -92,9 +92,9 @@ pub record IsLoaded {Units : Type 0} (D : Loading Units) (V : View Units) : Type
   pub view : D.view ≡ V
   pub hosts : (entry : ℕ) → D.view.host entry ≡ host_type (D.names entry)
 
--- The machine names only what there is, and so do the tasks. The mark of a number stands for the frame of that number.
-pub record IsSound {Units : Type 0} (V : View Units) (us : Units) (c : Core) : Type 0 where
-  pub over : IsOver V us c.machine
+-- The machine is sound over what there is, and the tasks name only what there is. The mark of a number stands for the frame of that number.
+pub record IsSound {Units : Type 0} (V : View Units) (us : Units) (memory : MemoryInstance) (c : Core) : Type 0 where
+  pub over : IsOver V us memory c.machine
   pub live : IsLive c.machine.standing c.frames.items c.machine.stack.frames
   pub pending : (i : ℕ) (p : Pending) → slice_get c.frames.items i ≡ Some p → IsPending (length c.stages) p
 
@@ -109,8 +109,8 @@ pub record HasFewFrames (c : Core) : Type 0 where
   pub running : is_running c.machine.stack.frames ≡ true → length c.frames.items ≤ sum c.stages
 
 -- what is so of a core, until memory is wanting
-pub record IsCore {Units : Type 0} (V : View Units) (us : Units) (c : Core) : Type 0 where
-  pub sound : IsSound V us c
+pub record IsCore {Units : Type 0} (V : View Units) (us : Units) (memory : MemoryInstance) (c : Core) : Type 0 where
+  pub sound : IsSound V us memory c
   pub few : HasFewFrames c
 
 -- ---- where the run stands
@@ -122,7 +122,7 @@ loader_of c = record { stages = c.stages; error = c.error; promoted = c.promoted
 abbrev pub stack_of : Core → List (Frame LoaderFrame)
 stack_of c = marked_stack (frame_at c.frames.items) c.machine.stack.frames
 
--- what a machine is at says how the run stands; code that is stuck has no step
+-- what a machine is at says how the run stands
 abbrev pub StandsAs : {Units : Type 0} → Loading Units → Core → LoadedState Units → Standing → Type 0
 StandsAs D c s standing.Moving = (s.run.status ≡ Moving) × (s.run.stack ≡ stack_of c)
 StandsAs D c s (standing.Asking entry count) = (call : HostCall) × (s.run.status ≡ Waits call) × (D.names entry ≡ Some call.host) × (s.run.stack ≡ stack_of c)
@@ -130,7 +130,6 @@ StandsAs D c s standing.Loading = ⊥
 StandsAs D c s standing.Returned = s.run.status ≡ Returned
 StandsAs D c s (standing.Trapped why) = s.run.status ≡ Trapped why
 StandsAs D c s (standing.Exited code) = s.run.status ≡ Exited code
-StandsAs D c s standing.Stuck = (s.run.status ≡ Moving) × (loaded_step D s ≡ None)
 StandsAs D c s standing.Lost = ⊥
 
 -- the run stands at this state
@@ -170,25 +169,25 @@ pub record AsksLoader {Units : Type 0} (D : Loading Units) (which : LoaderCall) 
   pub has_loader : D.view.has_loader ≡ true
   pub answer : next_answer D s ≡ D.answer which (loader_arguments which first second) memory s.loader
 
--- A step was made from a state and is told, or there is none. Where it would be too deep, or a function of the loader is called, the run
+-- A step was made from a state and is told. Where it would be too deep, or a function of the loader is called, the run
 -- stays.
 abbrev pub Steps : {Units : Type 0} → Loading Units → Event → LoadedState Units → Core → Units → MemoryInstance → Type 0
 Steps D event.Deep s new us memory = (loaded_too_deep D s ≡ true) × (new.machine.standing ≡ standing.Moving) × IsState D new us memory s
-Steps D event.Stuck s new us memory = (loaded_step D s ≡ None) × (new.machine.standing ≡ standing.Stuck) × IsState D new us memory s
 Steps D (event.Loader which first second) s new us memory =
     (new.machine.standing ≡ standing.Loading) × IsAtCall D new us memory s × AsksLoader D which first second memory s
 Steps {Units} D e s new us memory =
     (loaded_too_deep D s ≡ false)
     × ((t : LoadedState Units) × (loaded_step D s ≡ Some t) × TellsStatus D.names e t.run.status × IsState D new us memory t)
 
--- the same of a step that the machine tells in few bytes; or it is left to be made with more care, and isn't one of code
+-- the same of a step that the machine tells in few bytes; or memory was wanting; or it is left to be made with more care, and isn't one of
+-- code
 abbrev pub QuickSteps : {Units : Type 0} → Loading Units → Done → LoadedState Units → Core → Units → MemoryInstance → Type 0
 QuickSteps D done.Goes s new us memory = (new.machine.standing ≡ standing.Moving) × Steps D event.Moved s new us memory
 QuickSteps D done.Returned s new us memory = Steps D event.Returned s new us memory
 QuickSteps D (done.Trapped why) s new us memory = Steps D (event.Trapped why) s new us memory
-QuickSteps D done.Stuck s new us memory = Steps D event.Stuck s new us memory
+QuickSteps D done.Stuck s new us memory = ⊥
 QuickSteps D done.Exited s new us memory = ⊥
-QuickSteps D done.NoMemory s new us memory = Unit {0}
+QuickSteps D done.NoMemory s new us memory = MayWant s
 QuickSteps D _ s new us memory = (new.machine.standing ≡ standing.Moving) × IsState D new us memory s × (IsCodeNext D s → ⊥)
 
 -- the same from wherever the run stands, over what is seen before and after
@@ -199,6 +198,10 @@ StepsFrom {Units} D e old before new after =
 abbrev pub QuickStepsFrom : {Units : Type 0} → Loading Units → Done → Core → Seen Units → Core → Seen Units → Type 0
 QuickStepsFrom {Units} D d old before new after =
     (s : LoadedState Units) → IsState D old before.units before.memory s → QuickSteps D d s new after.units after.memory
+
+-- from wherever the run stands the next step may want memory
+abbrev pub WantsFrom : {Units : Type 0} → Loading Units → Core → Seen Units → Type 0
+WantsFrom {Units} D c w = (s : LoadedState Units) → IsState D c w.units w.memory s → MayWant s
 
 -- the step that calls a function of the loader was made, which came to this answer
 abbrev pub AnsweredFrom : {Units : Type 0} → Loading Units → Event → LoaderAnswer → Core → Seen Units → Core → Type 0
@@ -222,12 +225,7 @@ TakenFrom {Units} D a old before new after =
 abbrev pub IsMarkTold : {Units : Type 0} → Core → Seen Units → Core → Seen Units → Type 0
 IsMarkTold old before new after = (new ≡ old) × (after ≡ before) × IsMarked old.machine
 
--- whether a call was begun: it isn't too deep
-abbrev pub is_begun : Event → Bool
-is_begun event.Deep = false
-is_begun event.Stuck = false
-is_begun _ = true
-
+-- whether a call would be too deep
 abbrev pub is_deep_event : Event → Bool
 is_deep_event event.Deep = true
 is_deep_event _ = false
@@ -235,7 +233,6 @@ is_deep_event _ = false
 -- whether a step was made
 abbrev pub is_made : Event → Bool
 is_made event.Deep = false
-is_made event.Stuck = false
 is_made (event.Loader which first second) = false
 is_made (event.Marked tag) = false
 is_made _ = true

@@ -1,8 +1,9 @@
 -- The next step of a run that a loader opens.
-use Rattle.std.specs.Prelude.{◌≡◌, Option, Some, None, true, false}
+use Rattle.std.specs.Prelude.{◌≡◌, List, [], ◌∷◌, Option, Some, None, true, false, IsTrue}
 use Rattle.spec_loading.specs.spec_runs.Systems.{Moving}
 use Rattle.spec_loading.specs.spec_binary.Options.{◌>>=◌}
-use Rattle.spec_loading.specs.spec_execution.Runs.{is_running, Next, Loads}
+use Rattle.spec_loading.specs.spec_execution.Runs.{is_running, Frame, Active, Marked, Next, Loads}
+use Rattle.wasm_machine.specs.Machines.{may_grow_at}
 use Rattle.spec_loading.specs.Phases.{LoaderFrame}
 use Rattle.spec_loading.specs.Loading.{Loading, LoadedState, LoaderAnswer, loaded_next, loaded_step, loaded_too_deep}
 
@@ -21,3 +22,13 @@ abbrev pub IsCodeNext : {Units : Type 0} → Loading Units → LoadedState Units
 IsCodeNext {Units} D s =
     (s.run.status ≡ Moving) × (is_running s.run.stack ≡ true) × (loaded_too_deep D s ≡ false)
     × ((t : LoadedState Units) × (loaded_step D s ≡ Some t) × (t.run.status ≡ Moving)) × (next_answer D s ≡ None)
+
+-- a frame of the loader is on top, or code that begins with a call or a growth
+abbrev pub CallsOrGrows : List (Frame LoaderFrame) → Type 0
+CallsOrGrows [] = ⊥
+CallsOrGrows (Active a ∷ frames) = IsTrue (may_grow_at a.rest)
+CallsOrGrows (Marked frame ∷ frames) = Unit {0}
+
+-- the next step may want memory
+abbrev pub MayWant : {Units : Type 0} → LoadedState Units → Type 0
+MayWant s = (s.run.status ≡ Moving) × CallsOrGrows s.run.stack

@@ -1,9 +1,10 @@
 // The run without what is counted and recorded of it.
-ghost use Rattle.std.specs.Prelude.{◌≡◌, ◌≢◌, ◌<◌, ◌≤◌, ◌+◌, [], length, reverse, true, false, Some, None, IfOk, OnOk, IfSome, slice_get};
+ghost use Rattle.std.specs.Prelude.{◌≡◌, ◌≢◌, ◌<◌, ◌≤◌, ◌+◌, [], length, reverse, true, false, Some, None, IfOk, OnOk, IfSome, slice_get, OnErr};
 ghost use Rattle.std.specs.List.{All};
 ghost use Rattle.spec_loading.specs.spec_binary.Indices.{nullary};
 ghost use Rattle.spec_loading.specs.spec_execution.Views.{type_of as type_seen};
-ghost use Rattle.spec_loading.specs.spec_execution.Ranges.{IsWhole, HoldsAll};
+ghost use Rattle.spec_loading.specs.spec_safety.TypedViews.{HoldTypes, IsSoundView};
+ghost use Rattle.spec_loading.specs.spec_safety.ValueTypes.{IsMemory, IsOfBytes};
 ghost use Rattle.wasm_view.specs.Seen.{Seen};
 ghost use Rattle.wasm_machine.specs.Machines.{IsMarked};
 ghost use Rattle.spec_loading.specs.Phases.{stage_of};
@@ -11,12 +12,12 @@ ghost use Rattle.spec_loading.specs.declared.task.Phase.TheVariants as phases;
 ghost use Rattle.spec_loading.specs.declared.task.After.TheVariants as follows;
 ghost use Rattle.spec_loading.specs.Loading.{Loading};
 ghost use Rattle.spec_loading.specs.Loading as loading;
-ghost use Rattle.dyl_frames.specs.Cores.{IsCore, StepsFrom, QuickStepsFrom, TakenFrom, PlacesFrom, OpensAt, IsMarkTold, IsLoaded, is_begun, is_deep_event};
+ghost use Rattle.dyl_frames.specs.Cores.{IsCore, StepsFrom, QuickStepsFrom, TakenFrom, PlacesFrom, OpensAt, IsMarkTold, IsLoaded, is_deep_event};
 ghost use Rattle.spec_loading.specs.spec_linking.LinkedSets.{LinkedSet};
 ghost use Rattle.spec_loading.specs.LoaderAnswers.{promoted_with};
 ghost use Rattle.dyl_link.specs.Kept.{IsLinked};
 ghost use Rattle.dyl_frames.specs.Cores.{IsHandle, GivesHandle, AreFrames, first_task, top_frame, TakesTask, Finishes, is_behind, raised_stages, is_mark, IsOwn, FitsHost};
-ghost use Rattle.dyl_frames.specs.Cores.{AnsweredFrom, gives_number, opens_member, Drops};
+ghost use Rattle.dyl_frames.specs.Cores.{AnsweredFrom, WantsFrom, gives_number, opens_member, Drops};
 
 use dyl_link::Linked;
 use dyl_world::{Errors, Promoted, Stages};
@@ -57,13 +58,6 @@ fn stage_of(phase: Phase) -> u8
     }
 }
 
-// Whether a call was begun: it isn't too deep.
-fn is_begun(event: &Event) -> bool
-    ensures { result ≡ is_begun event.now }
-{
-    !matches!(event, Event::Deep | Event::Stuck)
-}
-
 // Whether a call would be too deep.
 fn is_deep(event: &Event) -> bool
     ensures { result ≡ is_deep_event event.now }
@@ -94,11 +88,12 @@ impl<'m> Core<'m> {
         members: u32,
         tasks: Vec<Task>,
     ) -> Result<Core<'m>, Memory>
-        requires whole { IsWhole (V.seen view.now).fixed }
-        requires holds { HoldsAll (V.seen view.now).fixed (V.seen view.now).units }
+        requires sound { IsSoundView (V.seen view.now).fixed }
+        requires holds { HoldTypes (V.seen view.now).fixed (V.seen view.now).fixed.names (V.seen view.now).units }
+        requires memory { IsMemory (V.seen view.now).memory }
         requires few { members ≤ 256 }
         requires tasks { All (λ t. t.member < members) tasks.items }
-        ensures core { IfOk result (λ c. IsCore (V.seen view.now).fixed (V.seen view.now).units c) }
+        ensures core { IfOk result (λ c. IsCore (V.seen view.now).fixed (V.seen view.now).units (V.seen view.now).memory c) }
         ensures opened { IfOk result (λ c. (D : Loading V.Units) → OpensAt D members (reverse tasks.items) (V.seen view.now) c) }
         ensures moving { IfOk result (λ c. c.machine.standing ≡ Standing.Moving) }
     {
@@ -152,10 +147,11 @@ impl<'m> Core<'m> {
     /// One step of the code on top, or the mark on top, with nothing changed. Where code calls a function of the loader `Loader`, and the
     /// step is made by the answer.
     pub fn step<V: View<'m>>(&mut self, alloc: Global, view: &mut V) -> Result<Event, Memory>
-        requires core { IsCore (V.seen view.old).fixed (V.seen view.old).units self.old }
+        requires core { IsCore (V.seen view.old).fixed (V.seen view.old).units (V.seen view.old).memory self.old }
         requires moving { self.old.machine.standing ≡ Standing.Moving }
         ensures stepped { IfOk result (λ e. is_mark e ≡ false → (D : Loading V.Units) → IsLoaded D (V.seen view.old).fixed → StepsFrom D e self.old (V.seen view.old) self.new (V.seen view.new)) }
-        ensures core { OnOk result (IsCore (V.seen view.old).fixed (V.seen view.new).units self.new) }
+        ensures core { OnOk result (IsCore (V.seen view.old).fixed (V.seen view.new).units (V.seen view.new).memory self.new) }
+        ensures wanting { OnErr result ((D : Loading V.Units) → WantsFrom D self.old (V.seen view.old)) }
         ensures marked { IfOk result (λ e. is_mark e ≡ true → IsMarkTold self.old (V.seen view.old) self.new (V.seen view.new)) }
         ensures fixed { (V.seen view.new).fixed ≡ (V.seen view.old).fixed }
         ensures members { length self.new.stages ≡ length self.old.stages }
@@ -166,10 +162,10 @@ impl<'m> Core<'m> {
     /// One step of code, where the machine can tell it in few bytes.
     #[inline(always)]
     pub fn quick<V: View<'m>>(&mut self, alloc: Global, view: &mut V) -> Done
-        requires core { IsCore (V.seen view.old).fixed (V.seen view.old).units self.old }
+        requires core { IsCore (V.seen view.old).fixed (V.seen view.old).units (V.seen view.old).memory self.old }
         requires moving { self.old.machine.standing ≡ Standing.Moving }
         ensures stepped { (D : Loading V.Units) → IsLoaded D (V.seen view.old).fixed → QuickStepsFrom D result self.old (V.seen view.old) self.new (V.seen view.new) }
-        ensures core { result ≢ Done.NoMemory → IsCore (V.seen view.old).fixed (V.seen view.new).units self.new }
+        ensures core { result ≢ Done.NoMemory → IsCore (V.seen view.old).fixed (V.seen view.new).units (V.seen view.new).memory self.new }
         ensures fixed { (V.seen view.new).fixed ≡ (V.seen view.old).fixed }
         ensures members { length self.new.stages ≡ length self.old.stages }
     {
@@ -178,10 +174,11 @@ impl<'m> Core<'m> {
 
     /// Takes the answer of the host function that is waited for.
     pub fn take<V: View<'m>>(&mut self, view: &mut V, a: &Answer)
-        requires core { IsCore (V.seen view.old).fixed (V.seen view.old).units self.old }
+        requires core { IsCore (V.seen view.old).fixed (V.seen view.old).units (V.seen view.old).memory self.old }
         requires fits { FitsHost (V.seen view.old).fixed (V.seen view.old).memory a.now self.old.machine.standing }
+        requires bytes { IsOfBytes a.now }
         ensures taken { (D : Loading V.Units) → IsLoaded D (V.seen view.old).fixed → TakenFrom D a.now self.old (V.seen view.old) self.new (V.seen view.new) }
-        ensures core { IsCore (V.seen view.old).fixed (V.seen view.new).units self.new }
+        ensures core { IsCore (V.seen view.old).fixed (V.seen view.new).units (V.seen view.new).memory self.new }
         ensures fixed { (V.seen view.new).fixed ≡ (V.seen view.old).fixed }
         ensures members { length self.new.stages ≡ length self.old.stages }
     {
@@ -190,7 +187,7 @@ impl<'m> Core<'m> {
 
     /// The next task of the frame on top, if one is left.
     pub fn next_task<V: View<'m>>(&self, view: &V) -> Option<Task>
-        requires core { IsCore (V.seen view.now).fixed (V.seen view.now).units self.now }
+        requires core { IsCore (V.seen view.now).fixed (V.seen view.now).units (V.seen view.now).memory self.now }
         requires marked { IsMarked self.now.machine }
         ensures task { result ≡ first_task (top_frame self.now) }
         ensures member { IfSome result (λ t. t.member < length self.now.stages) }
@@ -201,7 +198,7 @@ impl<'m> Core<'m> {
 
     /// What follows the last task of the frame on top.
     pub fn follows<V: View<'m>>(&self, view: &V) -> After
-        requires core { IsCore (V.seen view.now).fixed (V.seen view.now).units self.now }
+        requires core { IsCore (V.seen view.now).fixed (V.seen view.now).units (V.seen view.now).memory self.now }
         requires marked { IsMarked self.now.machine }
         ensures { result ≡ (top_frame self.now).after }
     {
@@ -273,13 +270,13 @@ impl<'m> Core<'m> {
 
     /// The next task, of a member that has come further, is passed over.
     pub fn pass<V: View<'m>>(&mut self, view: &V, task: Task)
-        requires core { IsCore (V.seen view.now).fixed (V.seen view.now).units self.old }
+        requires core { IsCore (V.seen view.now).fixed (V.seen view.now).units (V.seen view.now).memory self.old }
         requires marked { IsMarked self.old.machine }
         requires task { first_task (top_frame self.old) ≡ Some task }
         requires member { task.member < length self.old.stages }
         requires behind { is_behind self.old task ≡ false }
         ensures stepped { (D : Loading V.Units) → StepsFrom D Event.Moved self.old (V.seen view.now) self.new (V.seen view.now) }
-        ensures core { IsCore (V.seen view.now).fixed (V.seen view.now).units self.new }
+        ensures core { IsCore (V.seen view.now).fixed (V.seen view.now).units (V.seen view.now).memory self.new }
         ensures members { length self.new.stages ≡ length self.old.stages }
     {
         let _view = view;
@@ -288,14 +285,14 @@ impl<'m> Core<'m> {
 
     // The next task calls nothing.
     fn call_nothing<V: View<'m>>(&mut self, view: &V, task: Task)
-        requires core { IsCore (V.seen view.now).fixed (V.seen view.now).units self.old }
+        requires core { IsCore (V.seen view.now).fixed (V.seen view.now).units (V.seen view.now).memory self.old }
         requires marked { IsMarked self.old.machine }
         requires task { first_task (top_frame self.old) ≡ Some task }
         requires member { task.member < length self.old.stages }
         requires behind { is_behind self.old task ≡ true }
         requires calls { task.phase ≢ phases.Place }
         ensures stepped { (D : Loading V.Units) → D.callee task.phase task.member ≡ Some None → StepsFrom D Event.Moved self.old (V.seen view.now) self.new (V.seen view.now) }
-        ensures core { IsCore (V.seen view.now).fixed (V.seen view.now).units self.new }
+        ensures core { IsCore (V.seen view.now).fixed (V.seen view.now).units (V.seen view.now).memory self.new }
         ensures members { length self.new.stages ≡ length self.old.stages }
     {
         let _view = view;
@@ -310,7 +307,7 @@ impl<'m> Core<'m> {
         task: Task,
         r: Ref,
     ) -> Result<Event, Memory>
-        requires core { IsCore (V.seen view.now).fixed (V.seen view.now).units self.old }
+        requires core { IsCore (V.seen view.now).fixed (V.seen view.now).units (V.seen view.now).memory self.old }
         requires marked { IsMarked self.old.machine }
         requires task { first_task (top_frame self.old) ≡ Some task }
         requires member { task.member < length self.old.stages }
@@ -318,11 +315,12 @@ impl<'m> Core<'m> {
         requires calls { task.phase ≢ phases.Place }
         requires nullary { type_seen (V.seen view.now).fixed r ≡ Some nullary }
         ensures stepped { IfOk result (λ e. (D : Loading V.Units) → IsLoaded D (V.seen view.now).fixed → D.callee task.phase task.member ≡ Some (Some r) → StepsFrom D e self.old (V.seen view.now) self.new (V.seen view.now)) }
-        ensures core { OnOk result (IsCore (V.seen view.now).fixed (V.seen view.now).units self.new) }
+        ensures core { OnOk result (IsCore (V.seen view.now).fixed (V.seen view.now).units (V.seen view.now).memory self.new) }
         ensures members { OnOk result (length self.new.stages ≡ length self.old.stages) }
+        ensures wanting { OnErr result ((D : Loading V.Units) → WantsFrom D self.old (V.seen view.now)) }
     {
         let event = self.machine.begin(alloc, view, r)?;
-        if !is_begun(&event) {
+        if is_deep(&event) {
             return Ok(event);
         }
         self.finish(task);
@@ -331,14 +329,14 @@ impl<'m> Core<'m> {
 
     /// The next task placed its member, or ended by a trap, which keeps what was written.
     pub fn placed<V: View<'m>>(&mut self, view: &V, task: Task, outcome: Result<(), Trap>) -> Event
-        requires core { IsCore (V.seen view.now).fixed (V.seen view.now).units self.old }
+        requires core { IsCore (V.seen view.now).fixed (V.seen view.now).units (V.seen view.now).memory self.old }
         requires marked { IsMarked self.old.machine }
         requires task { first_task (top_frame self.old) ≡ Some task }
         requires member { task.member < length self.old.stages }
         requires behind { is_behind self.old task ≡ true }
         requires places { task.phase ≡ phases.Place }
         ensures stepped { (D : Loading V.Units) (before : Seen V.Units) → PlacesFrom D task.member before outcome (V.seen view.now) → StepsFrom D result self.old before self.new (V.seen view.now) }
-        ensures core { IsCore (V.seen view.now).fixed (V.seen view.now).units self.new }
+        ensures core { IsCore (V.seen view.now).fixed (V.seen view.now).units (V.seen view.now).memory self.new }
         ensures members { length self.new.stages ≡ length self.old.stages }
     {
         let _view = view;
@@ -354,15 +352,16 @@ impl<'m> Core<'m> {
 
     /// What follows the last task of the first frame: the entry is called, over nothing. `Deep` changes nothing.
     pub fn enter<V: View<'m>>(&mut self, alloc: Global, view: &V, r: Ref) -> Result<Event, Memory>
-        requires core { IsCore (V.seen view.now).fixed (V.seen view.now).units self.old }
+        requires core { IsCore (V.seen view.now).fixed (V.seen view.now).units (V.seen view.now).memory self.old }
         requires marked { IsMarked self.old.machine }
         requires last { (top_frame self.old).tasks ≡ [] }
         requires entry { (top_frame self.old).after ≡ follows.CallEntry }
         requires nullary { type_seen (V.seen view.now).fixed r ≡ Some nullary }
         requires own { IsOwn r }
         ensures stepped { IfOk result (λ e. (D : Loading V.Units) → IsLoaded D (V.seen view.now).fixed → D.entry ≡ Some r → StepsFrom D e self.old (V.seen view.now) self.new (V.seen view.now)) }
-        ensures core { OnOk result (IsCore (V.seen view.now).fixed (V.seen view.now).units self.new) }
+        ensures core { OnOk result (IsCore (V.seen view.now).fixed (V.seen view.now).units (V.seen view.now).memory self.new) }
         ensures members { OnOk result (length self.new.stages ≡ length self.old.stages) }
+        ensures wanting { OnErr result ((D : Loading V.Units) → WantsFrom D self.old (V.seen view.now)) }
     {
         self.machine.unmark(view);
         let event = self.machine.begin(alloc, view, r)?;
@@ -382,15 +381,16 @@ impl<'m> Core<'m> {
         task: Task,
         callee: Option<Ref>,
     ) -> Result<Event, Memory>
-        requires core { IsCore (V.seen view.now).fixed (V.seen view.now).units self.old }
+        requires core { IsCore (V.seen view.now).fixed (V.seen view.now).units (V.seen view.now).memory self.old }
         requires marked { IsMarked self.old.machine }
         requires task { first_task (top_frame self.old) ≡ Some task }
         requires member { task.member < length self.old.stages }
         requires calls { task.phase ≢ phases.Place }
         requires nullary { IfSome callee (λ r. type_seen (V.seen view.now).fixed r ≡ Some nullary) }
         ensures stepped { IfOk result (λ e. (D : Loading V.Units) → IsLoaded D (V.seen view.now).fixed → D.callee task.phase task.member ≡ Some callee → StepsFrom D e self.old (V.seen view.now) self.new (V.seen view.now)) }
-        ensures core { OnOk result (IsCore (V.seen view.now).fixed (V.seen view.now).units self.new) }
+        ensures core { OnOk result (IsCore (V.seen view.now).fixed (V.seen view.now).units (V.seen view.now).memory self.new) }
         ensures members { OnOk result (length self.new.stages ≡ length self.old.stages) }
+        ensures wanting { OnErr result ((D : Loading V.Units) → WantsFrom D self.old (V.seen view.now)) }
     {
         if !self.is_behind(task) {
             self.pass(view, task);
@@ -411,10 +411,10 @@ impl<'m> Core<'m> {
 impl<'m> Core<'m> {
     /// Gives a number to the code that called a function of the loader, and keeps this error.
     pub fn give<V: View<'m>>(&mut self, view: &V, n: u32, errors: Errors)
-        requires core { IsCore (V.seen view.now).fixed (V.seen view.now).units self.old }
+        requires core { IsCore (V.seen view.now).fixed (V.seen view.now).units (V.seen view.now).memory self.old }
         requires loading { self.old.machine.standing ≡ Standing.Loading }
         ensures stepped { (D : Loading V.Units) → AnsweredFrom D Event.Moved (gives_number self.old n errors) self.old (V.seen view.now) self.new }
-        ensures core { IsCore (V.seen view.now).fixed (V.seen view.now).units self.new }
+        ensures core { IsCore (V.seen view.now).fixed (V.seen view.now).units (V.seen view.now).memory self.new }
         ensures members { length self.new.stages ≡ length self.old.stages }
     {
         self.machine.give(view, n);
@@ -423,10 +423,10 @@ impl<'m> Core<'m> {
 
     /// Ends by a trap of a function of the loader.
     pub fn trap<V: View<'m>>(&mut self, view: &V, why: Trap)
-        requires core { IsCore (V.seen view.now).fixed (V.seen view.now).units self.old }
+        requires core { IsCore (V.seen view.now).fixed (V.seen view.now).units (V.seen view.now).memory self.old }
         requires loading { self.old.machine.standing ≡ Standing.Loading }
         ensures stepped { (D : Loading V.Units) → AnsweredFrom D (Event.Trapped why) (loading.Traps why) self.old (V.seen view.now) self.new }
-        ensures core { IsCore (V.seen view.now).fixed (V.seen view.now).units self.new }
+        ensures core { IsCore (V.seen view.now).fixed (V.seen view.now).units (V.seen view.now).memory self.new }
         ensures members { length self.new.stages ≡ length self.old.stages }
     {
         let _view = view;
@@ -441,13 +441,13 @@ impl<'m> Core<'m> {
         tasks: Vec<Task>,
         after: After,
     ) -> Result<(), Memory>
-        requires core { IsCore (V.seen view.now).fixed (V.seen view.now).units self.old }
+        requires core { IsCore (V.seen view.now).fixed (V.seen view.now).units (V.seen view.now).memory self.old }
         requires loading { self.old.machine.standing ≡ Standing.Loading }
         requires tasks { All (λ t. t.member < length self.old.stages) tasks.items }
         requires hands { GivesHandle after }
         requires handle { IsHandle (length self.old.stages) after }
         ensures stepped { OnOk result ((D : Loading V.Units) → AnsweredFrom D Event.Moved (opens_member (reverse tasks.items) after) self.old (V.seen view.now) self.new) }
-        ensures core { OnOk result (IsCore (V.seen view.now).fixed (V.seen view.now).units self.new) }
+        ensures core { OnOk result (IsCore (V.seen view.now).fixed (V.seen view.now).units (V.seen view.now).memory self.new) }
         ensures members { OnOk result (length self.new.stages ≡ length self.old.stages) }
     {
         let tag = as_tag(self.frames.len());
@@ -458,12 +458,12 @@ impl<'m> Core<'m> {
 
     /// What follows the last task of a frame that a call of `dlopen` put: the handle of the member is given to what called.
     pub fn hand_over<V: View<'m>>(&mut self, view: &V, member: u32)
-        requires core { IsCore (V.seen view.now).fixed (V.seen view.now).units self.old }
+        requires core { IsCore (V.seen view.now).fixed (V.seen view.now).units (V.seen view.now).memory self.old }
         requires marked { IsMarked self.old.machine }
         requires last { (top_frame self.old).tasks ≡ [] }
         requires handle { (top_frame self.old).after ≡ follows.GiveHandle member }
         ensures stepped { (D : Loading V.Units) → StepsFrom D Event.Moved self.old (V.seen view.now) self.new (V.seen view.now) }
-        ensures core { IsCore (V.seen view.now).fixed (V.seen view.now).units self.new }
+        ensures core { IsCore (V.seen view.now).fixed (V.seen view.now).units (V.seen view.now).memory self.new }
         ensures members { length self.new.stages ≡ length self.old.stages }
     {
         self.machine.unmark(view);
@@ -473,13 +473,13 @@ impl<'m> Core<'m> {
 
     /// The same where the closure of the member, which is one of a linked set, is promoted in the step that gives its handle.
     pub fn promote<V: View<'m>>(&mut self, view: &V, linked: &Linked, member: u32)
-        requires core { IsCore (V.seen view.now).fixed (V.seen view.now).units self.old }
+        requires core { IsCore (V.seen view.now).fixed (V.seen view.now).units (V.seen view.now).memory self.old }
         requires marked { IsMarked self.old.machine }
         requires last { (top_frame self.old).tasks ≡ [] }
         requires handle { (top_frame self.old).after ≡ follows.GiveAndPromote member }
         requires linked { length self.old.stages ≡ length linked.now.set.members }
         ensures stepped { (D : Loading V.Units) (L : LinkedSet) → IsLinked L linked.now → D.promote ≡ promoted_with L.set → StepsFrom D Event.Moved self.old (V.seen view.now) self.new (V.seen view.now) }
-        ensures core { IsCore (V.seen view.now).fixed (V.seen view.now).units self.new }
+        ensures core { IsCore (V.seen view.now).fixed (V.seen view.now).units (V.seen view.now).memory self.new }
         ensures members { length self.new.stages ≡ length self.old.stages }
     {
         self.machine.unmark(view);

@@ -159,7 +159,6 @@ end_text (end.Trap why) = Some (codes "trap " ++ trap_text why)
 end_text end.StepLimit = Some (codes "step limit")
 end_text end.DepthLimit = Some (codes "depth limit")
 end_text end.HostCallLimit = Some (codes "host call limit")
-end_text end.Stuck = Some (codes "stuck")
 
 abbrev pub single_text : SingleFault → List ℕ
 single_text single.NoEntry = codes "no entry"

@@ -13,7 +13,6 @@ end_status (end.Trap why) = 134
 end_status end.StepLimit = 124
 end_status end.DepthLimit = 125
 end_status end.HostCallLimit = 126
-end_status end.Stuck = 70
 
 abbrev pub status_of : Outcome → ℕ
 status_of (Done runs) = 0

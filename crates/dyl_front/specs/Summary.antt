@@ -17,7 +17,6 @@ end_word (end.Trap why) = codes "trap " ++ trap_text why
 end_word end.StepLimit = codes "steplimit"
 end_word end.DepthLimit = codes "depthlimit"
 end_word end.HostCallLimit = codes "hostcalllimit"
-end_word end.Stuck = codes "stuck"
 
 -- bytes as hexadecimal digits, or a hyphen where there are none
 abbrev pub bytes_word : List ℕ → List ℕ

@@ -227,7 +227,6 @@ fn put_end(end: RunEnd, to: &mut Vec<u8>) -> Result<(), Memory>
         RunEnd::StepLimit => put_text("step limit", to),
         RunEnd::DepthLimit => put_text("depth limit", to),
         RunEnd::HostCallLimit => put_text("host call limit", to),
-        RunEnd::Stuck => put_text("stuck", to),
     }
 }
 

@@ -84,7 +84,6 @@ fn end_status(end: RunEnd) -> u8
     match end {
         RunEnd::Return => 0,
         RunEnd::Exit(code) => (code % 256) as u8,
-        RunEnd::Stuck => 70,
         RunEnd::StepLimit => 124,
         RunEnd::DepthLimit => 125,
         RunEnd::HostCallLimit => 126,

@@ -40,7 +40,6 @@ fn put_end(alloc: Global, end: RunEnd, to: &mut Vec<u8>) -> Result<(), Memory>
         RunEnd::StepLimit => put_text("steplimit", to),
         RunEnd::DepthLimit => put_text("depthlimit", to),
         RunEnd::HostCallLimit => put_text("hostcalllimit", to),
-        RunEnd::Stuck => put_text("stuck", to),
     }
 }
 

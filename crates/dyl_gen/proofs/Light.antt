@@ -5,7 +5,7 @@ use Rattle.wasm_form.specs.declared.module.ExportDesc.TheVariants as exported
 use Rattle.wasm_encode.specs.Weight.{sum_of, type_weight, import_weight, export_weight, code_weight, units_of, weight}
 use Rattle.wasm_encode.proofs.Units.{units-Index, units-I32Const}
 use Rattle.dyl_gen.specs.Generated as made
-use Rattle.dyl_gen.specs.Generated.{is_main, main_alone, function_name, value_name, base, number, code_of, start_code}
+use Rattle.dyl_gen.specs.Generated.{is_main, main_alone, base, number, code_of, start_code}
 use Rattle.dyl_gen.proofs.MemberNames.{function_short, value_short}
 use Rattle.dyl_gen.proofs.Records.{next_below}
 use Rattle.dyl_gen.proofs.Forms.{function_units, relocation_units, constructor_units, start_units}

@@ -20,7 +20,7 @@ use Rattle.spec_linking.specs.Slots.{linked_plan, table_entries}
 use Rattle.spec_linking.specs.Links.{Finding, ◌or_else◌, unless, first_fault, import_fault, tls_fault, loader_call_fault, member_fault, members_fault, data_cell_fault, slot_cell_fault, function_fault, host_fault, match_fault, has_first_type, is_host_of, covers, is_type_of, set_entry, fault_without, duplicate_fault, duplicates_from, limit_fault, link_fault}
 use Rattle.dyl_section.specs.Recorded.{record_of}
 use Rattle.dyl_gen.specs.Generated as made
-use Rattle.dyl_gen.specs.Generated.{file_name, function_name, value_name, is_main, next, one_number, four_numbers}
+use Rattle.dyl_gen.specs.Generated.{function_name, value_name, is_main, next, one_number, four_numbers}
 use Rattle.dyl_gen.specs.Laws.{CanWrite, IsMemoryLimit}
 use Rattle.dyl_gen.proofs.Valid.{member_by}
 use Rattle.dyl_gen.proofs.Members.{IsContent, of_member, of_further, OfSet, IsOfSet, IsMemberOf, at_file}

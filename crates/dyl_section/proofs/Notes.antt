@@ -3,7 +3,7 @@ use Rattle.std.proofs.Common.{◌≡◌, ℕ, ◌≤◌, List, ◌++◌, refl, s
 use Rattle.std.proofs.lemmas.Bool.{ltb-false, le-ltb}
 use Rattle.spec_reading.specs.spec_binary.Number.{SpellsUnsigned}
 use Rattle.spec_reading.specs.spec_binary.Name.{SpellsName}
-use Rattle.spec_linking.specs.Records.{most_align, SpellsExportNote, SpellsImportNote}
+use Rattle.spec_linking.specs.Records.{most_align}
 use Rattle.spec_linking.specs.Records as records
 use Rattle.spec_reading.specs.Values.{number_at, name_at}
 use Rattle.spec_reading.proofs.Steps.{bind_ok, chosen_second, IsComplete, IsSound, given, two_sound, two_complete}

@@ -6,7 +6,6 @@ use Rattle.spec_reading.specs.spec_binary.Sequence.{SpellsEach, none, next, Spel
 use Rattle.spec_reading.specs.spec_binary.Joined.{Joined}
 use Rattle.spec_reading.proofs.of_spec_binary.Joined.{unjoined, itself, appends_like, appends_joined}
 use Rattle.spec_reading.proofs.of_spec_binary.UnsignedSpelling.{unsigned_small}
-use Rattle.spec_linking.specs.Records.{SpellsExportNote, SpellsImportNote}
 use Rattle.spec_linking.specs.Records as records
 use Rattle.dyl_section.specs.declared.record.ExportInfo.{ExportInfo}
 use Rattle.dyl_section.specs.declared.record.ImportInfo.{ImportInfo}

@@ -7,8 +7,7 @@ use Rattle.std.proofs.lemmas.List.{map-append}
 use Rattle.std.proofs.lemmas.Simd.{map-map}
 use Rattle.std.proofs.lemmas.Option.{slice_get-map}
 use Rattle.std.specs.Option.{option_map}
-use Rattle.wasm_form.specs.declared.types.ValType.{ValType}
-use Rattle.wasm_form.specs.declared.types.ValType.TheVariants.{I32, I64, F32, F64, FuncRef, ExternRef}
+use Rattle.wasm_form.specs.declared.types.ValType.TheVariants.{I32}
 use Rattle.wasm_form.specs.declared.types.GlobalType.{GlobalType}
 use Rattle.wasm_form.specs.declared.module.ImportDesc.{ImportDesc}
 use Rattle.wasm_form.specs.declared.module.ImportDesc.TheVariants as imported

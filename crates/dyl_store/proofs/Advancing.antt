@@ -9,10 +9,11 @@ use Rattle.wasm_machine.specs.declared.machine.Standing.TheVariants as standing
 use Rattle.spec_loading.specs.spec_runtime.Courses.{Course, state_at}
 use Rattle.wasm_machine.specs.Steps.{Advances, AreOfCode}
 use Rattle.wasm_machine.proofs.Steps.{advanced, none_advances, none_of_code, kept_advances, made_advances, kept_at, made_one, kept_code, made_code}
+use Rattle.dyl_frames.specs.Next.{MayWant}
 use Rattle.dyl_link.specs.Kept.{IsLinked}
 use Rattle.dyl_store.specs.declared.running.Running.{Running}
 use Rattle.dyl_store.specs.declared.store.Store.TheInside.{Inside}
-use Rattle.dyl_store.specs.Stores.{StoreRun, set_course, IsCodeNext}
+use Rattle.dyl_store.specs.Stores.{StoreRun, set_course, IsCodeNext, MayWantAt}
 use Rattle.dyl_store.specs.Runs.{IsRunning, RunsAt}
 use Rattle.dyl_store.specs.Steps.{IsMade, Counted}
 use Rattle.dyl_store.specs.Kept.{run_of, StandsFrom, IsStore}
@@ -30,6 +31,7 @@ pub record IsAdvanced (most : ℕ) (v : StoreRun) (i : Inside) : Type 0 where
   pub advances : Advances most v.run (run_of i).run
   pub code : IsByCode v (run_of i).run
   pub left : (L : LinkedSet) → IsLinked L v.linked → HasNoneLeft L most (run_of i)
+  pub wants : i.lost ≡ true → MayWantAt v.linked (run_of i).run
 
 -- what is so of one that makes them
 pub record GoesOn (most : ℕ) (v : StoreRun) (i : Inside) : Type 0 where
@@ -76,6 +78,7 @@ module _ (most : ℕ) (v : StoreRun) (i : Inside) (new : Running) (steps : ℕ) 
     pub advances : Advances most v.run y
     pub code : AreOfCode (set_course L) v.run y
     pub left : HasNoneLeft L most (run_of (counted i new steps lost))
+    pub wants : lost ≡ true → MayWant (state_at (set_course L) y)
 
   module _ (L : LinkedSet) (of : IsLinked L v.linked) where
     abbrev C : Course
@@ -116,18 +119,21 @@ module _ (most : ℕ) (v : StoreRun) (i : Inside) (new : Running) (steps : ℕ) 
       advances = made_advances most v.run x g.advances steps lost below o.0;
       code = code_made o.2 o.0;
       left = λ at few code. stopped_idle L new (state_at C y) o.3 (stands_made o.2 o.0 o.1).1 code;
+      wants = λ wanting. absurd (false≢true (sym o.1 ∙ wanting));
     }
     stops_so (inr (inl o)) = record {
       stands = stands_kept o.2 o.0;
       advances = kept_advances most v.run x g.advances steps lost o.0;
       code = code_kept o.0;
       left = λ at few code. o.3 (subst (IsCodeNext L) (here_still o.0 o.1) code);
+      wants = λ wanting. absurd (false≢true (sym o.1 ∙ wanting));
     }
     stops_so (inr (inr o)) = record {
       stands = λ found. absurd (false≢true (sym found ∙ o.1));
       advances = kept_advances most v.run x g.advances steps lost o.0;
       code = code_kept o.0;
       left = λ at few code. absurd (false≢true (sym at.found ∙ o.1));
+      wants = λ _. subst (λ n. MayWant (state_at C (advanced x n lost))) (sym o.0) o.2;
     }
 
   -- there is a set of what is kept
@@ -142,7 +148,7 @@ module _ (most : ℕ) (v : StoreRun) (i : Inside) (new : Running) (steps : ℕ) 
   counts_here goes outcome L of = outcome L (subst (IsLinked L) (sym g.same) of) (here L of) (from L of).1
 
   store_now : (lost ≡ false → IsRunning new) → ((L : LinkedSet) → IsLinked L v.linked → lost ≡ false → StandsFrom L y new) → IsStore (counted i new steps lost)
-  store_now running stands = record { running = running; stands = λ found L of. stands L (subst (IsLinked L) linked_same of) found }
+  store_now running stands = record { running = running; bytes = g.store.bytes; stands = λ found L of. stands L (subst (IsLinked L) linked_same of) found }
 
   -- a step after which code goes on
   pub goes_on : (lost ≡ false → IsRunning new) → CountsSo true → GoesOn most v (counted i new steps lost)
@@ -172,4 +178,5 @@ module _ (most : ℕ) (v : StoreRun) (i : Inside) (new : Running) (steps : ℕ) 
         advances = (so set.0 set.1).advances;
         code = λ L of. (so L of).code;
         left = λ L of. (so L of).left;
+        wants = λ wanting L of. (so L of).wants wanting;
       }

@@ -159,4 +159,3 @@ module _ (L : LinkedSet) where
   arguments_told (event.Trapped why) s new made numbers = tt
   arguments_told (event.Exited code) s new made numbers = tt
   arguments_told event.Deep s new made numbers = tt
-  arguments_told event.Stuck s new made numbers = tt

@@ -65,14 +65,13 @@ no_loader event.Returned none = refl
 no_loader (event.Trapped why) none = refl
 no_loader (event.Exited code) none = refl
 no_loader event.Deep none = refl
-no_loader event.Stuck none = refl
 
 -- ---- errors are numbers from 1 to 5, and what is opened is a member
 
 abbrev pub IsError : ℕ → Type 0
 IsError e = (1 ≤ e) × (e ≤ 5)
 
-either : {A : Type 0} (P : A → Type 0) (b : Bool) (x y : A) → P x → P y → P (if b then x else y)
+pub either : {A : Type 0} (P : A → Type 0) (b : Bool) (x y : A) → P x → P y → P (if b then x else y)
 either P true x y p q = p
 either P false x y p q = q
 

@@ -1,5 +1,5 @@
 -- What a step of code that is told in few bytes makes of the count of steps.
-use Rattle.std.proofs.Common.{◌≡◌, ◌⊎◌, Some, None, sym, ◌∙◌, inl, inr, subst}
+use Rattle.std.proofs.Common.{◌≡◌, ◌⊎◌, inl, inr, subst}
 use Rattle.wasm_form.specs.declared.runtime.Trap.{Trap}
 use Rattle.spec_loading.specs.spec_runs.Systems.{Moving}
 use Rattle.spec_loading.specs.spec_linking.LinkedSets.{LinkedSet, set_hosts}
@@ -48,9 +48,7 @@ module _ (L : LinkedSet) (s : SetState) (new : Running) where
   pub left_state : (d : Done)
       → (d ≡ done.Stuck) ⊎ (d ≡ done.Exited) ⊎ (d ≡ done.Marked) ⊎ (d ≡ done.Deep) ⊎ (d ≡ done.Outside)
       → QuickSo d → RunsAt L new s × (IsCodeNext L s → ⊥)
-  left_state d (inl e) q =
-      let h : StepsSo event.Stuck = subst QuickSo e q in
-      (h.2, (λ code. let clash : None ≡ Some code.3.0 = sym h.0 ∙ code.3.1 in cc))
+  left_state d (inl e) q = absurd (subst QuickSo e q)
   left_state d (inr (inl e)) q = absurd (subst QuickSo e q)
   left_state d (inr (inr (inl e))) q = let h = subst QuickSo e q in (h.1, h.2)
   left_state d (inr (inr (inr (inl e)))) q = let h = subst QuickSo e q in (h.1, h.2)

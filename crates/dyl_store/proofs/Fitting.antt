@@ -40,7 +40,6 @@ module _ (x : Running) (h : IsRunning x) (L : LinkedSet) (linked : IsLinked L x.
   waits_asking call standing.Returned k e = absurd (let clash : Returned ≡ Waits call = sym k ∙ e in cc)
   waits_asking call (standing.Trapped why) k e = absurd (let clash : Trapped why ≡ Waits call = sym k ∙ e in cc)
   waits_asking call (standing.Exited code) k e = absurd (let clash : Exited code ≡ Waits call = sym k ∙ e in cc)
-  waits_asking call standing.Stuck k e = absurd (let clash : Moving ≡ Waits call = sym k.0 ∙ e in cc)
   waits_asking call standing.Lost k e = absurd k
 
   host_named : (entry : ℕ) (call : HostCall) → set_hosts L entry ≡ Some call.host → (kept_view x.world.linked).host entry ≡ Some call.host.ty

@@ -4,12 +4,14 @@ pub mod Placed
 pub mod Changes
 pub mod Called
 pub mod WholePlaced
+pub mod Runnable
 pub mod Loads
 pub mod Fitting
 pub mod Recording
 pub mod Addressed
 pub mod Offsets
 pub mod Calling
+pub mod Wanting
 pub mod Stepping
 pub mod Arguments
 pub mod Stopping

@@ -1,5 +1,5 @@
 -- The steps of what runs are those of the loaded set.
-use Rattle.std.proofs.Common.{◌≡◌, ℕ, List, [], ◌∷◌, length, Option, Some, None, refl, ap, sym, ◌∙◌, subst}
+use Rattle.std.proofs.Common.{◌≡◌, ℕ, ◌<◌, List, [], ◌∷◌, length, Option, Some, None, refl, ap, sym, ◌∙◌, subst}
 use Rattle.std.specs.Prelude.{OnOk, Result, Ok, Err}
 use Rattle.wasm_machine.specs.declared.event.Event.{Event}
 use Rattle.wasm_view.specs.Seen.{Seen}
@@ -13,32 +13,39 @@ use Rattle.spec_loading.specs.spec_binary.Options.{◌>>=◌}
 use Rattle.spec_loading.specs.spec_binary.Indices.{nullary}
 use Rattle.spec_loading.specs.spec_execution.Views.{View, type_of}
 use Rattle.spec_loading.specs.spec_execution.Instances.{ModuleParts}
-use Rattle.spec_loading.specs.spec_execution.Ranges.{HoldsAll}
+use Rattle.spec_loading.specs.spec_execution.Segments.{Performed}
 use Rattle.spec_loading.specs.spec_linking.LinkedSets.{LinkedSet}
 use Rattle.spec_loading.specs.Members.{set_view}
 use Rattle.spec_loading.specs.LoadedSet.{set_loading}
-use Rattle.spec_loading.specs.Laws.{EntryIsThere, PlacedHolds}
+use Rattle.spec_loading.specs.spec_safety.ValueTypes.{IsMemory}
+use Rattle.spec_loading.specs.spec_safety.TypedViews.{HoldTypes}
+use Rattle.spec_loading.specs.SoundSets.{IsSoundStore, SetIsSound}
+use Rattle.spec_loading.specs.Laws.{EntryIsThere}
 use Rattle.dyl_frames.specs.declared.frames.Core.{Core}
-use Rattle.dyl_frames.specs.Cores.{IsLoaded, IsCore, trap_of}
+use Rattle.dyl_frames.specs.Cores.{IsLoaded, IsCore, IsState, trap_of}
+use Rattle.dyl_frames.proofs.Placed.{core_over}
 use Rattle.dyl_link.specs.Kept.{Kept, IsLinked}
+use Rattle.dyl_addresses.proofs.Linked.{members_count}
 use Rattle.dyl_store.specs.Worlds.{WorldState, kept_view, seen_of}
 use Rattle.dyl_store.specs.Placements.{PlacesSo}
 use Rattle.dyl_store.specs.declared.running.Running.{Running}
-use Rattle.dyl_store.specs.Runs.{IsRunning, ArePlacements, StepsTo}
+use Rattle.dyl_store.specs.Runs.{IsRunning, IsRunnable, IsSomewhere, ArePlacements, StepsTo}
 use Rattle.dyl_store.proofs.Views.{kept_view_is}
+use Rattle.dyl_store.proofs.Runnable.{few_pages}
 
 pub loaded : (x : Running) → IsRunning x → (L : LinkedSet) → IsLinked L x.linked.now → IsLoaded (set_loading L) (kept_view x.world.linked)
 loaded x h L linked = record { view = sym (kept_view_is L x.linked.now linked) ∙ sym h.fixed; hosts = λ entry. refl }
 
 -- what is kept after a step
 pub running_after : (old new : Running) → IsRunning old → new.linked ≡ old.linked → new.placements ≡ old.placements → kept_view new.world.linked ≡ kept_view old.world.linked
-    → IsCore (kept_view old.world.linked) new.world.store new.core → length new.core.stages ≡ length old.core.stages → IsRunning new
+    → IsCore (kept_view old.world.linked) new.world.store new.world.memory new.core → length new.core.stages ≡ length old.core.stages → IsRunning new
 running_after old new h linked placements fixed core members =
     let k : old.linked.now ≡ new.linked.now = ap (λ (b : Bor Kept). b.now) (sym linked) in
     record {
       set = subst (λ (x : Kept). (L : LinkedSet) × IsLinked L x) k h.set;
+      runnable = subst IsRunnable k h.runnable;
       fixed = fixed ∙ h.fixed ∙ ap kept_view k;
-      core = subst (λ (V : View ModuleParts). IsCore V new.world.store new.core) (sym fixed) core;
+      core = subst (λ (V : View ModuleParts). IsCore V new.world.store new.world.memory new.core) (sym fixed) core;
       members = members ∙ h.members ∙ ap (λ (x : Kept). length x.set.members) k;
       placements = subst (λ (x : Kept). ArePlacements x new.placements.items) k (subst (λ (ps : _). ArePlacements old.linked.now ps.items) (sym placements) h.placements);
     }
@@ -58,25 +65,23 @@ entry_nullary law x h =
 
 -- ---- placing
 
--- the machine names what there is also over a store that holds all
-pub core_kept : (V : View ModuleParts) (us us' : ModuleParts) (c : Core) → IsCore V us c → HoldsAll V us' → IsCore V us' c
-core_kept V us us' c h holds = record {
-  sound = record {
-    over = record { range = record { whole = h.sound.over.range.whole; units = holds; stack = h.sound.over.range.stack }; rooms = h.sound.over.rooms; asked = h.sound.over.asked };
-    live = h.sound.live;
-    pending = h.sound.pending;
-  };
-  few = h.few;
-}
-
-pub placed_core : PlacedHolds → (x : Running) → IsRunning x → (m : ℕ) (r : Result (Unit {0}) Trap) (new : WorldState) → PlacesSo x.linked.now m x.world r new → IsCore (kept_view x.world.linked) new.store x.core
-placed_core law x h m r new placed =
-    let L = h.set.0 in
-    let linked = h.set.1 in
+-- over the store and the memory of a sound state the machine is sound still
+pub placed_core : SetIsSound → (x : Running) → IsRunning x → IsSomewhere x → (m : ℕ) → m < length x.linked.now.set.members → (r : Result (Unit {0}) Trap) (new : WorldState) → PlacesSo x.linked.now m x.world r new
+    → IsCore (kept_view x.world.linked) new.store new.memory x.core
+placed_core law x h at m lt r new placed =
+    let L = at.0 in
+    let linked = at.1 in
+    let s = at.2.0 in
+    let sound = at.2.2 in
     let same : kept_view x.world.linked ≡ set_view L = h.fixed ∙ kept_view_is L x.linked.now linked in
-    let before : HoldsAll (set_view L) x.world.store = subst (λ (V : View ModuleParts). HoldsAll V x.world.store) same h.core.sound.over.range.units in
-    let after : HoldsAll (set_view L) new.store = law L linked.shape linked.links m x.world.store x.world.memory (record { units = new.store; memory = new.memory; trap = trap_of r }) before (placed L linked) in
-    core_kept (kept_view x.world.linked) x.world.store new.store x.core h.core (subst (λ (V : View ModuleParts). HoldsAll V new.store) (sym same) after)
+    let loading = law L linked.shape linked.links (few_pages L x.linked.now linked h.runnable) in
+    let units = subst (IsSoundStore L) at.2.1.units sound.units in
+    let memory = subst IsMemory at.2.1.space sound.memory in
+    let p = loading.placed m x.world.store x.world.memory (subst (λ (n : ℕ). m < n) (sym (members_count L x.linked.now linked)) lt) units memory in
+    let is : p.0 ≡ record { units = new.store; memory = new.memory; trap = trap_of r } = same_Some p.0 (record { units = new.store; memory = new.memory; trap = trap_of r }) (sym p.1 ∙ placed L linked) in
+    let holds = loading.view.holds new.store (subst (λ (q : Performed ModuleParts). IsSoundStore L q.units) is p.2) in
+    core_over (kept_view x.world.linked) x.world.store new.store x.world.memory new.memory x.core h.core (subst (λ (V : View ModuleParts). HoldTypes V V.names new.store) (sym same) holds)
+    (subst (λ (q : Performed ModuleParts). IsMemory q.memory) is p.3)
 
 -- no task is left
 pub none_first : (ts : List Task) → None ≡ first_of ts → ts ≡ []
@@ -88,7 +93,15 @@ pub both_ok : {A B : Type 0} (r : Result A B) (P Q X : Type 0) → (P → Q → 
 both_ok (Ok a) P Q X f p q = f p q
 both_ok (Err b) P Q X f p q = tt
 
--- the same machine over the same world
+-- the same machine over the same world stands where it stood
+pub still_somewhere : (x : Running) (core : Core) (w : WorldState) → core ≡ x.core → seen_of w ≡ seen_of x.world → IsSomewhere x → IsSomewhere (record x { world = w; core = core })
+still_somewhere x core w same seen at =
+    let D = set_loading at.0 in
+    let s = at.2.0 in
+    let over = subst (λ (v : Seen ModuleParts). IsState D x.core v.units v.memory s) (sym seen) at.2.1 in
+    (at.0, at.1, (s, subst (λ (c : Core). IsState D c w.store w.memory s) (sym same) over, at.2.2))
+
+-- and makes the same steps
 pub steps_same : (L : LinkedSet) (e : Event) (old new : Running) (core : Core) (w : Seen ModuleParts) → core ≡ old.core → w ≡ seen_of old.world → StepsFrom (set_loading L) e core w new.core (seen_of new.world) → StepsTo L e old new
 steps_same L e old new core w same seen steps =
     subst (λ (x : Core). StepsFrom (set_loading L) e x (seen_of old.world) new.core (seen_of new.world)) same (subst (λ (x : Seen ModuleParts). StepsFrom (set_loading L) e core x new.core (seen_of new.world)) seen steps)

@@ -6,15 +6,13 @@ use Rattle.std.specs.Option.{option_map}
 use Rattle.wasm_form.specs.declared.types.FuncType.{FuncType}
 use Rattle.wasm_form.specs.declared.module.Code.{Code}
 use Rattle.wasm_form.specs.declared.module.Module.{Module}
-use Rattle.wasm_form.specs.declared.runtime.LoaderCall.{LoaderCall}
 use Rattle.wasm_form.specs.declared.runtime.Ref.{Ref}
 use Rattle.wasm_form.specs.declared.runtime.Ref.TheVariants.{Own, Loader, Host, Stub}
-use Rattle.spec_loading.specs.spec_runs.Systems.{only_if}
 use Rattle.spec_loading.specs.spec_binary.Options.{◌>>=◌}
 use Rattle.spec_loading.specs.spec_binary.IndexSpaces.{function_space, imported_count}
 use Rattle.spec_loading.specs.spec_binary.Indices.{Function, function_with, function_type, function_at}
 use Rattle.spec_loading.specs.spec_runtime.Names.{HostName}
-use Rattle.spec_loading.specs.spec_execution.Views.{type_of, loader_type}
+use Rattle.spec_loading.specs.spec_execution.Views.{type_of}
 use Rattle.spec_loading.specs.spec_execution.Limits.{room_with, room_of}
 use Rattle.spec_loading.specs.spec_execution.Instances.{module_view, module_height, host_type}
 use Rattle.spec_loading.specs.spec_safety.Laws.{AreThere}
@@ -48,10 +46,6 @@ module _ (k now : Kept) (units : List Unit) (are : AreUnits k units) (same : k �
 pub counted_types : (o : Option Module) (n : ℕ) → n < (counts_of o).types → IsTrue (is_some o)
 counted_types None n lt = absurd (omega arith)
 counted_types (Some wasm) n lt = refl
-
-pub counted_functions : (o : Option Module) (n : ℕ) → n < (counts_of o).functions → IsTrue (is_some o)
-counted_functions None n lt = absurd (omega arith)
-counted_functions (Some wasm) n lt = refl
 
 pub counted_globals : (o : Option Module) (n : ℕ) → n < (counts_of o).globals → IsTrue (is_some o)
 counted_globals None n lt = absurd (omega arith)
@@ -189,10 +183,6 @@ module _ (now : Kept) (r : Ref) (some : IsSome (type_of (kept_view now) r)) wher
       pub own_within : f < length (function_space wasm)
       own_within = type_within wasm f (ap is_some (sym (own_type wasm f own_here)) ∙ some_typed (function_at wasm f) own_here)
 
-      pub own_type_is : (ty : FuncType) → Some ty ≡ function_type wasm f → Some ty ≡ type_of (kept_view now) r
-      own_type_is ty e =
-          e ∙ sym (own_type wasm f own_here) ∙ ap (λ (o : Option Module). (o >>= λ w. function_at w f) >>= λ x. Some x.ty) (sym at) ∙ ap (type_of (kept_view now)) (sym is)
-
   -- a stub
   module _ (m f : ℕ) (is : r ≡ Stub m f) where
     stubbed : (found : Option Ref) (ty : Option FuncType) → IsSome (found >>= where_stub ty) → (found >>= where_stub ty) ≡ ty
@@ -211,23 +201,9 @@ module _ (now : Kept) (r : Ref) (some : IsSome (type_of (kept_view now) r)) wher
     stub_some : IsSome (wasm_of (set_in now) m >>= λ w. function_type w f)
     stub_some = subst (λ (o : Option FuncType). IsSome o) stub_is here
 
-    pub stub_member : IsMember now m
-    stub_member = found_in (wasm_of (set_in now) m) (λ w. function_type w f) stub_some
-
     module _ (wasm : Module) (at : wasm_of (set_in now) m ≡ Some wasm) where
       pub stub_within : f < length (function_space wasm)
       stub_within = type_within wasm f (subst (λ (o : Option Module). IsSome (o >>= λ w. function_type w f)) at stub_some)
-
-      pub stub_type_is : (ty : FuncType) → Some ty ≡ function_type wasm f → Some ty ≡ type_of (kept_view now) r
-      stub_type_is ty e = e ∙ ap (λ (o : Option Module). o >>= λ w. function_type w f) (sym at) ∙ sym stub_is ∙ ap (type_of (kept_view now)) (sym is)
-
-  -- a function of the loader
-  pub loader_type_is : (which : LoaderCall) (ty : FuncType) → r ≡ Loader which → ty ≡ loader_type which → Some ty ≡ type_of (kept_view now) r
-  loader_type_is which ty is e = go now.uses_loader (subst (λ (x : Ref). IsSome (type_of (kept_view now) x)) is some) ∙ ap (type_of (kept_view now)) (sym is)
-    where
-      go : (b : Bool) → IsSome (only_if b (loader_type which)) → Some ty ≡ only_if b (loader_type which)
-      go true h = ap (λ (t : FuncType). Some t) e
-      go false h = absurd cc
 
   -- a host function
   module _ (entry : ℕ) (is : r ≡ Host entry) (hosts : List declared.HostName) (are : map host_name_of hosts ≡ now.hosts) where
@@ -251,9 +227,6 @@ module _ (now : Kept) (r : Ref) (some : IsSome (type_of (kept_view now) r)) wher
 
 -- a type that a member declares
 module _ (o : Option Module) (wasm : Module) (is : o ≡ Some wasm) (t : ℕ) where
-  pub type_inside : t < (counts_of o).types → t < length wasm.types
-  type_inside lt = subst (λ (x : Option Module). t < (counts_of x).types) is lt
-
   pub type_found : (types : List FuncType) (ty : FuncType) → types ≡ wasm.types → t < length types → ty ≡ get_or types t ty → Some ty ≡ (o >>= λ w. slice_get w.types t)
   type_found types ty same lt read =
       sym (slice_get_read types (length types) t ty refl lt read) ∙ ap (λ (ts : List FuncType). slice_get ts t) same ∙ ap (λ (x : Option Module). x >>= λ w. slice_get w.types t) (sym is)

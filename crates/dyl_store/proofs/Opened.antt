@@ -16,15 +16,17 @@ use Rattle.spec_loading.specs.spec_runtime.Memories.{MemoryInstance, page_size, 
 use Rattle.spec_loading.specs.spec_runtime.Tables.{TableInstance}
 use Rattle.spec_loading.specs.spec_execution.Views.{View}
 use Rattle.spec_loading.specs.spec_execution.Instances.{ModuleParts}
-use Rattle.spec_loading.specs.spec_execution.Ranges.{AreInRange, Exists, IsWhole, HoldsAll}
+use Rattle.spec_loading.specs.spec_execution.Ranges.{AreInRange, Exists}
 use Rattle.spec_loading.specs.spec_linking.Sets.{Member}
 use Rattle.spec_loading.specs.spec_linking.Plans.{Plan}
 use Rattle.spec_loading.specs.spec_linking.LinkedSets.{LinkedSet}
 use Rattle.spec_loading.specs.spec_linking.Orders.{closure, post_order}
 use Rattle.spec_loading.specs.spec_linking.Slots.{linked_plan}
 use Rattle.spec_loading.proofs.of_spec_linking.LinkedFacts.{linked_limits}
-use Rattle.spec_loading.specs.spec_safety.Laws.{AreThere, StoreIsWhole}
-use Rattle.spec_loading.proofs.of_spec_safety.StepsInRange.{All-reverse}
+use Rattle.spec_loading.specs.spec_safety.Laws.{AreThere}
+use Rattle.spec_loading.specs.spec_safety.ValueTypes.{IsOfBytes, IsMemory}
+use Rattle.spec_loading.specs.spec_safety.TypedViews.{HoldTypes, IsSoundView}
+use Rattle.spec_loading.proofs.of_spec_safety.Lookups.{All-reverse}
 use Rattle.spec_loading.specs.Texts.{error_texts}
 use Rattle.spec_loading.proofs.Rows.{texts_length}
 use Rattle.spec_loading.specs.Phases.{opening_tasks, startup_frame, open_frame}
@@ -32,6 +34,7 @@ use Rattle.spec_loading.specs.Members.{set_view, opening_store}
 use Rattle.spec_loading.specs.Loading.{LoaderState}
 use Rattle.spec_loading.specs.LoadedSet.{set_loading, set_opening, opening_memory}
 use Rattle.spec_loading.specs.Laws.{LinkedIsThere, OpeningHolds, SizesArePlanned}
+use Rattle.spec_loading.specs.SoundSets.{IsSoundState, SetIsSound, SetOpensSound, SetViewIsSound}
 use Rattle.dyl_addresses.specs.Sets.{AreOf}
 use Rattle.dyl_addresses.proofs.Linked.{members_count}
 use Rattle.dyl_addresses.proofs.Ranges.{of_open}
@@ -47,9 +50,10 @@ use Rattle.dyl_addresses.specs.Sets.{IsOfSet}
 use Rattle.dyl_store.specs.Worlds.{WorldState, kept_instances, kept_view, HasSizes}
 use Rattle.dyl_store.specs.Units.{AreUnits, IsWorld, store_of}
 use Rattle.dyl_store.specs.Opened.{IsOpened}
-use Rattle.dyl_store.specs.Runs.{IsRunning, RunsAt, ArePlacements}
+use Rattle.dyl_store.specs.Runs.{IsRunning, IsRunnable, RunsAt, ArePlacements}
 use Rattle.dyl_store.specs.Kept.{IsStore}
 use Rattle.dyl_store.proofs.Views.{kept_view_is, opening_sizes, all_fit}
+use Rattle.dyl_store.proofs.Runnable.{few_pages, hold_bytes}
 
 -- ---- the memory
 
@@ -144,12 +148,6 @@ module _ (L : LinkedSet) (k : Kept) (h : IsLinked L k) where
         code = subst (λ (V : View ModuleParts). (m f : ℕ) (x : Function) → V.code m f ≡ Some x → AreInRange (V.counts m) x.body) same all.code;
       }
 
-  pub opened_whole : LinkedIsThere → StoreIsWhole → IsWhole (kept_view k)
-  opened_whole law whole = whole (kept_instances k) (are_there law)
-
-  pub opened_holds : OpeningHolds → HoldsAll (kept_view k) (opening_store L)
-  opened_holds law = subst (λ (V : View ModuleParts). HoldsAll V (opening_store L)) (sym (kept_view_is L k h)) (law L h.shape h.links)
-
 -- a store is known by what it has
 abbrev pub parts_of : List Value → List TableInstance → List (List (Option Ref)) → List (List ℕ) → ModuleParts
 parts_of gs ts es ds = record { globals = gs; tables = ts; elems = es; datas = ds }
@@ -169,15 +167,25 @@ world_is law holds w set units store =
       sizes = subst (HasSizes k) (sym (store L h)) (opening_sizes L k h);
     }
 
--- over a world that begins so
-module _ (L : LinkedSet) (k : Kept) (h : IsLinked L k) (w : WorldState) (opened : IsOpened k w) where
-  pub whole_over : LinkedIsThere → StoreIsWhole → IsWhole (kept_view w.linked)
-  whole_over law whole = subst (λ (x : Kept). IsWhole (kept_view x)) (sym opened.linked) (opened_whole L k h law whole)
+-- what is so of a linked set that begins so
+module _ (L : LinkedSet) (k : Kept) (h : IsLinked L k) (runnable : IsRunnable k) (w : WorldState) (opened : IsOpened k w) where
+  same_view : set_view L ≡ kept_view w.linked
+  same_view = sym (ap kept_view opened.linked ∙ kept_view_is L k h)
 
-  pub holds_over : OpeningHolds → HoldsAll (kept_view w.linked) w.store
-  holds_over law =
-      subst (λ (us : ModuleParts). HoldsAll (kept_view w.linked) us) (sym (opened.store L h))
-      (subst (λ (x : Kept). HoldsAll (kept_view x) (opening_store L)) (sym opened.linked) (opened_holds L k h law))
+  pub view_over : SetViewIsSound → IsSoundView (kept_view w.linked)
+  view_over law = subst IsSoundView same_view (law L h.shape h.links)
+
+  opens : SetOpensSound → IsSoundState L (set_opening L)
+  opens law = law L h.shape h.links (few_pages L k h runnable) (hold_bytes L k h runnable)
+
+  pub holds_over : SetIsSound → SetOpensSound → HoldTypes (kept_view w.linked) (kept_view w.linked).names w.store
+  holds_over sound law =
+      let holds = (sound L h.shape h.links (few_pages L k h runnable)).view.holds (opening_store L) (opens law).units in
+      subst (λ (us : ModuleParts). HoldTypes (kept_view w.linked) (kept_view w.linked).names us) (sym (opened.store L h))
+      (subst (λ (V : View ModuleParts). HoldTypes V V.names (opening_store L)) same_view holds)
+
+  pub memory_over : SetOpensSound → IsMemory w.memory
+  memory_over law = subst IsMemory (sym (opened.memory L h)) (opens law).memory
 
 -- ---- the machine
 
@@ -199,14 +207,15 @@ core_at L k h w opened count many tasks are c opens =
 
 -- ---- the run
 
-pub running_is : (x : Running) → IsOfSet x.linked.now → IsOpened x.linked.now x.world → IsCore (kept_view x.world.linked) x.world.store x.core → ((L : LinkedSet) → IsLinked L x.linked.now → RunsAt L x (set_opening L))
+pub running_is : (x : Running) → IsOfSet x.linked.now → IsRunnable x.linked.now → IsOpened x.linked.now x.world → IsCore (kept_view x.world.linked) x.world.store x.world.memory x.core → ((L : LinkedSet) → IsLinked L x.linked.now → RunsAt L x (set_opening L))
     → ArePlacements x.linked.now x.placements.items → IsRunning x
-running_is x set opened core at placements =
+running_is x set runnable opened core at placements =
     let k = x.linked.now in
     let L = set.0 in
     let h = set.1 in
     record {
       set = set;
+      runnable = runnable;
       fixed = ap kept_view opened.linked;
       core = core;
       members = ap (λ (l : LoaderState). length l.stages) (sym (at L h).loader) ∙ length-map L.set.members (λ (m : Member). 0) ∙ members_count L k h;
@@ -220,5 +229,6 @@ inside_of x answers = record { running = x; steps = 0; answers = answers; answer
 pub store_is : (x : Running) (answers : Vec Answer Global) → IsRunning x → ((L : LinkedSet) → IsLinked L x.linked.now → RunsAt L x (set_opening L)) → answers.items ≡ [] → IsStore (inside_of x answers)
 store_is x answers running at none = record {
   running = λ e. running;
+  bytes = subst (All IsOfBytes) (sym none) (All-nil IsOfBytes);
   stands = λ e L h. (record { found = refl; run = refl; real = tt; left = none }, at L h);
 }

@@ -1,9 +1,12 @@
 -- What one answer more makes of the run.
 use Rattle.std.proofs.Common.{◌≡◌, [], ◌∷◌, ◌++◌, List, Vec, true, sym, subst}
 use Rattle.std.specs.declared.alloc.Global.{Global}
+use Rattle.std.specs.List.{All}
+use Rattle.std.proofs.lemmas.List.Elements.{All-nil, All-cons, All-append}
 use Rattle.wasm_form.specs.declared.runtime.Answer.{Answer}
 use Rattle.spec_loading.specs.spec_runtime.Recorded.{Recorded}
 use Rattle.spec_loading.specs.spec_linking.LinkedSets.{LinkedSet}
+use Rattle.spec_loading.specs.spec_safety.ValueTypes.{IsOfBytes}
 use Rattle.spec_loading.specs.spec_runtime.Courses.{state_at}
 use Rattle.wasm_machine.specs.Steps.{Awaits}
 use Rattle.wasm_machine.proofs.Courses.{at_recorded}
@@ -22,9 +25,9 @@ with_answers i answers = record i { answers = answers; answered = true }
 abbrev IsAwaiting : Answer → StoreRun → Type 0
 IsAwaiting a s = (L : LinkedSet) × IsLinked L s.linked × Awaits (set_course L) s.run a
 
-pub recorded_store : (a : Answer) (v : StoreRun) (i : Inside) (answers : Vec Answer Global) → run_of i ≡ v → IsStore i → IsAwaiting a v → answers.items ≡ i.answers.items ++ a ∷ []
+pub recorded_store : (a : Answer) (v : StoreRun) (i : Inside) (answers : Vec Answer Global) → run_of i ≡ v → IsStore i → IsAwaiting a v → IsOfBytes a → answers.items ≡ i.answers.items ++ a ∷ []
     → IsStore (with_answers i answers)
-recorded_store a v i answers is h awaits more =
+recorded_store a v i answers is h awaits bytes more =
     let w : IsAwaiting a (run_of i) = subst (IsAwaiting a) (sym is) awaits in
     let x = (run_of i).run in
     let found = w.2.1.found in
@@ -32,6 +35,7 @@ recorded_store a v i answers is h awaits more =
     let fits = wait_fits_host i.running running w.0 w.1 (state_at (set_course w.0) x) (h.stands found w.0 w.1).1 a w.2.2 in
     record {
       running = h.running;
+      bytes = subst (All IsOfBytes) (sym more) (All-append IsOfBytes i.answers.items (a ∷ []) h.bytes (All-cons IsOfBytes a [] bytes (All-nil IsOfBytes)));
       stands = λ _ L of.
           let C = set_course L in
           let from = h.stands found L of in

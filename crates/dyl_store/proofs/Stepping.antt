@@ -10,6 +10,9 @@ use Rattle.spec_loading.specs.spec_execution.Runs.{taken}
 use Rattle.spec_loading.specs.spec_linking.LinkedSets.{LinkedSet, set_hosts}
 use Rattle.spec_loading.specs.Loading.{loaded_step, loaded_too_deep, with_run}
 use Rattle.spec_loading.specs.LoadedSet.{SetState, set_loading}
+use Rattle.spec_loading.specs.SoundSets.{SetRunIsSound}
+use Rattle.spec_loading.specs.spec_safety.ValueTypes.{IsOfBytes}
+use Rattle.spec_loading.proofs.of_spec_binary.Lists.{holds_at}
 use Rattle.wasm_machine.specs.declared.machine.Standing.{Standing}
 use Rattle.wasm_machine.specs.declared.machine.Standing.TheVariants as standing
 use Rattle.wasm_machine.specs.declared.event.Event.{Event}
@@ -23,11 +26,12 @@ use Rattle.dyl_link.specs.Kept.{Kept, IsLinked}
 use Rattle.dyl_store.specs.Worlds.{kept_view}
 use Rattle.dyl_store.specs.declared.running.Running.{Running}
 use Rattle.dyl_store.specs.declared.store.Store.TheInside.{Inside}
-use Rattle.dyl_store.specs.Stores.{StoreRun, set_course}
-use Rattle.dyl_store.specs.Runs.{IsRunning, IsSomewhere, RunsAt, StepsTo}
+use Rattle.dyl_store.specs.Stores.{StoreRun, set_course, MayWantAt}
+use Rattle.dyl_store.specs.Runs.{IsRunning, IsSomewhere, RunsAt, StepsTo, WantsTo}
 use Rattle.dyl_store.specs.Calls.{is_loader}
 use Rattle.dyl_store.specs.Kept.{run_of, StandsFrom, IsStore}
 use Rattle.dyl_store.proofs.Fitting.{asking_status, fits_host}
+use Rattle.dyl_store.proofs.Runnable.{few_pages, hold_bytes}
 
 -- the parts of a run, once another one is running after so many steps
 abbrev pub with_running : Inside → Running → ℕ → Bool → Inside
@@ -80,13 +84,16 @@ module _ (L : LinkedSet) (new : Running) (x : Recorded) (count : ℕ) where
     stepped_at (event.Trapped why) plain told step = made (event.Trapped why) refl told step
     stepped_at (event.Exited code) plain told step = made (event.Exited code) refl told step
     stepped_at event.Deep plain told step = stayed event.Deep told step.2 (moving, step.0, refl)
-    stepped_at event.Stuck plain told step = stayed event.Stuck told step.2 (moving, step.0, refl)
 
--- it stands at a state
-pub somewhere : (i : Inside) → IsStore i → i.lost ≡ false → IsSomewhere i.running
-somewhere i h found =
-    let set = (h.running found).set in
-    (set.0, set.1, (state_at (set_course set.0) (run_of i).run, (h.stands found set.0 set.1).1))
+-- it stands at a state, which is sound
+pub somewhere : SetRunIsSound → (i : Inside) → IsStore i → i.lost ≡ false → IsSomewhere i.running
+somewhere law i h found =
+    let running = h.running found in
+    let L = running.set.0 in
+    let linked = running.set.1 in
+    let k = i.running.linked.now in
+    let sound = law L i.answers.items i.steps linked.shape linked.links (few_pages L k linked running.runnable) (hold_bytes L k linked running.runnable) h.bytes in
+    (L, linked, (state_at (set_course L) (run_of i).run, (h.stands found L linked).1, sound))
 
 -- a set of what is seen of a run is one of what is kept of it
 pub linked_of : (v : StoreRun) (i : Inside) (L : LinkedSet) → run_of i ≡ v → IsLinked L v.linked → IsLinked L i.running.linked.now
@@ -109,6 +116,7 @@ module _ (e : Event) (v : StoreRun) (i : Inside) (new : Running) (count : ℕ) (
   pub moving_store : IsRunning new → IsStore (with_running i new (i.steps + count) i.answered)
   moving_store running = record {
     running = λ _. running;
+    bytes = h.bytes;
     stands = λ _ L of. (stepped_from L (subst (IsLinked L) (linked_now i new linked) of)).0;
   }
 
@@ -116,6 +124,11 @@ module _ (e : Event) (v : StoreRun) (i : Inside) (new : Running) (count : ℕ) (
   moving_stepped L of =
       let before = linked_of v i L is of in
       told_of L e v i (run_of (with_running i new (i.steps + count) i.answered)).run is ((h.stands found L before).0, (stepped_from L before).1)
+
+-- where the next step of what is running may want memory, that of the run may
+pub wants_at : (v : StoreRun) (i : Inside) → run_of i ≡ v → IsStore i → i.lost ≡ false → WantsTo i.running → MayWantAt v.linked v.run
+wants_at v i is h found wants =
+    subst (λ (x : StoreRun). MayWantAt x.linked x.run) is (λ L of. wants L of (state_at (set_course L) (run_of i).run) (h.stands found L of).1)
 
 -- ---- the answer that is recorded
 
@@ -131,7 +144,6 @@ tells_after L x t standing.Loading h goes = absurd h
 tells_after L x t standing.Returned h goes = subst (TellsStatus (set_hosts L) event.Returned) (sym h) tt
 tells_after L x t (standing.Trapped why) h goes = subst (TellsStatus (set_hosts L) (event.Trapped why)) (sym h) refl
 tells_after L x t (standing.Exited code) h goes = subst (TellsStatus (set_hosts L) (event.Exited code)) (sym h) refl
-tells_after L x t standing.Stuck h goes = subst (TellsStatus (set_hosts L) event.Moved) (sym h.0) tt
 tells_after L x t standing.Lost h goes = absurd h
 
 -- A run of a set waits, and takes the last answer next.
@@ -192,6 +204,10 @@ module _ (v : StoreRun) (i : Inside) (entry count : ℕ) (items : List Answer) (
         fits_host i.running (h.running found) set.0 set.1 (state_at C x) w.from.1 a entry count w.call asks w.host
         (subst (λ (b : Answer). IsTrue (answer_fits w.call (memory_at C x) b)) (taken_last set.0 set.1) w.takes.fits)
 
+    -- it is of bytes
+    pub last_bytes : IsOfBytes a
+    last_bytes = holds_at IsOfBytes i.answers.items (length i.answers.items - 1) a h.bytes (read_last (Some a) items i.answers.items same read)
+
     module _ (e : Event) (st : Standing) (new : Running) (linked : new.linked ≡ i.running.linked)
         (takes : (L : LinkedSet) → IsLinked L i.running.linked.now → (s : SetState) → RunsAt L i.running s → RunsAt L new (with_run s (taken a s.run)))
         (told : e ≡ event_of st) (at_standing : st ≡ new.core.machine.standing) where
@@ -215,7 +231,7 @@ module _ (v : StoreRun) (i : Inside) (entry count : ℕ) (items : List Answer) (
           )
 
       pub taken_store : IsRunning new → IsStore after
-      taken_store running = record { running = λ _. running; stands = λ _ L of. (taken_so L (subst (IsLinked L) (linked_now i new linked) of)).0 }
+      taken_store running = record { running = λ _. running; bytes = h.bytes; stands = λ _ L of. (taken_so L (subst (IsLinked L) (linked_now i new linked) of)).0 }
 
       pub taken_stepped : (L : LinkedSet) → IsLinked L v.linked → IsTold L e v.run (run_of after).run
       taken_stepped L of = told_of L e v i (run_of after).run is (taken_so L (linked_of v i L is of)).1
@@ -225,18 +241,16 @@ module _ (v : StoreRun) (i : Inside) (entry count : ℕ) (items : List Answer) (
 abbrev pub is_end : Standing → Bool
 is_end standing.Moving = false
 is_end (standing.Asking entry count) = false
-is_end standing.Stuck = false
 is_end _ = true
 
-pub end_so : (st : Standing) → (st ≡ standing.Moving → ⊥) → ((entry count : ℕ) → st ≡ standing.Asking entry count → ⊥) → (st ≡ standing.Stuck → ⊥) → is_end st ≡ true
-end_so standing.Moving a b c = absurd (a refl)
-end_so (standing.Asking entry count) a b c = absurd (b entry count refl)
-end_so standing.Loading a b c = refl
-end_so standing.Returned a b c = refl
-end_so (standing.Trapped why) a b c = refl
-end_so (standing.Exited code) a b c = refl
-end_so standing.Stuck a b c = absurd (c refl)
-end_so standing.Lost a b c = refl
+pub end_so : (st : Standing) → (st ≡ standing.Moving → ⊥) → ((entry count : ℕ) → st ≡ standing.Asking entry count → ⊥) → is_end st ≡ true
+end_so standing.Moving a b = absurd (a refl)
+end_so (standing.Asking entry count) a b = absurd (b entry count refl)
+end_so standing.Loading a b = refl
+end_so standing.Returned a b = refl
+end_so (standing.Trapped why) a b = refl
+end_so (standing.Exited code) a b = refl
+end_so standing.Lost a b = refl
 
 ended_told : (L : LinkedSet) (now : Running) (x : Recorded) (st : Standing) → StandsAs (set_loading L) now.core (state_at (set_course L) x) st → is_end st ≡ true → RunStepped (set_course L) (event_of st) x x
 ended_told L now x standing.Moving h end = absurd cc
@@ -245,7 +259,6 @@ ended_told L now x standing.Loading h end = absurd h
 ended_told L now x standing.Returned h end = told_again (set_course L) event.Returned x refl (ap has_ended h) (subst (TellsStatus (set_hosts L) event.Returned) (sym h) tt)
 ended_told L now x (standing.Trapped why) h end = told_again (set_course L) (event.Trapped why) x refl (ap has_ended h) (subst (TellsStatus (set_hosts L) (event.Trapped why)) (sym h) refl)
 ended_told L now x (standing.Exited code) h end = told_again (set_course L) (event.Exited code) x refl (ap has_ended h) (subst (TellsStatus (set_hosts L) (event.Exited code)) (sym h) refl)
-ended_told L now x standing.Stuck h end = absurd cc
 ended_told L now x standing.Lost h end = absurd h
 
 pub ended_stepped : (e : Event) (st : Standing) (v : StoreRun) (i : Inside) → run_of i ≡ v → IsStore i → i.lost ≡ false → is_end st ≡ true → st ≡ i.running.core.machine.standing → e ≡ event_of st
@@ -267,5 +280,4 @@ end_asks_nothing e st told L = subst (ArgumentsFit (set_hosts L)) (sym told) (go
     go standing.Returned = tt
     go (standing.Trapped why) = tt
     go (standing.Exited code) = tt
-    go standing.Stuck = tt
     go standing.Lost = tt

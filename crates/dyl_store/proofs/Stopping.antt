@@ -1,5 +1,5 @@
 -- Where no step of code is next.
-use Rattle.std.proofs.Common.{◌≡◌, ◌<◌, ℕ, Some, None, Ok, Err, Result, refl, sym, ◌∙◌}
+use Rattle.std.proofs.Common.{◌≡◌, ◌<◌, ℕ, Ok, Err, Result, refl, sym, ◌∙◌}
 use Rattle.std.specs.Result.{OnOk}
 use Rattle.spec_loading.specs.spec_runs.Systems.{Moving, Waits, Returned, Exited, Trapped}
 use Rattle.spec_loading.specs.spec_linking.LinkedSets.{LinkedSet}
@@ -24,7 +24,6 @@ code_moving L x s standing.Loading h code = absurd h
 code_moving L x s standing.Returned h code = absurd (let clash : Returned ≡ Moving = sym h ∙ code.0 in cc)
 code_moving L x s (standing.Trapped why) h code = absurd (let clash : Trapped why ≡ Moving = sym h ∙ code.0 in cc)
 code_moving L x s (standing.Exited number) h code = absurd (let clash : Exited number ≡ Moving = sym h ∙ code.0 in cc)
-code_moving L x s standing.Stuck h code = absurd (let clash : None ≡ Some code.3.0 = sym h.1 ∙ code.3.1 in cc)
 code_moving L x s standing.Lost h code = absurd h
 
 -- the machine doesn't go on

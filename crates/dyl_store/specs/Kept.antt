@@ -1,7 +1,9 @@
 -- What is kept of a run.
 use Rattle.std.specs.Prelude.{◌≡◌, false}
+use Rattle.std.specs.List.{All}
 use Rattle.spec_loading.specs.spec_runtime.Recorded.{Recorded}
 use Rattle.spec_loading.specs.spec_linking.LinkedSets.{LinkedSet}
+use Rattle.spec_loading.specs.spec_safety.ValueTypes.{IsOfBytes}
 use Rattle.spec_loading.specs.spec_runtime.Courses.{state_at, IsAt}
 use Rattle.dyl_link.specs.Kept.{IsLinked}
 use Rattle.dyl_store.specs.declared.running.Running.{Running}
@@ -16,7 +18,8 @@ run_of i = record { linked = i.running.linked.now; run = record { steps = i.step
 abbrev pub StandsFrom : LinkedSet → Recorded → Running → Type 0
 StandsFrom L x now = IsAt (set_course L) x × RunsAt L now (state_at (set_course L) x)
 
--- it stands at the state of the run
+-- it stands at the state of the run, over answers of bytes
 pub record IsStore (i : Inside) : Type 0 where
   pub running : i.lost ≡ false → IsRunning i.running
+  pub bytes : All IsOfBytes i.answers.items
   pub stands : i.lost ≡ false → (L : LinkedSet) → IsLinked L i.running.linked.now → StandsFrom L (run_of i).run i.running

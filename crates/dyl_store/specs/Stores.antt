@@ -3,9 +3,9 @@ use Rattle.spec_loading.specs.spec_runtime.Recorded.{Recorded}
 use Rattle.spec_loading.specs.spec_linking.LinkedSets.{LinkedSet, set_hosts}
 use Rattle.spec_loading.specs.Loading.{loaded_too_deep}
 use Rattle.spec_loading.specs.LoadedSet.{SetState, set_loading, set_opening, set_system}
-use Rattle.spec_loading.specs.spec_runtime.Courses.{Course, no_steps}
+use Rattle.spec_loading.specs.spec_runtime.Courses.{Course, no_steps, state_at}
 use Rattle.dyl_frames.specs.Next as next
-use Rattle.dyl_link.specs.Kept.{Kept}
+use Rattle.dyl_link.specs.Kept.{Kept, IsLinked}
 
 -- what is kept of the linked set, and what is recorded of its run
 pub record StoreRun : Type 0 where
@@ -23,3 +23,7 @@ new_run k = record { linked = k; run = no_steps }
 -- the next step is one of code
 abbrev pub IsCodeNext : LinkedSet → SetState → Type 0
 IsCodeNext L s = next.IsCodeNext (set_loading L) s
+
+-- where the recorded steps of the run lead the next step may want memory
+abbrev pub MayWantAt : Kept → Recorded → Type 0
+MayWantAt k x = (L : LinkedSet) → IsLinked L k → next.MayWant (state_at (set_course L) x)

@@ -9,7 +9,7 @@ ghost use Rattle.dyl_addresses.specs.Sets.{IsOfSet};
 ghost use Rattle.dyl_addresses.specs.Kept.{AreAddresses};
 ghost use Rattle.dyl_store.specs.Worlds.{kept_view};
 ghost use Rattle.dyl_store.specs.Opened.{IsOpened};
-ghost use Rattle.dyl_store.specs.Runs.{IsRunning, RunsAt};
+ghost use Rattle.dyl_store.specs.Runs.{IsRunning, IsRunnable, RunsAt};
 
 use crate::contents::{datas_of, elems_of, globals_of, tables_of};
 use crate::opened_members::units_of;
@@ -20,8 +20,10 @@ use crate::world::World;
 use dyl_addresses::Addresses;
 use dyl_frames::Core;
 use dyl_link::Linked;
-use spec_loading::spec_safety::store_is_in_range;
-use spec_loading::{error_texts, linked_code_is_there, slots_fit};
+use spec_loading::{
+    error_texts, linked_code_is_there, linked_sets_never_get_stuck, linked_sets_step_soundly,
+    slots_fit,
+};
 use std::alloc::Global;
 use wasm_form::Memory;
 use wasm_space::Space;
@@ -52,12 +54,13 @@ fn memory_of(alloc: Global, linked: &Linked) -> Result<Space, Memory>
 // The machine of a linked set, over its members as they begin.
 fn core_of<'m>(alloc: Global, linked: &Linked, world: &World<'m>) -> Result<Core<'m>, Memory>
     requires set { IsOfSet linked.now }
+    requires runnable { IsRunnable linked.now }
     requires opened { IsOpened linked.now world.now }
-    ensures core { IfOk result (λ c. IsCore (kept_view world.now.linked) world.now.store c) }
+    ensures core { IfOk result (λ c. IsCore (kept_view world.now.linked) world.now.store world.now.memory c) }
     ensures opened { IfOk result (λ c. (L : LinkedSet) → IsLinked L linked.now → IsState (set_loading L) c world.now.store world.now.memory (set_opening L)) }
 {
-    linked_code_is_there();
-    store_is_in_range();
+    linked_sets_step_soundly();
+    linked_sets_never_get_stuck();
     let tasks = member_tasks(alloc, linked, 0)?;
     let count = linked.set().members.items().len() as u32;
     let core = Core::new(alloc, world, count, tasks)?;
@@ -105,6 +108,7 @@ impl<'m> Running<'m> {
     // A linked set in its opening state.
     pub fn open(alloc: Global, linked: &'m Linked) -> Result<Running<'m>, Memory>
         requires set { IsOfSet linked.now }
+        requires runnable { IsRunnable linked.now }
         ensures running { IfOk result (λ x. IsRunning x) }
         ensures opened { IfOk result (λ x. (L : LinkedSet) → IsLinked L linked.now → RunsAt L x (set_opening L)) }
         ensures linked { IfOk result (λ x. x.linked.now ≡ linked.now) }

@@ -1,14 +1,15 @@
 // A loaded set in its run, without what is counted and recorded of it.
-ghost use Rattle.std.specs.Prelude.{◌≡◌, ◌≢◌, ◌<◌, [], length, true, false, Some, IfOk, OnOk};
+ghost use Rattle.std.specs.Prelude.{◌≡◌, ◌≢◌, ◌<◌, [], length, true, false, Some, IfOk, OnOk, OnErr};
 ghost use Rattle.spec_loading.specs.declared.task.Phase.TheVariants as phases;
 ghost use Rattle.spec_loading.specs.declared.task.After.TheVariants as follows;
 ghost use Rattle.spec_loading.specs.LoadedSet.{set_loading};
 ghost use Rattle.spec_loading.specs.spec_linking.LinkedSets.{LinkedSet};
+ghost use Rattle.spec_loading.specs.spec_safety.ValueTypes.{IsOfBytes};
 ghost use Rattle.wasm_machine.specs.Machines.{IsMarked};
 ghost use Rattle.dyl_link.specs.Kept.{IsLinked};
 ghost use Rattle.dyl_frames.specs.Cores.{is_mark, first_task, top_frame, FitsHost, TakenFrom};
 ghost use Rattle.dyl_store.specs.Worlds.{kept_view, seen_of};
-ghost use Rattle.dyl_store.specs.Runs.{IsRunning, IsSomewhere, StepsTo, QuickStepsTo};
+ghost use Rattle.dyl_store.specs.Runs.{IsRunning, IsSomewhere, StepsTo, QuickStepsTo, WantsTo};
 ghost use Rattle.dyl_store.specs.Calls.{is_loader};
 
 use crate::callees::callee;
@@ -16,7 +17,7 @@ use crate::place_member::Placement;
 use crate::world::World;
 use dyl_frames::{After, Core, Phase, Task};
 use dyl_link::Linked;
-use spec_loading::{linked_code_is_there, linked_functions_are_typed};
+use spec_loading::{linked_functions_are_typed, linked_sets_step_soundly};
 use std::alloc::Global;
 use wasm_form::{Memory, Ref};
 use wasm_machine::{Answer, Done, Event, Standing};
@@ -52,6 +53,7 @@ impl<'m> Running<'m> {
         requires stands { IsSomewhere self.old }
         requires moving { self.old.core.machine.standing ≡ Standing.Moving }
         ensures stepped { IfOk result (λ e. (L : LinkedSet) → IsLinked L self.old.linked.now → StepsTo L e self.old self.new) }
+        ensures wanting { OnErr result (WantsTo self.old) }
         ensures answered { IfOk result (λ e. is_loader e ≡ false) }
         ensures running { OnOk result (IsRunning self.new) }
         ensures linked { self.new.linked ≡ self.old.linked }
@@ -70,8 +72,10 @@ impl<'m> Running<'m> {
     // The same up to a call of a function of the loader, which is still to be answered.
     fn next(&mut self, alloc: Global) -> Result<Event, Memory>
         requires running { IsRunning self.old }
+        requires stands { IsSomewhere self.old }
         requires moving { self.old.core.machine.standing ≡ Standing.Moving }
         ensures stepped { IfOk result (λ e. (L : LinkedSet) → IsLinked L self.old.linked.now → StepsTo L e self.old self.new) }
+        ensures wanting { OnErr result (WantsTo self.old) }
         ensures running { OnOk result (IsRunning self.new) }
         ensures linked { self.new.linked ≡ self.old.linked }
     {
@@ -98,6 +102,7 @@ impl<'m> Running<'m> {
     pub fn take(&mut self, a: &Answer)
         requires running { IsRunning self.old }
         requires fits { FitsHost (kept_view self.old.world.linked) self.old.world.memory a.now self.old.core.machine.standing }
+        requires bytes { IsOfBytes a.now }
         ensures taken { (L : LinkedSet) → IsLinked L self.old.linked.now → TakenFrom (set_loading L) a.now self.old.core (seen_of self.old.world) self.new.core (seen_of self.new.world) }
         ensures running { IsRunning self.new }
         ensures linked { self.new.linked ≡ self.old.linked }
@@ -108,8 +113,10 @@ impl<'m> Running<'m> {
     // The loader does the next task of its frame, or what follows the last.
     fn load(&mut self, alloc: Global) -> Result<Event, Memory>
         requires running { IsRunning self.old }
+        requires stands { IsSomewhere self.old }
         requires marked { IsMarked self.old.core.machine }
         ensures stepped { IfOk result (λ e. (L : LinkedSet) → IsLinked L self.old.linked.now → StepsTo L e self.old self.new) }
+        ensures wanting { OnErr result (WantsTo self.old) }
         ensures running { OnOk result (IsRunning self.new) }
         ensures linked { self.new.linked ≡ self.old.linked }
     {
@@ -125,6 +132,7 @@ impl<'m> Running<'m> {
         requires marked { IsMarked self.old.core.machine }
         requires last { (top_frame self.old.core).tasks ≡ [] }
         ensures stepped { IfOk result (λ e. (L : LinkedSet) → IsLinked L self.old.linked.now → StepsTo L e self.old self.new) }
+        ensures wanting { OnErr result (WantsTo self.old) }
         ensures running { OnOk result (IsRunning self.new) }
         ensures linked { self.new.linked ≡ self.old.linked }
     {
@@ -148,6 +156,7 @@ impl<'m> Running<'m> {
         requires last { (top_frame self.old.core).tasks ≡ [] }
         requires entry { (top_frame self.old.core).after ≡ follows.CallEntry }
         ensures stepped { IfOk result (λ e. (L : LinkedSet) → IsLinked L self.old.linked.now → StepsTo L e self.old self.new) }
+        ensures wanting { OnErr result (WantsTo self.old) }
         ensures running { OnOk result (IsRunning self.new) }
         ensures linked { self.new.linked ≡ self.old.linked }
     {
@@ -162,10 +171,12 @@ impl<'m> Running<'m> {
     // The work of a task.
     fn work(&mut self, alloc: Global, task: Task) -> Result<Event, Memory>
         requires running { IsRunning self.old }
+        requires stands { IsSomewhere self.old }
         requires marked { IsMarked self.old.core.machine }
         requires task { first_task (top_frame self.old.core) ≡ Some task }
         requires member { task.member < length self.old.core.stages }
         ensures stepped { IfOk result (λ e. (L : LinkedSet) → IsLinked L self.old.linked.now → StepsTo L e self.old self.new) }
+        ensures wanting { OnErr result (WantsTo self.old) }
         ensures running { OnOk result (IsRunning self.new) }
         ensures linked { self.new.linked ≡ self.old.linked }
     {
@@ -179,6 +190,7 @@ impl<'m> Running<'m> {
     // A member is placed, unless it was before.
     fn place(&mut self, task: Task) -> Event
         requires running { IsRunning self.old }
+        requires stands { IsSomewhere self.old }
         requires marked { IsMarked self.old.core.machine }
         requires task { first_task (top_frame self.old.core) ≡ Some task }
         requires member { task.member < length self.old.core.stages }
@@ -191,7 +203,7 @@ impl<'m> Running<'m> {
             self.core.pass(&self.world, task);
             return Event::Moved;
         }
-        linked_code_is_there();
+        linked_sets_step_soundly();
         let placement = &self.placements[task.member as usize];
         let outcome = self.world.place(self.linked, task.member, placement);
         self.core.placed(&self.world, task, outcome)

@@ -1,5 +1,6 @@
 // The run of a linked set.
-ghost use Rattle.std.specs.Prelude.{◌≡◌, ◌<◌, map, true, false, IfOk, OnOk, OnErr, Err};
+ghost use Rattle.std.specs.Prelude.{◌≡◌, ◌<◌, ◌⊎◌, map, true, false, IfOk, OnOk, OnErr, Err};
+ghost use Rattle.spec_loading.specs.SoundSets.{HoldBytes};
 ghost use Rattle.spec_loading.specs.spec_runtime.Recorded.{has_ended};
 ghost use Rattle.spec_loading.specs.spec_linking.LinkedSets.{LinkedSet, set_hosts};
 ghost use Rattle.spec_loading.specs.LoadedSet.{SetState};
@@ -7,17 +8,21 @@ ghost use Rattle.spec_loading.specs.spec_runtime.Courses.{state_at, status_at, m
 ghost use Rattle.wasm_machine.specs.Steps.{RunStepped, ArgumentsFit, Advances, AreOfCode, Awaits};
 ghost use Rattle.dyl_link.specs.host_table.Names.{host_name_of};
 ghost use Rattle.dyl_link.specs.Kept.{IsLinked};
-ghost use Rattle.dyl_store.specs.Stores.{set_course, new_run, IsCodeNext};
+ghost use Rattle.dyl_store.specs.Stores.{set_course, new_run, IsCodeNext, MayWantAt};
 ghost use Rattle.dyl_store.specs.Runs.{IsRunning, RunsAt};
 ghost use Rattle.dyl_store.specs.Steps.{Counted};
+ghost use Rattle.dyl_store.specs.Worlds.{set_in};
 
 use crate::running::Running;
 use dyl_link::Linked;
 use dyl_link::host_table::HostName;
+use spec_loading::linked_sets_never_get_stuck;
 use std::alloc::Global;
 use std::marker::Model;
 use wasm_form::{List, Memory};
-use wasm_machine::{Answer, Done, Event, Standing, are_numbers, event_of, steps_told};
+use wasm_machine::{
+    Answer, Done, Event, Standing, are_numbers, event_of, holds_bytes, is_of_bytes, steps_told,
+};
 use wasm_space::Space;
 
 /// The run of a linked set: its steps, and the answers of its host. Contracts see it as a `StoreRun`.
@@ -73,6 +78,15 @@ fn quick_step(running: &mut Running, alloc: Global, steps: &mut u64, lost: &mut 
     }
 }
 
+// The data segments of all members are of bytes.
+fn hold_bytes(linked: &Linked)
+    ensures { HoldBytes (set_in linked.now) }
+{
+    for member in linked.set().members.items() {
+        holds_bytes(member.checked.module());
+    }
+}
+
 impl<'m> Store<'m> {
     /// A linked set in its opening state: the loader is to open the main module and then to call the entry. `Memory` where no memory could
     /// be had.
@@ -80,6 +94,8 @@ impl<'m> Store<'m> {
         ensures { IfOk result (λ s. s ≡ new_run linked.now) }
     {
         linked.links();
+        linked.has_few_pages();
+        hold_bytes(linked);
         let running = Running::open(alloc, linked)?;
         Ok(Store {
             running,
@@ -91,12 +107,13 @@ impl<'m> Store<'m> {
     }
 
     /// Makes one step, which takes the answer that is recorded for a wait, and tells how the run stands then. An end is told again,
-    /// `Deep` where the step would pass a limit of depth, and `Stuck` where there is none, with nothing changed. It takes memory
-    /// where the next step calls or grows; a run that answered `Memory` answers it from then on.
+    /// and `Deep` where the step would pass a limit of depth, with nothing changed. It takes memory only where a frame of the loader is
+    /// on top, or code that next calls a function or grows a memory or a table; a run that answered `Memory` answers it from then on.
     pub fn run_step(&mut self, alloc: Global) -> Result<Event, Memory>
         requires answered { (L : LinkedSet) × IsLinked L self.old.linked × (IsAt (set_course L) self.old.run → is_waiting (set_course L) self.old.run ≡ false) }
         requires few { self.old.run.steps < 18446744073709551615 }
         ensures stepped { (L : LinkedSet) → IsLinked L self.old.linked → IfOk result (λ e. IsAt (set_course L) self.old.run × RunStepped (set_course L) e self.old.run self.new.run) }
+        ensures wanting { OnErr result ((self.old.run.lost ≡ true) ⊎ MayWantAt self.old.linked self.old.run) }
         ensures lost { OnErr result (self.new.run ≡ as_lost self.old.run) }
         ensures again { self.old.run.lost ≡ true → result ≡ Err (record {}) }
         ensures arguments { (L : LinkedSet) → IsLinked L self.old.linked → IfOk result (λ e. ArgumentsFit (set_hosts L) e) }
@@ -107,6 +124,7 @@ impl<'m> Store<'m> {
         }
         match self.running.core.standing() {
             Standing::Moving => {
+                linked_sets_never_get_stuck();
                 let Ok(event) = self.running.step(alloc) else {
                     self.lost = true;
                     return Err(Memory);
@@ -124,18 +142,18 @@ impl<'m> Store<'m> {
                 self.steps += 1;
                 Ok(event_of(self.running.core.standing()))
             }
-            Standing::Stuck => Ok(Event::Stuck),
             end => Ok(event_of(end)),
         }
     }
 
     /// Makes steps of code, up to so many in all, until one is left for `run_step`: a step of the loader, a call of a host function, or
-    /// one that is too deep; or the run has ended, waits or is stuck.
+    /// one that is too deep; or the run has ended or waits. It takes memory only as a step does.
     pub fn advance(&mut self, alloc: Global, most: u64) -> Result<(), Memory>
         ensures advances { Advances most self.old.run self.new.run }
         ensures code { (L : LinkedSet) → IsLinked L self.old.linked → AreOfCode (set_course L) self.old.run self.new.run }
         ensures left { (L : LinkedSet) → IsLinked L self.old.linked → OnOk result (IsAt (set_course L) self.new.run → self.new.run.steps < most → IsCodeNext L (state_at (set_course L) self.new.run) → ⊥) }
         ensures found { OnOk result (self.new.run.lost ≡ false) }
+        ensures wanting { OnErr result ((self.old.run.lost ≡ true) ⊎ MayWantAt self.old.linked self.new.run) }
         ensures lost { OnErr result (self.new.run.lost ≡ true) }
         ensures again { self.old.run.lost ≡ true → result ≡ Err (record {}) }
         ensures same { self.new.linked ≡ self.old.linked }
@@ -159,6 +177,7 @@ impl<'m> Store<'m> {
         ensures lost { OnErr result (self.new.run ≡ as_lost self.old.run) }
         ensures same { self.new.linked ≡ self.old.linked }
     {
+        is_of_bytes(&a);
         let Ok(()) = self.answers.push(a) else {
             self.lost = true;
             return Err(Memory);

@@ -1,6 +1,6 @@
 -- From the matches of `clap` to what is asked for.
-use Rattle.std.proofs.Common.{◌≡◌, Bool, true, false, List, [], ◌∷◌, ◌++◌, Option, Some, None, refl, sym, ap, ◌∙◌, ◌&&◌, subst, option_and_then, option_map, unwrap_or, map, cond, length, drop, true≢false}
-use Rattle.std.specs.List.{list_any, list_all}
+use Rattle.std.proofs.Common.{◌≡◌, Bool, true, false, List, [], ◌∷◌, Option, Some, None, refl, sym, ap, ◌∙◌, subst, option_and_then, option_map, unwrap_or, map, cond, drop, true≢false}
+use Rattle.std.specs.List.{list_any}
 use Rattle.std.specs.Borrow.{Bor}
 use Rattle.std.specs.Str.{bytes_eq}
 use Rattle.dyl_words.specs.Forms.{Form, ends, option, stray, plain, form_of, after_hyphen}
@@ -8,9 +8,8 @@ use Rattle.dyl_words.specs.declared.names.CommandName.{CommandName}
 use Rattle.dyl_words.specs.declared.names.CommandName.TheVariants.{Merge, Run, Exec, Plan, Gen}
 use Rattle.dyl_words.specs.declared.names.OptionName.{OptionName}
 use Rattle.dyl_words.specs.declared.names.OptionName.TheVariants.{Dl, Path, Pages, Stack, NoDuplicates, Steps}
-use Rattle.dyl_words.specs.Words.{Given, options, options_of, option_named, is_flag, yes, with_plain, with_use, at_option, at_form, given, has_zero, values_of, is_right, takes_plain, asked_of, asked_by, asked_in, asked}
-use Rattle.dyl_words.specs.Clap.{app, no_kinds, vals, texts_in, is_stray_first, has_stray, is_stray, words_in, values_in, asked_in_rows}
-use Rattle.dyl_words.proofs.Sorts.{sorts, Sort, dashes}
+use Rattle.dyl_words.specs.Words.{Given, options_of, option_named, is_flag, yes, with_plain, with_use, at_option, at_form, given, has_zero, values_of, takes_plain, asked_by, asked_in, asked}
+use Rattle.dyl_words.specs.Clap.{app, no_kinds, vals, texts_in, is_stray_first, has_stray, words_in, values_in, asked_in_rows}
 use Rattle.dyl_words.proofs.Runs.{Agrees, begins_form, first_begins}
 use Rattle.dyl_words.proofs.Commands.{answers}
 use Rattle.clap.specs.Words.{Row, Text, fault_of, matches_of, rows_of}
@@ -45,21 +44,6 @@ none_taken Plan = refl
 none_taken Gen = refl
 
 -- ---- stray hyphens
-
-pub stray_first : (m : Form) (b : Bool) → is_stray_first m false ≡ true → is_stray_first m b ≡ true
-stray_first ends b h = absurd (true≢false (sym h))
-stray_first (option n v) b h = absurd (true≢false (sym h))
-stray_first stray b h = refl
-stray_first plain b h = absurd (true≢false (sym h))
-
-form_rest : (m : Form) (t : Text) (b : Bool) → Sort t m → bytes_eq t dashes ≡ false → is_stray_first m false ≡ false → is_stray_first m b ≡ b
-form_rest ends t b s p h = absurd (true≢false (ap (λ x. bytes_eq x dashes) (sym s) ∙ p))
-form_rest (option n v) t b s p h = refl
-form_rest stray t b s p h = absurd (true≢false h)
-form_rest plain t b s p h = refl
-
-pub stray_rest : (t : Text) (b : Bool) → bytes_eq t dashes ≡ false → is_stray t ≡ false → is_stray_first (form_of t) b ≡ b
-stray_rest t b p h = form_rest (form_of t) t b (sorts t) p h
 
 module _ (known : List OptionName) (t : Text) (ts : List Text) (later : has_stray ts ≡ true → (aw : Option OptionName) → given known aw ts ≡ None) where
   bare_none : (b : Bool) (o : OptionName) → has_stray ts ≡ true → cond b (option_map (with_use o yes) (given known None ts)) (given known (Some o) ts) ≡ None
@@ -107,16 +91,6 @@ disagreed c k rows None h e = refl
 disagreed c k rows (Some g) h e = absurd (true≢false (sym (ap no_kinds h.0) ∙ e))
 
 module _ (c : CommandName) (ws : List Text) where
-  pub nothing_refused : ws ≡ [] → asked c (drop 1 ws) ≡ None
-  nothing_refused e = subst (λ w. asked c (drop 1 w) ≡ None) (sym e) (none c)
-    where
-      none : (c : CommandName) → asked c [] ≡ None
-      none Merge = refl
-      none Run = refl
-      none Exec = refl
-      none Plan = refl
-      none Gen = refl
-
   module _ (name : Text) (ts : List Text) (is : ws ≡ name ∷ ts) where
     at_rest : (P : List Text → Type 0) → P ts → P (drop 1 ws)
     at_rest P h = subst (λ w. P (drop 1 w)) (sym is) h
@@ -138,32 +112,3 @@ module _ (c : CommandName) (ws : List Text) where
         pub read : fault_of (app c) ws ≡ [] → (rows : List Row) → rows ≡ matches_of (app c) ws → asked c (drop 1 ws) ≡ asked_in_rows c rows
         read h rows e = at_rest (λ x. asked c x ≡ asked_in_rows c rows)
             (read_is ∙ agreed c (fault_of (app c) (name ∷ ts)) (matches_of (app c) (name ∷ ts)) (given (options_of c) None ts) (answers name ts c open_words) (ap (fault_of (app c)) (sym is) ∙ h) ∙ ap (asked_in_rows c) (sym (e ∙ ap (matches_of (app c)) is)))
-
--- ---- one option or more wrong
-
-pub wrong_plain : (c : CommandName) (ws : List Text) (f : OptionName → List Text) → takes_plain c (length ws) ≡ false → asked_by c ws f ≡ None
-wrong_plain c ws f h = rw h refl
-
-false_right : (b : Bool) → (b && false) ≡ false
-false_right true = refl
-false_right false = refl
-
--- all hold of a list only if one of its elements does
-some_fails : {A : Type 0} (test : A → Bool) (front : List A) (x : A) (end : List A) → test x ≡ false → list_all test (front ++ x ∷ end) ≡ false
-some_fails test [] x end h = ap (λ b. b && list_all test end) h
-some_fails test (y ∷ ys) x end h = ap (λ b. test y && b) (some_fails test ys x end h) ∙ false_right (test y)
-
-module _ (c : CommandName) (ws : List Text) (f : OptionName → List Text) where
-  all_wrong : (o : OptionName) → is_right (f o) ≡ false → list_all (λ x. is_right (f x)) options ≡ false
-  all_wrong Dl h = some_fails (λ x. is_right (f x)) [] Dl (Path ∷ Pages ∷ Stack ∷ NoDuplicates ∷ Steps ∷ []) h
-  all_wrong Path h = some_fails (λ x. is_right (f x)) (Dl ∷ []) Path (Pages ∷ Stack ∷ NoDuplicates ∷ Steps ∷ []) h
-  all_wrong Pages h = some_fails (λ x. is_right (f x)) (Dl ∷ Path ∷ []) Pages (Stack ∷ NoDuplicates ∷ Steps ∷ []) h
-  all_wrong Stack h = some_fails (λ x. is_right (f x)) (Dl ∷ Path ∷ Pages ∷ []) Stack (NoDuplicates ∷ Steps ∷ []) h
-  all_wrong NoDuplicates h = some_fails (λ x. is_right (f x)) (Dl ∷ Path ∷ Pages ∷ Stack ∷ []) NoDuplicates (Steps ∷ []) h
-  all_wrong Steps h = some_fails (λ x. is_right (f x)) (Dl ∷ Path ∷ Pages ∷ Stack ∷ NoDuplicates ∷ []) Steps [] h
-
-  pub wrong_value : (o : OptionName) → is_right (f o) ≡ false → asked_by c ws f ≡ None
-  wrong_value o h = ap (λ b. cond (takes_plain c (length ws) && b) (Some (asked_of ws f)) None) (all_wrong o h) ∙ ap (λ b. cond b (Some (asked_of ws f)) None) (false_right (takes_plain c (length ws)))
-
-  pub right_values : takes_plain c (length ws) ≡ true → ((o : OptionName) → is_right (f o) ≡ true) → asked_by c ws f ≡ Some (asked_of ws f)
-  right_values t h = rw (t, h Dl, h Path, h Pages, h Stack, h NoDuplicates, h Steps) refl

@@ -6,10 +6,10 @@ use Rattle.dyl_words.specs.declared.names.CommandName.{CommandName}
 use Rattle.dyl_words.specs.declared.names.CommandName.TheVariants.{Merge, Run, Exec, Plan, Gen}
 use Rattle.dyl_words.specs.declared.names.OptionName.{OptionName}
 use Rattle.dyl_words.specs.declared.names.OptionName.TheVariants.{Dl, Path, Pages, Stack, NoDuplicates, Steps}
-use Rattle.dyl_words.specs.Words.{command_word, option_word, option_named, options_of, is_flag}
+use Rattle.dyl_words.specs.Words.{option_word, option_named, is_flag}
 use Rattle.dyl_words.specs.Clap.{app, words_arg, value_arg, flag_arg}
 use Rattle.clap.specs.Words.{Rule, Text}
-use Rattle.clap.specs.Simple.{Shape, built, new_shape, is_simple}
+use Rattle.clap.specs.Simple.{Shape, new_shape, is_simple}
 use Rattle.clap.specs.Walk.{arg_by_id, arg_by_long, has_long}
 use Rattle.clap.specs.Faults.{is_simple_and_free}
 use Rattle.clap.specs.declared.builder.value_parser.ValueParser.TheVariants as vp
@@ -32,13 +32,6 @@ rules_of known = words_rule ∷ map option_rule known
 abbrev pub shape : Text → List Rule → Shape
 shape name rules = record (new_shape name) { disable_help_flag = true; disable_help_subcommand = true; rules = rules; is_built = true }
 
-pub built_is : (c : CommandName) → (built (app c)).top ≡ shape (command_word c) (rules_of (options_of c))
-built_is Merge = refl
-built_is Run = refl
-built_is Exec = refl
-built_is Plan = refl
-built_is Gen = refl
-
 pub simple : (c : CommandName) → is_simple_and_free (app c) ≡ true
 simple Merge = refl
 simple Run = refl
@@ -58,17 +51,6 @@ simple_is Gen = refl
 -- by its word alone
 abbrev rule_by : Text → Rule
 rule_by word = cond (bytes_eq word (codes "no-duplicates")) (flag_rule word) (value_rule word)
-
-rule_is : (o : OptionName) → option_rule o ≡ rule_by (option_word o)
-rule_is Dl = refl
-rule_is Path = refl
-rule_is Pages = refl
-rule_is Stack = refl
-rule_is NoDuplicates = refl
-rule_is Steps = refl
-
-same_rule : (p o : OptionName) → bytes_eq (option_word p) (option_word o) ≡ true → option_rule p ≡ option_rule o
-same_rule p o e = rule_is p ∙ ap rule_by ((bytes_decides (option_word p) (option_word o)).0 e) ∙ sym (rule_is o)
 
 id_is : (p : OptionName) (id : Text) → bytes_eq (option_rule p).id id ≡ bytes_eq (option_word p) id
 id_is Dl id = refl

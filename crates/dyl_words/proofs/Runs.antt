@@ -90,10 +90,6 @@ fails_first : (a b : Kinds) → no_kinds a ≡ false → no_kinds (or_else a b) 
 fails_first [] b h = absurd (true≢false h)
 fails_first (k ∷ ks) b h = refl
 
-fails_second : (a b : Kinds) → no_kinds b ≡ false → no_kinds (or_else a b) ≡ false
-fails_second [] b h = h
-fails_second (k ∷ ks) b h = refl
-
 -- no rule has a default, and none is required
 pub record ArePlain (name : Text) (rs : List Rule) : Type 0 where
   pub stay : (rows : List Row) → fold with_default rows rs ≡ rows

@@ -18,7 +18,7 @@ use Rattle.dyl_link.specs.dyl_search.declared.set.Member.{Member}
 use Rattle.dyl_link.specs.dyl_search.declared.set.ClosedSet.{ClosedSet}
 use Rattle.dyl_link.specs.dyl_search.Gathers.{member_of, set_of}
 use Rattle.dyl_link.specs.Kept.{Kept, IsLinked}
-use Rattle.dyl_addresses.proofs.Ranges.{closure_inside}
+use Rattle.spec_loading.proofs.InsideSets.{closure_inside}
 use Rattle.dyl_world.specs.Found.{is_named, AreWithout}
 use Rattle.dyl_world.proofs.Texts.{ExportsNo, none_searched}
 

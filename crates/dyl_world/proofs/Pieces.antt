@@ -66,9 +66,6 @@ piece_fits memory piece place is =
 abbrev pub IsPlain : List ℕ → Type 0
 IsPlain xs = (map (low W32) xs ≡ xs) × (before_zero xs ≡ None)
 
-pub nothing_plain : (xs : List ℕ) (n : ℕ) → n ≡ 0 → IsPlain (take n xs)
-nothing_plain xs n none = rw none (refl, refl)
-
 module _ (xs : List ℕ) (n : ℕ) (plain : IsPlain (take n xs)) where
   pub all_plain : length xs ≤ n → before_zero (map (low W32) xs) ≡ None
   all_plain all =

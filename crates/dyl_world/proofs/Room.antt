@@ -1,13 +1,13 @@
 -- Promoted members are few, since they are distinct members of the set.
 use Rattle.std.proofs.Common.{◌≡◌, ℕ, ◌+◌, ◌<◌, Bool, true, false, List, [], ◌∷◌, ◌++◌, length, take, nat_eq, refl, ap, ap₂, sym, ◌∙◌, subst, arith, length-append}
 use Rattle.std.specs.Prelude.{slice_set}
-use Rattle.std.specs.List.{All, AllByRecursion, IsDistinct, list_any}
-use Rattle.std.proofs.lemmas.Bool.{or_parts}
+use Rattle.std.specs.List.{All, IsDistinct, list_any}
 use Rattle.std.proofs.lemmas.Bool.Decides.{nat_tests}
 use Rattle.std.proofs.lemmas.List.{length-set, length-take-le, take_more_set}
 use Rattle.std.proofs.lemmas.List.Elements.{All-nil, All-push, All-head, All-tail}
 use Rattle.std.proofs.lemmas.Map.Steps.{length-le_from_distinct_below}
 use Rattle.spec_loading.specs.spec_linking.Orders.{is_among, with_number}
+use Rattle.spec_loading.proofs.InsideSets.{distinct_last}
 use Rattle.dyl_world.specs.Promoted.{PromotedMembers, ArePromoted}
 
 -- what is seen of them
@@ -17,20 +17,6 @@ seen members count = record { list = take count members; room = length members }
 pub none_promoted : (members : List ℕ) → ArePromoted members 0
 unfolding IsDistinct
 none_promoted members = record { within = omega arith; inside = All-nil (λ k. k < length members); apart = tt }
-
--- ---- one more number, which isn't there
-
-module _ (n : ℕ) where
-  apart_last : (x : ℕ) (xs : List ℕ) → nat_eq x n ≡ false → AllByRecursion (λ y. nat_eq x y ≡ false) xs → AllByRecursion (λ y. nat_eq x y ≡ false) (xs ++ n ∷ [])
-  apart_last x [] e all = (e, tt)
-  apart_last x (y ∷ ys) e all = (all.0, apart_last x ys e all.1)
-
-  distinct_last : (xs : List ℕ) → IsDistinct nat_eq xs → is_among n xs ≡ false → IsDistinct nat_eq (xs ++ n ∷ [])
-  unfolding IsDistinct
-  distinct_last [] all e = (tt, tt)
-  distinct_last (x ∷ xs) all e =
-      let both = or_parts (nat_eq x n) (is_among n xs) e in
-      (apart_last x xs both.0 all.0, distinct_last xs all.1 both.1)
 
 -- what is so of all is so of each that is found among them
 found : (P : ℕ → Type 0) (xs : List ℕ) (q : ℕ) → All P xs → list_any (nat_eq q) xs ≡ true → P q
@@ -60,7 +46,7 @@ module _ (members : List ℕ) (count m : ℕ) (h : ArePromoted members count) (v
   -- so there is room for it
   pub has_room : count < length members
   has_room =
-      let apart = distinct_last m (take count members) h.apart new_here in
+      let apart = distinct_last (take count members) m h.apart new_here in
       let most = length-le_from_distinct_below more (length members) apart (λ q e. found (λ k. k < length members) more q more_inside e) in
       let many : length more ≡ count + 1 = length-append (take count members) (m ∷ []) ∙ ap (λ n. n + 1) (length-take-le count members h.within) in
       omega arith
@@ -72,7 +58,7 @@ module _ (members : List ℕ) (count m : ℕ) (h : ArePromoted members count) (v
   one_more = record {
     within = let same = length-set members count m in let room = has_room in omega arith;
     inside = rw (set_is, length-set members count m) more_inside;
-    apart = rw set_is (distinct_last m (take count members) h.apart new_here);
+    apart = rw set_is (distinct_last (take count members) m h.apart new_here);
   }
 
   pub one_more_is : seen (slice_set members count m) (count + 1) ≡ record v { list = with_number v.list m }

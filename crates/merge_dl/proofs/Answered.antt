@@ -54,7 +54,7 @@ use Rattle.merge_dl.specs.Ready.{LoaderReady}
 use Rattle.merge_dl.specs.Laws.{LoaderIsAnswered}
 use Rattle.merge_dl.proofs.Sites.{Site, back_with, Outcome, Gives, Opens, OpensThen, Leads, Answers, bottom}
 use Rattle.merge_dl.proofs.Calls.{locals_of, begins_body}
-use Rattle.merge_dl.proofs.SlotWords.{position_within}
+use Rattle.spec_loading.proofs.SlotWords.{position_within}
 use Rattle.merge_dl.proofs.Grounds.{Ground}
 use Rattle.merge_dl.proofs.Tries.{finding_outcome}
 use Rattle.merge_dl.proofs.Preferred.{PlacesHeld}

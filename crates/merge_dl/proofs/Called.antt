@@ -3,7 +3,6 @@ use Rattle.std.proofs.Common.{◌≡◌, ℕ, zero, suc, ◌+◌, ◌*◌, List,
 use Rattle.wasm_form.specs.declared.instr.Instr.{Index}
 use Rattle.wasm_form.specs.declared.module.Module.{Module}
 use Rattle.wasm_form.specs.declared.runtime.Trap.TheVariants.{MemoryBounds}
-use Rattle.wasm_form.specs.declared.runtime.Value.{Value}
 use Rattle.wasm_form.specs.declared.runtime.Value.TheVariants.{Num}
 use Rattle.spec_loading.specs.spec_binary.Options.{◌>>=◌}
 use Rattle.spec_loading.specs.spec_runtime.Numerics.{W32}
@@ -29,7 +28,7 @@ use Rattle.merge_dl.specs.Words.{unary_type, search_type, name_numbers, length_c
 use Rattle.merge_dl.specs.Called.{HasFunction, CallGives, GivesLength, defined_number, search_value, IsLengthPart, IsSearchPart, AreSearchParts, AreQuick}
 use Rattle.merge_dl.specs.Listed.{starts_in, length_part, find_part, find_parts}
 use Rattle.merge_dl.specs.Laws.{LengthsAreGiven, MembersAreSearched, DefinedIsNumbered}
-use Rattle.merge_dl.proofs.Sites.{Gives, Answers}
+use Rattle.merge_dl.proofs.Sites.{Answers}
 use Rattle.merge_dl.proofs.Calls.{call_gives, call_traps, does_within}
 use Rattle.merge_dl.proofs.Lengths.{measured, measures}
 use Rattle.merge_dl.proofs.Names.{string_lies}

@@ -25,7 +25,7 @@ use Rattle.spec_loading.proofs.of_spec_safety.Lookups.{got}
 use Rattle.merge_start.specs.Words.{Starts, number}
 use Rattle.merge_start.specs.Running.{Changing}
 use Rattle.merge_start.proofs.Reaching.{does_number, does_global, does_less}
-use Rattle.dyl_addresses.proofs.Ranges.{closure_inside}
+use Rattle.spec_loading.proofs.InsideSets.{closure_inside}
 use Rattle.merge_dl.specs.Words.{Finders, when, fault_code, tries_code, handle_code, handles_code, libraries, symbol_call_code, tries_then, promoted_code}
 use Rattle.merge_dl.proofs.Sites.{Outcome, Passes, Fails, Runs, Answers, runs_then, runs_ends, runs_does, runs_get, runs_set, runs_when, runs_over, answers_runs}
 use Rattle.merge_dl.proofs.Grounds.{Ground, runs_length, fails_length}

@@ -3,7 +3,6 @@ pub mod Sites
 pub mod Calls
 pub mod Lengths
 pub mod Names
-pub mod SlotWords
 pub mod Defined
 pub mod Searches
 pub mod Tries

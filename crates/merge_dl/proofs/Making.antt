@@ -1,14 +1,12 @@
 -- What is made of what is kept of a linked set is what the set has.
-use Rattle.std.proofs.Common.{◌≡◌, ◌<◌, ◌≤◌, ℕ, zero, suc, ◌+◌, ◌-◌, ◌^◌, List, [], ◌∷◌, ◌++◌, length, map, drop, get_or, nat_lt, ◌&&◌, Bool, true, false, if◌then◌else◌, Option, Some, None, refl, sym, ap, ap₂, ◌∙◌, arith, append_assoc, append-nil}
+use Rattle.std.proofs.Common.{◌≡◌, ◌<◌, ◌≤◌, ℕ, zero, suc, ◌+◌, ◌-◌, List, [], ◌∷◌, ◌++◌, length, map, drop, get_or, Bool, true, false, refl, sym, ap, ap₂, ◌∙◌, arith, append_assoc, append-nil}
 use Rattle.std.proofs.Math.Path.{fun_ext}
-use Rattle.std.proofs.lemmas.Bool.{lt-ltb}
 use Rattle.std.proofs.lemmas.List.{drop_all, at_drop_more}
 use Rattle.std.specs.Prelude.{not}
-use Rattle.std.specs.List.{list_all, filter, filter_map, flat_map, cons_option, range_with_len}
+use Rattle.std.specs.List.{filter, range_with_len}
 use Rattle.wasm_form.specs.declared.types.FuncType.{FuncType}
 use Rattle.wasm_form.specs.declared.instr.Instr.{Instr, Plain, Index}
 use Rattle.wasm_form.specs.declared.module.Group.{Group}
-use Rattle.wasm_form.specs.declared.module.Export.{Export}
 use Rattle.wasm_form.specs.declared.module.Module.{Module}
 use Rattle.wasm_form.specs.declared.runtime.LoaderCall.TheVariants.{Dlopen, Dlsym, Dlclose, Dlerror}
 use Rattle.spec_loading.specs.spec_linking.Sets.{Member}
@@ -18,7 +16,7 @@ use Rattle.spec_loading.proofs.of_spec_linking.Placing.{above, end_above}
 use Rattle.spec_loading.specs.spec_linking.Definitions.{Definition, MemberFunction, MemberData, LoaderFunction, HeapBase, HeapEnd, HostFunction, WeakSymbol, Undefined, or_defined}
 use Rattle.spec_loading.specs.spec_linking.Orders.{is_among, closure}
 use Rattle.spec_loading.specs.spec_linking.LinkedSets.{LinkedSet}
-use Rattle.spec_loading.specs.LoaderAnswers.{no_module_error, bad_handle_error, bad_close_error, not_closed, global_flag, later_members}
+use Rattle.spec_loading.specs.LoaderAnswers.{bad_handle_error, bad_close_error, not_closed, global_flag, later_members}
 use Rattle.spec_loading.specs.Members.{from_members}
 use Rattle.dyl_link.specs.dyl_search.declared.set.Member as declared
 use Rattle.dyl_link.specs.dyl_search.Gathers.{member_of}

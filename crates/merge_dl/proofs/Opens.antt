@@ -1,5 +1,5 @@
 -- dlopen: the member of a name is opened.
-use Rattle.std.proofs.Common.{◌≡◌, ℕ, zero, suc, ◌+◌, ◌^◌, ◌<◌, Bool, true, false, List, [], ◌∷◌, ◌++◌, length, drop, nat_eq, bit_and, Option, Some, None, unwrap_or, option_map, cond, refl, sym, ap, ◌∙◌, subst, arith, append_assoc, mod-eq_of_lt, if◌then◌else◌}
+use Rattle.std.proofs.Common.{◌≡◌, ℕ, zero, suc, ◌+◌, ◌^◌, ◌<◌, Bool, true, false, List, [], ◌∷◌, ◌++◌, length, nat_eq, bit_and, Option, Some, None, unwrap_or, option_map, cond, refl, ap, ◌∙◌, subst, arith, append_assoc, mod-eq_of_lt, if◌then◌else◌}
 use Rattle.std.specs.Prelude.{bytes_eq}
 use Rattle.std.specs.List.{position_from}
 use Rattle.std.proofs.lemmas.Nat.{and_le_r}

@@ -1,5 +1,5 @@
 -- The promoted members are searched: what is given is the number of the first that defines the name.
-use Rattle.std.proofs.Common.{◌≡◌, ℕ, zero, suc, ◌+◌, ◌%◌, ◌^◌, ◌<◌, ◌≤◌, Bool, true, false, List, [], ◌∷◌, ◌++◌, length, nat_eq, nat_lt, slice_get, Option, Some, None, refl, sym, ap, ◌∙◌, subst, arith, mod-eq_of_lt, ⊎_elim}
+use Rattle.std.proofs.Common.{◌≡◌, ℕ, zero, suc, ◌+◌, ◌%◌, ◌^◌, ◌<◌, ◌≤◌, Bool, true, false, List, [], ◌∷◌, ◌++◌, length, nat_lt, slice_get, Option, Some, None, refl, sym, ap, ◌∙◌, subst, arith, mod-eq_of_lt, ⊎_elim}
 use Rattle.std.specs.Prelude.{not}
 use Rattle.std.specs.List.{All}
 use Rattle.std.proofs.lemmas.Bool.Decides.{nat_tests}
@@ -15,7 +15,6 @@ use Rattle.spec_loading.specs.spec_linking.Orders.{is_among}
 use Rattle.spec_loading.specs.spec_linking.LinkedSets.{LinkedSet}
 use Rattle.spec_loading.specs.spec_linking.Slots.{cell_number}
 use Rattle.spec_loading.specs.spec_linking.Links.{Links}
-use Rattle.spec_loading.specs.declared.answers.Finding.{Finding}
 use Rattle.spec_loading.specs.declared.answers.Finding.TheVariants as finding
 use Rattle.spec_loading.specs.LoaderAnswers.{no_symbol_error, found_number, string_at}
 use Rattle.merge_match.specs.Bounded.{IsBounded}
@@ -27,7 +26,7 @@ use Rattle.merge_start.proofs.Promoted.{place_none, place_some, found_among}
 use Rattle.merge_dl.specs.Words.{Finders, return_code, fault_code, found_value, before_code, keep_code, ask_code, prefer_code, prefers_code, preferred_code, candidates, last_place, promoted_code}
 use Rattle.merge_dl.specs.Called.{defined_number, search_value, SearchesMember}
 use Rattle.merge_dl.proofs.Operators.{does_sub, does_wrap}
-use Rattle.merge_dl.proofs.Sites.{Outcome, Passes, Gives, Runs, runs_then, runs_ends, runs_does, runs_get, runs_set, runs_when, runs_when_on, runs_over, runs_return}
+use Rattle.merge_dl.proofs.Sites.{Passes, Gives, Runs, runs_then, runs_ends, runs_does, runs_get, runs_set, runs_when, runs_when_on, runs_over, runs_return}
 use Rattle.merge_dl.proofs.Defined.{definition_numbered}
 use Rattle.merge_dl.proofs.Tries.{runs_fault, finding_outcome, search_locals, asked, sought, found_wide, found_low, asks, tests}
 use Rattle.merge_dl.proofs.Candidates.{candidates_inside}

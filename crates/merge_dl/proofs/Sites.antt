@@ -5,8 +5,8 @@ use Rattle.std.proofs.Common.{◌≡◌, ℕ, suc, List, [], ◌∷◌, ◌++◌
 use Rattle.std.proofs.Math.Dec.{leb-zero}
 use Rattle.std.proofs.lemmas.Bool.Decides.{nat_tests}
 use Rattle.wasm_form.specs.declared.instr.BlockType.TheVariants.{Empty}
-use Rattle.wasm_form.specs.declared.instr.Instr.{Instr, Plain, Index, Block, out-Instr}
-use Rattle.wasm_form.specs.declared.instr.Instr.TheVariants.{outs-If, outs-Block}
+use Rattle.wasm_form.specs.declared.instr.Instr.{Instr, Plain, Index, out-Instr}
+use Rattle.wasm_form.specs.declared.instr.Instr.TheVariants.{outs-If}
 use Rattle.wasm_form.specs.declared.module.Module.{Module}
 use Rattle.wasm_form.specs.declared.runtime.Trap.{Trap}
 use Rattle.wasm_form.specs.declared.runtime.Value.{Value}

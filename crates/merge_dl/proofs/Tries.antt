@@ -17,7 +17,7 @@ use Rattle.spec_loading.specs.spec_linking.Slots.{cell_number}
 use Rattle.spec_loading.specs.spec_linking.Links.{Links}
 use Rattle.spec_loading.specs.declared.answers.Finding.{Finding}
 use Rattle.spec_loading.specs.declared.answers.Finding.TheVariants as finding
-use Rattle.spec_loading.specs.LoaderAnswers.{no_symbol_error, found_number, string_at}
+use Rattle.spec_loading.specs.LoaderAnswers.{found_number, string_at}
 use Rattle.merge_match.specs.Bounded.{IsBounded}
 use Rattle.merge_start.specs.Words.{Starts}
 use Rattle.merge_start.specs.Running.{Changing}

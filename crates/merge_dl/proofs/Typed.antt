@@ -1,21 +1,18 @@
 -- The code of the functions of the loader is well typed (WebAssembly Core 2.0, section 3.3), where the module has what it names.
-use Rattle.std.proofs.Common.{◌≡◌, ℕ, zero, suc, ◌+◌, ◌<◌, ◌≤◌, subst, max, List, [], ◌∷◌, ◌++◌, length, slice_get, Some, None, Bool, true, false, if◌then◌else◌, refl, ap, ◌∙◌, arith}
-use Rattle.std.specs.Int.{cast_signed, w64}
+use Rattle.std.proofs.Common.{◌≡◌, ℕ, ◌+◌, ◌<◌, subst, max, List, [], ◌∷◌, ◌++◌, length, slice_get, Some, None, Bool, true, false, if◌then◌else◌, refl, ap, ◌∙◌, arith}
 use Rattle.std.specs.List.{All, AllByRecursion as Each}
 use Rattle.std.proofs.lemmas.List.{length-drop}
 use Rattle.std.proofs.lemmas.List.Elements.{All-head, All-tail, All-same, All-weaker}
 use Rattle.wasm_form.specs.declared.types.ValType.{ValType}
 use Rattle.wasm_form.specs.declared.types.ValType.TheVariants.{I32, I64}
 use Rattle.wasm_form.specs.declared.instr.BlockType.TheVariants.{Empty}
-use Rattle.wasm_form.specs.declared.instr.Instr.{Instr, Plain, Index, Block, Loop, Access}
+use Rattle.wasm_form.specs.declared.instr.Instr.{Instr, Plain, Index, Loop}
 use Rattle.wasm_form.specs.declared.module.Module.{Module}
 use Rattle.wasm_form.specs.declared.runtime.LoaderCall.{LoaderCall}
 use Rattle.wasm_form.specs.declared.runtime.LoaderCall.TheVariants.{Dlopen, Dlsym, Dlclose, Dlerror}
-use Rattle.spec_loading.specs.spec_binary.Options.{◌>>=◌}
 use Rattle.spec_loading.specs.spec_validation.Stacks.{Stack, unreachable, ends_with}
 use Rattle.spec_loading.specs.spec_validation.Context.{Context, Labels}
-use Rattle.spec_loading.specs.spec_validation.Typing.{Reach, after, afters, height}
-use Rattle.wasm_typing.proofs.Laws.{after-Plain, after-Index, after-Block, after-Loop, after-If, after-Access, after-I64Const}
+use Rattle.wasm_typing.proofs.Laws.{after-Plain, after-Index, after-Loop, after-If}
 use Rattle.spec_loading.specs.spec_execution.Views.{loader_type}
 use Rattle.spec_loading.specs.spec_linking.Sets.{Member}
 use Rattle.spec_loading.specs.spec_linking.Orders.{closure, is_among}
@@ -23,7 +20,7 @@ use Rattle.spec_loading.specs.spec_linking.Gathering.{IsSet}
 use Rattle.spec_loading.specs.spec_linking.LinkedSets.{LinkedSet}
 use Rattle.spec_loading.specs.LoaderAnswers.{bad_flags_error, no_module_error, bad_handle_error, no_symbol_error, bad_close_error, other_flags, not_closed, global_flag, later_members}
 use Rattle.merge_start.specs.Words.{Starts, place_global, next_place, promote_one, promote_each, promote_code}
-use Rattle.dyl_addresses.proofs.Ranges.{closure_inside}
+use Rattle.spec_loading.proofs.InsideSets.{closure_inside}
 use Rattle.merge_start.proofs.Promoted.{later_inside}
 use Rattle.merge_start.proofs.Typed.{One, number_typed, less_typed, get_typed, set_typed}
 use Rattle.merge_find.specs.Decisions.{may_be_string, strings}

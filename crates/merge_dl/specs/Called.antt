@@ -2,20 +2,15 @@
 -- names which it defines. Each is said of a call, from wherever it is made, over any store, and over any memory that ends before the last address.
 -- Nothing is said of their code: other code may do the same.
 use Rattle.std.specs.Prelude.{◌≡◌, ℕ, ◌+◌, ◌*◌, List, [], ◌∷◌, length, Option, Some, None, true, slice_get}
-use Rattle.wasm_form.specs.declared.types.FuncType.{FuncType}
 use Rattle.wasm_form.specs.declared.instr.Instr.{Index}
-use Rattle.wasm_form.specs.declared.module.Code.{Code}
 use Rattle.wasm_form.specs.declared.module.Module.{Module}
-use Rattle.wasm_form.specs.declared.runtime.Ref.TheVariants.{Own}
 use Rattle.wasm_form.specs.declared.runtime.Trap.{Trap}
 use Rattle.wasm_form.specs.declared.runtime.Trap.TheVariants.{MemoryBounds}
 use Rattle.wasm_form.specs.declared.runtime.Value.{Value}
 use Rattle.wasm_form.specs.declared.runtime.Value.TheVariants.{Num}
-use Rattle.spec_loading.specs.spec_binary.Indices.{function_with, function_at}
 use Rattle.spec_loading.specs.spec_validation.Context.{Context}
 use Rattle.spec_loading.specs.spec_runtime.Numerics.{W32}
 use Rattle.spec_loading.specs.spec_execution.Values.{low}
-use Rattle.spec_loading.specs.spec_execution.Instances.{module_target}
 use Rattle.spec_loading.specs.spec_linking.Definitions.{member_definition}
 use Rattle.spec_loading.specs.spec_linking.LinkedSets.{LinkedSet}
 use Rattle.spec_loading.specs.spec_linking.Slots.{cell_number}

@@ -13,7 +13,7 @@ use Rattle.merge_match.specs.Parts.{nowhere, number_of}
 use Rattle.merge_pieces.specs.Opcodes as op
 use Rattle.merge_start.specs.Words.{Starts, number}
 use Rattle.wasm_form.specs.declared.module.Part.{Part}
-use Rattle.merge_dl.specs.Words.{Finders, handle_type, unary_type, binary_type, search_type, length_body, find_body, call_body, when, give_code, return_code, fault_code, is_local, tries_then, promoted_code, name_number}
+use Rattle.merge_dl.specs.Words.{Finders, handle_type, unary_type, binary_type, search_type, length_body, find_body, call_body, when, give_code, fault_code, is_local, tries_then, promoted_code, name_number}
 use Rattle.merge_find.specs.Decisions.{Named, strings}
 use Rattle.merge_find.specs.Finding.{number_code}
 use Rattle.merge_dl.specs.declared.numbers.DlNumbers.{DlNumbers}

@@ -22,7 +22,7 @@ use Rattle.spec_loading.specs.spec_execution.Activations.{Activation, Effect, Gl
 use Rattle.spec_loading.specs.spec_execution.Views.{View, type_of, Effected, performed, value_done, memory_done, memory_grown, table_done, table_grown}
 use Rattle.spec_loading.specs.spec_execution.Views as effects
 use Rattle.spec_loading.specs.spec_execution.Segments.{Performed, followed_by, all_performed, segment_effects}
-use Rattle.spec_loading.specs.spec_execution.Runs.{Frame, Caller, Next, Goes, Asks, Loads, Ends, Traps, call, calling, call_entry, left_with, effected_with, carried_out, stands, became}
+use Rattle.spec_loading.specs.spec_execution.Runs.{Frame, Caller, Next, Goes, Asks, Loads, Ends, Traps, call, calling, call_entry, left_with, effected_with, carried_out, stands}
 use Rattle.spec_loading.specs.spec_execution.Runs as frames
 use Rattle.spec_loading.specs.spec_linking.LinkedSets.{LinkedSet, wasm_of}
 use Rattle.spec_loading.specs.spec_linking.Slots.{member_number}

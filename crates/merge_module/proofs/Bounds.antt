@@ -22,7 +22,7 @@ use Rattle.merge_module.proofs.Known.{IsKnown}
 use Rattle.merge_module.proofs.WithLoader.{with_either}
 use Rattle.merge_index.proofs.FewItems.{member_text, total_cons}
 use Rattle.merge_index.proofs.Counted.{few_bytes, few_members, few_of}
-use Rattle.merge_dl.proofs.SlotWords.{table_within}
+use Rattle.spec_loading.proofs.SlotWords.{table_within}
 use Rattle.merge_module.proofs.Opens.{N, M}
 use Rattle.merge_module.proofs.Formed.{named_few}
 use Rattle.merge_module.proofs.Weights.{sum_then, sum_same, elem_weighs, data_weighs}

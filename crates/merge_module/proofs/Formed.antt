@@ -47,7 +47,7 @@ use Rattle.merge_module.proofs.MergedSpaces.{few_types, few_funcs, few_codes, ow
 use Rattle.merge_module.proofs.HostNames.{IsNamed, hosts_named}
 use Rattle.merge_module.proofs.OpenedStore.{globals_many, elems_many}
 use Rattle.merge_module.proofs.Generated.{entry_typed}
-use Rattle.merge_dl.proofs.SlotWords.{table_within}
+use Rattle.spec_loading.proofs.SlotWords.{table_within}
 use Rattle.merge_module.proofs.Opens.{N, X, M}
 use Rattle.merge_module.proofs.Faultless.{all_of}
 use Rattle.merge_module.proofs.Pieces.{constant_step}

@@ -17,7 +17,7 @@ use Rattle.spec_loading.specs.spec_linking.Slots.{cell_number}
 use Rattle.spec_loading.specs.LoaderAnswers.{bad_flags_error, no_module_error, bad_handle_error, no_symbol_error, bad_close_error, other_flags, not_closed, global_flag, later_members}
 use Rattle.wasm_encode.specs.Weight.{sum_of, export_weight}
 use Rattle.merge_start.specs.Words.{Starts, place_global, promote_each}
-use Rattle.merge_dl.specs.Words.{Finders, is_local, give_code, fault_code, length_code, name_number, name_numbers, opens_code, members_code, open_call_code, tries_code, handle_code, handles_code, libraries, symbol_call_code, closes_code, close_call_code, text_code, error_call_code, length_body, find_body, call_body, tries_then, before_code, prefers_code, candidates, last_place, preferred_code, promoted_code, named_members, open_goal}
+use Rattle.merge_dl.specs.Words.{Finders, is_local, give_code, fault_code, length_code, name_number, name_numbers, opens_code, members_code, open_call_code, handle_code, handles_code, libraries, symbol_call_code, closes_code, close_call_code, text_code, error_call_code, length_body, find_body, call_body, tries_then, before_code, prefers_code, candidates, last_place, preferred_code, promoted_code, named_members, open_goal}
 use Rattle.merge_module.specs.Laws.{names_bulk}
 use Rattle.merge_module.proofs.Orders.{closure_few, startup_few}
 use Rattle.std.specs.Prelude.{not}

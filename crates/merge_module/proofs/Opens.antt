@@ -37,8 +37,9 @@ use Rattle.merge_start.specs.Words.{Starts}
 use Rattle.merge_index.specs.Numbering.{function_number}
 use Rattle.merge_module.specs.MergedModule.{host_type_number, shared_table_type, outside_elem, declared_elem, texts_segment}
 use Rattle.merge_module.proofs.Known.{IsKnown}
-use Rattle.merge_dl.proofs.SlotWords.{table_within}
-use Rattle.merge_module.proofs.PlannedWords.{most_within, stack_within, texts_within}
+use Rattle.spec_loading.proofs.SlotWords.{table_within}
+use Rattle.spec_loading.proofs.PlannedWords.{most_within, texts_within}
+use Rattle.merge_module.proofs.PlannedWords.{stack_within}
 use Rattle.spec_loading.proofs.Rows.{texts_length}
 use Rattle.merge_module.proofs.HostsMatch.{hosts_met, are_met}
 use Rattle.merge_module.proofs.MergedSpaces.{past_front, host_many}

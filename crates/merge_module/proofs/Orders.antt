@@ -11,7 +11,7 @@ use Rattle.spec_loading.specs.spec_linking.LinkedSets.{LinkedSet}
 use Rattle.spec_loading.specs.declared.task.Phase.{Phase}
 use Rattle.spec_loading.specs.declared.task.Phase.TheVariants.{Place, Start, Relocate, Construct}
 use Rattle.spec_loading.specs.Phases.{tasks_of, opening_tasks, startup_frame, open_frame}
-use Rattle.dyl_addresses.proofs.Ranges.{needs_inside, closure_inside}
+use Rattle.spec_loading.proofs.InsideSets.{needs_inside, closure_inside}
 
 -- ---- distinct numbers
 

@@ -29,7 +29,7 @@ use Rattle.merge_dl.specs.Called.{SearchesMember}
 use Rattle.merge_dl.specs.Ready.{LoaderReady}
 use Rattle.merge_dl.specs.Laws.{LengthsAreGiven, MembersAreSearched}
 use Rattle.merge_module.specs.MergedModule.{finders_of}
-use Rattle.merge_dl.proofs.SlotWords.{table_within}
+use Rattle.spec_loading.proofs.SlotWords.{table_within}
 use Rattle.merge_module.proofs.PlannedWords.{stack_within}
 use Rattle.merge_index.proofs.Counted.{few_members}
 use Rattle.merge_module.proofs.Known.{IsKnown}

@@ -27,7 +27,7 @@ use Rattle.spec_loading.specs.spec_linking.Slots.{same_ref, segment_slot, with_f
 use Rattle.spec_loading.proofs.of_spec_safety.Lookups.{went_on, got}
 use Rattle.spec_loading.proofs.of_spec_safety.Spaces.{function_has_type}
 use Rattle.spec_loading.specs.Members.{is_loader, loader_as, loader_from, uses_loader}
-use Rattle.merge_dl.proofs.SlotWords.{position_within}
+use Rattle.spec_loading.proofs.SlotWords.{position_within}
 use Rattle.merge_module.proofs.SetMembers.{IsSound}
 use Rattle.merge_module.proofs.References.{IsDefined}
 

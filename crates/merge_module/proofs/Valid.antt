@@ -67,8 +67,8 @@ use Rattle.merge_module.proofs.WithLoader.{with_all}
 use Rattle.merge_module.proofs.LoaderFunctions.{handle_there, unary_there, binary_there, search_there}
 use Rattle.merge_module.proofs.HostImports.{HasTypes, first_type, later_types, no_tables}
 use Rattle.merge_module.proofs.SetMembers.{is_sound}
-use Rattle.merge_dl.proofs.SlotWords.{table_within}
-use Rattle.merge_module.proofs.PlannedWords.{entries_within}
+use Rattle.spec_loading.proofs.SlotWords.{table_within}
+use Rattle.spec_loading.proofs.PlannedWords.{entries_within}
 use Rattle.merge_module.proofs.References.{stub_there}
 use Rattle.merge_module.proofs.MergedSpaces.{nullary_there, generated_codes}
 use Rattle.merge_module.proofs.HostTypes.{host_types}

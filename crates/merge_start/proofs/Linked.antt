@@ -3,12 +3,11 @@ use Rattle.std.proofs.Common.{◌≡◌, ◌<◌, ◌≤◌, ◌^◌, ℕ, List,
 use Rattle.std.specs.List.{All}
 use Rattle.std.proofs.lemmas.List.Elements.{All-same, All-weaker}
 use Rattle.spec_loading.specs.spec_linking.Sets as sets
-use Rattle.spec_loading.specs.spec_linking.Sets.{most_members}
 use Rattle.spec_loading.specs.spec_linking.Orders.{closure, post_order}
 use Rattle.spec_loading.specs.spec_linking.LinkedSets.{LinkedSet}
 use Rattle.dyl_link.specs.Kept.{Kept, IsLinked}
 use Rattle.dyl_addresses.proofs.Linked.{members_count}
-use Rattle.dyl_addresses.proofs.Ranges.{closure_inside, post_inside}
+use Rattle.spec_loading.proofs.InsideSets.{closure_inside, post_inside}
 use Rattle.merge_start.specs.Listed.{AreFew}
 
 module _ (L : LinkedSet) (k : Kept) (h : IsLinked L k) where

@@ -52,9 +52,6 @@ no_function : (b : Bool) (v : ValType) → v ≡ I32 → (if b then None else So
 no_function true v word h = absurd cc
 no_function false v word h = (let q : Some I32 ≡ Some FuncRef = subst (λ (u : ValType). Some u ≡ Some FuncRef) word h in absurd cc)
 
-some_type : (a b : GlobalType) → Some a ≡ Some b → a ≡ b
-some_type a b e = cc
-
 module _ (L : LinkedSet) (k : Kept) (h : IsLinked L k) (m : ℕ) (member : sets.Member) (at : slice_get L.set.members m ≡ Some member)
     (lt : m < length L.set.members) where
   abbrev wasm : Module

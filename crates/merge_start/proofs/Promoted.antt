@@ -1,13 +1,12 @@
 -- Promoted members: their places in the list, and that what is the same is kept when one more is promoted.
 use Rattle.std.proofs.Common.{◌≡◌, ℕ, suc, ◌+◌, ◌^◌, ◌<◌, ◌≤◌, Bool, true, false, List, [], ◌∷◌, ◌++◌, length, nat_eq, get_or, slice_get, slice_set, Option, Some, None, cond, not, refl, sym, ap, ◌∙◌, subst, arith, length-append}
-use Rattle.std.specs.Prelude.{unwrap_or, ◌||◌}
-use Rattle.std.specs.List.{All, IsDistinct, list_any, filter, position_from}
+use Rattle.std.specs.Prelude.{unwrap_or}
+use Rattle.std.specs.List.{All, IsDistinct, filter, position_from}
 use Rattle.std.proofs.lemmas.Bool.{or_parts}
 use Rattle.std.proofs.lemmas.Bool.Decides.{nat_tests}
 use Rattle.std.proofs.lemmas.Cmp.{nat_eq_equiv}
 use Rattle.std.proofs.lemmas.List.Elements.{All-push, All-filter, filter_passes}
 use Rattle.std.proofs.lemmas.List.Folds.{Any-from_list_any}
-use Rattle.std.proofs.lemmas.Map.Keys.{IsDistinct-push}
 use Rattle.std.proofs.lemmas.Map.Steps.{length-le_from_distinct_below}
 use Rattle.std.proofs.lemmas.Option.{slice_get_within}
 use Rattle.wasm_form.specs.declared.runtime.Value.{Value}
@@ -19,7 +18,7 @@ use Rattle.spec_loading.specs.spec_linking.LinkedSets.{LinkedSet}
 use Rattle.spec_loading.specs.Loading.{LoaderState}
 use Rattle.spec_loading.specs.LoaderAnswers.{later_members}
 use Rattle.spec_loading.specs.Members.{uses_loader}
-use Rattle.dyl_addresses.proofs.Ranges.{closure_inside}
+use Rattle.spec_loading.proofs.InsideSets.{among_turned, distinct_last, closure_inside}
 use Rattle.merge_match.specs.Renumbering.{Numbers}
 use Rattle.merge_match.proofs.Lists.{length-slice_set}
 use Rattle.merge_start.specs.Words.{Starts}
@@ -73,11 +72,6 @@ module _ (k : ℕ) where
 
 -- ---- distinct members
 
--- a number is among some, whichever side of the test it stands on
-among_turned : (q : ℕ) (ps : List ℕ) → list_any (nat_eq q) ps ≡ is_among q ps
-among_turned q [] = refl
-among_turned q (p ∷ ps) = ap (λ b. b || list_any (nat_eq q) ps) (nat_eq_equiv.symm q p) ∙ ap (λ b. nat_eq p q || b) (among_turned q ps)
-
 -- what is so of all of some numbers is so of one that is among them
 pub found_among : (P : ℕ → Type 0) (ps : List ℕ) (q : ℕ) → All P ps → is_among q ps ≡ true → P q
 found_among P ps q all e =
@@ -85,9 +79,6 @@ found_among P ps q all e =
     let test = found.4 in
     let same : found.1 ≡ q = grind (arith, nat_tests) in
     subst P (found.3 ∙ same) (all found.0 found.1 found.2)
-
-distinct_last : (ps : List ℕ) (k : ℕ) → IsDistinct nat_eq ps → is_among k ps ≡ false → IsDistinct nat_eq (ps ++ k ∷ [])
-distinct_last ps k apart new = IsDistinct-push nat_eq_equiv ps k apart (among_turned k ps ∙ new)
 
 pub few_promoted : (L : LinkedSet) (ps : List ℕ) → AreLater L ps → IsDistinct nat_eq ps → length ps ≤ length L.set.members
 few_promoted L ps later apart =

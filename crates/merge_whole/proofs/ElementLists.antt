@@ -17,7 +17,7 @@ use Rattle.dyl_link.specs.dyl_search.declared.set.Member as kept
 use Rattle.dyl_link.specs.Kept.{Kept, IsLinked}
 use Rattle.merge_match.specs.Renumbering.{Numbers}
 use Rattle.dyl_addresses.proofs.Linked.{members_are}
-use Rattle.merge_dl.proofs.SlotWords.{table_within}
+use Rattle.spec_loading.proofs.SlotWords.{table_within}
 use Rattle.merge_module.specs.MergedModule.{slots_elem, functions_elem, number_expr, outside_elem, merged_elems}
 use Rattle.merge_whole.specs.Counts.{members_of}
 use Rattle.merge_whole.specs.Elements.{passive_elems, exported_numbers, fresh_by, slots_by, fresh_total, outside_by, declared_by, elems_by}

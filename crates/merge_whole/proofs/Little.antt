@@ -53,11 +53,6 @@ pub sizes_are : (ms : List Member) → sizes ms ≡ total_size ms + named_size m
 sizes_are [] = refl
 sizes_are (m ∷ ms) = (let later = sizes_are ms in let one = names_cons m ms in let two = total_cons m ms in omega arith)
 
--- a bound keeps what matters: whether there is so much or more
-pub capped_next : (size name file rest named next : ℕ) → named ≡ min (size + name) 16777216 → next ≡ min (named + file) 16777216
-    → min (next + rest) 16777216 ≡ min (size + (name + file + rest)) 16777216
-capped_next size name file rest named next one two = omega arith
-
 pub square_few : (n : ℕ) → n ≤ 256 → n ^ 2 ≤ 65536
 square_few n le = (let squared = pow-le-pow_left le 2 in omega arith)
 

@@ -1,20 +1,15 @@
 // Outcomes that no command of a row comes to, and their lines.
 use crate::facts::Facts;
-use dyl_app::{Outcome, Ran, RunEnd, SetFault, status, tell};
+use dyl_app::{Outcome, SetFault, status, tell};
 use dyl_outside::MemSink;
 use spec_binary::DecodeFault;
-use spec_binary::wasm_form::{List, Memory};
+use spec_binary::wasm_form::Memory;
 use std::alloc::Global;
 
-/// The outcome that is named: want of memory, a run that is stuck, or too many locals in a function of the largest number.
-fn outcome_named(alloc: Global, name: &str) -> Outcome {
+/// The outcome that is named: want of memory, or too many locals in a function of the largest number.
+fn outcome_named(name: &str) -> Outcome {
     match name {
         "memory" => Outcome::Memory,
-        "stuck" => Outcome::Ran(Ran {
-            end: RunEnd::Stuck,
-            steps: 0,
-            answers: List::of(Vec::new(alloc)),
-        }),
         _ => Outcome::Set(SetFault::Decode {
             module: 0,
             fault: DecodeFault::TooManyLocals { function: u32::MAX },
@@ -25,7 +20,7 @@ fn outcome_named(alloc: Global, name: &str) -> Outcome {
 /// The status of the outcome that is named, and its line.
 pub fn note_line(alloc: Global, name: &str, came: &mut Facts) -> Result<(), Memory> {
     let mut errors = MemSink::new(alloc);
-    let answer = tell(alloc, outcome_named(alloc, name), &mut errors);
+    let answer = tell(alloc, outcome_named(name), &mut errors);
     let code = status(&answer);
     drop(answer);
     came.add("status", format!(in alloc; "{code}")?.into_bytes())?;

@@ -66,7 +66,6 @@ fn end_shown(alloc: Global, end: RunEnd) -> Result<String, AllocError> {
         RunEnd::StepLimit => String::from_str(alloc, "step limit"),
         RunEnd::DepthLimit => String::from_str(alloc, "depth limit"),
         RunEnd::HostCallLimit => String::from_str(alloc, "host call limit"),
-        RunEnd::Stuck => String::from_str(alloc, "stuck"),
     }
 }
 

@@ -5,7 +5,7 @@ use Rattle.std.specs.List.{All}
 use Rattle.std.specs.Int.{cast_unsigned, w32, w64}
 use Rattle.std.proofs.lemmas.List.Elements.{All-nil, All-head}
 use Rattle.spec_validation.specs.wasm_form.declared.types.ValType.{ValType}
-use Rattle.spec_validation.specs.wasm_form.declared.types.ValType.TheVariants.{I32, I64, F32, F64, FuncRef, ExternRef}
+use Rattle.spec_validation.specs.wasm_form.declared.types.ValType.TheVariants.{I32, I64, FuncRef}
 use Rattle.spec_validation.specs.wasm_form.declared.instr.Instr.{Instr, out-Instr}
 use Rattle.spec_validation.specs.wasm_form.declared.instr.Instr.TheOpen as Open
 use Rattle.spec_validation.specs.wasm_form.declared.instr.Expr.{Expr}
@@ -19,11 +19,10 @@ use Rattle.spec_validation.specs.wasm_form.declared.runtime.Value.{Value}
 use Rattle.spec_validation.specs.wasm_form.declared.runtime.Value.TheVariants.{Num}
 use Rattle.spec_validation.specs.spec_binary.Options.{◌>>=◌}
 use Rattle.spec_validation.specs.spec_binary.SameTypes.{same_type}
-use Rattle.spec_validation.proofs.of_spec_binary.OneType.{one_type}
 use Rattle.spec_validation.specs.spec_binary.Counted.{Step, Puts, Joins, Other}
 use Rattle.spec_validation.proofs.of_spec_binary.Counted.{Holds, held, OneMore, IsGood, good_left}
 use Rattle.spec_validation.specs.Faults.{is_function, constant_index, constant_step, is_constant}
-use Rattle.spec_validation.specs.Counted.{arithmetic_type, JoinsTwo, PutsOne, kind_of, step_at, step_of}
+use Rattle.spec_validation.specs.Counted.{arithmetic_type, kind_of, step_at, step_of}
 use Rattle.spec_validation.proofs.Constants.{put_type, put_never_joins, join_type, join_never_puts, constant_counts, reference_alone}
 use Rattle.spec_runtime.specs.Numerics.{Width, W32, W64, bits}
 use Rattle.spec_runtime.specs.Constants.{index_constant, instruction_constant, after_operator, after_constant, after_constants, only_value, constant_in, constant_of}

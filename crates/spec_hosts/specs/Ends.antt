@@ -1,5 +1,5 @@
 -- How a run over a host ends: by itself, or because of a limit.
-use Rattle.std.specs.Prelude.{◌≡◌, ◌≤◌, ◌<◌, ◌-◌, ℕ, List, ◌++◌, length, map, sum, take, nat_le, None, Bool, true, false, ◌||◌}
+use Rattle.std.specs.Prelude.{◌≡◌, ◌≤◌, ◌<◌, ◌-◌, ℕ, List, ◌++◌, length, map, sum, take, nat_le, Bool, true, false, ◌||◌}
 use Rattle.spec_runtime.specs.wasm_form.declared.runtime.Trap.{Trap}
 use Rattle.spec_runtime.specs.wasm_form.declared.runtime.Answer.{Answer}
 use Rattle.spec_runtime.specs.wasm_form.declared.runtime.Answer.TheVariants as answers
@@ -54,7 +54,6 @@ EndsAs S deep most steps s taken (end.Trap why) = S.status s ≡ Trapped why
 EndsAs S deep most steps s taken end.StepLimit = (steps ≡ most) × (goes_on (S.status s) ≡ true)
 EndsAs S deep most steps s taken end.DepthLimit = (steps < most) × (S.status s ≡ Moving) × (deep s ≡ true)
 EndsAs S deep most steps s taken end.HostCallLimit = (steps < most) × ((call : HostCall) × (S.status s ≡ Waits call)) × (are_many taken ≡ true)
-EndsAs S deep most steps s taken end.Stuck = (steps < most) × (S.status s ≡ Moving) × (S.step s ≡ None)
 
 -- the answers that so many steps of a run took
 abbrev pub taken_by : (S : System hosts) → ℕ → S.State → List Answer → List Answer

@@ -1,7 +1,7 @@
 // How a run over a host ends.
 use spec_runtime::wasm_form::{Answer, List, Trap};
 
-/// How a run ended: by itself, by a limit, or because code had no step, which by the standard never comes of valid code.
+/// How a run ended: by itself, or by a limit.
 #[derive(Clone, Copy, Debug, PartialEq, Eq)]
 pub enum RunEnd {
     Return,
@@ -13,7 +13,6 @@ pub enum RunEnd {
     DepthLimit,
     /// A host call is waiting, and 1,048,576 answers are recorded, or these have written 268,435,456 bytes or more.
     HostCallLimit,
-    Stuck,
 }
 
 /// How a run ended, after how many steps, and the answers that its host gave in order.

@@ -1,5 +1,5 @@
 -- Each global that a member of a linked set defines has a first value: its constant expression gets only what there is.
-use Rattle.std.proofs.Common.{◌≡◌, ℕ, Bool, true, false, List, [], ◌∷◌, length, slice_get, is_some, Option, Some, None, refl, ap, ◌∙◌, subst, if◌then◌else◌}
+use Rattle.std.proofs.Common.{◌≡◌, ℕ, Bool, true, false, length, slice_get, is_some, Option, Some, None, refl, ap, ◌∙◌, subst, if◌then◌else◌}
 use Rattle.std.proofs.lemmas.Bool.{ltb-true, and_parts}
 use Rattle.std.proofs.lemmas.Option.{slice_get_within}
 use Rattle.spec_linking.specs.wasm_form.declared.types.ValType.{ValType}
@@ -120,7 +120,7 @@ module _ (L : LinkedSet) (m : ℕ) (member : Member) (at : slice_get L.set.membe
             (Func (Some r.0), ap (λ (o : Option Ref). o >>= λ k. Some (Func (Some k))) r.1)
         go false q h = absurd cc
 
-    global_given : (g : ℕ) (t : ValType) → constant_index wasm GlobalGet g ≡ Some t → Given (index_constant (function_ref L m) (imported_base L m) GlobalGet g)
+    pub global_given : (g : ℕ) (t : ValType) → constant_index wasm GlobalGet g ≡ Some t → Given (index_constant (function_ref L m) (imported_base L m) GlobalGet g)
     global_given g t e =
         let ty = went_on (slice_get (imports_of globals_in wasm.imports) g) immutable t e in
         let i = global_import wasm.imports g ty.0 ty.1 in

@@ -9,8 +9,7 @@ use Rattle.spec_linking.specs.Sets.{Member, ClosedSet}
 use Rattle.spec_linking.specs.Gathering.{total_size, IsMember, IsSet}
 use Rattle.spec_linking.specs.Counts.{AreFew}
 use Rattle.spec_linking.proofs.FewParts.{member_few, total_cons}
-use Rattle.spec_linking.proofs.FewImports.{cells_few}
-use Rattle.spec_loading.specs.Addresses.{sum_before, globals_size}
+use Rattle.spec_loading.specs.Addresses.{sum_before}
 use Rattle.spec_loading.specs.Members.{from_members}
 
 -- what all members have, one after the other, is as long as the sum
@@ -55,9 +54,6 @@ module _ (S : ClosedSet) (is : IsSet S) (m : ℕ) where
   pub few_types : sum_before (λ x. length x.types) S.members m ≤ 16777216
   few_types = sum_few (λ x. length x.types) 0 (λ x n few. (let all = few.all in omega arith)) S is m
 
-  pub few_imports : sum_before (λ x. length x.imports) S.members m ≤ 16777216
-  few_imports = sum_few (λ x. length x.imports) 0 (λ x n few. (let all = few.all in omega arith)) S is m
-
   pub few_functions : sum_before (λ x. length x.funcs) S.members m ≤ 16777216
   few_functions = sum_few (λ x. length x.funcs) 0 (λ x n few. (let all = few.all in omega arith)) S is m
 
@@ -66,16 +62,3 @@ module _ (S : ClosedSet) (is : IsSet S) (m : ℕ) where
 
   pub few_tables : sum_before (λ x. length x.tables) S.members m ≤ 16777216
   few_tables = sum_few (λ x. length x.tables) 0 (λ x n few. (let all = few.all in omega arith)) S is m
-
-  pub few_exports : sum_before (λ x. length x.exports) S.members m ≤ 16777216
-  few_exports = sum_few (λ x. length x.exports) 0 (λ x n few. (let all = few.all in omega arith)) S is m
-
-  pub few_elems : sum_before (λ x. length x.elems) S.members m ≤ 16777216
-  few_elems = sum_few (λ x. length x.elems) 0 (λ x n few. (let all = few.all in omega arith)) S is m
-
-  pub few_datas : sum_before (λ x. length x.datas) S.members m ≤ 16777216
-  few_datas = sum_few (λ x. length x.datas) 0 (λ x n few. (let all = few.all in omega arith)) S is m
-
-  -- the bases, the cells and the own globals
-  pub few_globals : sum_before globals_size S.members m ≤ 16777728
-  few_globals = sum_few globals_size 2 (λ x n few. (let all = few.all in let cells = cells_few x in omega arith)) S is m

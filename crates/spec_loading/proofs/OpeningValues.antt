@@ -88,7 +88,7 @@ module _ (L : LinkedSet) where
       ∙ there
       ∙ ap Some (given (member_constant L m g.0.init) v (zero_of g.0.ty.value) g.2))
 
-  constant_of : (m k : ℕ) (v : Value) (x : Member) → slice_get L.set.members m ≡ Some x → first_value L (MemberGlobal m k) ≡ Some v
+  pub constant_of : (m k : ℕ) (v : Value) (x : Member) → slice_get L.set.members m ≡ Some x → first_value L (MemberGlobal m k) ≡ Some v
       → (slice_get x.wasm.globals k >>= λ g. member_constant L m g.init) ≡ Some v
   constant_of m k v x found e =
       sym (ap (λ (o : Option Member). (o >>= λ y. Some y.wasm) >>= λ wasm. slice_get wasm.globals k >>= λ g. member_constant L m g.init) found) ∙ e
@@ -195,7 +195,7 @@ module _ {X : Type 0} (of : ℕ → Module → List X) (size : Module → ℕ) (
           sym (slice_get_past (of m x.wasm) i (omega arith))
 
 -- what a list is mapped to, at a place
-mapped : {A B : Type 0} (f : A → B) (xs : List A) (i : ℕ) → slice_get (map f xs) i ≡ (slice_get xs i >>= λ x. Some (f x))
+pub mapped : {A B : Type 0} (f : A → B) (xs : List A) (i : ℕ) → slice_get (map f xs) i ≡ (slice_get xs i >>= λ x. Some (f x))
 mapped f [] i = refl
 mapped f (x ∷ xs) zero = refl
 mapped f (x ∷ xs) (suc i) = mapped f xs i

@@ -1,6 +1,8 @@
--- The globals and the tables of the run of a linked set: which of them the numbers of its members lead to, their addresses, and the values
--- with which the globals begin.
-use Rattle.std.specs.Prelude.{ℕ, ◌-◌, slice_get, Option, Some, None, if◌then◌else◌}
+-- The globals and the tables of the run of a linked set: which of them the numbers of its members lead to, their addresses, and the types
+-- of the globals with the values with which they begin.
+use Rattle.std.specs.Prelude.{ℕ, ◌-◌, slice_get, Option, Some, None, unwrap_or, if◌then◌else◌}
+use Rattle.spec_linking.specs.wasm_form.declared.types.ValType.{ValType}
+use Rattle.spec_linking.specs.wasm_form.declared.types.ValType.TheVariants.{I32}
 use Rattle.spec_linking.specs.wasm_form.declared.module.Import.{Import}
 use Rattle.spec_linking.specs.wasm_form.declared.module.Module.{Module}
 use Rattle.spec_linking.specs.wasm_form.declared.runtime.Value.{Value}
@@ -49,6 +51,14 @@ address_of_global L (MemberMemoryBase m) = wasm_of L m >>= λ wasm. Some (memory
 address_of_global L (MemberTableBase m) = wasm_of L m >>= λ wasm. Some (table_base_address L m)
 address_of_global L (MemberCell m c) = wasm_of L m >>= λ wasm. cell_address L m wasm c
 address_of_global L (MemberGlobal m k) = wasm_of L m >>= λ wasm. own_global_address L m wasm k
+
+-- The type of a global of the run. All but those that members define are numbers of 32 bits.
+abbrev pub run_global_type : LinkedSet → RunGlobal → ValType
+run_global_type L SharedStackPointer = I32
+run_global_type L (MemberMemoryBase m) = I32
+run_global_type L (MemberTableBase m) = I32
+run_global_type L (MemberCell m c) = I32
+run_global_type L (MemberGlobal m k) = unwrap_or (wasm_of L m >>= λ wasm. slice_get wasm.globals k >>= λ g. Some g.ty.value) I32
 
 -- The value with which one begins: the top of the stack, the bases of the member, what its cells hold of their names, and the values of the
 -- constant expressions of its globals.

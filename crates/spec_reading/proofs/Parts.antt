@@ -17,12 +17,11 @@ use Rattle.spec_reading.specs.Values.{number_at, name_at}
 use Rattle.spec_reading.specs.Types.{limits_at, table_type_at, global_type_at}
 use Rattle.spec_reading.specs.Instructions.{expr_at}
 use Rattle.spec_reading.specs.Parts.{without_blocks, constant_at, import_desc_at, import_at, global_at, described_export, export_desc_at, export_at}
-use Rattle.spec_reading.proofs.Steps.{bind_ok, chosen, chosen_first, ok_is, Takes, IsComplete, IsSound, IsPlain, given, One, one_sound}
+use Rattle.spec_reading.proofs.Steps.{bind_ok, chosen, chosen_first, ok_is, Takes, IsComplete, IsSound, given, One, one_sound}
 use Rattle.spec_reading.proofs.Values.{number_complete, number_sound, name_complete, name_sound}
 use Rattle.spec_reading.proofs.Types.{limits_complete, limits_sound, table_type_complete, table_type_sound, global_type_complete, global_type_sound}
 use Rattle.spec_reading.proofs.Instructions.{expr_complete}
 use Rattle.spec_reading.proofs.InstructionsFound.{expr_sound}
-use Rattle.spec_reading.proofs.Depths.{expr_locals}
 
 -- constants
 
@@ -45,16 +44,6 @@ constant_sound text x rest e =
     let t = expr_sound 0 text x rest (without_blocks_ok (expr_at 0 text) (x, rest) e) in
     let flat = t.1 in
     record { word = t.0.word; spelled = constant (omega arith) t.0.spelled; parts = t.0.parts }
-
-without_blocks_err : {A : Type 0} (r : Result A Break) → (r ≡ Err TooManyLocals → ⊥) → (e : Break) → without_blocks r ≡ Err e → e ≡ Broken
-without_blocks_err (Ok y) few e h = absurd cc
-without_blocks_err (Err Broken) few e h = cc
-without_blocks_err (Err TooDeep) few e h = cc
-without_blocks_err (Err TooManyLocals) few e h = absurd (few refl)
-
-pub constant_plain : IsPlain constant_at
-unfolding constant_at
-constant_plain text e h = without_blocks_err (expr_at 0 text) (expr_locals 0 text) e h
 
 -- imports
 

@@ -13,8 +13,8 @@ use Rattle.spec_binary.specs.Types.{SpellsRefType, func_ref, extern_ref, SpellsV
 use Rattle.spec_reading.specs.Steps.{Break, ◌>>=◌}
 use Rattle.spec_reading.specs.Values.{number_at, vec_at}
 use Rattle.spec_reading.specs.Types.{ref_type_of, ref_type_at, val_type_of, val_type_at, func_type_at, limits_at, table_type_at, mutability_at, global_type_at}
-use Rattle.spec_reading.proofs.Steps.{bind_ok, chosen, chosen_first, ok_is, Plainly, plain_ok, plain_broken, plain_choice, plain_bind, Takes, IsComplete, IsSound, given, IsPlain, plain_is, got, one_sound, two_sound, two_complete, one_plain, two_plain}
-use Rattle.spec_reading.proofs.Values.{number_again, number_complete, number_sound, number_plain}
+use Rattle.spec_reading.proofs.Steps.{bind_ok, chosen, chosen_first, ok_is, Plainly, plain_ok, plain_broken, plain_choice, plain_bind, Takes, IsComplete, IsSound, given, IsPlain, plain_is, got, one_sound, two_sound, two_complete}
+use Rattle.spec_reading.proofs.Values.{number_again, number_complete, number_sound}
 use Rattle.spec_reading.proofs.Vectors.{vec_complete, vec_sound}
 
 -- what one byte tells
@@ -181,16 +181,6 @@ limits_sound (b ∷ bs) limits rest e = elim (chosen (eqb b 0x00) _ _ _ e) [
       record { word = 0x01 ∷ t.word ++ t.end; spelled = subst (λ l. SpellsLimits l (0x01 ∷ t.word ++ t.end)) t.is s; parts = ap (λ b. b ∷ bs) (eqb-true b 0x01 q.0) ∙ ap (λ l. 0x01 ∷ l) t.parts }
 ]
 
-limits_breaks : (text : List ℕ) → Plainly (limits_at text)
-unfolding limits_at
-limits_breaks [] = plain_broken
-limits_breaks (b ∷ bs) =
-    plain_choice (eqb b 0x00) _ _ (one_plain (number_at 32) (number_plain 32) minimum bs)
-    (plain_choice (eqb b 0x01) _ _ (two_plain (number_at 32) (number_plain 32) (number_at 32) (number_plain 32) bounds bs) plain_broken)
-
-pub limits_plain : IsPlain limits_at
-limits_plain = plain_is limits_at limits_breaks
-
 -- table types
 
 abbrev table_type : ValType → Limits → TableType
@@ -209,13 +199,6 @@ table_type_sound text ty rest e =
     let t = two_sound SpellsRefType SpellsLimits ref_type_at limits_at ref_type_sound limits_sound table_type text ty rest e in
     let s : SpellsTableType (table_type t.first t.second) (t.word ++ t.end) = table t.spelled t.after in
     record { word = t.word ++ t.end; spelled = subst (λ ty. SpellsTableType ty (t.word ++ t.end)) t.is s; parts = t.parts }
-
-table_type_breaks : (text : List ℕ) → Plainly (table_type_at text)
-unfolding table_type_at
-table_type_breaks text = two_plain ref_type_at ref_type_plain limits_at limits_plain table_type text
-
-pub table_type_plain : IsPlain table_type_at
-table_type_plain = plain_is table_type_at table_type_breaks
 
 -- global types
 
@@ -237,14 +220,6 @@ mutability_sound (b ∷ bs) m rest e = elim (chosen (eqb b 0x00) _ _ _ e) [
       given SpellsMutability (b ∷ bs) true m bs rest q.1 (record { word = 0x01 ∷ []; spelled = variable; parts = ap (λ b. b ∷ bs) (eqb-true b 0x01 q.0) })
 ]
 
-mutability_breaks : (text : List ℕ) → Plainly (mutability_at text)
-unfolding mutability_at
-mutability_breaks [] = plain_broken
-mutability_breaks (b ∷ bs) = plain_choice (eqb b 0x00) _ _ (plain_ok _) (plain_choice (eqb b 0x01) _ _ (plain_ok _) plain_broken)
-
-pub mutability_plain : IsPlain mutability_at
-mutability_plain = plain_is mutability_at mutability_breaks
-
 abbrev global_type : ValType → Bool → GlobalType
 global_type value mutable = record { value = value; mutable = mutable }
 
@@ -262,10 +237,3 @@ global_type_sound text ty rest e =
     let t = two_sound SpellsValType SpellsMutability val_type_at mutability_at val_type_sound mutability_sound global_type text ty rest e in
     let s : SpellsGlobalType (global_type t.first t.second) (t.word ++ t.end) = global t.spelled t.after in
     record { word = t.word ++ t.end; spelled = subst (λ ty. SpellsGlobalType ty (t.word ++ t.end)) t.is s; parts = t.parts }
-
-global_type_breaks : (text : List ℕ) → Plainly (global_type_at text)
-unfolding global_type_at
-global_type_breaks text = two_plain val_type_at val_type_plain mutability_at mutability_plain global_type text
-
-pub global_type_plain : IsPlain global_type_at
-global_type_plain = plain_is global_type_at global_type_breaks

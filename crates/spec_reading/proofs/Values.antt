@@ -201,10 +201,3 @@ name_sound text x rest e =
     let cuts = cut_sound text c.0.0 c.0.1 c.1 in
     given SpellsName text c.0.0 x c.0.1 rest u.1
     (record { word = cuts.size ++ c.0.0; spelled = name cuts.count (IsUtf8-from_is_utf8 _ u.0); parts = cuts.parts ∙ sym (append_assoc cuts.size c.0.0 c.0.1) })
-
-name_breaks : (text : List ℕ) → Plainly (name_at text)
-unfolding name_at
-name_breaks text = plain_bind (cut_at text) _ (cut_breaks text) (λ name. plain_choice (is_utf8 name.0) _ _ (plain_ok _) plain_broken)
-
-pub name_plain : IsPlain name_at
-name_plain = plain_is name_at name_breaks

@@ -1,7 +1,6 @@
 -- How runs grow by a step and by further answers, and that agreement is an equivalence.
-use Rattle.std.proofs.Common.{◌≡◌, ℕ, zero, suc, ◌≤◌, List, [], ◌∷◌, ◌++◌, Option, Some, None, refl, sym, ap, ◌∙◌, option_map, append_assoc, arith}
+use Rattle.std.proofs.Common.{◌≡◌, ℕ, zero, suc, List, [], ◌∷◌, ◌++◌, Option, Some, None, refl, sym, ap, ◌∙◌, option_map, append_assoc}
 use Rattle.spec_runs.specs.Systems.{Outside, Status, Moving, Waits, Returned, Exited, Trapped, System, with_rest, only_if, next_at, next, event_at, event, Ran, after_events, run_from, run, with_next, IsReal}
-use Rattle.spec_runs.specs.Agreement.{Follows, Agree}
 
 -- a moving state makes its step and takes no answer
 pub next_moving : {O : Outside} (S : System O) (s s' : S.State) (answers : List O.Answer) → S.status s ≡ Moving
@@ -11,12 +10,6 @@ next_moving S s s' answers moving step = ap (λ status. next_at S status s answe
 -- a moving state has no event
 pub event_moving : {O : Outside} (S : System O) (s : S.State) → S.status s ≡ Moving → event S s ≡ []
 event_moving S s moving = ap (λ status. event_at status (S.memory s)) moving
-
--- where a state stays, so does every run from it
-pub run_stays : {O : Outside} (S : System O) (n : ℕ) (s : S.State) (answers : List O.Answer) → next S s answers ≡ None
-    → run S n s answers ≡ run S zero s answers
-run_stays S zero s answers stays = refl
-run_stays S (suc n) s answers stays = ap (run_from S s answers (run S n)) stays
 
 -- one step more, and then the events before it, or the other way round
 with_next_after : {O : Outside} (S : System O) (events : List (O.Call × O.Memory)) (r : Ran O S.State) (o : Option (S.State × List O.Answer))
@@ -39,21 +32,6 @@ run_last {O} S (suc n) s answers = go (next S s answers) refl (λ x. run_last S 
         → run_from S s answers (run S (suc n)) o ≡ with_next S (run_from S s answers (run S n) o) (next S (run_from S s answers (run S n) o).state (run_from S s answers (run S n) o).left)
     go None e more = rw e
     go (Some x) e more = ap (after_events (event S s)) (more x) ∙ with_next_after S (event S s) (run S n x.0 x.1) (next S (run S n x.0 x.1).state (run S n x.0 x.1).left)
-
--- a run stands where its real steps lead
-pub run_real : {O : Outside} (S : System O) (n : ℕ) (s : S.State) (answers : List O.Answer)
-    → (m : ℕ) × (m ≤ n) × IsReal S m s answers × (run S n s answers ≡ run S m s answers)
-run_real S zero s answers = (0, omega arith, tt, refl)
-run_real {O} S (suc n) s answers = go (next S s answers) refl (λ x. run_real S n x.0 x.1)
-  where
-    go : (o : Option (S.State × List O.Answer)) → next S s answers ≡ o
-        → ((x : S.State × List O.Answer) → (m : ℕ) × (m ≤ n) × IsReal S m x.0 x.1 × (run S n x.0 x.1 ≡ run S m x.0 x.1))
-        → (m : ℕ) × (m ≤ suc n) × IsReal S m s answers × (run S (suc n) s answers ≡ run S m s answers)
-    go None e more = (0, omega arith, tt, ap (run_from S s answers (run S n)) e)
-    go (Some x) e more =
-        let i = more x in
-        let le = i.1 in
-        (suc i.0, omega arith, (x, e, i.2), rw e (ap (after_events (event S s)) i.3))
 
 -- what comes next after a step and n more, and after n steps from where it leads
 next_after : {O : Outside} (S : System O) (n : ℕ) (s : S.State) (answers : List O.Answer) (x : S.State × List O.Answer)
@@ -112,24 +90,3 @@ run_append S zero s answers further real = refl
 run_append S (suc n) s answers further real =
     let e = next_append S s answers further real.0 real.1 in
     rw (e, real.1) (ap (after_events (event S s)) (run_append S n real.0.0 real.0.1 further real.2))
-
--- a state agrees with itself
-pub agree_refl : {O : Outside} (S : System O) (s : S.State) → Agree S S s s
-agree_refl S s = record { there = λ answers n. (n, record { events = refl; seen = λ _. (refl, refl) }); back = λ answers n. (n, record { events = refl; seen = λ _. (refl, refl) }) }
-
--- agreement goes both ways
-pub agree_sym : {O : Outside} (S T : System O) (s : S.State) (t : T.State) → Agree S T s t → Agree T S t s
-agree_sym S T s t a = record { there = a.back; back = a.there }
-
--- following passes through a third system
-follows_trans : {O : Outside} (S T U : System O) (s : S.State) (t : T.State) (u : U.State) → Follows S T s t
-    → Follows T U t u → Follows S U s u
-follows_trans S T U s t u f g answers n =
-    let x = f answers n in
-    let y = g answers x.0 in
-    (y.0, record { events = x.1.events ∙ y.1.events; seen = λ h. let p = x.1.seen h in let q = y.1.seen (λ moving. h (sym p.0 ∙ moving)) in (q.0 ∙ p.0, q.1 ∙ p.1) })
-
--- agreement passes through a third system
-pub agree_trans : {O : Outside} (S T U : System O) (s : S.State) (t : T.State) (u : U.State) → Agree S T s t
-    → Agree T U t u → Agree S U s u
-agree_trans S T U s t u a b = record { there = follows_trans S T U s t u a.there b.there; back = follows_trans U T S u t s b.back a.back }

@@ -1,24 +1,9 @@
 -- Silent steps change nothing that is seen; and the law of one step gives agreement, in both directions.
 use Rattle.std.proofs.Common.{◌≡◌, ℕ, zero, suc, ◌+◌, ◌-◌, ◌<◌, ◌≤◌, List, [], ◌∷◌, ◌++◌, Option, Some, None, Bool, true, false, refl, sym, ap, ap₂, ◌∙◌, ⊎_elim, arith, append-nil}
 use Rattle.std.proofs.lemmas.Bool.{cases_lt}
-use Rattle.spec_runs.specs.Systems.{Outside, Status, Moving, Waits, Returned, Exited, Trapped, System, with_rest, only_if, next_at, next, event_at, event, after_events, run_from, run, IsReal}
+use Rattle.spec_runs.specs.Systems.{Outside, Status, Moving, Waits, Returned, Exited, Trapped, System, with_rest, only_if, next_at, next, event_at, event, after_events, run_from, run}
 use Rattle.spec_runs.specs.Agreement.{Alike, Agree, Silent, StepLaw}
-use Rattle.spec_runs.proofs.Runs.{next_moving, event_moving, agree_sym}
-
--- silent steps, and silent steps from where they lead
-pub silent_append : {O : Outside} (T : System O) (k j : ℕ) (t u v : T.State) → Silent T k t u → Silent T j u v
-    → Silent T (k + j) t v
-silent_append T zero j t u v first second = let e : 0 + j ≡ j = omega arith in rw (first, e) second
-silent_append T (suc k) j t u v first second =
-    let e : suc k + j ≡ suc (k + j) = omega arith in
-    rw e (first.0, first.1, first.2, silent_append T k j first.0 u v first.3 second)
-
--- silent steps are real, over any answers
-pub silent_real : {O : Outside} (T : System O) (k : ℕ) (t u : T.State) (answers : List O.Answer) → Silent T k t u
-    → IsReal T k t answers
-silent_real T zero t u answers silent = tt
-silent_real T (suc k) t u answers silent =
-    ((silent.0, answers), next_moving T t silent.0 answers silent.1 silent.2, silent_real T k silent.0 u answers silent.3)
+use Rattle.spec_runs.proofs.Runs.{next_moving, event_moving}
 
 -- a run that ends within them has no event yet, and stands at a moving state
 pub silent_below : {O : Outside} (T : System O) (k m : ℕ) (t u : T.State) (answers : List O.Answer) → Silent T k t u
@@ -45,11 +30,6 @@ pub silent_past : {O : Outside} (T : System O) (k m : ℕ) (t u : T.State) (answ
 silent_past T k m t u answers silent le =
     let e : k + (m - k) ≡ m = omega arith in
     ap (λ n. run T n t answers) (sym e) ∙ silent_run T k (m - k) t u answers silent
-
--- k silent steps stand at where they lead, and take no answer
-pub silent_end : {O : Outside} (T : System O) (k : ℕ) (t u : T.State) (answers : List O.Answer) → Silent T k t u
-    → run T k t answers ≡ run T zero u answers
-silent_end T k t u answers silent = let e : k + 0 ≡ k = omega arith in ap (λ n. run T n t answers) (sym e) ∙ silent_run T k zero t u answers silent
 
 -- what t does next, where what it matches makes this step or none
 abbrev Paired : {O : Outside} (S T : System O) → (S.State → T.State → Type 0) → T.State → List O.Answer
@@ -173,8 +153,3 @@ agree_after {O} S T s t u k moving silent a = record {
 
     past : (answers : List O.Answer) (m : ℕ) → k ≤ m → (n : ℕ) × Alike T S (run T m t answers) (run S n s answers)
     past answers m ge = rw (silent_past T k m t u answers silent ge) (a.back answers (m - k))
-
--- the same of the first's silent steps
-pub agree_before : {O : Outside} (S T : System O) (s u : S.State) (t : T.State) (k : ℕ) → T.status t ≡ Moving
-    → Silent S k s u → Agree S T u t → Agree S T s t
-agree_before S T s u t k moving silent a = agree_sym T S t s (agree_after T S t s u k moving silent (agree_sym S T u t a))

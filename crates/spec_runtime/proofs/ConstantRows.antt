@@ -4,7 +4,7 @@ use denote.Hole.Carrier.{out}
 use Rattle.spec_binary.specs.wasm_form.declared.types.ValType.TheVariants.{FuncRef}
 use Rattle.spec_binary.specs.wasm_form.declared.instr.Instr.{Instr, Plain, Index, I32Const, I64Const, RefNull, out-Instr}
 use Rattle.spec_binary.specs.wasm_form.declared.runtime.Value.{Value}
-use Rattle.spec_binary.specs.wasm_form.declared.runtime.Value.TheVariants.{Num, Func}
+use Rattle.spec_binary.specs.wasm_form.declared.runtime.Value.TheVariants.{Num}
 use Rattle.spec_runtime.specs.Constants.{constant_in, numbered_globals}
 
 abbrev value_in : List Instr → Option Value

@@ -6,5 +6,4 @@ pub mod Heights
 pub mod Valid
 pub mod ConstantTypes
 pub mod ConstantSteps
-pub mod ConstantCounts
 pub mod Numbers

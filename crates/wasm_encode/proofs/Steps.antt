@@ -17,7 +17,7 @@ use Rattle.spec_reading.specs.spec_binary.Sequence.{SpellsVec}
 use Rattle.spec_reading.specs.spec_binary.Types.{SpellsFuncType, SpellsLimits, SpellsTableType}
 use Rattle.spec_reading.specs.spec_binary.Parts.{SpellsImport, SpellsGlobal, SpellsExport, SpellsElem, SpellsCode, SpellsData}
 use Rattle.spec_reading.specs.spec_binary.Sections as chain
-use Rattle.spec_reading.specs.spec_binary.Sections.{Progress, Contents, rank_with, with_types, with_imports, with_funcs, with_tables, with_memories, with_globals, with_exports, with_start, with_elems, with_data_count, with_codes, with_datas}
+use Rattle.spec_reading.specs.spec_binary.Sections.{Progress, Contents, rank_with, with_types, with_imports, with_funcs, with_tables, with_memories, with_globals, with_exports, with_elems, with_codes, with_datas}
 use Rattle.spec_reading.specs.spec_binary.WellFormed as formed
 use Rattle.spec_reading.specs.spec_binary.WellFormed.{HasRank, ArePlaced}
 use Rattle.wasm_encode.specs.SectionSizes.{IsContents, types, imports, funcs, tables, memories, globals, exports, elems, codes, datas, IsTooLongBody, body}

@@ -12,7 +12,7 @@ use Rattle.spec_reading.proofs.of_spec_binary.UnsignedSpelling.{unsigned_some, u
 use Rattle.spec_reading.proofs.of_spec_binary.SignedSpelling.{signed_length}
 use Rattle.spec_reading.proofs.of_spec_binary.SpelledItems.{items_within}
 use Rattle.wasm_form.proofs.Levels.{with_inside, fold_rolled}
-use Rattle.spec_reading.specs.spec_binary.Types.{SpellsValType, SpellsRefType}
+use Rattle.spec_reading.specs.spec_binary.Types.{SpellsValType}
 use Rattle.spec_reading.specs.spec_binary.Types as types
 use Rattle.spec_reading.specs.spec_binary.Instructions.{SpellsBlockType, SpellsBits, SpellsSecond, SpellsInstr, SpellsInstrs, SpellsExpr}
 use Rattle.spec_reading.specs.spec_binary.Instructions as spelled

@@ -184,7 +184,6 @@ module _ (C : Course) (names : HostNames) (p : Progress) (ready : IsReady C name
   step_gives (event.Trapped why) new fits h = comes (event.Trapped why) (end.Trap why) new (λ s taken most steps tells. trapped C.host why (C.system.status s) tells) h
   step_gives (event.Exited code) new fits h = comes (event.Exited code) (end.Exit code) new (λ s taken most steps tells. exited C.host code (C.system.status s) tells) h
   step_gives event.Deep new fits h = stays end.DepthLimit new h.0 h.2 (λ most lt. (lt, h.0, h.1))
-  step_gives event.Stuck new fits h = stays end.Stuck new h.0 h.2 (λ most lt. (lt, h.0, h.1))
   step_gives (event.Loader call first second) new fits h = absurd (no_loader C call first second old new h)
   step_gives (event.Marked tag) new fits h = absurd (no_mark C tag old new h)
 
@@ -202,7 +201,6 @@ module _ (C : Course) (names : HostNames) (p : Progress) (ready : IsReady C name
   again_at (event.Trapped why) new ended h = again (event.Trapped why) (end.Trap why) new (λ s taken most steps tells. trapped C.host why (C.system.status s) tells) ended h
   again_at (event.Exited code) new ended h = again (event.Exited code) (end.Exit code) new (λ s taken most steps tells. exited C.host code (C.system.status s) tells) ended h
   again_at event.Deep new ended h = absurd (true≢false (sym ended ∙ ap has_ended h.0))
-  again_at event.Stuck new ended h = absurd (true≢false (sym ended ∙ ap has_ended h.0))
 
   -- how a run has ended that is asked for a step more, which changes nothing
   pub ended_again : (e : Event) (new : Recorded) (end : RunEnd) → end_by e ≡ Some end → has_ended (status_at C old) ≡ true → RunStepped C e old new → HasEnded C old.steps end old × (new ≡ old)

@@ -35,7 +35,6 @@ end_by event.Returned = Some end.Return
 end_by (event.Trapped why) = Some (end.Trap why)
 end_by (event.Exited code) = Some (end.Exit code)
 end_by event.Deep = Some end.DepthLimit
-end_by event.Stuck = Some end.Stuck
 end_by _ = None
 
 -- the host call that it waits for

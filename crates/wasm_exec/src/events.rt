@@ -14,7 +14,6 @@ pub(crate) fn end_by(event: &Event) -> Option<RunEnd>
         Event::Trapped(trap) => Some(RunEnd::Trap(*trap)),
         Event::Exited(code) => Some(RunEnd::Exit(*code)),
         Event::Deep => Some(RunEnd::DepthLimit),
-        Event::Stuck => Some(RunEnd::Stuck),
         Event::Moved | Event::Waits(_) | Event::Loader { .. } | Event::Marked(_) => None,
     }
 }

@@ -3,6 +3,7 @@ ghost use Rattle.std.specs.Prelude.{◌≡◌, ◌<◌, ◌≤◌, IfOk, OnOk};
 ghost use Rattle.spec_hosts.specs.Devices.{devices, KeepsFronts};
 ghost use Rattle.host_calls.specs.Embedders.{names_of, embedder_of, embedder};
 ghost use Rattle.wasm_exec.specs.Executed.{HaveIntegers, IsLinkedOver, Executes, ExecutesKept};
+ghost use Rattle.spec_loading.specs.spec_safety.SoundModules.{HoldsNumbers};
 ghost use Rattle.wasm_exec.specs.Courses.{Origin};
 ghost use Rattle.wasm_exec.specs.Programs.{recorded_of};
 ghost use Rattle.spec_hosts.specs.spec_runtime.Courses.{no_steps};
@@ -46,7 +47,8 @@ pub fn execute<I: Source, O: Sink, E: Sink, A: Ambient>(
     errors: &mut E,
     ambient: &mut A,
 ) -> Result<Ran, SingleFault>
-    requires { most < 18446744073709551615 }
+    requires most { most < 18446744073709551615 }
+    requires numbers { HoldsNumbers checked.now }
     ensures executes { Executes checked.now (embedder_of args table.now) most result (devices (I.seen input.old) (O.seen output.old) (E.seen errors.old) (A.seen ambient.old)) (devices (I.seen input.new) (O.seen output.new) (E.seen errors.new) (A.seen ambient.new)) }
     ensures fronts { KeepsFronts (devices (I.seen input.old) (O.seen output.old) (E.seen errors.old) (A.seen ambient.old)) (devices (I.seen input.new) (O.seen output.new) (E.seen errors.new) (A.seen ambient.new)) }
 {

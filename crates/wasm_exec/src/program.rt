@@ -23,7 +23,7 @@ pub(crate) enum Program<'m> {
 
 impl<'m> Program<'m> {
     /// Makes one step, which takes the answer that is recorded for a wait, and tells how the run stands then. An end is told again,
-    /// `Deep` where the step would pass a limit of depth, and `Stuck` where there is none, with nothing changed.
+    /// `Deep` where the step would pass a limit of depth, with nothing changed.
     pub fn run_step(&mut self, alloc: Global) -> Result<Event, Memory>
         requires answered { (o : Origin) × IsOf self.old o × IsAt (course_of o) (recorded_of self.old) × (is_waiting (course_of o) (recorded_of self.old) ≡ false) }
         requires few { (recorded_of self.old).steps < 18446744073709551615 }

@@ -4,7 +4,7 @@ use Rattle.std.specs.Prelude.{None, Some, Option, is_some, if◌then◌else◌}
 use Rattle.std.specs.List.{list_all}
 use Rattle.std.proofs.lemmas.Bool.{ltb-true, and_parts}
 use Rattle.wasm_form.specs.declared.types.ValType.{ValType}
-use Rattle.wasm_form.specs.declared.types.ValType.TheVariants.{I32, I64, F32, F64, FuncRef, ExternRef}
+use Rattle.wasm_form.specs.declared.types.ValType.TheVariants.{FuncRef}
 use Rattle.wasm_form.specs.declared.types.FuncType.{FuncType}
 use Rattle.wasm_form.specs.declared.instr.Instr.{Instr, out-Instr}
 use Rattle.wasm_form.specs.declared.instr.Instr.TheOpen as Open
@@ -16,7 +16,6 @@ use Rattle.wasm_form.specs.Index.{index_form}
 use Rattle.wasm_form.specs.declared.runtime.Value.{Value}
 use Rattle.wasm_form.specs.declared.runtime.Value.TheVariants as values
 use Rattle.spec_safety.specs.spec_binary.Options.{◌>>=◌}
-use Rattle.spec_safety.specs.spec_binary.SameTypes.{same_type}
 use Rattle.spec_safety.specs.spec_binary.Indices.{function_type}
 use Rattle.spec_safety.specs.spec_binary.IndexSpaces.{function_space}
 use Rattle.spec_safety.specs.spec_validation.Faults.{is_function, is_constant}

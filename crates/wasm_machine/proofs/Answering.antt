@@ -1,5 +1,5 @@
 -- What an answer puts on top, and what it writes.
-use Rattle.std.proofs.Common.{arith, ◌≡◌, ℕ, ◌+◌, ◌≤◌, ◌<◌, List, [], ◌∷◌, ◌++◌, length, take, drop, map, get_or, refl, ap, sym, ◌∙◌, length-append, length-drop, Some, Result, Ok, true}
+use Rattle.std.proofs.Common.{arith, ◌≡◌, ℕ, ◌+◌, ◌≤◌, ◌<◌, List, [], ◌∷◌, ◌++◌, length, take, drop, map, get_or, refl, ap, sym, ◌∙◌, length-append, Some, Result, Ok, true}
 use Rattle.std.specs.Prelude.{IsTrue, is_err, reverse, nat_le}
 use Rattle.std.proofs.lemmas.Bool.{false≢true, and_parts, leb-true}
 use Rattle.std.proofs.lemmas.List.{take_all, drop_more, map_more, length-map, length-take, length-reverse, reverse-append}
@@ -11,6 +11,7 @@ use Rattle.wasm_space.specs.Access.{ChangesOrTraps}
 use Rattle.spec_safety.specs.spec_runtime.Memories.{MemoryInstance, overwritten, written}
 use Rattle.spec_safety.specs.spec_runtime.Hosts.{writes_fit, all_written}
 use Rattle.spec_safety.specs.spec_execution.Activations.{with_values, pushed}
+use Rattle.spec_safety.proofs.KeptMemories.{overwritten_length}
 use Rattle.wasm_step.specs.Tops.{Top, with_act}
 use Rattle.wasm_step.specs.Primitives.{HasSpare}
 
@@ -35,10 +36,6 @@ numbers_all t ns i h = rw (take_all i ns h) refl
 
 pub not_err : {X Y : Type 0} (answer : Result X Y) (x : X) → answer ≡ Ok x → is_err answer ≡ true → ⊥
 not_err answer x e f = false≢true (sym (ap is_err e) ∙ f)
-
-overwritten_length : (bytes : List ℕ) (at : ℕ) (new : List ℕ) → at + length new ≤ length bytes → length (overwritten bytes at new) ≡ length bytes
-unfolding overwritten
-overwritten_length bytes at new h = simp (length-append, length-take, length-drop) (omega arith)
 
 fit_same : (ws : List Write) (m n : MemoryInstance) → length m.bytes ≡ length n.bytes → writes_fit ws m ≡ writes_fit ws n
 fit_same [] m n e = refl

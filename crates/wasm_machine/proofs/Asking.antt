@@ -1,6 +1,6 @@
 -- A call of a function outside: its arguments, what is left on top, and what is told.
 use Rattle.std.proofs.Common.{arith, ◌≡◌, ℕ, ◌+◌, ◌≤◌, ◌<◌, ◌^◌, List, [], ◌∷◌, length, take, drop, map, length-drop, refl, ap, sym, ◌∙◌, subst, Option, Some, Bool, true, false}
-use Rattle.std.specs.Prelude.{reverse, is_some, IfSome, if◌then◌else◌, slice_get, unwrap_or}
+use Rattle.std.specs.Prelude.{reverse, is_some, if◌then◌else◌, slice_get, unwrap_or}
 use Rattle.std.specs.List.{All}
 use Rattle.std.proofs.lemmas.List.Elements.{All-nil, All-cons, All-head, All-tail}
 use Rattle.spec_safety.specs.spec_runs.Systems.{only_if}
@@ -16,26 +16,29 @@ use Rattle.spec_safety.specs.spec_runtime.Memories.{MemoryInstance}
 use Rattle.spec_safety.specs.spec_execution.Values.{take_values, number_of, numbers_of}
 use Rattle.spec_safety.specs.spec_execution.Activations.{Activation, with_values}
 use Rattle.spec_safety.specs.spec_execution.Views.{View, type_of, loader_type}
-use Rattle.spec_safety.specs.spec_execution.Ranges.{AllInRange, IsActivationInRange, IsFrameInRange}
+use Rattle.spec_safety.specs.spec_execution.Ranges.{AreInRange}
 use Rattle.spec_safety.specs.spec_execution.Limits.{activations}
 use Rattle.spec_safety.specs.spec_execution.Runs.{Frame, Active, Next, Asks, Loads, call, calling}
 use Rattle.wasm_step.specs.Tops.{Top, with_act}
 use Rattle.wasm_step.specs.Primitives.{Widened, HasSpare, with_rest}
 use Rattle.wasm_machine.specs.Stacks.{CallStack, frames_at, IsTopOf, under_of, is_live, joined, IsJoined}
-use Rattle.wasm_machine.specs.Machines.{MachineState, IsOver, IsAsked, IsCallingOutside, calls_outside, Told, first_of, second_of, next_of, past_call}
+use Rattle.wasm_machine.specs.Machines.{MachineState, RoomsAre, on_tag, IsOver, IsAsked, IsCallingOutside, calls_outside, Told, first_of, second_of, next_of, past_call}
 use Rattle.wasm_machine.specs.Outside.{IsOutsideCall}
 use Rattle.wasm_machine.specs.declared.callers.Caller.{Caller}
 use Rattle.wasm_machine.specs.declared.callers.Caller.TheVariants as caller
 use Rattle.wasm_machine.specs.declared.calls.OutsideCall.{OutsideCall}
 use Rattle.wasm_machine.specs.declared.machine.Standing.{Standing}
 use Rattle.wasm_machine.specs.declared.machine.Standing.TheVariants as standing
+use Rattle.wasm_machine.specs.declared.event.Event.{Event}
 use Rattle.wasm_machine.specs.declared.event.Event.TheVariants as event
+use Rattle.spec_safety.specs.TypedViews.{HoldTypes}
+use Rattle.spec_safety.specs.TypedFrames.{IsSoundNext}
 use Rattle.wasm_step.proofs.Arguments.{parts, arguments_are, arguments_count}
-use Rattle.spec_safety.proofs.StepsInRange.{IsNextInRange, All-reverse}
-use Rattle.wasm_machine.proofs.InRange.{step_in}
+use Rattle.spec_safety.proofs.Lookups.{All-reverse}
 use Rattle.wasm_machine.proofs.Depths.{room_in}
 use Rattle.wasm_machine.proofs.OnTop.{from_joined, to_joined, widened, widened_is, widened_live, acted, acted_is}
-use Rattle.wasm_machine.proofs.Telling.{unchanged}
+use Rattle.wasm_machine.proofs.Sound.{NextIsSound, arguments_there, told_over}
+use Rattle.wasm_machine.proofs.Telling.{unchanged, here_sound, here_in_range}
 
 pub arguments_room : (ts : List ValType) (vs : List Value) (above : ℕ) → above ≤ length vs → is_some (take_values (reverse ts) (drop above vs)) ≡ true → above + length ts ≤ length vs
 arguments_room ts vs above h e = omega (arith, arguments_count ts (drop above vs) e, length-drop above vs)
@@ -140,11 +143,22 @@ module _ {Units : Type 0} (V : View Units) (us : Units) where
     pub calling_outside : calls_outside V us t.act ≡ true
     calling_outside = called.1
 
-    pub calling_range : IsOver V us old → IsActivationInRange V t.act
-    calling_range v =
-        let v' : IsOver V us (record { stack = joined cs t; standing = s }) = rw (← at) at v in
-        let r : AllInRange V us (Active t.act ∷ under_of cs t) = rw (live_frames cs t called.0) at v'.range in
-        All-head (IsFrameInRange V) (Active t.act) (under_of cs t) r.stack
+    -- the machine goes on
+    calling_moves : s ≡ standing.Moving
+    calling_moves = let c : IsCallingOutside V us (record { stack = joined cs t; standing = s }) = rw (← at) at calls in c.0
+
+    pub calling_range : (memory : MemoryInstance) → IsOver V us memory old → AreInRange (V.counts t.act.unit) t.act.rest
+    calling_range memory v = here_in_range V us memory cs t s old calling_live calling_moves at v
+
+    calling_sound : (memory : MemoryInstance) → IsOver V us memory old → NextIsSound V (next_of V us memory (Active t.act ∷ under_of cs t))
+    calling_sound memory v = subst (λ fs. NextIsSound V (next_of V us memory fs)) (live_frames cs t calling_live) (here_sound V us memory cs t s old calling_live calling_moves at v)
+
+    -- its arguments are there
+    pub calling_arguments : (memory : MemoryInstance) (o : OutsideCall) (ty : FuncType) (params : List ValType) → IsOver V us memory old → IsOutsideCall V us memory t.act o → Some ty ≡ type_of V o.target → params ≡ ty.params
+        → is_some (take_values (reverse params) (drop o.above t.act.values)) ≡ true
+    calling_arguments memory o ty params v is there e =
+        let n = subst (IsSoundNext V V.names (HoldTypes V V.names) on_tag) (is.next (under_of cs t)) (calling_sound memory v).0 in
+        rw e (arguments_there V us memory (calling (past_call t.act o.above) (under_of cs t)) (past_call t.act o.above).values o.target ty is.outside (sym there) n)
 
 -- ---- what is told
 
@@ -153,23 +167,25 @@ pub record IsLeaving {Units : Type 0} (V : View Units) (us : Units) (memory : Me
   pub lies : IsJoined cs t
   pub live : is_live t ≡ true
   pub at : record { stack = joined cs t; standing = s } ≡ old
+  pub moves : s ≡ standing.Moving
   pub calls : IsOutsideCall V us memory t.act o
   pub typed : Some ty ≡ type_of V o.target
   pub kinds : is_some (take_values (reverse ty.params) (drop o.above t.act.values)) ≡ true
   pub are : args ≡ reverse (numbers_of (reverse ty.params) (take (length ty.params) (drop o.above t.act.values)))
   pub left : Widened (with_act t (past_arguments t.act o.above (length ty.params))) new
 
-pub leaving : {Units : Type 0} (V : View Units) (us : Units) (memory : MemoryInstance) (cs : List Caller) (t new : Top) (s : Standing) (old : MachineState) (o : OutsideCall) (ty : FuncType) (params : List ValType) (args : List ℕ) (fits : Bool)
+pub leaving : {Units : Type 0} (V : View Units) (us : Units) (memory : MemoryInstance) (cs : List Caller) (t new : Top) (s : Standing) (old : MachineState) (o : OutsideCall) (ty : FuncType) (params : List ValType) (args : List ℕ)
     → IsJoined cs t → record { stack = joined cs t; standing = s } ≡ old → IsCallingOutside V us old → IsOutsideCall V us memory t.act o → Some ty ≡ type_of V o.target → params ≡ ty.params
-    → fits ≡ is_some (take_values (reverse params) (drop o.above t.act.values)) → fits ≡ true → args ≡ reverse (numbers_of (reverse params) (take (length params) (drop o.above t.act.values)))
+    → is_some (take_values (reverse params) (drop o.above t.act.values)) ≡ true → args ≡ reverse (numbers_of (reverse params) (take (length params) (drop o.above t.act.values)))
     → Widened (with_act t (past_arguments t.act o.above (length params))) new → IsLeaving V us memory cs t new s old o ty args
-leaving V us memory cs t new s old o ty params args fits lies at calls is there e f g are left = record {
+leaving V us memory cs t new s old o ty params args lies at calls is there e kinds are left = record {
   lies = lies;
   live = calling_live V us cs t s old at lies calls;
   at = at;
+  moves = calling_moves V us cs t s old at lies calls;
   calls = is;
   typed = there;
-  kinds = rw e at (sym f ∙ g);
+  kinds = rw e at kinds;
   are = rw e at are;
   left = rw e at left;
 }
@@ -190,25 +206,22 @@ module _ {Units : Type 0} {V : View Units} {us : Units} {memory : MemoryInstance
   frames_new : (joined cs new).frames ≡ Active past ∷ under_of cs t
   frames_new = ap (λ (st : CallStack). st.frames) (left_is cs t new past l.live l.left)
 
-  over_old : IsOver V us old → IsOver V us (record { stack = joined cs t; standing = s })
-  over_old v = rw (← l.at) at v
+  -- what is left took the same rooms
+  rooms_left : IsOver V us memory old → RoomsAre V (joined cs new)
+  rooms_left v =
+      let v' : IsOver V us memory (record { stack = joined cs t; standing = s }) = rw (← l.at) at v in
+      ap (λ (st : CallStack). st.rooms) (left_is cs t new past l.live l.left)
+      ∙ v'.rooms
+      ∙ ap (λ (fs : List (Frame ℕ)). map (room_in V) (activations fs)) (live_frames cs t l.live)
+      ∙ sym (ap (λ (fs : List (Frame ℕ)). map (room_in V) (activations fs)) frames_new)
 
-  -- what is left is in range, and took the same rooms
-  over_left : (s' : Standing) (next : Next Units ℕ) → next_of V us memory (Active t.act ∷ under_of cs t) ≡ Some next → (IsNextInRange V us next → AllInRange V us (Active past ∷ under_of cs t)) → IsAsked V s' → IsOver V us old
-      → IsOver V us (record { stack = joined cs new; standing = s' })
-  over_left s' next e k a v =
-      let v' : IsOver V us (record { stack = joined cs t; standing = s }) = over_old v in
-      let r : AllInRange V us (Active t.act ∷ under_of cs t) = rw (live_frames cs t l.live) at v'.range in
-      let n : IfSome (Some next) (IsNextInRange V us) = rw e at (step_in {Units = Units} V us memory (Active t.act ∷ under_of cs t) r) in
-      record {
-        range = rw frames_new (k n);
-        rooms =
-            ap (λ (st : CallStack). st.rooms) (left_is cs t new past l.live l.left)
-            ∙ v'.rooms
-            ∙ ap (λ (fs : List (Frame ℕ)). map (room_in V) (activations fs)) (live_frames cs t l.live)
-            ∙ sym (ap (λ (fs : List (Frame ℕ)). map (room_in V) (activations fs)) frames_new);
-        asked = a;
-      }
+  old_sound : IsOver V us memory old → NextIsSound V (next_of V us memory old.stack.frames)
+  old_sound v =
+      subst (λ fs. NextIsSound V (next_of V us memory fs)) (ap (λ (m : MachineState). m.stack.frames) l.at) (here_sound V us memory cs t s old l.live l.moves l.at v)
+
+  over_left : (e : Event) (st : Standing) → Told V e (next_of V us memory old.stack.frames) old (record { stack = joined cs new; standing = st }) (unchanged us memory) → IsAsked V st → IsOver V us memory old
+      → IsOver V us memory (record { stack = joined cs new; standing = st })
+  over_left e st told a v = told_over V old (record { stack = joined cs new; standing = st }) (unchanged us memory) v e (next_of V us memory old.stack.frames) (old_sound v) told (rooms_left v) a
 
   module _ (entry : ℕ) (e : o.target ≡ Host entry) (count : ℕ) where
     next_host : next_of V us memory (Active t.act ∷ under_of cs t) ≡ Some (Asks entry args (Active past ∷ under_of cs t))
@@ -220,9 +233,9 @@ module _ {Units : Type 0} {V : View Units} {us : Units} {memory : MemoryInstance
         subst (λ (n : Option (Next Units ℕ)). Told V (event.Waits (record { entry = entry; args = ws })) n old (record { stack = joined cs new; standing = standing.Asking entry count }) (unchanged us memory))
         (sym (ap (next_of V us memory) frames_old ∙ next_host)) (count, record { frames_are = frames_new; standing_is = refl }, refl, q, (refl, refl))
 
-    pub over_host : count ≡ length ty.results → IsOver V us old → IsOver V us (record { stack = joined cs new; standing = standing.Asking entry count })
+    pub over_host : count ≡ length ty.results → IsOver V us memory old → IsOver V us memory (record { stack = joined cs new; standing = standing.Asking entry count })
     over_host q v =
-        over_left (standing.Asking entry count) (Asks entry args (Active past ∷ under_of cs t)) next_host (λ r. r)
+        over_left (event.Waits (record { entry = entry; args = args })) (standing.Asking entry count) (told_host args refl)
         (ty, host_is V us memory t.act o ty args (under_of cs t) l.calls l.typed l.kinds l.are entry e, sym q) v
 
   module _ (which : LoaderCall) (e : o.target ≡ Loader which) where
@@ -235,8 +248,8 @@ module _ {Units : Type 0} {V : View Units} {us : Units} {memory : MemoryInstance
         subst (λ (n : Option (Next Units ℕ)). Told V (event.Loader which first second) n old (record { stack = joined cs new; standing = standing.Loading }) (unchanged us memory))
         (sym (ap (next_of V us memory) frames_old ∙ next_loader)) (record { frames_are = frames_new; standing_is = refl }, refl, p ∙ first_is args, q ∙ second_is args, (refl, refl))
 
-    pub over_loader : IsOver V us old → IsOver V us (record { stack = joined cs new; standing = standing.Loading })
-    over_loader v = over_left standing.Loading (Loads which args (Active past ∷ under_of cs t)) next_loader (λ r. r) tt v
+    pub over_loader : IsOver V us memory old → IsOver V us memory (record { stack = joined cs new; standing = standing.Loading })
+    over_loader v = over_left (event.Loader which (unwrap_or (slice_get args 0) 0) (unwrap_or (slice_get args 1) 0)) standing.Loading (told_loader _ _ refl refl) tt v
 
     pub loader_spare : HasSpare new (length ty.results) → HasSpare new 1
     loader_spare h = let n : length ty.results ≡ 1 = sym (ap (λ (f : FuncType). length f.results) (loader_is V us memory t.act o ty args (under_of cs t) l.calls l.typed l.kinds l.are which e)) ∙ loader_results which in rw n at h

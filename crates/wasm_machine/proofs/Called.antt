@@ -16,11 +16,12 @@ use Rattle.spec_safety.specs.spec_execution.Values.{take_values}
 use Rattle.spec_safety.specs.spec_execution.Activations.{Activation}
 use Rattle.spec_safety.specs.spec_execution.Views.{View, type_of}
 use Rattle.spec_safety.specs.spec_execution.Runs.{Frame, Active, Next, Goes, Caller, entered, call}
-use Rattle.spec_safety.specs.spec_execution.Ranges.{IsWhole, Exists}
+use Rattle.spec_safety.specs.spec_execution.Ranges.{Exists}
 use Rattle.spec_safety.specs.spec_execution.Limits.{most_activations, most_values, room_of, rooms_of, activations, is_deep}
 use Rattle.wasm_step.specs.Primitives.{begun}
 use Rattle.wasm_machine.specs.Stacks.{CallStack, total}
 use Rattle.wasm_step.specs.Moves.{Changes}
+use Rattle.wasm_step.specs.Named.{NamesAreThere}
 use Rattle.wasm_machine.specs.Machines.{Led}
 use Rattle.wasm_step.specs.declared.done.Done.TheVariants as done
 use Rattle.wasm_step.proofs.Arguments.{arguments_are}
@@ -86,10 +87,10 @@ module _ {Units : Type 0} (V : View Units) (us : Units) (memory : MemoryInstance
 
 -- ---- functions that are named
 
-module _ {Units : Type 0} (V : View Units) (whole : IsWhole V) where
+module _ {Units : Type 0} (V : View Units) (names : NamesAreThere V) where
   -- a number in range names a function that there is
   pub target_exists : (unit f : ℕ) (r : Ref) → f < (V.counts unit).functions → Some r ≡ V.target unit f → Exists V r
   target_exists unit f r h e =
-      let w = whole.functions unit f h in
+      let w = names.functions unit f h in
       let same : w.0 ≡ r = cc (w.1) in
       subst (λ (q : Ref). Exists V q) same w.2

@@ -13,10 +13,10 @@ use Rattle.wasm_form.specs.Index.{index_form}
 use Rattle.spec_safety.specs.spec_runtime.Memories.{MemoryInstance}
 use Rattle.spec_safety.specs.spec_execution.Activations.{Activation, Calls, index_move, instr_move}
 use Rattle.spec_safety.specs.spec_execution.Views.{View, Counts}
-use Rattle.spec_safety.specs.spec_execution.Ranges.{index_in_range, in_range, AreInRange, IsWhole}
+use Rattle.spec_safety.specs.spec_execution.Ranges.{index_in_range, in_range, AreInRange}
 use Rattle.spec_safety.specs.spec_execution.Runs.{Frame, Active, carried_out}
 use Rattle.wasm_step.specs.Primitives.{first_of, with_rest}
-use Rattle.wasm_step.specs.Named.{named_here, is_call, is_call_form}
+use Rattle.wasm_step.specs.Named.{NamesAreThere, named_here, is_call, is_call_form}
 use Rattle.wasm_machine.specs.Machines.{indirect, next_of, calls_outside, calls_outside_here, call_is_outside, names_outside, some_outside}
 use Rattle.wasm_machine.specs.Outside.{callee_form, callee_of, IsOutsideCall}
 use Rattle.wasm_machine.specs.declared.calls.Callee.{Callee}
@@ -126,10 +126,10 @@ module _ {Units : Type 0} (V : View Units) (us : Units) where
           outside_at a.rest a i e ∙ ap (calls_outside_here V us a) k.1 ∙ ap (call_is_outside V a f) k.2
 
       -- its function is outside
-      pub function_is_outside : (memory : MemoryInstance) (r : Ref) → IsWhole V → f < (V.counts a.unit).functions → Some r ≡ V.target a.unit f → calls_outside V us a ≡ true → IsOutsideCall V us memory a (record { target = r; above = 0 })
-      function_is_outside memory r whole h er out = record {
+      pub function_is_outside : (memory : MemoryInstance) (r : Ref) → NamesAreThere V → f < (V.counts a.unit).functions → Some r ≡ V.target a.unit f → calls_outside V us a ≡ true → IsOutsideCall V us memory a (record { target = r; above = 0 })
+      function_is_outside memory r names h er out = record {
         outside = ap some_outside er ∙ sym function_outside ∙ out;
-        exists = target_exists V whole a.unit f r h er;
+        exists = target_exists V names a.unit f r h er;
         some = rest_some a.rest i e;
         above = omega arith;
         next = λ frames. function_step memory frames ∙ rw (← er) refl;

@@ -1,5 +1,5 @@
 -- Where a run stands on its course, after one step more and after one answer more.
-use Rattle.std.proofs.Common.{◌≡◌, ℕ, ◌-◌, List, [], ◌∷◌, length, slice_get, Option, Some, Bool, true, false, IsTrue, not, ◌&&◌, refl, sym, ap, ◌∙◌, subst}
+use Rattle.std.proofs.Common.{◌≡◌, ◌-◌, List, [], ◌∷◌, length, slice_get, Option, Some, Bool, true, false, IsTrue, not, ◌&&◌, refl, sym, ap, ◌∙◌, subst}
 use Rattle.wasm_form.specs.declared.runtime.Trap.{Trap}
 use Rattle.wasm_form.specs.declared.runtime.Answer.{Answer}
 use Rattle.spec_safety.specs.spec_runs.Systems.{Status, Moving, Waits, Returned, Exited, Trapped, Ran}

@@ -1,18 +1,14 @@
--- What is in range: the numbers of an instruction, and what a step leads to.
-use Rattle.std.proofs.Common.{◌≡◌, ℕ, Bool, true, ◌&&◌, List, [], ◌∷◌, refl, sym, ◌∙◌}
-use Rattle.std.specs.Prelude.{IsTrue, IfSome}
+-- The numbers of an instruction that is in range.
+use Rattle.std.proofs.Common.{◌≡◌, Bool, true, ◌&&◌, refl, sym, ◌∙◌}
+use Rattle.std.specs.Prelude.{IsTrue}
 use Rattle.std.proofs.lemmas.Bool.{and_parts}
 use Rattle.wasm_form.specs.declared.instr.Instr.{Instr, out-Instr}
 use Rattle.wasm_form.specs.declared.instr.Instr.TheOpen as Open
 use Rattle.wasm_form.specs.declared.instr.Expr.{Expr}
-use Rattle.spec_safety.specs.spec_runtime.Memories.{MemoryInstance}
-use Rattle.spec_safety.specs.spec_execution.Views.{Counts, View}
-use Rattle.spec_safety.specs.spec_execution.Runs.{Frame, Active, Marked}
-use Rattle.spec_safety.specs.spec_execution.Ranges.{block_in_range, in_range_here, in_range, or_true, AllInRange}
+use Rattle.spec_safety.specs.spec_execution.Views.{Counts}
+use Rattle.spec_safety.specs.spec_execution.Ranges.{block_in_range, in_range_here, in_range, or_true}
 use Rattle.spec_safety.proofs.Levels.{inside_else, with_inside, all_in_range, in_range_level}
-use Rattle.spec_safety.proofs.StepsInRange.{IsNextInRange, step_in as code_in}
 use Rattle.wasm_step.specs.Named.{named_here}
-use Rattle.wasm_machine.specs.Machines.{next_of}
 
 pub and_first : (a b : Bool) → (a && b) ≡ true → a ≡ true
 and_first a b h = (and_parts a b h).0
@@ -42,10 +38,3 @@ named_at c (Open.RefNull t) h = refl
 -- the numbers of an instruction in range are in range
 pub named_in_range : (c : Counts) (i : Instr) → IsTrue (in_range c i) → IsTrue (named_here c (out-Instr i))
 named_in_range c i h = named_at c (out-Instr i) (sym (in_range_level c i) ∙ h)
-
--- ---- a step
-
-pub step_in : {Units : Type 0} (V : View Units) (us : Units) (memory : MemoryInstance) (frames : List (Frame ℕ)) → AllInRange V us frames → IfSome (next_of V us memory frames) (IsNextInRange V us)
-step_in V us memory [] r = tt
-step_in V us memory (Active a ∷ frames) r = code_in V us memory a frames r
-step_in V us memory (Marked tag ∷ frames) r = tt

@@ -1,9 +1,7 @@
 -- From an instruction that leaves its activation on top to the step of the call stack.
-use Rattle.std.proofs.Common.{arith, ◌≡◌, ℕ, ◌<◌, ◌+◌, ◌⊎◌, true, List, [], ◌∷◌, length, drop, refl, sym, ap, subst, ◌∙◌, Option, None, Some, inl, inr}
+use Rattle.std.proofs.Common.{arith, ◌≡◌, ℕ, ◌≤◌, ◌+◌, ◌⊎◌, true, List, [], ◌∷◌, length, drop, refl, sym, ap, subst, ◌∙◌, Option, None, Some, inl, inr}
 use Rattle.std.specs.Prelude.{IsTrue}
-use Rattle.std.specs.List.{All}
 use Rattle.std.proofs.Math.Bool.{or-true}
-use Rattle.std.proofs.lemmas.List.Elements.{All-head}
 use Rattle.wasm_form.specs.declared.instr.Instr.{Instr, out-Instr}
 use Rattle.wasm_form.specs.declared.runtime.Ref.{Ref}
 use Rattle.wasm_form.specs.declared.runtime.Value.TheVariants.{Func}
@@ -15,14 +13,12 @@ use Rattle.spec_safety.specs.spec_execution.Views as effects
 use Rattle.spec_safety.specs.spec_execution.Runs.{Frame, Active, Next, Goes, Asks, Loads, effected_with, carried_out}
 use Rattle.spec_safety.specs.spec_execution.Runs as runs
 use Rattle.spec_safety.specs.spec_execution.Limits.{room_of}
-use Rattle.spec_safety.specs.spec_execution.Ranges.{AreInRange, IsActivationInRange, IsFrameInRange, AllInRange}
-use Rattle.wasm_view.specs.Seen.{Seen}
 use Rattle.wasm_step.specs.Tops.{Top, with_act, height_of}
 use Rattle.wasm_step.specs.Primitives.{first_of, with_rest}
 use Rattle.wasm_machine.specs.Stacks.{CallStack, most_blocks, is_live, under_of, joined, IsJoined}
 use Rattle.wasm_step.specs.Moves.{LeadsPast, Act, To, Ends, Nowhere, act_done, act_referred, acted, Changes, Acted}
 use Rattle.wasm_step.specs.Named.{is_call, is_growth}
-use Rattle.wasm_machine.specs.Machines.{indirect, RoomsAre, Led, MayWant, MayGrow, LeadsPastRoom, may_grow_at, next_of}
+use Rattle.wasm_machine.specs.Machines.{indirect, RoomsAre, Led, StaysWithin, MayGrow, may_grow_at, next_of}
 use Rattle.wasm_machine.specs.Outside.{callee_of}
 use Rattle.wasm_machine.specs.declared.calls.Callee.TheVariants as callee
 use Rattle.wasm_machine.specs.declared.callers.Caller.{Caller}
@@ -39,7 +35,7 @@ Fits unit func under (To us memory a) next = (next ≡ Some (Goes us memory (Act
 Fits unit func under (Ends why) next = next ≡ Some (runs.Traps why)
 Fits unit func under Nowhere next = next ≡ None
 
-module _ {Units : Type 0} (V : View Units) (us : Units) (memory : MemoryInstance) (under : List (Frame ℕ)) (unit func : ℕ) where
+module _ {Units : Type 0} (V : View Units) (us : Units) (memory : MemoryInstance) (under : List (Frame ℕ)) (unit func count : ℕ) where
   referred-fits : (a : Activation) (o : Option Ref) → (a.unit ≡ unit) × (a.func ≡ func) → Fits unit func under (act_referred us memory a o) (o >>= λ r. Some (Goes us memory (Active (pushed a (Func (Some r))) ∷ under)))
   referred-fits a None h = refl
   referred-fits a (Some r) h = (refl, h.0, h.1)
@@ -49,12 +45,12 @@ module _ {Units : Type 0} (V : View Units) (us : Units) (memory : MemoryInstance
   done-fits a (Some (effects.Gives values us' memory')) h = (refl, h.0, h.1)
   done-fits a (Some (effects.Traps why)) h = refl
 
-  acted-fits : (m : Move) → StaysIn unit func m → Fits unit func under (acted V us memory m) (carried_out V us memory under m)
+  acted-fits : (m : Move) → StaysIn unit func count m → Fits unit func under (acted V us memory m) (carried_out V us memory under m)
   acted-fits (On a) h = (refl, h.0, h.1)
   acted-fits (Calls n a) h = absurd h
   acted-fits (CallsEntry t ty i a) h = absurd h
-  acted-fits (Refers n a) h = referred-fits a (V.target a.unit n) h
-  acted-fits (Does effect a) h = done-fits a (performed V us memory a.unit effect) h
+  acted-fits (Refers n a) h = referred-fits a (V.target a.unit n) (h.0, h.1)
+  acted-fits (Does effect a) h = done-fits a (performed V us memory a.unit effect) (h.0, h.1)
   acted-fits (Leaves values) h = absurd h
   acted-fits (Fails why) h = refl
   acted-fits Stuck h = refl
@@ -124,44 +120,31 @@ module _ {Units : Type 0} (V : View Units) (cs : List Caller) (t : Top) (i : Ins
   growth_may_grow : is_growth (out-Instr i) ≡ true → MayGrow (joined cs t).frames
   growth_may_grow h = rw live (wants_growth t.act.rest i e h)
 
-  -- what remains of its code is in range
-  pub rest_in_range : (us : Units) → AllInRange V us (joined cs t).frames → AreInRange (V.counts t.act.unit) t.act.rest
-  rest_in_range us h =
-      let all : All (IsFrameInRange V) (Active t.act ∷ under_of cs t) = rw live at h.stack in
-      let top : IsActivationInRange V t.act = All-head (λ (f : Frame ℕ). IsFrameInRange V f) (Active t.act) (under_of cs t) all in
-      top.rest
-
-  -- what leads past the room that was taken leads past that of the function
-  past_room : (u : Top) (b : Activation) (act : Act Units) (next : Option (Next Units ℕ)) → IsJoined cs t → RoomsAre V (joined cs t) → u ≡ with_act t b → Fits t.act.unit t.act.func (under_of cs t) act next → LeadsPast u act → LeadsPastRoom V next
-  past_room u b (To us memory a) next j r eu f k =
+  -- what stays within the room doesn't lead past it
+  not_past : (u : Top) (b : Activation) (act : Act Units) (next : Option (Next Units ℕ)) → IsJoined cs t → RoomsAre V (joined cs t) → u ≡ with_act t b → Fits t.act.unit t.act.func (under_of cs t) act next → StaysWithin V next → LeadsPast u act → ⊥
+  not_past u b (To us memory a) next j r eu f w k =
       let room : t.room ≡ room_of V t.act.unit t.act.func = head_of (RoomsAre_live cs t live V r) in
       let nesting : t.nesting ≡ most_blocks = nesting_live cs t live j in
+      let w' : (length a.locals + height_of a ≤ room_of V t.act.unit t.act.func) × (length a.levels ≤ most_blocks) = rw (f.0, f.1, f.2) at w in
       let k' = rw eu at k in
-      subst (LeadsPastRoom V) (sym f.0)
-      (rw (f.1, f.2) (elim k' as (λ _. (room_of V t.act.unit t.act.func < length a.locals + height_of a) ⊎ (most_blocks < length a.levels)) [
-        | inl h ↦ inl (omega arith)
-        | inr h ↦ inr (omega arith)
-      ]))
+      elim k' as (λ _. ⊥) [ inl h ↦ omega (arith, h, room, w'.0) | inr h ↦ omega (arith, h, nesting, w'.1) ]
     where
       head_of : {m n : ℕ} {ms ns : List ℕ} → m ∷ ms ≡ n ∷ ns → m ≡ n
       head_of q = cc
-  past_room u b (Ends why) next j r eu f k = absurd k
-  past_room u b Nowhere next j r eu f k = absurd k
+  not_past u b (Ends why) next j r eu f w k = k
+  not_past u b Nowhere next j r eu f w k = k
 
 -- ---- the next step
 
 module _ {Units : Type 0} (V : View Units) (us : Units) (memory : MemoryInstance) (cs : List Caller) (t : Top) (i : Instr) (d : Done) (c : Changes Units) (live : is_live t ≡ true) (e : Some i ≡ first_of t.act.rest) where
-  abbrev in_view : Seen Units
-  in_view = record { fixed = V; units = us; memory = memory }
-
   next_live : next_of V us memory (joined cs t).frames ≡ next_of V us memory (Active t.act ∷ under_of cs t)
   next_live = ap (next_of V us memory) (frames_live cs t live)
 
   -- the entry of a table is called
   pub led_entry : (ds : List Caller) (new : Top) (ty table : ℕ) → callee_of (out-Instr i) ≡ Some (callee.Entry ty table) → Led V d (carried_out V us memory (under_of cs t) (indirect ty table t.act)) (Unit {0}) (joined cs t) (joined ds new) c
-      → Led V d (next_of V us memory (joined cs t).frames) (MayWant in_view (joined cs t).frames) (joined cs t) (joined ds new) c
+      → Led V d (next_of V us memory (joined cs t).frames) (MayGrow (joined cs t).frames) (joined cs t) (joined ds new) c
   led_entry ds new ty table q h =
-      led_step V (Unit {0}) (MayWant in_view (joined cs t).frames) (joined cs t) (joined ds new) c (λ _. inl (call_may_grow V cs t i live e (some_called (out-Instr i) (callee.Entry ty table) q))) d _ _
+      led_step V (Unit {0}) (MayGrow (joined cs t).frames) (joined cs t) (joined ds new) c (λ _. call_may_grow V cs t i live e (some_called (out-Instr i) (callee.Entry ty table) q)) d _ _
       (next_live ∙ entry_step V us t.act i e ty table q memory (under_of cs t)) h
 
   -- an instruction that doesn't call
@@ -173,15 +156,15 @@ module _ {Units : Type 0} (V : View Units) (us : Units) (memory : MemoryInstance
     unfolding past
     fits =
         rw (eu, next_live, step_is V us t.act i e memory (under_of cs t)) (
-        acted-fits V us memory (under_of cs t) t.act.unit t.act.func (instr_move (V.declared t.act.unit) (out-Instr i) past) (instr-stays (V.declared t.act.unit) (out-Instr i) past (none_called (out-Instr i) q)))
+        acted-fits V us memory (under_of cs t) t.act.unit t.act.func (length t.act.locals) (instr_move (V.declared t.act.unit) (out-Instr i) past) (instr-stays (V.declared t.act.unit) (out-Instr i) past (none_called (out-Instr i) q)))
 
-    wants : IsJoined cs t → RoomsAre V (joined cs t) → IsTrue (is_growth (out-Instr i)) ⊎ LeadsPast u (acted V us memory (instr_move (V.declared u.act.unit) (out-Instr i) u.act)) → MayWant in_view (joined cs t).frames
+    wants : IsJoined cs t → RoomsAre V (joined cs t) → StaysWithin V (next_of V us memory (joined cs t).frames) → IsTrue (is_growth (out-Instr i)) ⊎ LeadsPast u (acted V us memory (instr_move (V.declared u.act.unit) (out-Instr i) u.act)) → MayGrow (joined cs t).frames
     unfolding past
-    wants j r (inl g) = inl (growth_may_grow V cs t i live e g)
-    wants j r (inr k) = inr (past_room V cs t i live e u past _ _ j r eu fits k)
+    wants j r w (inl g) = growth_may_grow V cs t i live e g
+    wants j r w (inr k) = absurd (not_past V cs t i live e u past _ _ j r eu fits w k)
 
-    pub led_plain : IsJoined cs t → RoomsAre V (joined cs t) → Led V d (next_of V us memory (joined cs t).frames) (MayWant in_view (joined cs t).frames) (joined cs t) (joined cs new) c
-    led_plain j r = led_acted V cs t u new (with_rest t.act (drop 1 t.act.rest)) c _ _ live eu d _ _ t.act.unit t.act.func fits (wants j r) h
+    pub led_plain : IsJoined cs t → RoomsAre V (joined cs t) → StaysWithin V (next_of V us memory (joined cs t).frames) → Led V d (next_of V us memory (joined cs t).frames) (MayGrow (joined cs t).frames) (joined cs t) (joined cs new) c
+    led_plain j r w = led_acted V cs t u new (with_rest t.act (drop 1 t.act.rest)) c _ _ live eu d _ _ t.act.unit t.act.func fits (wants j r w) h
 
     pub rooms_plain : RoomsAre V (joined cs t) → new ≡ with_act u new.act → d ≡ done.Goes → RoomsAre V (joined cs new)
     rooms_plain r en goes =

@@ -5,6 +5,8 @@ pub mod Indirect
 pub mod Coming
 pub mod Staying
 pub mod Leading
+pub mod Locals
+pub mod Sound
 pub mod Depths
 pub mod OnTop
 pub mod Answering

@@ -56,7 +56,6 @@ one_told standing.Loading = refl
 one_told standing.Returned = refl
 one_told (standing.Trapped why) = refl
 one_told (standing.Exited code) = refl
-one_told standing.Stuck = refl
 one_told standing.Lost = refl
 
 -- ---- a step that was made
@@ -77,7 +76,6 @@ module _ (C : Course) where
   told_made (event.Trapped why) x y one made deep = inl (made, deep)
   told_made (event.Exited code) x y one made deep = inl (made, deep)
   told_made event.Deep x y one made deep = absurd cc
-  told_made event.Stuck x y one made deep = absurd cc
 
   -- the run stands at this state one step later
   made_at : (e : Event) (x : Recorded) (t : C.system.State) → steps_told e ≡ 1 → has_ended (status_at C x) ≡ false → IsAt C (with_step x) → state_at C (with_step x) ≡ t
@@ -114,7 +112,6 @@ module _ (C : Course) where
   told_again (event.Trapped why) x one ended tells = inr (ended, tells, refl)
   told_again (event.Exited code) x one ended tells = inr (ended, tells, refl)
   told_again event.Deep x one ended tells = absurd cc
-  told_again event.Stuck x one ended tells = absurd cc
 
 -- ---- further steps of code
 

@@ -90,9 +90,6 @@ module _ (L : ℕ → List (Frame ℕ) → Type 0) where
 
 -- ---- where nothing lies under the first mark, and an activation under each other
 
-pub given_under : (n : ℕ) (values : List Value) (f : Frame ℕ) (frames : List (Frame ℕ)) → AreMarks n (f ∷ frames) → AreMarks n (given values f ∷ frames)
-given_under = given_over LiesUnder
-
 module _ {Units : Type 0} (V : View Units) (us : Units) (memory : MemoryInstance) (n : ℕ) where
   pub own_under : (caller : Caller ℕ) (values : List Value) → ((vs : List Value) → AreMarks n (caller vs)) → (unit f : ℕ) → IfSome (call V us memory caller values (Own unit f)) (KeepsUnder V n)
   own_under = own_over LiesUnder V us memory n

@@ -1,5 +1,6 @@
 -- What a machine is, and what it answers of a step, beside what the definition of the step says.
-use Rattle.std.specs.Prelude.{◌≡◌, ◌≢◌, ◌<◌, ◌⊎◌, ◌||◌, ◌+◌, ℕ, List, [], ◌∷◌, map, length, reverse, drop, Option, Some, None, IfSome, Bool, true, false, IsTrue, if◌then◌else◌}
+use Rattle.std.specs.Prelude.{◌≡◌, ◌≢◌, ◌≤◌, ◌⊎◌, ◌||◌, ◌+◌, ℕ, List, [], ◌∷◌, map, length, reverse, drop, Option, Some, None, IfSome, Bool, true, false, IsTrue, if◌then◌else◌}
+use Rattle.wasm_form.specs.declared.types.ValType.TheVariants.{I32}
 use Rattle.wasm_form.specs.declared.types.FuncType.{FuncType}
 use Rattle.wasm_form.specs.declared.instr.Instr.{Instr, out-Instr}
 use Rattle.wasm_form.specs.declared.instr.Instr.TheOpen as Open
@@ -23,8 +24,10 @@ use Rattle.spec_safety.specs.spec_execution.Values.{low}
 use Rattle.spec_safety.specs.spec_execution.Activations.{Activation, Move, Calls, CallsEntry, with_values, with_i32, move}
 use Rattle.spec_safety.specs.spec_execution.Views.{View, type_of}
 use Rattle.spec_safety.specs.spec_execution.Runs.{is_running, Frame, Active, Marked, Next, Goes, Asks, Loads, Ends, Traps, call, calling, carried_out, given}
-use Rattle.spec_safety.specs.spec_execution.Limits.{room_of, activations, is_deep}
-use Rattle.spec_safety.specs.spec_execution.Ranges.{AllInRange}
+use Rattle.spec_safety.specs.spec_execution.Limits.{room_of, room_with, activations, is_deep}
+use Rattle.spec_safety.specs.ValueTypes.{IsMemory}
+use Rattle.spec_safety.specs.TypedViews.{HoldTypes, IsSoundView}
+use Rattle.spec_safety.specs.TypedFrames.{OnMark, Stand}
 use Rattle.wasm_step.specs.Tops.{height_of}
 use Rattle.wasm_step.specs.Primitives.{number_on, with_rest}
 use Rattle.wasm_view.specs.Seen.{Seen}
@@ -56,10 +59,33 @@ abbrev pub IsAsked : {Units : Type 0} → View Units → Standing → Type 0
 IsAsked V (standing.Asking entry count) = (ty : FuncType) × (V.host entry ≡ Some ty) × (length ty.results ≡ count)
 IsAsked V _ = Unit {0}
 
--- The condition on a view and a machine: all that the code, the values and the tables name is there, and the machine was run over
--- this view alone.
-pub record IsOver {Units : Type 0} (V : View Units) (us : Units) (m : MachineState) : Type 0 where
-  pub range : AllInRange V us m.stack.frames
+-- an activation has as many locals as its function
+abbrev pub locals_of : {Units : Type 0} → View Units → ℕ → ℕ → ℕ
+locals_of V unit f = room_with 0 (V.code unit f)
+
+abbrev pub HaveLocals : {Units : Type 0} → View Units → List (Frame ℕ) → Type 0
+HaveLocals V [] = Unit {0}
+HaveLocals V (Active a ∷ frames) = (length a.locals ≡ locals_of V a.unit a.func) × HaveLocals V frames
+HaveLocals V (Marked tag ∷ frames) = HaveLocals V frames
+
+-- what is so of a mark: it lies over nothing, or over what takes one i32
+abbrev pub on_tag : OnMark ℕ
+on_tag tag under stands = (under ≡ []) ⊎ stands (I32 ∷ [])
+
+-- the call stack fits what the machine is at: a wait stands on what takes the results that are waited for
+abbrev pub StackFits : {Units : Type 0} → View Units → Standing → List (Frame ℕ) → Type 0
+StackFits V standing.Moving frames = Stand V V.names on_tag frames []
+StackFits V (standing.Asking entry count) frames = (ty : FuncType) × (V.host entry ≡ Some ty) × Stand V V.names on_tag frames (reverse ty.results)
+StackFits V standing.Loading frames = Stand V V.names on_tag frames (I32 ∷ [])
+StackFits V _ frames = Unit {0}
+
+-- The condition on a view, its units, the memory and a machine: the view is typed, and the machine over it is sound in its part.
+pub record IsOver {Units : Type 0} (V : View Units) (us : Units) (space : MemoryInstance) (m : MachineState) : Type 0 where
+  pub view : IsSoundView V
+  pub units : HoldTypes V V.names us
+  pub memory : IsMemory space
+  pub stack : StackFits V m.standing m.stack.frames
+  pub locals : HaveLocals V m.stack.frames
   pub rooms : RoomsAre V m.stack
   pub asked : IsAsked V m.standing
 
@@ -119,7 +145,6 @@ Told V (event.Loader which first second) (Some (Loads called args frames)) old n
 Told V event.Returned (Some Ends) old new c = StandsAt new [] standing.Returned × AreSame c
 Told V (event.Trapped why) (Some (Traps cause)) old new c = StandsAt new [] (standing.Trapped why) × (why ≡ cause) × AreSame c
 Told V event.Deep (Some (Goes us memory frames)) old new c = (is_deep V frames ≡ true) × (new ≡ old) × AreSame c
-Told V event.Stuck None old new c = StandsAt new [] standing.Stuck × AreSame c
 Told V _ next old new c = ⊥
 
 -- the event of an end
@@ -127,7 +152,6 @@ abbrev pub Repeats : Event → Standing → Type 0
 Repeats event.Returned standing.Returned = Unit {0}
 Repeats (event.Trapped why) (standing.Trapped cause) = why ≡ cause
 Repeats (event.Exited code) (standing.Exited value) = code ≡ value
-Repeats event.Stuck standing.Stuck = Unit {0}
 Repeats _ _ = ⊥
 
 abbrev pub IsAtMark : Event → List (Frame ℕ) → Type 0
@@ -159,10 +183,6 @@ IsReady m = go m.standing
 
 -- ---- where memory may be wanting
 
--- what was seen before a change
-abbrev pub before : {Units : Type 0} → View Units → Changes Units → Seen Units
-before V c = record { fixed = V; units = c.old_units; memory = c.old_memory }
-
 -- these instructions begin with a call, or with one that grows a memory or a table
 abbrev pub may_grow_at : List Instr → Bool
 may_grow_at [] = false
@@ -174,18 +194,14 @@ MayGrow [] = ⊥
 MayGrow (Marked tag ∷ frames) = ⊥
 MayGrow (Active a ∷ frames) = IsTrue (may_grow_at a.rest)
 
--- A step leads to an activation on top with more values than its room, or with more than 1,001 open blocks, which by the standard one of
--- well typed code never does.
-abbrev pub LeadsPastRoom : {Units : Type 0} → View Units → Option (Next Units ℕ) → Type 0
-LeadsPastRoom V (Some (Goes us memory (Active a ∷ frames))) = (room_of V a.unit a.func < length a.locals + height_of a) ⊎ (most_blocks < length a.levels)
-LeadsPastRoom V _ = ⊥
+-- a step leads to an activation on top that has no more values than its room, and no more than 1,001 open blocks
+abbrev pub StaysWithin : {Units : Type 0} → View Units → Option (Next Units ℕ) → Type 0
+StaysWithin V (Some (Goes us memory (Active a ∷ frames))) = (length a.locals + height_of a ≤ room_of V a.unit a.func) × (length a.levels ≤ most_blocks)
+StaysWithin V _ = Unit {0}
 
 -- the next step may want memory
-abbrev pub MayWant : {Units : Type 0} → Seen Units → List (Frame ℕ) → Type 0
-MayWant w frames = MayGrow frames ⊎ LeadsPastRoom w.fixed (next_in w frames)
-
-abbrev pub IsWanting : {Units : Type 0} → Seen Units → MachineState → Type 0
-IsWanting w m = (m.standing ≡ standing.Lost) ⊎ ((m.standing ≡ standing.Moving) × MayWant w m.stack.frames)
+abbrev pub IsWanting : MachineState → Type 0
+IsWanting m = (m.standing ≡ standing.Lost) ⊎ ((m.standing ≡ standing.Moving) × MayGrow m.stack.frames)
 
 -- nothing is left but this
 abbrev pub ended : Standing → MachineState
@@ -197,7 +213,7 @@ lost_machine = ended standing.Lost
 
 -- the step of the code on top is answered
 abbrev pub Advances : {Units : Type 0} → Done → CallStack → CallStack → Seen Units → Seen Units → Type 0
-Advances done old new before after = Leads done (next_in before old.frames) (MayWant before old.frames) old new before after
+Advances done old new before after = Leads done (next_in before old.frames) (MayGrow old.frames) old new before after
 
 -- ---- beginnings and marks
 
@@ -377,10 +393,10 @@ IsExited _ = ⊥
 abbrev pub QuickStepped : {Units : Type 0} → View Units → Done → MachineState → MachineState → Changes Units → Type 0
 QuickStepped V done.Goes old new c = Stepped V event.Moved old new c
 QuickStepped V (done.Trapped why) old new c = Stepped V (event.Trapped why) old new c
-QuickStepped V done.Stuck old new c = Stepped V event.Stuck old new c
+QuickStepped V done.Stuck old new c = ⊥
 QuickStepped V done.Returned old new c = Stepped V event.Returned old new c
 QuickStepped V done.Exited old new c = IsExited old.standing × (new ≡ old) × AreSame c
 QuickStepped V done.Marked old new c = IsMarked old × (new ≡ old) × AreSame c
 QuickStepped V done.Deep old new c = Stepped V event.Deep old new c
 QuickStepped V done.Outside old new c = IsCallingOutside V c.old_units old × (new ≡ old) × AreSame c × LeavesCode (next_of V c.old_units c.old_memory old.stack.frames)
-QuickStepped V done.NoMemory old new c = IsWanting (before V c) old × (new ≡ lost_machine) × AreSame c
+QuickStepped V done.NoMemory old new c = IsWanting old × (new ≡ lost_machine) × AreSame c

@@ -1,5 +1,5 @@
 -- What is told of the steps of a run, over its course and what is recorded of it.
-use Rattle.std.specs.Prelude.{◌≡◌, ◌≤◌, ◌<◌, ◌⊎◌, ◌^◌, ℕ, Option, Some, None, true, false, IsTrue, IfSome}
+use Rattle.std.specs.Prelude.{◌≡◌, ◌≤◌, ◌<◌, ◌⊎◌, ◌^◌, ℕ, Option, Some, true, false, IsTrue, IfSome}
 use Rattle.std.specs.List.{All}
 use Rattle.wasm_form.specs.declared.runtime.Trap.{Trap}
 use Rattle.wasm_form.specs.declared.runtime.Answer.{Answer}
@@ -34,7 +34,6 @@ event_of _ = event.Moved
 -- how many steps were made where this is told of a run that goes on by itself
 abbrev pub steps_told : Event → ℕ
 steps_told event.Deep = 0
-steps_told event.Stuck = 0
 steps_told _ = 1
 
 -- what is asked are numbers of 64 bits
@@ -53,11 +52,9 @@ ArgumentsFit host _ = Unit {0}
 abbrev pub StepMade : Course → Event → Recorded → Recorded → Type 0
 StepMade C e old new = (has_ended (status_at C old) ≡ false) × (new ≡ with_step old) × IsAt C new × TellsStatus C.host e (status_at C new)
 
--- What is told of a call for a step: the step was made; an end is told again; or the step would be too deep, or there is none, and
--- nothing has changed.
+-- What is told of a call for a step: the step was made; an end is told again; or the step would be too deep, and nothing has changed.
 abbrev pub RunStepped : Course → Event → Recorded → Recorded → Type 0
 RunStepped C event.Deep old new = (status_at C old ≡ Moving) × (C.deep (state_at C old) ≡ true) × (new ≡ old)
-RunStepped C event.Stuck old new = (status_at C old ≡ Moving) × (C.system.step (state_at C old) ≡ None) × (new ≡ old)
 RunStepped C e old new =
     StepMade C e old new × (status_at C old ≡ Moving → C.deep (state_at C old) ≡ false)
     ⊎ (has_ended (status_at C old) ≡ true) × TellsStatus C.host e (status_at C old) × (new ≡ old)

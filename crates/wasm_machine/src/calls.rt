@@ -1,13 +1,14 @@
 // Calls and returns (section 4.4.10), and one step of the code on top.
 ghost use Rattle.std.specs.Prelude.{◌≡◌, ◌≢◌, ◌<◌, ◌≤◌, [], drop, length, true, false, Some};
-ghost use Rattle.spec_safety.specs.spec_execution.Ranges.{IsWhole, HoldsAll, AllInRange, AreInRange, Exists};
+ghost use Rattle.spec_safety.specs.spec_execution.Ranges.{HoldsAll, AreInRange, Exists};
 ghost use Rattle.spec_safety.specs.spec_execution.Views.{type_of as type_seen};
 ghost use Rattle.wasm_form.specs.declared.instr.Instr.{out-Instr};
 ghost use Rattle.spec_safety.specs.spec_binary.Indices.{nullary};
 ghost use Rattle.spec_safety.specs.spec_binary.SameTypes.{same_function_type};
+ghost use Rattle.wasm_step.specs.Named.{NamesAreThere};
 ghost use Rattle.wasm_machine.specs.Outside.{callee_of, IsOutsideCall};
 ghost use Rattle.wasm_machine.specs.Stacks.{joined, under_of, is_live, IsJoined};
-ghost use Rattle.wasm_machine.specs.Machines.{Leads, Advances, next_in, carried_in, called_from, called_over, direct, indirect, Finished, RoomsAre, is_outside, names_outside, entry_is_outside, calls_outside};
+ghost use Rattle.wasm_machine.specs.Machines.{Leads, Advances, StaysWithin, next_in, carried_in, called_from, called_over, direct, indirect, Finished, RoomsAre, is_outside, names_outside, entry_is_outside, calls_outside};
 
 use crate::callers::{Caller, Callers};
 use std::alloc::Global;
@@ -160,7 +161,7 @@ fn call_indirect<'m, V: View<'m>>(
     requires live { is_live top.old ≡ true }
     requires rooms { RoomsAre (V.seen view.now).fixed (joined callers.old top.old) }
     requires some { 0 < length top.old.act.rest }
-    requires whole { IsWhole (V.seen view.now).fixed }
+    requires names { NamesAreThere (V.seen view.now).fixed }
     requires holds { HoldsAll (V.seen view.now).fixed (V.seen view.now).units }
     requires declared { ty < ((V.seen view.now).fixed.counts top.old.act.unit).types }
     requires table { table < ((V.seen view.now).fixed.counts top.old.act.unit).tables }
@@ -197,7 +198,7 @@ fn call<'m, V: View<'m>>(
     requires live { is_live top.old ≡ true }
     requires rooms { RoomsAre (V.seen view.now).fixed (joined callers.old top.old) }
     requires some { 0 < length top.old.act.rest }
-    requires whole { IsWhole (V.seen view.now).fixed }
+    requires names { NamesAreThere (V.seen view.now).fixed }
     requires named { f < ((V.seen view.now).fixed.counts top.old.act.unit).functions }
     ensures led { Leads result (carried_in (V.seen view.now) (under_of callers.old top.old) (direct f top.old.act)) (Unit {0}) (joined callers.old top.old) (joined callers.new top.new) (V.seen view.now) (V.seen view.now) }
     ensures outside { result ≡ Done.Outside → names_outside (V.seen view.now).fixed top.old.act f ≡ true }
@@ -241,7 +242,10 @@ pub(crate) fn advance<'m, V: View<'m>>(
     requires joined { IsJoined callers.old top.old }
     requires live { is_live top.old ≡ true }
     requires rooms { RoomsAre (V.seen view.old).fixed (joined callers.old top.old) }
-    requires range { AllInRange (V.seen view.old).fixed (V.seen view.old).units (joined callers.old top.old).frames }
+    requires names { NamesAreThere (V.seen view.old).fixed }
+    requires holds { HoldsAll (V.seen view.old).fixed (V.seen view.old).units }
+    requires rest { AreInRange ((V.seen view.old).fixed.counts top.old.act.unit) top.old.act.rest }
+    requires within { StaysWithin (V.seen view.old).fixed (next_in (V.seen view.old) (joined callers.old top.old).frames) }
     ensures led { Advances result (joined callers.old top.old) (joined callers.new top.new) (V.seen view.old) (V.seen view.new) }
     ensures outside { result ≡ Done.Outside → calls_outside (V.seen view.old).fixed (V.seen view.old).units top.old.act ≡ true }
     ensures joined { result ≢ Done.NoMemory → IsJoined callers.new top.new }
@@ -298,7 +302,7 @@ pub(crate) struct OutsideCall {
 /// The function outside that the next instruction calls.
 pub(crate) fn outside_call<'m, V: View<'m>>(top: &Current<'m>, view: &V) -> OutsideCall
     requires outside { calls_outside (V.seen view.now).fixed (V.seen view.now).units top.now.act ≡ true }
-    requires whole { IsWhole (V.seen view.now).fixed }
+    requires names { NamesAreThere (V.seen view.now).fixed }
     requires holds { HoldsAll (V.seen view.now).fixed (V.seen view.now).units }
     requires rest { AreInRange ((V.seen view.now).fixed.counts top.now.act.unit) top.now.act.rest }
     ensures { IsOutsideCall (V.seen view.now).fixed (V.seen view.now).units (V.seen view.now).memory top.now.act result }

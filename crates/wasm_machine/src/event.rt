@@ -5,8 +5,7 @@ use wasm_form::{Asked, LoaderCall, Trap};
 ///
 /// `Moved` is a step that the code goes on from. `Waits` asks for the answer of a host function, and `Loader` for the result of
 /// a function of the loader, whose arguments are the first and the second, or 0 where there are fewer. `Marked` says that a mark
-/// is on top. `Returned`, `Trapped`, `Exited` and `Stuck` are ends; code is stuck that finds no operands, which by the standard
-/// valid code never is. `Deep` says that the step would pass a limit of depth.
+/// is on top. `Returned`, `Trapped` and `Exited` are ends. `Deep` says that the step would pass a limit of depth.
 #[derive(Drop)]
 pub enum Event {
     Moved,
@@ -21,5 +20,4 @@ pub enum Event {
     Trapped(Trap),
     Exited(u32),
     Deep,
-    Stuck,
 }

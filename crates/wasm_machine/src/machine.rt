@@ -5,6 +5,7 @@ ghost use Rattle.spec_safety.specs.spec_runtime.Hosts.{writes_fit, all_written};
 ghost use Rattle.spec_safety.specs.spec_execution.Values.{take_values, numbers_of};
 ghost use Rattle.spec_safety.specs.spec_execution.Activations.{with_values};
 ghost use Rattle.spec_safety.specs.spec_execution.Views.{type_of as type_seen};
+ghost use Rattle.spec_safety.specs.ValueTypes.{IsOfBytes};
 ghost use Rattle.wasm_step.specs.Tops.{with_act};
 ghost use Rattle.wasm_step.specs.Primitives.{HasSpare, IsIdle, Widened, with_rest};
 ghost use Rattle.wasm_machine.specs.Stacks.{empty_stack};
@@ -31,7 +32,6 @@ pub enum Standing {
     Returned,
     Trapped(Trap),
     Exited(u32),
-    Stuck,
     Lost,
 }
 
@@ -103,12 +103,12 @@ impl<'m> Machine<'m> {
     /// Calls a function without parameters and results, over an empty call stack or a mark: `Moved`, `Waits` for a host
     /// function, `Trapped` for a stub, or `Deep` with nothing changed. Without memory `Memory`, from then on.
     pub fn begin<V: View<'m>>(&mut self, alloc: Global, view: &V, r: Ref) -> Result<Event, Memory>
-        requires over { IsOver (V.seen view.now).fixed (V.seen view.now).units self.old }
+        requires over { IsOver (V.seen view.now).fixed (V.seen view.now).units (V.seen view.now).memory self.old }
         requires start { IsStart self.old }
         requires nullary { type_seen (V.seen view.now).fixed r ≡ Some nullary }
         ensures told { IfOk result (λ e. Begins (V.seen view.now) e r self.old self.new) }
         ensures lost { OnErr result (self.new ≡ lost_machine) }
-        ensures over { IsOver (V.seen view.now).fixed (V.seen view.now).units self.new }
+        ensures over { IsOver (V.seen view.now).fixed (V.seen view.now).units (V.seen view.now).memory self.new }
     {
         if self.standing == Standing::Lost {
             return Err(Memory);
@@ -147,10 +147,10 @@ impl<'m> Machine<'m> {
     /// Makes one step, as `step` does, and answers in few bytes: `Outside`, `Exited` and `Marked` don't tell what takes more.
     #[inline(always)]
     pub fn quick<V: View<'m>>(&mut self, alloc: Global, view: &mut V) -> Done
-        requires over { IsOver (V.seen view.old).fixed (V.seen view.old).units self.old }
+        requires over { IsOver (V.seen view.old).fixed (V.seen view.old).units (V.seen view.old).memory self.old }
         requires ready { IsReady self.old }
         ensures stepped { QuickStepped (V.seen view.old).fixed result self.old self.new (between (V.seen view.old) (V.seen view.new)) }
-        ensures over { IsOver (V.seen view.old).fixed (V.seen view.new).units self.new }
+        ensures over { IsOver (V.seen view.old).fixed (V.seen view.new).units (V.seen view.new).memory self.new }
         ensures fixed { (V.seen view.new).fixed ≡ (V.seen view.old).fixed }
     {
         match self.standing {
@@ -158,7 +158,6 @@ impl<'m> Machine<'m> {
             Standing::Returned => return Done::Returned,
             Standing::Trapped(trap) => return Done::Trapped(trap),
             Standing::Exited(_) => return Done::Exited,
-            Standing::Stuck => return Done::Stuck,
             Standing::Lost => return Done::NoMemory,
             Standing::Asking(..) | Standing::Loading => unreachable!(),
         }
@@ -170,27 +169,27 @@ impl<'m> Machine<'m> {
             Done::Goes | Done::Deep | Done::Outside => {}
             Done::Returned => self.end(Standing::Returned),
             Done::Trapped(trap) => self.end(Standing::Trapped(trap)),
-            Done::Stuck => self.end(Standing::Stuck),
+            Done::Stuck => unreachable!(),
             _ => lose(&mut self.callers, &mut self.top, &mut self.standing),
         }
         done
     }
 
     /// Makes one step of the code on top, tells the mark on top, or answers the end again. Without memory `Memory`, from then on:
-    /// that is only where code calls or grows, or would pass the room that the view told, which by the standard valid code never does.
+    /// that is only where code calls or grows.
     pub fn step<V: View<'m>>(&mut self, alloc: Global, view: &mut V) -> Result<Event, Memory>
-        requires over { IsOver (V.seen view.old).fixed (V.seen view.old).units self.old }
+        requires over { IsOver (V.seen view.old).fixed (V.seen view.old).units (V.seen view.old).memory self.old }
         requires ready { IsReady self.old }
         ensures stepped { IfOk result (λ e. Stepped (V.seen view.old).fixed e self.old self.new (between (V.seen view.old) (V.seen view.new))) }
-        ensures wanting { OnErr result (IsWanting (V.seen view.old) self.old) }
+        ensures wanting { OnErr result (IsWanting self.old) }
         ensures lost { OnErr result ((self.new ≡ lost_machine) × AreSame (between (V.seen view.old) (V.seen view.new))) }
-        ensures over { IsOver (V.seen view.old).fixed (V.seen view.new).units self.new }
+        ensures over { IsOver (V.seen view.old).fixed (V.seen view.new).units (V.seen view.new).memory self.new }
         ensures fixed { (V.seen view.new).fixed ≡ (V.seen view.old).fixed }
     {
         match self.quick(alloc, view) {
             Done::Goes => Ok(Event::Moved),
             Done::Trapped(trap) => Ok(Event::Trapped(trap)),
-            Done::Stuck => Ok(Event::Stuck),
+            Done::Stuck => unreachable!(),
             Done::Returned => Ok(Event::Returned),
             Done::Exited => Ok(Event::Exited(self.exit_code())),
             Done::Marked => Ok(Event::Marked(self.mark_on_top())),
@@ -228,19 +227,15 @@ impl<'m> Machine<'m> {
 
     /// Asks what is outside: the next step is a call of it.
     fn ask<V: View<'m>>(&mut self, alloc: Global, view: &V) -> Result<Event, Memory>
-        requires over { IsOver (V.seen view.now).fixed (V.seen view.now).units self.old }
+        requires over { IsOver (V.seen view.now).fixed (V.seen view.now).units (V.seen view.now).memory self.old }
         requires outside { IsCallingOutside (V.seen view.now).fixed (V.seen view.now).units self.old }
         ensures told { IfOk result (λ e. Told (V.seen view.now).fixed e (next_in (V.seen view.now) self.old.stack.frames) self.old self.new (between (V.seen view.now) (V.seen view.now))) }
         ensures lost { OnErr result (self.new ≡ lost_machine) }
-        ensures over { IsOver (V.seen view.now).fixed (V.seen view.now).units self.new }
+        ensures over { IsOver (V.seen view.now).fixed (V.seen view.now).units (V.seen view.now).memory self.new }
     {
         let call = outside_call(&self.top, view);
         let ty = view.type_of(call.target);
         let params = ty.params.items();
-        if !self.top.has_arguments(call.above, params) {
-            self.end(Standing::Stuck);
-            return Ok(Event::Stuck);
-        }
         let count = ty.results.items().len();
         let Ok(args) = leave(&mut self.top, alloc, call.above, params, count) else {
             lose(&mut self.callers, &mut self.top, &mut self.standing);
@@ -269,11 +264,11 @@ impl<'m> Machine<'m> {
     /// Puts a mark on an empty call stack, or on what waits for a function of the loader. Without memory `Memory`, from then on.
     #[tactic(auto, using(crate::proofs::Receiving::marks_over))]
     pub fn mark<V: View<'m>>(&mut self, alloc: Global, view: &V, tag: u32) -> Result<(), Memory>
-        requires over { IsOver (V.seen view.now).fixed (V.seen view.now).units self.old }
+        requires over { IsOver (V.seen view.now).fixed (V.seen view.now).units (V.seen view.now).memory self.old }
         requires may { MayMark self.old }
         ensures marked { OnOk result (Marks tag self.old self.new) }
         ensures lost { OnErr result (self.new ≡ lost_machine) }
-        ensures over { IsOver (V.seen view.now).fixed (V.seen view.now).units self.new }
+        ensures over { IsOver (V.seen view.now).fixed (V.seen view.now).units (V.seen view.now).memory self.new }
     {
         self.put_mark(alloc, tag)
     }
@@ -309,10 +304,10 @@ impl<'m> Machine<'m> {
     /// Takes the mark on top away: what waited for a function of the loader under it waits again.
     #[tactic(auto, using(crate::proofs::Receiving::unmarks_over))]
     pub fn unmark<V: View<'m>>(&mut self, view: &V)
-        requires over { IsOver (V.seen view.now).fixed (V.seen view.now).units self.old }
+        requires over { IsOver (V.seen view.now).fixed (V.seen view.now).units (V.seen view.now).memory self.old }
         requires marked { IsMarked self.old }
         ensures unmarked { Unmarks self.old self.new }
-        ensures over { IsOver (V.seen view.now).fixed (V.seen view.now).units self.new }
+        ensures over { IsOver (V.seen view.now).fixed (V.seen view.now).units (V.seen view.now).memory self.new }
     {
         self.take_mark();
     }
@@ -332,10 +327,11 @@ impl<'m> Machine<'m> {
 
     /// Takes the answer of the host function that is waited for: its writes in order and then its results, or the end.
     pub fn answer<V: View<'m>>(&mut self, view: &mut V, a: &Answer)
-        requires over { IsOver (V.seen view.old).fixed (V.seen view.old).units self.old }
+        requires over { IsOver (V.seen view.old).fixed (V.seen view.old).units (V.seen view.old).memory self.old }
         requires fits { FitsAnswer (V.seen view.old).fixed (V.seen view.old).memory a.now self.old.standing }
+        requires bytes { IsOfBytes a.now }
         ensures answered { Answered a.now self.old self.new (between (V.seen view.old) (V.seen view.new)) }
-        ensures over { IsOver (V.seen view.old).fixed (V.seen view.new).units self.new }
+        ensures over { IsOver (V.seen view.old).fixed (V.seen view.new).units (V.seen view.new).memory self.new }
         ensures fixed { (V.seen view.new).fixed ≡ (V.seen view.old).fixed }
     {
         match a {
@@ -365,11 +361,11 @@ impl<'m> Machine<'m> {
 
     /// Goes on with the result of a function of the loader.
     pub fn give<V: View<'m>>(&mut self, view: &V, value: u32)
-        requires over { IsOver (V.seen view.now).fixed (V.seen view.now).units self.old }
+        requires over { IsOver (V.seen view.now).fixed (V.seen view.now).units (V.seen view.now).memory self.old }
         requires loading { self.old.standing ≡ Standing.Loading }
         ensures received { Received self.old.stack.frames (value ∷ []) self.new }
         ensures rooms { self.new.stack.rooms ≡ self.old.stack.rooms }
-        ensures over { IsOver (V.seen view.now).fixed (V.seen view.now).units self.new }
+        ensures over { IsOver (V.seen view.now).fixed (V.seen view.now).units (V.seen view.now).memory self.new }
     {
         self.top.push_spare(Value::Num(u64::from(value)));
         self.standing = Standing::Moving;

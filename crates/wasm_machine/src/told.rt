@@ -1,9 +1,14 @@
-// What is told of a run by where its machine stands.
+// What is told of a run by where its machine stands, and of the values of its types.
 ghost use Rattle.std.specs.Prelude.{◌≡◌, ◌<◌, ◌^◌, All};
+ghost use Rattle.spec_safety.specs.ValueTypes.{AreBytes, IsOfBytes};
+ghost use Rattle.spec_safety.specs.SoundModules.{HoldsBytes};
+ghost use Rattle.wasm_form.specs.declared.runtime.Write.{Write as WriteSeen};
+ghost use Rattle.wasm_form.specs.declared.module.Data.{Data as DataSeen};
 ghost use Rattle.wasm_machine.specs.Steps.{event_of, steps_told, AreNumbers};
 
 use crate::event::Event;
 use crate::machine::Standing;
+use wasm_form::{Answer, Data, Module, Write};
 
 /// What is told of how a run stands after an answer, and of an end again.
 pub fn event_of(standing: Standing) -> Event
@@ -13,11 +18,8 @@ pub fn event_of(standing: Standing) -> Event
         Standing::Returned => Event::Returned,
         Standing::Trapped(trap) => Event::Trapped(trap),
         Standing::Exited(code) => Event::Exited(code),
-        Standing::Moving
-        | Standing::Asking(..)
-        | Standing::Loading
-        | Standing::Stuck
-        | Standing::Lost => Event::Moved,
+        Standing::Moving | Standing::Asking(..) | Standing::Loading | Standing::Lost =>
+            Event::Moved,
     }
 }
 
@@ -26,7 +28,7 @@ pub fn steps_told(event: &Event) -> u64
     ensures { result ≡ steps_told event.now }
 {
     match event {
-        Event::Deep | Event::Stuck => 0,
+        Event::Deep => 0,
         _ => 1,
     }
 }
@@ -43,4 +45,43 @@ pub fn are_numbers(event: &Event)
     if let Event::Waits(asked) = event {
         are_in_range(asked.args.items());
     }
+}
+
+/// Bytes are in their range.
+fn are_bytes(bytes: &[u8])
+    ensures { AreBytes bytes.now }
+{}
+
+/// Writes are of bytes.
+fn write_bytes(writes: &[Write])
+    ensures { All (λ (w : WriteSeen). AreBytes w.bytes) writes.now }
+{
+    for write in writes {
+        are_bytes(write.bytes.items());
+    }
+}
+
+/// Data segments are of bytes.
+fn hold_bytes(datas: &[Data])
+    ensures { All (λ (d : DataSeen). AreBytes d.bytes) datas.now }
+{
+    for data in datas {
+        are_bytes(data.bytes.items());
+    }
+}
+
+/// The writes of an answer are of bytes.
+pub fn is_of_bytes(a: &Answer)
+    ensures { IsOfBytes a.now }
+{
+    if let Answer::Reply { writes, .. } = a {
+        write_bytes(writes.items());
+    }
+}
+
+/// The data segments of a module are of bytes.
+pub fn holds_bytes(m: &Module)
+    ensures { HoldsBytes m.now }
+{
+    hold_bytes(m.datas.items());
 }

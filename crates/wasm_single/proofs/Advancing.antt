@@ -1,5 +1,5 @@
 -- What further steps of code make of the run.
-use Rattle.std.proofs.Common.{◌≡◌, ◌≢◌, ◌⊎◌, ℕ, suc, ◌<◌, Some, Ok, Bool, true, false, refl, sym, ap, ◌∙◌, subst, inl, inr, arith}
+use Rattle.std.proofs.Common.{◌≡◌, ◌≢◌, ℕ, suc, ◌<◌, Ok, Bool, true, false, refl, sym, ap, ◌∙◌, subst, inl, inr}
 use Rattle.std.specs.Borrow.{Bor}
 use Rattle.wasm_form.specs.declared.module.Module.{Module}
 use Rattle.std.proofs.lemmas.Bool.{false≢true}
@@ -14,7 +14,7 @@ use Rattle.wasm_single.specs.declared.bare_run.Core.{Core}
 use Rattle.wasm_single.specs.declared.bare_run.Phase.TheVariants as phase
 use Rattle.wasm_single.specs.declared.single.Single.TheInside.{Inside}
 use Rattle.wasm_single.specs.Cores.{IsCore, IsState}
-use Rattle.wasm_single.specs.Singles.{SingleRun, module_course}
+use Rattle.wasm_single.specs.Singles.{SingleRun, module_course, MayWant, MayWantAt}
 use Rattle.wasm_single.specs.Starts.{opened}
 use Rattle.wasm_single.specs.Steps.{IsMade, HasStopped, Counted}
 use Rattle.wasm_single.specs.Kept.{run_of, StandsFrom, IsSingle}
@@ -34,6 +34,7 @@ pub record IsAdvanced (most : ℕ) (v : SingleRun) (i : Inside) : Type 0 where
   pub advances : Advances most v.run (run_of i).run
   pub code : IsByCode v (run_of i).run
   pub left : HasNoneLeft most (run_of i)
+  pub wants : i.lost ≡ true → MayWantAt v.wasm (run_of i).run
 
 -- what is so of one that makes them
 pub record GoesOn (most : ℕ) (v : SingleRun) (i : Inside) : Type 0 where
@@ -86,6 +87,7 @@ module _ (most : ℕ) (v : SingleRun) (i : Inside) (core : Core) (steps : ℕ) (
     pub advances : Advances most v.run y
     pub code : AreOfCode (module_course v.wasm opening) v.run y
     pub stopped : lost ≡ false → HasStopped core
+    pub wants : lost ≡ true → MayWant (state_at (module_course v.wasm opening) y)
 
   module _ (opening : ModuleState) (opens : opened v.wasm ≡ Ok opening) where
     abbrev C : Course
@@ -125,18 +127,21 @@ module _ (most : ℕ) (v : SingleRun) (i : Inside) (core : Core) (steps : ℕ) (
       advances = made_advances most v.run x g.advances steps lost below o.0;
       code = code_made o.2 o.0;
       stopped = λ _. o.3;
+      wants = λ wanting. absurd (false≢true (sym o.1 ∙ wanting));
     }
     stops_so (inr (inl o)) = record {
       stands = stands_kept o.2 o.0;
       advances = kept_advances most v.run x g.advances steps lost o.0;
       code = code_kept o.0;
       stopped = λ _. o.3;
+      wants = λ wanting. absurd (false≢true (sym o.1 ∙ wanting));
     }
     stops_so (inr (inr o)) = record {
       stands = λ found. absurd (false≢true (sym found ∙ o.1));
       advances = kept_advances most v.run x g.advances steps lost o.0;
       code = code_kept o.0;
       stopped = λ found. absurd (false≢true (sym found ∙ o.1));
+      wants = λ _. subst (λ n. MayWant (state_at C (advanced x n lost))) (sym o.0) o.2;
     }
 
   -- the module has an opening state
@@ -185,4 +190,5 @@ module _ (most : ℕ) (v : SingleRun) (i : Inside) (core : Core) (steps : ℕ) (
         advances = once.advances;
         code = λ opening opens. (so opening opens).code;
         left = none_left most (counted i core steps lost) single once.stopped;
+        wants = λ wanting. (q.0, q.1, once.wants wanting);
       }

@@ -6,7 +6,7 @@ use Rattle.std.proofs.lemmas.Option.{same_Some}
 use Rattle.std.proofs.lemmas.List.{reverse-append, reverse-reverse}
 use Rattle.std.proofs.lemmas.List.Folds.{list_all-append}
 use Rattle.std.proofs.lemmas.List.Elements.{All-head, All-tail}
-use Rattle.spec_safety.proofs.StepsInRange.{All-reverse}
+use Rattle.spec_safety.proofs.Lookups.{All-reverse}
 use Rattle.wasm_form.specs.declared.types.ValType.{ValType}
 use Rattle.wasm_form.specs.declared.types.ValType.TheVariants.{I32, I64, F32, F64, FuncRef, ExternRef}
 use Rattle.wasm_form.specs.declared.types.FuncType.{FuncType}
@@ -37,8 +37,7 @@ use Rattle.wasm_machine.specs.declared.event.Event.TheVariants as event
 use Rattle.wasm_single.specs.declared.bare_run.Core.{Core}
 use Rattle.wasm_machine.specs.Steps.{TellsStatus, ArgumentsFit, AreNumbers}
 use Rattle.wasm_single.specs.Cores.{Steps}
-use Rattle.spec_safety.proofs.of_spec_binary.Options.{each_found, each, either_way}
-use Rattle.wasm_single.proofs.Functions.{went_on}
+use Rattle.spec_safety.proofs.of_spec_binary.Options.{went_on, each_found, each, either_way}
 
 -- ---- numbers by their types
 
@@ -231,4 +230,3 @@ arguments_told event.Returned s new made numbers = tt
 arguments_told (event.Trapped why) s new made numbers = tt
 arguments_told (event.Exited code) s new made numbers = tt
 arguments_told event.Deep s new made numbers = tt
-arguments_told event.Stuck s new made numbers = tt

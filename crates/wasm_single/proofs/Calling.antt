@@ -1,9 +1,10 @@
 -- A call of the start function or of the entry is the next step of the run.
 use Rattle.std.proofs.Common.{◌≡◌, ◌≢◌, ℕ, ◌<◌, List, [], ◌∷◌, Option, Some, None, refl, ap, sym, ◌∙◌, subst, Bool, true, false}
-use Rattle.std.specs.Prelude.{IfSome, nat_lt, if◌then◌else◌}
+use Rattle.std.specs.Prelude.{IfSome, nat_lt, is_some, if◌then◌else◌}
 use Rattle.std.specs.Option.{option_map}
-use Rattle.std.proofs.lemmas.Bool.{le-ltb}
+use Rattle.std.proofs.lemmas.Bool.{le-ltb, ltb-true}
 use Rattle.std.proofs.lemmas.Option.{same_Some}
+use Rattle.wasm_form.specs.declared.types.FuncType.{FuncType}
 use Rattle.wasm_form.specs.declared.module.Module.{Module}
 use Rattle.wasm_form.specs.declared.runtime.Ref.{Ref}
 use Rattle.wasm_form.specs.declared.runtime.Ref.TheVariants.{Own, Host}
@@ -13,7 +14,7 @@ use Rattle.spec_safety.specs.spec_binary.Options.{◌>>=◌}
 use Rattle.spec_safety.specs.spec_binary.Indices.{nullary, function_type}
 use Rattle.spec_safety.specs.spec_runtime.Memories.{MemoryInstance}
 use Rattle.spec_safety.specs.spec_execution.Views.{View, type_of}
-use Rattle.spec_safety.specs.spec_execution.Ranges.{IsWhole}
+use Rattle.spec_safety.specs.TypedViews.{IsSoundView}
 use Rattle.spec_safety.specs.spec_execution.Runs.{Frame, Active, Marked, Next, Goes, Asks, Loads, Ends, Traps, call}
 use Rattle.spec_safety.specs.spec_execution.Instances.{ModuleParts, function_named, module_target, module_view}
 use Rattle.spec_safety.specs.spec_binary.IndexSpaces.{imported_count}
@@ -32,8 +33,22 @@ use Rattle.wasm_machine.specs.Marks.{AreMarks, KeepsUnder}
 use Rattle.wasm_machine.proofs.Marked.{marked_call}
 use Rattle.wasm_machine.proofs.Under.{own_under, call_under}
 use Rattle.wasm_single.proofs.Seen.{seen_next}
-use Rattle.wasm_single.proofs.Functions.{number_there, target_is, type_is}
 use Rattle.wasm_single.proofs.Telling.{marks_in, under_phase, steps_told, deep_told}
+
+-- ---- a function of the module
+
+module _ (m : Module) (f : ℕ) (ty : FuncType) (typed : function_type m f ≡ Some ty) where
+  -- the number is one of the module's
+  number_there : IsSoundView (module_view m) → f < ((module_view m).counts 0).functions
+  number_there view = ltb-true f ((module_view m).counts 0).functions (sym ((view.counted 0).functions f) ∙ ap is_some typed)
+
+  target_is : module_target m f ≡ Some (function_named m f)
+  target_is = rw typed refl
+
+  type_is : IsSoundView (module_view m) → type_of (module_view m) (function_named m f) ≡ Some ty
+  type_is view =
+      let r = view.typed.functions 0 f ty typed in
+      subst (λ (x : Ref). type_of (module_view m) x ≡ Some ty) (same_Some r.0 (function_named m f) (sym r.1 ∙ target_is)) r.2
 
 -- ---- what is so where a call may begin
 
@@ -58,26 +73,26 @@ module _ (c : Core) (h : IsCore c) (moving : c.machine.standing ≡ standing.Mov
 
 -- ---- what the machine is asked and tells
 
-pub over_view : (c : Core) → IsCore c → IsOver (module_view c.instance.wasm) c.instance.parts c.machine
-over_view c h = subst (λ (V : View ModuleParts). IsOver V c.instance.parts c.machine) (sym h.fixed) h.over
+pub over_view : (c : Core) → IsCore c → IsOver (module_view c.instance.wasm) c.instance.parts c.instance.memory c.machine
+over_view c h = subst (λ (V : View ModuleParts). IsOver V c.instance.parts c.instance.memory c.machine) (sym h.fixed) h.over
 
 pub may_begin : (m : MachineState) → m.standing ≡ standing.Moving → IsClear m.stack.frames → IsStart m
 may_begin m moving clear = subst (λ (st : Standing). IsStart (record { stack = m.stack; standing = st })) (sym moving) clear
 
 module _ (c : Core) (h : IsCore c) (f : ℕ) (typed : IsStartable c.checked.now f) where
   pub in_range : f < ((module_view c.instance.wasm).counts 0).functions
-  in_range = subst (λ (V : View ModuleParts). f < (V.counts 0).functions) (sym h.fixed) (number_there c.checked.now h.over.range.whole f nullary typed)
+  in_range = subst (λ (V : View ModuleParts). f < (V.counts 0).functions) (sym h.fixed) (number_there c.checked.now f nullary typed h.over.view)
 
   module _ (r : Ref) (is : Some r ≡ (module_view c.instance.wasm).target 0 f) where
     named : r ≡ function_named c.checked.now f
     named =
         let found : Some r ≡ module_target c.checked.now f = subst (λ (V : View ModuleParts). Some r ≡ V.target 0 f) h.fixed is in
-        same_Some r (function_named c.checked.now f) (found ∙ target_is c.checked.now h.over.range.whole f nullary typed)
+        same_Some r (function_named c.checked.now f) (found ∙ target_is c.checked.now f nullary typed)
 
     pub named_nullary : type_of (module_view c.instance.wasm) r ≡ Some nullary
     named_nullary =
         subst (λ (V : View ModuleParts). type_of V r ≡ Some nullary) (sym h.fixed)
-        (subst (λ (x : Ref). type_of (module_view c.checked.now) x ≡ Some nullary) (sym named) (type_is c.checked.now h.over.range.whole f nullary typed))
+        (subst (λ (x : Ref). type_of (module_view c.checked.now) x ≡ Some nullary) (sym named) (type_is c.checked.now f nullary typed h.over.view))
 
     pub told_calls : (e : Event) (n : MachineState)
         → Told (module_view c.instance.wasm) e (call (module_view c.instance.wasm) c.instance.parts c.instance.memory (λ _. c.machine.stack.frames) [] r) c.machine n
@@ -89,9 +104,9 @@ module _ (c : Core) (h : IsCore c) (f : ℕ) (typed : IsStartable c.checked.now 
 
 -- ---- what a call of it comes to
 
-module _ (m : Module) (s : ModuleState) (whole : IsWhole (module_view m)) (f : ℕ) (typed : function_type m f ≡ Some nullary) where
+module _ (m : Module) (s : ModuleState) (f : ℕ) (typed : function_type m f ≡ Some nullary) where
   called_by : (caller : List Value → List (Frame Starting)) → ((module_view m).target 0 f >>= call (module_view m) s.units s.memory caller []) ≡ call (module_view m) s.units s.memory caller [] (function_named m f)
-  called_by caller = ap (λ (r : Option Ref). r >>= call (module_view m) s.units s.memory caller []) (target_is m whole f nullary typed)
+  called_by caller = ap (λ (r : Option Ref). r >>= call (module_view m) s.units s.memory caller []) (target_is m f nullary typed)
 
   start_comes : (entry tag : ℕ) → s.stack ≡ Marked (record { start = Some f; entry = entry }) ∷ []
       → module_next m s s.stack ≡ option_map (seen_next (record { start = None; entry = entry })) (call (module_view m) s.units s.memory (λ _. Marked tag ∷ []) [] (function_named m f))
@@ -146,10 +161,10 @@ module _ (c : Core) (n : MachineState) (e : Event) (f : ℕ) (h : IsCore c) (mov
         (subst (λ (x : MachineState). IsState (record c { machine = x }) s) (sym same_machine) k)
         )
 
-  module _ (over : IsOver (module_view c.checked.now) c.instance.parts n) (begun : is_begun e ≡ true) (start : Option ℕ) (p : Phase) (called : p ≢ phase.Opened) (under : IfSome (next_called c f) (KeepsUnder (module_view c.checked.now) (marks_in p))) where
+  module _ (over : IsOver (module_view c.checked.now) c.instance.parts c.instance.memory n) (begun : is_begun e ≡ true) (start : Option ℕ) (p : Phase) (called : p ≢ phase.Opened) (under : IfSome (next_called c f) (KeepsUnder (module_view c.checked.now) (marks_in p))) where
     begun_steps : (s : ModuleState) → IsState c s → CallComes c s f (record { start = start; entry = c.entry }) → Steps e s (record c { machine = n; start = start; phase = p })
     begun_steps s k comes =
-        steps_told (record c { machine = n; start = start; phase = p }) s c.machine c.instance.parts c.instance.memory e (next_called c f) begun called (state_moving c s k moving).0 k.units k.memory comes t under over.asked
+        steps_told (record c { machine = n; start = start; phase = p }) s c.machine c.instance.parts c.instance.memory e (next_called c f) begun called k.units k.memory comes t under over.asked
 
 -- ---- the call of the start function
 
@@ -178,7 +193,7 @@ module _ (c new : Core) (e : Event) (f : ℕ) (h : IsCore c) (moving : c.machine
   start_next_is s k =
       let top = only_mark c h moving clear at in
       over_machine c s f (record { start = None; entry = c.entry }) (Marked top.0 ∷ []) k.units k.memory top.1
-      (start_comes c.checked.now s h.over.range.whole f start_startable c.entry top.0 (start_stack s k))
+      (start_comes c.checked.now s f start_startable c.entry top.0 (start_stack s k))
 
   start_under : IfSome (next_called c f) (KeepsUnder (module_view c.checked.now) (marks_in c.phase))
   start_under =
@@ -189,7 +204,7 @@ module _ (c new : Core) (e : Event) (f : ℕ) (h : IsCore c) (moving : c.machine
   start_deep_steps deep s k =
       subst (λ (x : Core). Steps e s x) (sym same) (deep_steps c new.machine e f h moving t deep s (record { start = None; entry = c.entry }) k (start_next_is s k))
 
-  module _ (over : IsOver (module_view c.checked.now) c.instance.parts new.machine) (begun : is_begun e ≡ true) where
+  module _ (over : IsOver (module_view c.checked.now) c.instance.parts c.instance.memory new.machine) (begun : is_begun e ≡ true) where
     pub start_steps : (s : ModuleState) → IsState c s → Steps e s (record new { start = None })
     start_steps s k = subst (λ (x : Core). Steps e s (record x { start = None })) (sym same) (begun_steps c new.machine e f h moving t over begun None c.phase start_called start_under s k (start_next_is s k))
 
@@ -207,7 +222,7 @@ module _ (c new : Core) (e : Event) (h : IsCore c) (moving : c.machine.standing 
   entry_next_is : (s : ModuleState) (starting : Starting) → IsState c s → CallComes c s c.entry starting
   entry_next_is s starting k =
       over_machine c s c.entry starting [] k.units k.memory entry_empty
-      (entry_comes c.checked.now s h.over.range.whole c.entry h.entry starting (entry_stack s k))
+      (entry_comes c.checked.now s c.entry h.entry starting (entry_stack s k))
 
   entry_under : IfSome (next_called c c.entry) (KeepsUnder (module_view c.checked.now) 0)
   entry_under =
@@ -220,7 +235,7 @@ module _ (c new : Core) (e : Event) (h : IsCore c) (moving : c.machine.standing 
   entry_deep_steps deep s k =
       subst (λ (x : Core). Steps e s x) (sym same) (deep_steps c new.machine e c.entry h moving t deep s (starting_of c) k (entry_next_is s (starting_of c) k))
 
-  module _ (over : IsOver (module_view c.checked.now) c.instance.parts new.machine) (begun : is_begun e ≡ true) where
+  module _ (over : IsOver (module_view c.checked.now) c.instance.parts c.instance.memory new.machine) (begun : is_begun e ≡ true) where
     pub entry_steps : (s : ModuleState) → IsState c s → Steps e s (record new { phase = phase.Entered })
     entry_steps s k =
         subst (λ (x : Core). Steps e s (record x { phase = phase.Entered })) (sym same)

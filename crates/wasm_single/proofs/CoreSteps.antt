@@ -15,13 +15,14 @@ use Rattle.wasm_step.specs.Moves.{Changes, AreSame}
 use Rattle.wasm_step.specs.declared.done.Done.{Done}
 use Rattle.wasm_step.specs.declared.done.Done.TheVariants as done
 use Rattle.wasm_instance.specs.States.{InstanceState}
-use Rattle.wasm_machine.specs.Machines.{MachineState, IsOver, next_of, LeavesCode, Told, Repeats, IsAtMark, IsMarked, IsCallingOutside, IsExited, Stepped, QuickStepped, FitsAnswer}
+use Rattle.wasm_machine.specs.Machines.{MachineState, IsOver, next_of, LeavesCode, Told, Repeats, IsAtMark, IsMarked, IsCallingOutside, IsExited, Stepped, QuickStepped, FitsAnswer, MayGrow, IsWanting}
 use Rattle.wasm_machine.specs.declared.machine.Standing.{Standing}
 use Rattle.wasm_machine.specs.declared.machine.Standing.TheVariants as standing
 use Rattle.wasm_machine.specs.declared.event.Event.{Event}
 use Rattle.wasm_machine.specs.declared.event.Event.TheVariants as event
 use Rattle.wasm_single.specs.declared.bare_run.Core.{Core}
 use Rattle.wasm_single.specs.declared.bare_run.Phase.TheVariants as phase
+use Rattle.wasm_single.specs.Singles.{CallsOrGrows, MayWant}
 use Rattle.wasm_single.specs.Cores.{seen, starting_of, IsLive, IsCore, IsState, StandsAs, Steps, QuickSteps, IsCodeNext, FitsHost, MayTake, is_begun, is_mark}
 use Rattle.wasm_machine.specs.Marks.{KeepsUnder}
 use Rattle.wasm_machine.proofs.Under.{step_under}
@@ -42,6 +43,22 @@ calling_code V us st rooms [] h = absurd h.1
 calling_code V us st rooms (Active a ∷ frames) h = refl
 calling_code V us st rooms (Marked tag ∷ frames) h = absurd h.1
 
+seen_grows : (starting : Starting) (frames : List (Frame ℕ)) → MayGrow frames → CallsOrGrows (seen starting frames)
+seen_grows starting [] h = h
+seen_grows starting (Active a ∷ frames) h = h
+seen_grows starting (Marked tag ∷ frames) h = tt
+
+-- memory is wanting only where code calls or grows
+pub wants_grown : (c : Core) → c.machine.standing ≡ standing.Moving → c.phase ≢ phase.Opened → IsWanting c.machine → (s : ModuleState) → IsState c s → MayWant s
+wants_grown c moving called wanting s k =
+    let at = state_moving c s k moving in
+    let stack = at.1 ∙ stack_called c.phase (starting_of c) c.machine.stack.frames called in
+    (at.0, subst CallsOrGrows (sym stack) (seen_grows (starting_of c) c.machine.stack.frames (grows wanting)))
+  where
+    grows : IsWanting c.machine → MayGrow c.machine.stack.frames
+    grows (inl lost) = absurd (let clash : standing.Moving ≡ standing.Lost = sym moving ∙ lost in cc)
+    grows (inr next) = next.1
+
 abbrev changes : InstanceState → InstanceState → Changes ModuleParts
 changes old new = record { old_units = old.parts; old_memory = old.memory; new_units = new.parts; new_memory = new.memory }
 
@@ -52,8 +69,11 @@ module _ (c : Core) (i : InstanceState) (n : MachineState) (h : IsCore c) (fixed
   -- ---- nothing has changed
 
   module _ (same : n ≡ c.machine) (kept : AreSame (changes c.instance i)) where
-    same_over : IsOver (module_view c.checked.now) i.parts n
-    same_over = subst (λ (us : ModuleParts). IsOver (module_view c.checked.now) us n) (sym kept.0) (subst (λ (x : MachineState). IsOver (module_view c.checked.now) c.instance.parts x) (sym same) h.over)
+    same_over : IsOver (module_view c.checked.now) i.parts i.memory n
+    same_over =
+        subst (λ (us : ModuleParts). IsOver (module_view c.checked.now) us i.memory n) (sym kept.0)
+        (subst (λ (space : MemoryInstance). IsOver (module_view c.checked.now) c.instance.parts space n) (sym kept.1)
+        (subst (λ (x : MachineState). IsOver (module_view c.checked.now) c.instance.parts c.instance.memory x) (sym same) h.over))
 
     same_core : IsCore (with_both c i n)
     same_core = record {
@@ -112,7 +132,7 @@ module _ (c : Core) (i : InstanceState) (n : MachineState) (h : IsCore c) (fixed
             (same_state deep_kept.0 deep_kept.1 s k)
             )
 
-      code_core : IsOver (module_view c.checked.now) i.parts n → (begun : Bool) → is_begun e ≡ begun → IsCore (with_both c i n)
+      code_core : IsOver (module_view c.checked.now) i.parts i.memory n → (begun : Bool) → is_begun e ≡ begun → IsCore (with_both c i n)
       code_core over true begun = record {
         fixed = fixed ∙ h.fixed;
         over = over;
@@ -123,9 +143,9 @@ module _ (c : Core) (i : InstanceState) (n : MachineState) (h : IsCore c) (fixed
       }
       code_core over false deep = let kept = deep_kept deep in same_core kept.0 kept.1
 
-      code_steps : IsOver (module_view c.checked.now) i.parts n → (begun : Bool) → is_begun e ≡ begun → is_running c.machine.stack.frames ≡ true → (s : ModuleState) → IsState c s → Steps e s (with_both c i n)
+      code_steps : IsOver (module_view c.checked.now) i.parts i.memory n → (begun : Bool) → is_begun e ≡ begun → is_running c.machine.stack.frames ≡ true → (s : ModuleState) → IsState c s → Steps e s (with_both c i n)
       code_steps over true begun code s k =
-          steps_told (with_both c i n) s c.machine c.instance.parts c.instance.memory e (next_of (module_view c.checked.now) c.instance.parts c.instance.memory c.machine.stack.frames) begun called (state_moving c s k moving).0 k.units k.memory
+          steps_told (with_both c i n) s c.machine c.instance.parts c.instance.memory e (next_of (module_view c.checked.now) c.instance.parts c.instance.memory c.machine.stack.frames) begun called k.units k.memory
           (code_next s k code) t code_under over.asked
       code_steps over false deep code s k = deep_code deep s k code
 
@@ -141,9 +161,8 @@ module _ (c : Core) (i : InstanceState) (n : MachineState) (h : IsCore c) (fixed
         go (event.Trapped why) k = k
         go (event.Exited code) k = k
         go event.Deep k = k
-        go event.Stuck k = k
 
-    module _ (e : Event) (st : Stepped (module_view c.checked.now) e c.machine n (changes c.instance i)) (over : IsOver (module_view c.checked.now) i.parts n) where
+    module _ (e : Event) (st : Stepped (module_view c.checked.now) e c.machine n (changes c.instance i)) (over : IsOver (module_view c.checked.now) i.parts i.memory n) where
       step_core : IsCore (with_both c i n)
       step_core = go st
         where
@@ -173,13 +192,13 @@ module _ (c : Core) (i : InstanceState) (n : MachineState) (h : IsCore c) (movin
   by_module : (e : Event) → Stepped (module_view c.instance.wasm) e c.machine n (changes c.instance i) → Stepped (module_view c.checked.now) e c.machine n (changes c.instance i)
   by_module e t = subst (λ (V : View ModuleParts). Stepped V e c.machine n (changes c.instance i)) h.fixed t
 
-  over_module : IsOver (module_view c.instance.wasm) i.parts n → IsOver (module_view c.checked.now) i.parts n
-  over_module o = subst (λ (V : View ModuleParts). IsOver V i.parts n) h.fixed o
+  over_module : IsOver (module_view c.instance.wasm) i.parts i.memory n → IsOver (module_view c.checked.now) i.parts i.memory n
+  over_module o = subst (λ (V : View ModuleParts). IsOver V i.parts i.memory n) h.fixed o
 
-  pub core_after : (e : Event) → Stepped (module_view c.instance.wasm) e c.machine n (changes c.instance i) → IsOver (module_view c.instance.wasm) i.parts n → IsCore (with_both c i n)
+  pub core_after : (e : Event) → Stepped (module_view c.instance.wasm) e c.machine n (changes c.instance i) → IsOver (module_view c.instance.wasm) i.parts i.memory n → IsCore (with_both c i n)
   core_after e t o = step_core c i n h fixed moving called e (by_module e t) (over_module o)
 
-  pub steps_after : (e : Event) → Stepped (module_view c.instance.wasm) e c.machine n (changes c.instance i) → IsOver (module_view c.instance.wasm) i.parts n → is_mark e ≡ false
+  pub steps_after : (e : Event) → Stepped (module_view c.instance.wasm) e c.machine n (changes c.instance i) → IsOver (module_view c.instance.wasm) i.parts i.memory n → is_mark e ≡ false
       → (s : ModuleState) → IsState c s → Steps e s (with_both c i n)
   steps_after e t o plain s k = step_steps c i n h fixed moving called e (by_module e t) (over_module o) plain s k
 
@@ -220,22 +239,22 @@ module _ (c : Core) (i : InstanceState) (n : MachineState) (h : IsCore c) (movin
       (subst (λ (V : View ModuleParts). LeavesCode (next_of V c.instance.parts c.instance.memory c.machine.stack.frames)) h.fixed leaves)
       code.3.0 code.3.1 code.3.2
 
-  pub quick_steps : (d : Done) → QuickStepped (module_view c.instance.wasm) d c.machine n (changes c.instance i) → IsOver (module_view c.instance.wasm) i.parts n
+  pub quick_steps : (d : Done) → QuickStepped (module_view c.instance.wasm) d c.machine n (changes c.instance i) → IsOver (module_view c.instance.wasm) i.parts i.memory n
       → (s : ModuleState) → IsState c s → QuickSteps d s (with_both c i n)
   quick_steps done.Goes t o s k = (goes_on t, steps_after event.Moved t o refl s k)
   quick_steps (done.Trapped why) t o s k = steps_after (event.Trapped why) t o refl s k
-  quick_steps done.Stuck t o s k = steps_after event.Stuck t o refl s k
+  quick_steps done.Stuck t o s k = t
   quick_steps done.Returned t o s k = steps_after event.Returned t o refl s k
   quick_steps done.Exited t o s k = subst IsExited moving t.0
   quick_steps done.Marked t o s k = stays_as (t.1, t.2) s k (marked_none s k t.0)
   quick_steps done.Deep t o s k = deep_none s (steps_after event.Deep t o refl s k)
   quick_steps done.Outside t o s k = stays_as (t.1, t.2) s k (outside_none s k t.0 t.3)
-  quick_steps done.NoMemory t o s k = tt
+  quick_steps done.NoMemory t o s k = wants_grown c moving called t.0 s k
 
-  pub quick_core : (d : Done) → QuickStepped (module_view c.instance.wasm) d c.machine n (changes c.instance i) → IsOver (module_view c.instance.wasm) i.parts n → d ≢ done.NoMemory → IsCore (with_both c i n)
+  pub quick_core : (d : Done) → QuickStepped (module_view c.instance.wasm) d c.machine n (changes c.instance i) → IsOver (module_view c.instance.wasm) i.parts i.memory n → d ≢ done.NoMemory → IsCore (with_both c i n)
   quick_core done.Goes t o found = core_after event.Moved t o
   quick_core (done.Trapped why) t o found = core_after (event.Trapped why) t o
-  quick_core done.Stuck t o found = core_after event.Stuck t o
+  quick_core done.Stuck t o found = absurd t
   quick_core done.Returned t o found = core_after event.Returned t o
   quick_core done.Exited t o found = same_core c i n h fixed t.1 t.2
   quick_core done.Marked t o found = same_core c i n h fixed t.1 t.2

@@ -1,5 +1,5 @@
 -- What a step of code that is told in few bytes makes of the count of steps.
-use Rattle.std.proofs.Common.{◌≡◌, ◌⊎◌, Some, None, sym, ◌∙◌, inl, inr, subst}
+use Rattle.std.proofs.Common.{◌≡◌, ◌⊎◌, inl, inr, subst}
 use Rattle.wasm_form.specs.declared.runtime.Trap.{Trap}
 use Rattle.spec_safety.specs.spec_execution.Instances.{module_hosts}
 use Rattle.spec_safety.specs.spec_execution.OneModule.{ModuleState}
@@ -34,9 +34,7 @@ module _ (s : ModuleState) (new : Core) where
   pub left_state : (d : Done)
       → (d ≡ done.Stuck) ⊎ (d ≡ done.Exited) ⊎ (d ≡ done.Marked) ⊎ (d ≡ done.Deep) ⊎ (d ≡ done.Outside)
       → QuickSteps d s new → IsState new s × HasStopped new
-  left_state d (inl e) q =
-      let h : Steps event.Stuck s new = subst (λ x. QuickSteps x s new) e q in
-      (h.2, stopped_at new s h.2 (λ code. let clash : None ≡ Some code.3.0 = sym h.0 ∙ code.3.1 in cc))
+  left_state d (inl e) q = absurd (subst (λ x. QuickSteps x s new) e q)
   left_state d (inr (inl e)) q = absurd (subst (λ x. QuickSteps x s new) e q)
   left_state d (inr (inr (inl e))) q = let h = subst (λ x. QuickSteps x s new) e q in (h.1, stopped_at new s h.1 h.2)
   left_state d (inr (inr (inr (inl e)))) q = let h = subst (λ x. QuickSteps x s new) e q in (h.1, stopped_at new s h.1 h.2)

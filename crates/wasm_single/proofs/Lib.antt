@@ -1,5 +1,4 @@
 mod Seen
-mod Functions
 mod Telling
 mod Calling
 mod CoreSteps

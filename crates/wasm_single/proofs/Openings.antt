@@ -4,18 +4,18 @@ use Rattle.std.specs.Prelude.{Vec}
 use Rattle.std.specs.Borrow.{Bor}
 use Rattle.std.specs.declared.alloc.Global.{Global}
 use Rattle.std.proofs.lemmas.List.{length-map}
-use Rattle.std.proofs.lemmas.List.Elements.{All-nil}
 use Rattle.wasm_form.specs.declared.module.Import.{Import}
 use Rattle.wasm_form.specs.declared.module.Module.{Module}
 use Rattle.wasm_form.specs.declared.runtime.Answer.{Answer}
 use Rattle.spec_safety.specs.spec_binary.WellFormed.{IsWellFormed}
 use Rattle.spec_safety.specs.spec_validation.Faults.{fault}
 use Rattle.spec_safety.specs.spec_runtime.Names.{HostNames}
-use Rattle.spec_safety.specs.spec_execution.Ranges.{IsFrameInRange}
 use Rattle.spec_safety.specs.spec_execution.Instances.{module_view, imported_hosts}
 use Rattle.spec_safety.specs.spec_binary.IndexSpaces.{imported_count}
 use Rattle.spec_safety.specs.spec_execution.OneModule.{ModuleState, imports_met, module_entry, segments_performed, opened_state, opened_with, opened_after}
-use Rattle.spec_safety.specs.Laws.{IsAlone, CheckedIsInRange, OpenedHolds}
+use Rattle.spec_safety.specs.Laws.{IsAlone}
+use Rattle.spec_safety.specs.SoundModules.{HoldsBytes, HoldsNumbers, IsSound}
+use Rattle.spec_safety.specs.NeverStuck.{CheckedIsSound, ModuleOpensSound}
 use Rattle.host_table.specs.Names.{host_name_of}
 use Rattle.host_table.specs.declared.host.HostName.{HostName}
 use Rattle.wasm_instance.specs.States.{InstanceState}
@@ -69,22 +69,28 @@ module _ (m : Module) (entry : ℕ) (i : InstanceState) (found : module_entry m 
 -- what was found of the module says that the run is kept as it should
 module _ (checked : Bor Module) (entry : ℕ) (i : InstanceState) (found : module_entry checked.now ≡ Some entry) (is : IsOpened checked.now i)
     (names : HostNames) (met : imports_met checked.now names checked.now.imports ≡ Ok tt) (formed : IsWellFormed checked.now) (valid : fault checked.now ≡ None)
-    (code : CheckedIsInRange) (holds : OpenedHolds) where
+    (numbers : HoldsNumbers checked.now) (bytes : HoldsBytes checked.now) (views : CheckedIsSound) (opens_sound : ModuleOpensSound) where
   alone : IsAlone checked.now
   alone = record { formed = formed; valid = valid; imports = functions_alone checked.now names checked.now.imports met }
 
+  sound : IsSound checked.now (opening checked.now entry i found is)
+  sound =
+      let m = checked.now in
+      opens_sound m names (opening m entry i found is) alone numbers bytes (ap (opened_after m) met ∙ opens m entry i found is)
+
   core_is : IsCore (core_of checked entry i)
+  unfolding opening
   core_is =
       let m = checked.now in
       let e = entry_is m entry found in
       record {
         fixed = ap module_view is.0;
         over = record {
-          range = record {
-            whole = code m alone;
-            units = holds m (goes_on i.parts i.memory) alone is.1;
-            stack = All-nil (IsFrameInRange (module_view m));
-          };
+          view = views m alone numbers;
+          units = sound.units;
+          memory = sound.memory;
+          stack = refl;
+          locals = tt;
           rooms = refl;
           asked = tt;
         };

@@ -4,7 +4,7 @@ use Rattle.std.specs.declared.alloc.Global.{Global}
 use Rattle.wasm_form.specs.declared.runtime.Answer.{Answer}
 use Rattle.spec_safety.specs.spec_runtime.Recorded.{Recorded}
 use Rattle.spec_safety.specs.spec_execution.OneModule.{ModuleState}
-use Rattle.spec_safety.specs.spec_runtime.Courses.{state_at, status_at, memory_at}
+use Rattle.spec_safety.specs.spec_runtime.Courses.{status_at, memory_at}
 use Rattle.wasm_machine.specs.Steps.{Awaits}
 use Rattle.wasm_machine.proofs.Courses.{at_recorded, waited_call}
 use Rattle.wasm_single.specs.declared.single.Single.TheInside.{Inside}

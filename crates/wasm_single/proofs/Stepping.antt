@@ -1,5 +1,5 @@
 -- What a step of the core makes of the run.
-use Rattle.std.proofs.Common.{◌≡◌, ℕ, suc, ◌+◌, ◌-◌, List, length, slice_get, Option, Some, None, Ok, Bool, true, false, IsTrue, IfSome, refl, sym, ap, ◌∙◌, subst, map, arith}
+use Rattle.std.proofs.Common.{◌≡◌, ℕ, ◌+◌, ◌-◌, List, length, slice_get, Option, Some, None, Ok, Bool, true, false, IsTrue, IfSome, refl, sym, ap, ◌∙◌, subst, map, arith}
 use Rattle.std.specs.Borrow.{Bor}
 use Rattle.std.proofs.lemmas.Option.{same_Some}
 use Rattle.wasm_form.specs.declared.module.Module.{Module}
@@ -23,7 +23,7 @@ use Rattle.wasm_single.specs.declared.bare_run.Core.{Core}
 use Rattle.wasm_single.specs.declared.single.Single.TheInside.{Inside}
 use Rattle.wasm_single.specs.Starts.{opened}
 use Rattle.wasm_single.specs.Cores.{IsCore, StandsAs, IsState, Steps, FitsHost, MayTake}
-use Rattle.wasm_single.specs.Singles.{SingleRun, module_course}
+use Rattle.wasm_single.specs.Singles.{SingleRun, module_course, MayWant, MayWantAt}
 use Rattle.wasm_single.specs.Kept.{run_of, StandsFrom, IsSingle}
 use Rattle.wasm_single.proofs.Calling.{state_moving}
 
@@ -85,7 +85,6 @@ module _ (new : Core) (opening : ModuleState) (x : Recorded) (count : ℕ) where
     stepped_at (event.Trapped why) told step = made (event.Trapped why) refl told step
     stepped_at (event.Exited code) told step = made (event.Exited code) refl told step
     stepped_at event.Deep told step = stayed event.Deep told step.2 (moving, step.0, refl)
-    stepped_at event.Stuck told step = stayed event.Stuck told step.2 (moving, step.0, refl)
 
 -- what is told of the run, as it was seen before the step
 told_of : (e : Event) (v : SingleRun) (i : Inside) (m : Module) (y : Recorded) → run_of i ≡ v → m ≡ i.core.checked.now → IsTold m e (run_of i).run y → IsTold v.wasm e v.run y
@@ -106,6 +105,12 @@ core_stepped e v i new count is h found moving steps core checked counted =
       single = single_at i new (i.steps + count) i.answered wasm h core (q.0, (q.1.0, s.0, s.1));
       told = told_of e v i new.checked.now (run_of (with_core i new (i.steps + count) i.answered)).run is wasm (q.0, q.1.0, q.1.1, s.2);
     }
+
+-- where the core's next step may want memory, the run's may
+pub wants_at : (v : SingleRun) (i : Inside) → run_of i ≡ v → IsSingle i → i.lost ≡ false → ((s : ModuleState) → IsState i.core s → MayWant s) → MayWantAt v.wasm v.run
+wants_at v i is h found wants =
+    let q = h.stands found in
+    subst (λ (x : SingleRun). MayWantAt x.wasm x.run) is (q.0, q.1.0, wants (state_at (module_course i.core.checked.now q.0) (run_of i).run) q.1.2)
 
 -- ---- the answer that is recorded
 
@@ -135,7 +140,6 @@ tells_after host c t standing.Loading h goes = absurd h
 tells_after host c t standing.Returned h goes = subst (TellsStatus host event.Returned) (sym h) tt
 tells_after host c t (standing.Trapped why) h goes = subst (TellsStatus host (event.Trapped why)) (sym h) refl
 tells_after host c t (standing.Exited code) h goes = subst (TellsStatus host (event.Exited code)) (sym h) refl
-tells_after host c t standing.Stuck h goes = subst (TellsStatus host event.Moved) (sym h.0) tt
 tells_after host c t standing.Lost h goes = absurd h
 
 module _ (v : SingleRun) (i : Inside) (entry count : ℕ) (items : List Answer) (is : run_of i ≡ v) (h : IsSingle i) (found : i.lost ≡ false) (asks : i.core.machine.standing ≡ standing.Asking entry count)

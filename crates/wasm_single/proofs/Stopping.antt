@@ -1,5 +1,5 @@
 -- Where no step of code is next.
-use Rattle.std.proofs.Common.{◌≡◌, ◌≢◌, ◌<◌, ℕ, List, Some, None, Ok, Err, Result, refl, sym, ap, ◌∙◌, subst, true, false}
+use Rattle.std.proofs.Common.{◌≡◌, ◌≢◌, ◌<◌, ℕ, List, Ok, Err, Result, refl, sym, ap, ◌∙◌, subst, true, false}
 use Rattle.std.specs.Result.{OnOk}
 use Rattle.wasm_form.specs.declared.runtime.Trap.{Trap}
 use Rattle.spec_safety.specs.spec_runs.Systems.{Status, Moving, Waits, Returned, Exited, Trapped}
@@ -34,7 +34,6 @@ code_moving c s standing.Loading h code = absurd h
 code_moving c s standing.Returned h code = absurd (let clash : HasStatus s Returned = h in cc)
 code_moving c s (standing.Trapped why) h code = absurd (let clash : HasStatus s (Trapped why) = h in cc)
 code_moving c s (standing.Exited number) h code = absurd (let clash : HasStatus s (Exited number) = h in cc)
-code_moving c s standing.Stuck h code = absurd (let clash : None ≡ Some code.3.0 = sym h.1 ∙ code.3.1 in cc)
 code_moving c s standing.Lost h code = absurd h
 
 -- two states of a core that goes on are one

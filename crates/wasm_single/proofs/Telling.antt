@@ -118,11 +118,6 @@ module _ (new : Core) (s : ModuleState) where
       let of : Trap → Status HostCall Trap = λ x. Trapped x in
       (depth _ e, (stands s [] (Trapped cause), made _ e, same, stays_at _ (standing.Trapped why) units space at (ap of (sym same))))
 
-  stuck : module_next new.checked.now s s.stack ≡ None → s.status ≡ Moving → new.machine.standing ≡ standing.Stuck → s.units ≡ new.instance.parts → s.memory ≡ new.instance.memory → Steps event.Stuck s new
-  stuck e moving at units space =
-      let none : module_step new.checked.now s ≡ None = ap (λ (o : Option (Next ModuleParts Starting)). o >>= became (module_hosts new.checked.now) s) e in
-      (none, at, stays_at s standing.Stuck units space at (moving, none))
-
 -- ---- what was told
 
 -- what the run's next step comes to, over what the machine's does
@@ -163,21 +158,20 @@ leaves_moving m s starting next comes leaves t step moving = go next leaves (sym
 abbrev since : ModuleParts → MemoryInstance → Core → Changes ModuleParts
 since us memory new = record { old_units = us; old_memory = memory; new_units = new.instance.parts; new_memory = new.instance.memory }
 
--- a step that is made, or code that is stuck
+-- a step that is made
 pub steps_told : (new : Core) (s : ModuleState) (old : MachineState) (us : ModuleParts) (memory : MemoryInstance) (e : Event) (next : Option (Next ModuleParts ℕ))
-    → is_begun e ≡ true → new.phase ≢ phase.Opened → s.status ≡ Moving → s.units ≡ us → s.memory ≡ memory → Comes new.checked.now s (starting_of new) next
+    → is_begun e ≡ true → new.phase ≢ phase.Opened → s.units ≡ us → s.memory ≡ memory → Comes new.checked.now s (starting_of new) next
     → Told (module_view new.checked.now) e next old new.machine (since us memory new) → IfSome next (KeepsUnder (module_view new.checked.now) (marks_in new.phase)) → IsAsked (module_view new.checked.now) new.machine.standing
     → Steps e s new
-steps_told new s old us memory event.Moved (Some (Goes us' memory' frames)) begun called moving units space comes t under host = went new s called us' memory' frames comes t.0 t.1 t.2 t.3
-steps_told new s old us memory (event.Waits a) (Some (Asks entry args frames)) begun called moving units space comes t under host =
+steps_told new s old us memory event.Moved (Some (Goes us' memory' frames)) begun called units space comes t under host = went new s called us' memory' frames comes t.0 t.1 t.2 t.3
+steps_told new s old us memory (event.Waits a) (Some (Asks entry args frames)) begun called units space comes t under host =
     asked new s called a entry args frames t.0 comes t.1 host t.2 t.3 (units ∙ sym t.4.0) (space ∙ sym t.4.1)
-steps_told new s old us memory (event.Loader which first second) (Some (Loads called args frames)) begun called' moving units space comes t under host = absurd (let there = under.0 in cc)
-steps_told new s old us memory event.Returned (Some Ends) begun called moving units space comes t under host = returned new s comes t.0.standing_is (units ∙ sym t.1.0) (space ∙ sym t.1.1)
-steps_told new s old us memory (event.Trapped why) (Some (Traps cause)) begun called moving units space comes t under host =
+steps_told new s old us memory (event.Loader which first second) (Some (Loads called args frames)) begun called' units space comes t under host = absurd (let there = under.0 in cc)
+steps_told new s old us memory event.Returned (Some Ends) begun called units space comes t under host = returned new s comes t.0.standing_is (units ∙ sym t.1.0) (space ∙ sym t.1.1)
+steps_told new s old us memory (event.Trapped why) (Some (Traps cause)) begun called units space comes t under host =
     trapped new s why cause comes t.0.standing_is t.1 (units ∙ sym t.2.0) (space ∙ sym t.2.1)
-steps_told new s old us memory event.Stuck None begun called moving units space comes t under host = stuck new s comes moving t.0.standing_is (units ∙ sym t.1.0) (space ∙ sym t.1.1)
-steps_told new s old us memory event.Deep (Some (Goes us' memory' frames)) begun called moving units space comes t under host = absurd cc
-steps_told new s old us memory e next begun called moving units space comes t under host = absurd t
+steps_told new s old us memory event.Deep (Some (Goes us' memory' frames)) begun called units space comes t under host = absurd cc
+steps_told new s old us memory e next begun called units space comes t under host = absurd t
 
 -- what is so of the machine after a step that is made
 live_at : (p : Phase) (n : MachineState) (frames : List (Frame ℕ)) (st : Standing) → StandsAt n frames st → IsLive st frames p → IsLive n.standing n.stack.frames p
@@ -190,6 +184,5 @@ live_told V alone p old n c (event.Waits a) (Some (Asks entry args frames)) begu
 live_told V alone p old n c (event.Loader which first second) (Some (Loads called args frames)) begun called' t under = absurd (let wrong : true ≡ false = sym under.0 ∙ alone in cc)
 live_told V alone p old n c event.Returned (Some Ends) begun called t under = live_at p n [] standing.Returned t.0 tt
 live_told V alone p old n c (event.Trapped why) (Some (Traps cause)) begun called t under = live_at p n [] (standing.Trapped why) t.0 tt
-live_told V alone p old n c event.Stuck None begun called t under = live_at p n [] standing.Stuck t.0 tt
 live_told V alone p old n c event.Deep (Some (Goes us memory frames)) begun called t under = absurd cc
 live_told V alone p old n c e next begun called t under = absurd t

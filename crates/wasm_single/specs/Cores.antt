@@ -1,5 +1,5 @@
 -- A module in its run: its instance, the machine, and what is still to be called.
-use Rattle.std.specs.Prelude.{◌≡◌, ◌≢◌, ◌≤◌, ℕ, List, [], ◌∷◌, Some, None, Bool, true, false, IfSome, IsTrue}
+use Rattle.std.specs.Prelude.{◌≡◌, ◌≢◌, ◌≤◌, ℕ, List, [], ◌∷◌, Some, Bool, true, false, IfSome, IsTrue}
 use Rattle.spec_safety.specs.spec_runs.Systems.{Moving, Waits, Returned, Exited, Trapped}
 use Rattle.wasm_form.specs.declared.module.Module.{Module}
 use Rattle.wasm_form.specs.declared.runtime.Answer.{Answer}
@@ -19,6 +19,7 @@ use Rattle.wasm_machine.specs.declared.machine.Standing.{Standing}
 use Rattle.wasm_machine.specs.declared.machine.Standing.TheVariants as standing
 use Rattle.wasm_machine.specs.declared.event.Event.{Event}
 use Rattle.wasm_machine.specs.declared.event.Event.TheVariants as event
+use Rattle.wasm_single.specs.Singles.{MayWant}
 use Rattle.wasm_single.specs.declared.bare_run.Core.{Core}
 use Rattle.wasm_single.specs.declared.bare_run.Phase.{Phase}
 use Rattle.wasm_single.specs.declared.bare_run.Phase.TheVariants as phase
@@ -61,11 +62,11 @@ IsLive standing.Loading frames p = ⊥
 IsLive standing.Lost frames p = ⊥
 IsLive _ frames p = Unit {0}
 
--- What is so of it, until memory is wanting: the instance is one of the module, the machine names only what there is, and what is
--- still to be called can be. The entry is a function of the module's own.
+-- What is so of it, until memory is wanting: the instance is one of the module, whose view is typed, the machine over it is sound in its part,
+-- and what is still to be called can be. The entry is a function of the module's own.
 pub record IsCore (c : Core) : Type 0 where
   pub fixed : module_view c.instance.wasm ≡ module_view c.checked.now
-  pub over : IsOver (module_view c.checked.now) c.instance.parts c.machine
+  pub over : IsOver (module_view c.checked.now) c.instance.parts c.instance.memory c.machine
   pub live : IsLive c.machine.standing c.machine.stack.frames c.phase
   pub start : IfSome c.start (IsStartable c.checked.now)
   pub entry : IsStartable c.checked.now c.entry
@@ -73,7 +74,7 @@ pub record IsCore (c : Core) : Type 0 where
 
 -- ---- where the run stands
 
--- what a machine is at says how the run stands; code that is stuck has no step
+-- what a machine is at says how the run stands
 abbrev pub StandsAs : Core → ModuleState → Standing → Type 0
 StandsAs c s standing.Moving = (s.status ≡ Moving) × (s.stack ≡ stack_of c)
 StandsAs c s (standing.Asking entry count) = (call : HostCall) × (s.status ≡ Waits call) × (module_hosts c.checked.now entry ≡ Some call.host) × (s.stack ≡ stack_of c)
@@ -81,7 +82,6 @@ StandsAs c s standing.Loading = ⊥
 StandsAs c s standing.Returned = s.status ≡ Returned
 StandsAs c s (standing.Trapped why) = s.status ≡ Trapped why
 StandsAs c s (standing.Exited code) = s.status ≡ Exited code
-StandsAs c s standing.Stuck = (s.status ≡ Moving) × (module_step c.checked.now s ≡ None)
 StandsAs c s standing.Lost = ⊥
 
 -- the run stands at this state
@@ -96,10 +96,9 @@ pub record IsState (c : Core) (s : ModuleState) : Type 0 where
 abbrev pub IsCodeNext : Module → ModuleState → Type 0
 IsCodeNext m s = (s.status ≡ Moving) × (is_running s.stack ≡ true) × (module_too_deep m s ≡ false) × ((t : ModuleState) × (module_step m s ≡ Some t) × (t.status ≡ Moving))
 
--- A step was made from a state and is told, or there is none. Where it would be too deep the run stays.
+-- A step was made from a state and is told. Where it would be too deep the run stays.
 abbrev pub Steps : Event → ModuleState → Core → Type 0
 Steps event.Deep s new = (module_too_deep new.checked.now s ≡ true) × (new.machine.standing ≡ standing.Moving) × IsState new s
-Steps event.Stuck s new = (module_step new.checked.now s ≡ None) × (new.machine.standing ≡ standing.Stuck) × IsState new s
 Steps e s new = (module_too_deep new.checked.now s ≡ false) × ((t : ModuleState) × (module_step new.checked.now s ≡ Some t) × TellsStatus (module_hosts new.checked.now) e t.status × IsState new t)
 
 -- the same of a step that the machine tells in few bytes; or it is left to be made with more care, and isn't one of code
@@ -107,9 +106,9 @@ abbrev pub QuickSteps : Done → ModuleState → Core → Type 0
 QuickSteps done.Goes s new = (new.machine.standing ≡ standing.Moving) × Steps event.Moved s new
 QuickSteps done.Returned s new = Steps event.Returned s new
 QuickSteps (done.Trapped why) s new = Steps (event.Trapped why) s new
-QuickSteps done.Stuck s new = Steps event.Stuck s new
+QuickSteps done.Stuck s new = ⊥
 QuickSteps done.Exited s new = ⊥
-QuickSteps done.NoMemory s new = Unit {0}
+QuickSteps done.NoMemory s new = MayWant s
 QuickSteps _ s new = (new.machine.standing ≡ standing.Moving) × IsState new s × (IsCodeNext new.checked.now s → ⊥)
 
 -- ---- calls and answers

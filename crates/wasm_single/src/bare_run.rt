@@ -1,16 +1,17 @@
 // The run of a module without what is counted and recorded of it.
-ghost use Rattle.std.specs.Prelude.{◌≡◌, ◌≢◌, IfOk, OnOk, Some};
+ghost use Rattle.std.specs.Prelude.{◌≡◌, ◌≢◌, IfOk, OnOk, OnErr, Some};
 ghost use Rattle.spec_safety.specs.spec_execution.Instances.{module_view};
 ghost use Rattle.spec_safety.specs.spec_execution.OneModule.{ModuleState};
 ghost use Rattle.spec_safety.specs.spec_execution.Runs.{taken};
 ghost use Rattle.wasm_machine.specs.Machines.{IsClear, IsOver};
+ghost use Rattle.wasm_single.specs.Singles.{MayWant};
 ghost use Rattle.wasm_single.specs.Cores.{IsCore, IsState, IsStartable, Steps, QuickSteps, Calls, MayTake, is_begun, is_mark};
 
 use std::alloc::Global;
 use wasm_check::Checked;
 use wasm_form::Memory;
 use wasm_instance::Instance;
-use wasm_machine::{Answer, Done, Event, Machine, Standing, View};
+use wasm_machine::{Answer, Done, Event, Machine, Standing, View, is_of_bytes};
 
 /// How far a run has come: its call stack is still empty; a mark lies under the start function; or the entry was called.
 #[derive(Clone, Copy, Debug, PartialEq, Eq)]
@@ -52,6 +53,7 @@ impl<'m> Core<'m> {
         requires core { IsCore self.old }
         requires moving { self.old.machine.standing ≡ Standing.Moving }
         ensures stepped { (s : ModuleState) → IsState self.old s → IfOk result (λ e. Steps e s self.new) }
+        ensures wanting { OnErr result ((s : ModuleState) → IsState self.old s → MayWant s) }
         ensures core { OnOk result (IsCore self.new) }
         ensures wasm { self.new.checked ≡ self.old.checked }
     {
@@ -71,6 +73,7 @@ impl<'m> Core<'m> {
         requires moving { self.old.machine.standing ≡ Standing.Moving }
         requires clear { IsClear self.old.machine.stack.frames }
         ensures stepped { (s : ModuleState) → IsState self.old s → IfOk result (λ e. Steps e s self.new) }
+        ensures wanting { OnErr result ((s : ModuleState) → IsState self.old s → MayWant s) }
         ensures core { OnOk result (IsCore self.new) }
         ensures wasm { self.new.checked ≡ self.old.checked }
     {
@@ -160,7 +163,7 @@ impl<'m> Core<'m> {
         requires clear { IsClear self.old.machine.stack.frames }
         requires startable { IsStartable self.old.checked.now f }
         ensures told { IfOk result (λ e. Calls f self.old e self.new.machine) }
-        ensures over { OnOk result (IsOver (module_view self.old.checked.now) self.old.instance.parts self.new.machine) }
+        ensures over { OnOk result (IsOver (module_view self.old.checked.now) self.old.instance.parts self.old.instance.memory self.new.machine) }
         ensures same { self.new ≡ record self.old { machine = self.new.machine } }
     {
         let r = self.instance.target(0, f);
@@ -189,6 +192,7 @@ impl<'m> Core<'m> {
         ensures core { IsCore self.new }
         ensures wasm { self.new.checked ≡ self.old.checked }
     {
+        is_of_bytes(a);
         self.machine.answer(&mut self.instance, a);
     }
 }

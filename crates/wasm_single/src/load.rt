@@ -1,6 +1,7 @@
 // The opening of a run (section 4.5.4).
 ghost use Rattle.std.specs.Prelude.{◌≡◌};
 ghost use Rattle.spec_safety.specs.spec_binary.Indices.{is_nullary};
+ghost use Rattle.spec_safety.specs.SoundModules.{HoldsNumbers};
 ghost use Rattle.spec_safety.specs.spec_execution.OneModule.{module_entry};
 ghost use Rattle.wasm_single.specs.Singles.{Loads};
 
@@ -8,13 +9,13 @@ use crate::bare_run::{Core, Phase};
 use crate::hosts::hosts_of;
 use crate::single::Single;
 use host_table::HostNames;
-use spec_safety::checked_code_is_in_range;
 use spec_safety::spec_execution::SingleFault;
+use spec_safety::{checked_code_is_typed, modules_open_soundly};
 use std::alloc::Global;
 use wasm_check::{Checked, exported_function};
 use wasm_form::FuncType;
 use wasm_instance::Instance;
-use wasm_machine::Machine;
+use wasm_machine::{Machine, holds_bytes};
 
 impl<'m> Single<'m> {
     /// A module in its opening state, or why there is none. In order: the first import that isn't a declared host function
@@ -24,10 +25,13 @@ impl<'m> Single<'m> {
         checked: &'m Checked,
         names: &HostNames,
     ) -> Result<Single<'m>, SingleFault>
+        requires numbers { HoldsNumbers checked.now }
         ensures { Loads checked.now names.now result }
     {
-        checked_code_is_in_range();
+        checked_code_is_typed();
+        modules_open_soundly();
         let m = checked.module();
+        holds_bytes(m);
         let hosts = hosts_of(alloc, m, names, m.imports.items())?;
         let Some(entry) = entry_of(checked) else {
             drop(hosts);

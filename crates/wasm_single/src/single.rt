@@ -1,5 +1,5 @@
 // The run of one module.
-ghost use Rattle.std.specs.Prelude.{◌≡◌, ◌≢◌, ◌<◌, map, Bool, true, false, IfOk, OnOk, OnErr, Ok, Err};
+ghost use Rattle.std.specs.Prelude.{◌≡◌, ◌≢◌, ◌<◌, ◌⊎◌, map, Bool, true, false, IfOk, OnOk, OnErr, Ok, Err};
 ghost use Rattle.spec_safety.specs.spec_runtime.Recorded.{has_ended};
 ghost use Rattle.spec_safety.specs.spec_execution.Instances.{imported_hosts, module_hosts};
 ghost use Rattle.spec_safety.specs.spec_execution.OneModule.{ModuleState};
@@ -8,7 +8,7 @@ ghost use Rattle.spec_safety.specs.spec_runtime.Courses.{state_at, status_at, me
 ghost use Rattle.wasm_machine.specs.Steps.{RunStepped, ArgumentsFit, Advances, AreOfCode, Awaits};
 ghost use Rattle.wasm_single.specs.Starts.{opened};
 ghost use Rattle.wasm_single.specs.Cores.{IsCore, IsState, IsCodeNext};
-ghost use Rattle.wasm_single.specs.Singles.{module_course};
+ghost use Rattle.wasm_single.specs.Singles.{module_course, MayWantAt};
 ghost use Rattle.wasm_single.specs.Steps.{Counted};
 
 use crate::bare_run::{Core, Phase};
@@ -77,12 +77,13 @@ fn quick_step(core: &mut Core, alloc: Global, steps: &mut u64, lost: &mut bool) 
 
 impl<'m> Single<'m> {
     /// Makes one step, which takes the answer that is recorded for a wait, and tells how the run stands then. An end is told again,
-    /// `Deep` where the step would pass a limit of depth, and `Stuck` where there is none, with nothing changed. It takes memory
-    /// where the next instruction calls or grows; a run that answered `Memory` answers it from then on.
+    /// `Deep` where the step would pass a limit of depth, with nothing changed. It takes memory only where the next step calls a
+    /// function or grows a memory or a table; a run that answered `Memory` answers it from then on.
     pub fn run_step(&mut self, alloc: Global) -> Result<Event, Memory>
         requires answered { (opening : ModuleState) → opened self.old.wasm ≡ Ok opening → IsAt (module_course self.old.wasm opening) self.old.run → is_waiting (module_course self.old.wasm opening) self.old.run ≡ false }
         requires few { self.old.run.steps < 18446744073709551615 }
         ensures stepped { IfOk result (λ e. (opening : ModuleState) × (opened self.old.wasm ≡ Ok opening) × IsAt (module_course self.old.wasm opening) self.old.run × RunStepped (module_course self.old.wasm opening) e self.old.run self.new.run) }
+        ensures wanting { OnErr result ((self.old.run.lost ≡ true) ⊎ MayWantAt self.old.wasm self.old.run) }
         ensures lost { OnErr result (self.new.run ≡ as_lost self.old.run) }
         ensures again { self.old.run.lost ≡ true → result ≡ Err (record {}) }
         ensures arguments { IfOk result (λ e. ArgumentsFit (module_hosts self.old.wasm) e) }
@@ -110,18 +111,18 @@ impl<'m> Single<'m> {
                 self.steps += 1;
                 Ok(event_of(self.core.machine.standing()))
             }
-            Standing::Stuck => Ok(Event::Stuck),
             end => Ok(event_of(end)),
         }
     }
 
     /// Makes steps of code, up to so many in all, until one is left for `run_step`: a call of the module's start or entry, of a host
-    /// function, or one that is too deep; or the run has ended, waits or is stuck.
+    /// function, or one that is too deep; or the run has ended or waits. It takes memory only as a step does.
     pub fn advance(&mut self, alloc: Global, most: u64) -> Result<(), Memory>
         ensures advances { Advances most self.old.run self.new.run }
         ensures code { (opening : ModuleState) → opened self.old.wasm ≡ Ok opening → AreOfCode (module_course self.old.wasm opening) self.old.run self.new.run }
         ensures left { OnOk result ((opening : ModuleState) → opened self.new.wasm ≡ Ok opening → IsAt (module_course self.new.wasm opening) self.new.run → self.new.run.steps < most → IsCodeNext self.new.wasm (state_at (module_course self.new.wasm opening) self.new.run) → ⊥) }
         ensures found { OnOk result (self.new.run.lost ≡ false) }
+        ensures wanting { OnErr result ((self.old.run.lost ≡ true) ⊎ MayWantAt self.old.wasm self.new.run) }
         ensures lost { OnErr result (self.new.run.lost ≡ true) }
         ensures again { self.old.run.lost ≡ true → result ≡ Err (record {}) }
         ensures same { self.new.wasm ≡ self.old.wasm }

@@ -4,10 +4,10 @@ ghost use Rattle.wasm_form.specs.declared.instr.Instr.{out-Instr};
 ghost use Rattle.wasm_form.specs.Index.{index_form as index_form_of};
 ghost use Rattle.wasm_form.specs.Second.{second_form as second_form_of};
 ghost use Rattle.spec_execution.specs.Activations.{expanded, else_of, index_move, second_move, instr_move};
-ghost use Rattle.spec_execution.specs.Ranges.{IsWhole, HoldsAll, index_in_range, second_in_range, block_in_range};
+ghost use Rattle.spec_execution.specs.Ranges.{HoldsAll, index_in_range, second_in_range, block_in_range};
 ghost use Rattle.wasm_step.specs.Tops.{with_act};
 ghost use Rattle.wasm_step.specs.Moves.{MakesMove};
-ghost use Rattle.wasm_step.specs.Named.{named_here, is_call, is_call_form, is_growth, is_table_growth};
+ghost use Rattle.wasm_step.specs.Named.{NamesAreThere, named_here, is_call, is_call_form, is_growth, is_table_growth};
 
 use crate::control::{
     again, block, branch, branch_by, branch_if, either, give, local_get, local_set_to, local_tee,
@@ -28,7 +28,7 @@ use wasm_view::View;
 #[inline(always)]
 fn sizes<'m, V: View<'m>>(view: &V, unit: u32, ty: BlockType) -> (usize, usize)
     requires named { IsTrue (block_in_range ((V.seen view.now).fixed.counts unit) ty) }
-    requires whole { IsWhole (V.seen view.now).fixed }
+    requires names { NamesAreThere (V.seen view.now).fixed }
     ensures there { IsSome (expanded ((V.seen view.now).fixed.declared unit) ty) }
     ensures sizes { IfSome (expanded ((V.seen view.now).fixed.declared unit) ty) (λ f. (result.0 ≡ length f.params) × (result.1 ≡ length f.results)) }
 {
@@ -58,7 +58,7 @@ fn else_items<'m>(other: &'m Option<Expr>) -> &'m [Instr]
 fn indexed<'m, V: View<'m>>(top: &mut Current<'m>, view: &mut V, op: u8, n: u32) -> Done
     requires named { IsTrue (index_in_range ((V.seen view.old).fixed.counts top.old.act.unit) n (index_form_of op)) }
     requires no_call { is_call_form (index_form_of op) ≡ false }
-    requires whole { IsWhole (V.seen view.old).fixed }
+    requires names { NamesAreThere (V.seen view.old).fixed }
     requires holds { HoldsAll (V.seen view.old).fixed (V.seen view.old).units }
     ensures acted { MakesMove result (index_move n (index_form_of op) top.old.act) ⊥ top.old top.new (V.seen view.old) (V.seen view.new) }
     ensures rest { top.new ≡ with_act top.old top.new.act }
@@ -90,7 +90,7 @@ fn prefixed<'m, V: View<'m>>(
     b: u32,
 ) -> Done
     requires named { IsTrue (second_in_range ((V.seen view.old).fixed.counts top.old.act.unit) a b (second_form_of op)) }
-    requires whole { IsWhole (V.seen view.old).fixed }
+    requires names { NamesAreThere (V.seen view.old).fixed }
     requires holds { HoldsAll (V.seen view.old).fixed (V.seen view.old).units }
     ensures acted { MakesMove result (second_move (second_form_of op) a b top.old.act) (IsTrue (is_table_growth (second_form_of op))) top.old top.new (V.seen view.old) (V.seen view.new) }
     ensures rest { top.new ≡ with_act top.old top.new.act }
@@ -121,7 +121,7 @@ pub fn instruction<'m, V: View<'m>>(
 ) -> Done
     requires named { IsTrue (named_here ((V.seen view.old).fixed.counts top.old.act.unit) (out-Instr i.now)) }
     requires no_call { is_call (out-Instr i.now) ≡ false }
-    requires whole { IsWhole (V.seen view.old).fixed }
+    requires names { NamesAreThere (V.seen view.old).fixed }
     requires holds { HoldsAll (V.seen view.old).fixed (V.seen view.old).units }
     ensures acted { MakesMove result (instr_move ((V.seen view.old).fixed.declared top.old.act.unit) (out-Instr i.now) top.old.act) (IsTrue (is_growth (out-Instr i.now))) top.old top.new (V.seen view.old) (V.seen view.new) }
     ensures rest { top.new ≡ with_act top.old top.new.act }

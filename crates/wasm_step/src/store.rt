@@ -6,9 +6,10 @@ ghost use Rattle.spec_execution.specs.spec_runtime.Numerics.{W32};
 ghost use Rattle.spec_execution.specs.Values.{low};
 ghost use Rattle.spec_execution.specs.Views.{access_length, load_extended};
 ghost use Rattle.wasm_space.specs.Access.{IsAccessLength};
-ghost use Rattle.spec_execution.specs.Ranges.{HoldsAll, IsWhole};
+ghost use Rattle.spec_execution.specs.Ranges.{HoldsAll};
 ghost use Rattle.wasm_step.specs.Tops.{with_act};
 ghost use Rattle.wasm_step.specs.Moves.{MakesMove};
+ghost use Rattle.wasm_step.specs.Named.{NamesAreThere};
 
 use crate::control::{give, pop_i32};
 use crate::current::Current;
@@ -34,7 +35,7 @@ fn changed(answer: Result<(), Trap>) -> Done
 /// A reference to a function of the unit.
 pub(crate) fn refer<'m, V: View<'m>>(top: &mut Current<'m>, view: &V, f: u32) -> Done
     requires named { f < ((V.seen view.now).fixed.counts top.old.act.unit).functions }
-    requires whole { IsWhole (V.seen view.now).fixed }
+    requires names { NamesAreThere (V.seen view.now).fixed }
     ensures acted { MakesMove result (Refers f top.old.act) ⊥ top.old top.new (V.seen view.now) (V.seen view.now) }
     ensures rest { top.new ≡ with_act top.old top.new.act }
 {

@@ -1,4 +1,4 @@
-use Rattle.std.proofs.Common.{◌≡◌, ℕ, List, Option, Some, refl, sym, ap, ◌∙◌}
+use Rattle.std.proofs.Common.{◌≡◌, ℕ, List, Option, Some, sym, ap, ◌∙◌}
 use Rattle.wasm_form.specs.declared.instr.Expr.{Expr}
 use Rattle.spec_loading.specs.spec_binary.Options.{◌>>=◌}
 use Rattle.spec_loading.specs.spec_runtime.Constants.{constant_of}

@@ -1,4 +1,4 @@
-use Rattle.std.proofs.Common.{◌≡◌, Option, sym, ap, ◌∙◌}
+use Rattle.std.proofs.Common.{Option, sym, ap, ◌∙◌}
 use Rattle.std.specs.Prelude.{slice_get}
 use Rattle.spec_loading.specs.spec_binary.Options.{◌>>=◌}
 use Rattle.wasm_check.specs.declared.value.Constant.{Constant}

@@ -1,4 +1,4 @@
-use Rattle.std.proofs.Common.{◌<◌, ◌^◌, ap, sym, subst}
+use Rattle.std.proofs.Common.{◌<◌, ◌^◌, sym, subst}
 use Rattle.wasm_form.specs.declared.module.Module.{Module}
 use Rattle.dyl_addresses.specs.Globals.{globals_end}
 use Rattle.dyl_addresses.proofs.Ends.{room_for_globals}

@@ -2,7 +2,11 @@ use Rattle.host_calls.specs.Embedders.{embedder_of}
 use Rattle.dyl_commands.specs.Runs.{guest_arguments}
 use Rattle.dyl_commands.proofs.Executing.{executed_serves, executed_works, never_done, set_not_done}
 use Rattle.dyl_commands.proofs.Refusing.{exec_refused, refused_works}
+use Rattle.dyl_commands.proofs.HeldNumbers.{read_numbers}
 use Rattle.dyl_commands.proofs.exec.exec_file.Goals as goal
+
+pub exec_module-outcome-requires-clause-numbers : goal.exec_module-outcome-requires-clause-numbers
+exec_module-outcome-requires-clause-numbers g c = read_numbers c.in-Ok.checked c.in-Ok.ensures.spelled
 
 pub returns-in-Ok-clause-serves : goal.returns-in-Ok-clause-serves
 returns-in-Ok-clause-serves g c =

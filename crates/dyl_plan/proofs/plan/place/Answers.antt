@@ -1,4 +1,4 @@
-use Rattle.std.proofs.Common.{◌≡◌, ◌∙◌, ◌+◌, ap, length, map}
+use Rattle.std.proofs.Common.{◌∙◌, ◌+◌, ap, length, map}
 use Rattle.std.proofs.lemmas.List.{length-map}
 use Rattle.spec_linking.proofs.Placing.{bases_length}
 use Rattle.dyl_plan.specs.declared.region.Space.TheVariants as space

@@ -7,7 +7,7 @@ use Rattle.spec_loading.specs.spec_validation.Faults.{fault, elem_fits}
 use Rattle.spec_loading.proofs.of_spec_validation.Parts.{parts_fit}
 use Rattle.spec_loading.specs.spec_runtime.Constants.{numbered_globals}
 use Rattle.spec_loading.specs.spec_linking.Slots as slots
-use Rattle.spec_loading.specs.spec_linking.Slots.{all_applied, nowhere, index_of, segment_slot}
+use Rattle.spec_loading.specs.spec_linking.Slots.{all_applied, nowhere, index_of}
 use Rattle.dyl_imports.specs.wasm_check.Constants.{AreOfTypes}
 use Rattle.dyl_slots.specs.Regions.{placing_value}
 use Rattle.dyl_slots.specs.Placings.{base_numbers, placings_by}

@@ -13,6 +13,9 @@ returns-in-Returned-clause-counted c = λ L of s at.
     let h = ended_made L s c.quick.new.self c.quick.result c.in-Returned.is (c.quick.ensures.stepped L of s at) in
     inl (omega arith, c.requires.found, h.0, h.1)
 
+pub returns-in-NoMemory-clause-counted : goal.returns-in-NoMemory-clause-counted
+returns-in-NoMemory-clause-counted c = λ L of s at. inr (inr (refl, refl, c.in-NoMemory.ensures.stepped L of s at))
+
 pub returns-in-Stuck : goal.returns-in-Stuck
 returns-in-Stuck c = record {
   counted = λ L of s at.

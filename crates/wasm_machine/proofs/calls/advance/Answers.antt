@@ -1,36 +1,30 @@
 use Rattle.std.proofs.Common.{refl, ◌≡◌, Some, None}
 use Rattle.wasm_form.specs.declared.instr.Instr.{out-Instr}
-use Rattle.spec_safety.specs.spec_execution.Ranges.{AreInRange}
 use Rattle.wasm_step.specs.Primitives.{first_of}
 use Rattle.wasm_machine.specs.Outside.{callee_of}
 use Rattle.wasm_machine.specs.declared.calls.Callee.TheVariants as callee
 use Rattle.wasm_machine.proofs.Coming.{rest_some, none_called, named_next, called_in_range, type_in_range, table_in_range}
-use Rattle.wasm_machine.proofs.Leading.{rest_in_range, led_entry, led_plain, rooms_plain}
+use Rattle.wasm_machine.proofs.Leading.{led_entry, led_plain, rooms_plain}
 use Rattle.wasm_machine.proofs.calls.advance.Goals as goal
 
 pub call-requires : goal.call-requires
 call-requires g c κs =
-    let V = (g.V.View.seen c.args.view.now).fixed in
     let e : Some c.in-Some.i.now ≡ first_of c.args.top.now.act.rest = c.in-Some.ensures {u = tt} in
     let q : callee_of (out-Instr c.in-Some.i.now) ≡ Some (callee.Function c.in-Some-Function.f) = cc in
-    let r : AreInRange (V.counts c.args.top.now.act.unit) c.args.top.now.act.rest = rest_in_range V c.args.callers.now c.args.top.now c.in-Some.i.now c.requires.live e _ c.requires.range in
-    ((refl, tt), (c.requires.joined, (c.requires.live, (c.requires.rooms, (rest_some _ _ e, (c.requires.range.whole, rw c.in-Some-Function.field-0-is (called_in_range _ _ _ r e _ q)))))))
+    ((refl, tt), (c.requires.joined, (c.requires.live, (c.requires.rooms, (rest_some _ _ e, (c.requires.names, rw c.in-Some-Function.field-0-is (called_in_range _ _ _ c.requires.rest e _ q)))))))
 
 pub call_indirect-requires : goal.call_indirect-requires
 call_indirect-requires g c κs =
-    let V = (g.V.View.seen c.args.view.now).fixed in
     let e : Some c.in-Some.i.now ≡ first_of c.args.top.now.act.rest = c.in-Some.ensures {u = tt} in
     let q : callee_of (out-Instr c.in-Some.i.now) ≡ Some (callee.Entry c.in-Some-Entry.ty c.in-Some-Entry.table) = cc in
-    let r : AreInRange (V.counts c.args.top.now.act.unit) c.args.top.now.act.rest = rest_in_range V c.args.callers.now c.args.top.now c.in-Some.i.now c.requires.live e _ c.requires.range in
-    ((refl, tt), (c.requires.joined, (c.requires.live, (c.requires.rooms, (rest_some _ _ e, (c.requires.range.whole, (c.requires.range.units, (rw c.in-Some-Entry.field-0-is (type_in_range _ _ _ r e _ _ q), rw c.in-Some-Entry.field-0-is (table_in_range _ _ _ r e _ _ q)))))))))
+    ((refl, tt), (c.requires.joined, (c.requires.live, (c.requires.rooms, (rest_some _ _ e, (c.requires.names, (c.requires.holds, (rw c.in-Some-Entry.field-0-is (type_in_range _ _ _ c.requires.rest e _ _ q), rw c.in-Some-Entry.field-0-is (table_in_range _ _ _ c.requires.rest e _ _ q)))))))))
 
 pub instruction-requires : goal.instruction-requires
 instruction-requires g c κs =
     let V = (g.V.View.seen c.args.view.now).fixed in
     let e : Some c.in-Some.i.now ≡ first_of c.args.top.now.act.rest = c.in-Some.ensures {u = tt} in
     let q : callee_of (out-Instr c.in-Some.i.now) ≡ None = cc in
-    let r : AreInRange (V.counts c.args.top.now.act.unit) c.args.top.now.act.rest = rest_in_range V c.args.callers.now c.args.top.now c.in-Some.i.now c.requires.live e _ c.requires.range in
-    ((refl, tt), (rw c.advance.ensures (named_next (V.counts c.args.top.now.act.unit) _ _ r e), (none_called (out-Instr c.in-Some.i.now) q, (c.requires.range.whole, c.requires.range.units))))
+    ((refl, tt), (rw c.advance.ensures (named_next (V.counts c.args.top.now.act.unit) _ _ c.requires.rest e), (none_called (out-Instr c.in-Some.i.now) q, (c.requires.names, c.requires.holds))))
 
 pub returns-in-Some-Entry-clause-led : goal.returns-in-Some-Entry-clause-led
 returns-in-Some-Entry-clause-led g c =
@@ -42,7 +36,7 @@ pub returns-in-None-clause-led : goal.returns-in-None-clause-led
 returns-in-None-clause-led g c =
     let q : callee_of (out-Instr c.in-Some.i.now) ≡ None = cc in
     led_plain (g.V.View.seen c.args.view.now).fixed _ _ c.args.callers.now c.args.top.now c.in-Some.i.now c.instruction.result _ c.requires.live (c.in-Some.ensures {u = tt}) c.advance.new.self c.instruction.new.top q c.advance.ensures c.instruction.ensures.acted
-    c.requires.joined c.requires.rooms
+    c.requires.joined c.requires.rooms c.requires.within
 
 pub returns-in-None-clause-rooms : goal.returns-in-None-clause-rooms
 returns-in-None-clause-rooms g c =

@@ -19,4 +19,4 @@ pub returns-in-Some-Function : goal.returns-in-Some-Function
 returns-in-Some-Function g c =
     let q : callee_of (out-Instr c.in-Some.i.now) ≡ Some (callee.Function c.in-Some-Function.f) = cc in
     let er = rw c.unit.ensures at c.target.ensures in
-    function_is_outside (g.V.View.seen c.args.view.now).fixed (g.V.View.seen c.args.view.now).units c.args.top.now.act _ (c.in-Some.ensures {u = tt}) _ q _ _ c.requires.whole (called_in_range _ _ _ c.requires.rest (c.in-Some.ensures {u = tt}) _ q) er c.requires.outside
+    function_is_outside (g.V.View.seen c.args.view.now).fixed (g.V.View.seen c.args.view.now).units c.args.top.now.act _ (c.in-Some.ensures {u = tt}) _ q _ _ c.requires.names (called_in_range _ _ _ c.requires.rest (c.in-Some.ensures {u = tt}) _ q) er c.requires.outside

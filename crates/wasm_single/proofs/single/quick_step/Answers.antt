@@ -13,6 +13,9 @@ returns-in-Returned-clause-counted c = λ s at.
     let h = ended_made s c.quick.new.self c.quick.result c.in-Returned.is (c.quick.ensures.stepped s at) in
     inl (omega arith, c.requires.found, h.0, h.1)
 
+pub returns-in-NoMemory-clause-counted : goal.returns-in-NoMemory-clause-counted
+returns-in-NoMemory-clause-counted c = λ s at. inr (inr (refl, refl, c.in-NoMemory.ensures.stepped s at))
+
 pub returns-in-Stuck : goal.returns-in-Stuck
 returns-in-Stuck c = record {
   counted = λ s at.

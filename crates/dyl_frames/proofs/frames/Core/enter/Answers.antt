@@ -8,7 +8,7 @@ use Rattle.dyl_frames.proofs.frames.Core.enter.Goals as goal
 pub begin-requires : goal.begin-requires
 begin-requires g c κs =
     let w = (g.V.View.seen c.args.view.now) in
-    let m = live_mark w.fixed w.units c.args.self.now c.requires.core.sound c.requires.marked in
+    let m = live_mark w.fixed w.units w.memory c.args.self.now c.requires.core.sound c.requires.marked in
     let u = c.unmark.new.self in
     let off = c.unmark.ensures.unmarked in
     ((refl, tt), (c.unmark.ensures.over, (bare_start u (bare_moving c.args.self.now m c.requires.entry u off) (bare c.args.self.now m c.requires.entry u off), c.requires.nullary)))

@@ -10,7 +10,7 @@ as_tag-tag-requires g c =
     let w = g.V.View.seen c.args.view.now in
     let old = c.args.self.now in
     let many : c.len.result ≡ length old.frames.items = search rules in
-    let few = few_running old c.requires.core.few (loading_live w.fixed w.units old c.requires.core.sound c.requires.loading).1 in
+    let few = few_running old c.requires.core.few (loading_live w.fixed w.units w.memory old c.requires.core.sound c.requires.loading).1 in
     omega (arith, few, many)
 
 pub returns-clause-stepped : goal.returns-clause-stepped
@@ -32,5 +32,5 @@ returns-clause-core g c =
     let sound = opens_core w old c.requires.core.sound c.requires.loading c.args.tasks.items c.args.after c.requires.hands c.as_tag-tag.result c.mark.new.self c.in_ok-mark.ensures.marked new p refl c.in_ok-push.ensures.items refl refl refl refl
     tag c.in_ok-mark.ensures.over c.requires.tasks c.requires.handle in
     let top = on_top w old c.requires.core.sound c.requires.loading c.args.tasks.items c.args.after c.requires.hands c.as_tag-tag.result c.mark.new.self c.in_ok-mark.ensures.marked new p refl c.in_ok-push.ensures.items refl refl refl refl tag in
-    let few = few_opened old c.requires.core.few new p c.as_tag-tag.result old.machine.stack.frames c.in_ok-push.ensures.items refl refl top (loading_live w.fixed w.units old c.requires.core.sound c.requires.loading).1 in
+    let few = few_opened old c.requires.core.few new p c.as_tag-tag.result old.machine.stack.frames c.in_ok-push.ensures.items refl refl top (loading_live w.fixed w.units w.memory old c.requires.core.sound c.requires.loading).1 in
     record { sound = sound; few = few }

@@ -7,6 +7,7 @@ use Rattle.spec_loading.specs.LoadedSet.{set_loading}
 use Rattle.dyl_store.specs.Worlds.{kept_view}
 use Rattle.dyl_store.specs.declared.running.Running.{Running}
 use Rattle.dyl_store.proofs.Loads.{loaded, running_after, entry_is, entry_nullary, both_ok}
+use Rattle.dyl_store.proofs.Wanting.{wants_so}
 use Rattle.dyl_store.proofs.running.Running.enter.Goals as goal
 
 pub enter-requires : goal.enter-requires
@@ -17,6 +18,9 @@ enter-requires c κs =
 pub returns-clause-stepped : goal.returns-clause-stepped
 returns-clause-stepped c =
     IfOk-weaker c.enter.result _ _ (λ e s L linked. s (set_loading L) (loaded c.args.self.now c.requires.running L linked) (entry_is L c.args.self.now.linked.now linked ∙ ap (λ (f : ℕ). Some (Own 0 f)) (sym c.entry.ensures))) c.enter.ensures.stepped
+
+pub returns-clause-wanting : goal.returns-clause-wanting
+returns-clause-wanting c = wants_so c.args.self.now c.enter.result c.enter.ensures.wanting
 
 pub returns-clause-running : goal.returns-clause-running
 returns-clause-running c =

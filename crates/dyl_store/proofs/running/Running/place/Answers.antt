@@ -27,7 +27,7 @@ returns-clause-running c =
     let world = c.place-outcome.new.self in
     let new : Running = record c.args.self.now { world = world; core = c.placed.new.self } in
     running_after c.args.self.now new c.requires.running refl refl (ap kept_view c.place-outcome.ensures.linked)
-    (subst (λ (k : Kept). IsCore (kept_view k) world.store c.placed.new.self) c.place-outcome.ensures.linked c.placed.ensures.core) c.placed.ensures.members
+    (subst (λ (k : Kept). IsCore (kept_view k) world.store world.memory c.placed.new.self) c.place-outcome.ensures.linked c.placed.ensures.core) c.placed.ensures.members
 
 pub index-placement-requires : goal.index-placement-requires
 index-placement-requires c =
@@ -43,6 +43,7 @@ place-outcome-requires-clause-placement c =
 pub placed-requires : goal.placed-requires
 placed-requires c κs =
     let world = c.place-outcome.new.self in
-    let core = placed_core c.linked_code_is_there.ensures.placed c.args.self.now c.requires.running c.args.task.member c.place-outcome.result world c.place-outcome.ensures.placed in
+    let lt = subst (λ (n : ℕ). c.args.task.member < n) c.requires.running.members c.requires.member in
+    let core = placed_core c.linked_sets_step_soundly.ensures.set c.args.self.now c.requires.running c.requires.stands c.args.task.member lt c.place-outcome.result world c.place-outcome.ensures.placed in
     let behind : is_behind c.args.self.now.core c.args.task ≡ true = search rules in
-    ((refl, tt), (subst (λ (k : Kept). IsCore (kept_view k) world.store c.args.self.now.core) (sym c.place-outcome.ensures.linked) core, (c.requires.marked, (c.requires.task, (c.requires.member, (behind, c.requires.places))))))
+    ((refl, tt), (subst (λ (k : Kept). IsCore (kept_view k) world.store world.memory c.args.self.now.core) (sym c.place-outcome.ensures.linked) core, (c.requires.marked, (c.requires.task, (c.requires.member, (behind, c.requires.places))))))

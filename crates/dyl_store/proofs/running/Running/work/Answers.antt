@@ -7,6 +7,7 @@ use Rattle.spec_loading.specs.spec_execution.Instances.{ModuleParts}
 use Rattle.spec_loading.specs.LoadedSet.{set_loading}
 use Rattle.dyl_store.specs.declared.running.Running.{Running}
 use Rattle.dyl_store.proofs.Loads.{loaded, running_after, both_ok}
+use Rattle.dyl_store.proofs.Wanting.{wants_so}
 use Rattle.dyl_store.proofs.running.Running.work.Goals as goal
 
 pub callee-called-requires-clause-member : goal.callee-called-requires-clause-member
@@ -20,6 +21,9 @@ call_task-requires c κs =
 pub returns-clause-stepped : goal.returns-clause-stepped
 returns-clause-stepped c =
     IfOk-weaker c.call_task.result _ _ (λ e s L linked. s (set_loading L) (loaded c.args.self.now c.requires.running L linked) (c.callee-called.ensures.found L linked)) c.call_task.ensures.stepped
+
+pub returns-clause-wanting : goal.returns-clause-wanting
+returns-clause-wanting c = wants_so c.args.self.now c.call_task.result c.call_task.ensures.wanting
 
 pub returns-clause-running : goal.returns-clause-running
 returns-clause-running c =

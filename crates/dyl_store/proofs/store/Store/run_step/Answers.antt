@@ -1,8 +1,8 @@
-use Rattle.std.proofs.Common.{rules, refl, sym, ◌∙◌, ◌≡◌, true, false}
+use Rattle.std.proofs.Common.{rules, refl, sym, ◌∙◌, ◌≡◌, inr, true, false}
 use Rattle.spec_loading.specs.spec_runtime.Courses.{state_at}
 use Rattle.dyl_store.specs.Stores.{set_course}
 use Rattle.dyl_store.specs.Kept.{run_of}
-use Rattle.dyl_store.proofs.Stepping.{somewhere, moving_store, moving_stepped, linked_of, last_found, last_taken, taken_store, taken_stepped, end_so, ended_stepped, end_asks_nothing}
+use Rattle.dyl_store.proofs.Stepping.{somewhere, moving_store, moving_stepped, wants_at, linked_of, last_found, last_taken, last_bytes, taken_store, taken_stepped, end_so, ended_stepped, end_asks_nothing}
 use Rattle.dyl_store.proofs.Arguments.{arguments_told}
 use Rattle.dyl_store.proofs.store.Store.run_step.Goals as goal
 
@@ -10,7 +10,7 @@ pub step-requires-clause-running : goal.step-requires-clause-running
 step-requires-clause-running c = c.self.invariant.running c.if-self.false
 
 pub step-requires-clause-stands : goal.step-requires-clause-stands
-step-requires-clause-stands c = somewhere c.self.inside c.self.invariant c.if-self.false
+step-requires-clause-stands c = somewhere c.linked_sets_never_get_stuck.ensures.sound c.self.inside c.self.invariant c.if-self.false
 
 pub invariant_of-self-in-Moving : goal.invariant_of-self-in-Moving
 invariant_of-self-in-Moving c =
@@ -31,6 +31,10 @@ pub take-requires-clause-fits : goal.take-requires-clause-fits
 take-requires-clause-fits c =
     last_taken c.args.self.now c.self.inside c.in-Asking.field-0 c.in-Asking.field-1 c.deref.result.now c.self.view_is c.self.invariant c.if-self.false (sym c.standing.ensures ∙ c.in-Asking.is) c.requires.answered c.deref.ensures.value c.in-Some.answer.now c.in-Some.ensures.value
 
+pub take-requires-clause-bytes : goal.take-requires-clause-bytes
+take-requires-clause-bytes c =
+    last_bytes c.args.self.now c.self.inside c.in-Asking.field-0 c.in-Asking.field-1 c.deref.result.now c.self.view_is c.self.invariant c.if-self.false (sym c.standing.ensures ∙ c.in-Asking.is) c.requires.answered c.deref.ensures.value c.in-Some.answer.now c.in-Some.ensures.value
+
 pub invariant_of-self-in-Asking : goal.invariant_of-self-in-Asking
 invariant_of-self-in-Asking c =
     taken_store c.args.self.now c.self.inside c.in-Asking.field-0 c.in-Asking.field-1 c.deref.result.now c.self.view_is c.self.invariant c.if-self.false (sym c.standing.ensures ∙ c.in-Asking.is) c.requires.answered c.deref.ensures.value c.in-Some.answer.now c.in-Some.ensures.value c.event_of.result c.standing-in-Asking.result c.take.new.self c.take.ensures.linked c.take.ensures.taken c.event_of.ensures c.standing-in-Asking.ensures c.take.ensures.running
@@ -38,6 +42,9 @@ invariant_of-self-in-Asking c =
 pub returns-in-Some-clause-stepped : goal.returns-in-Some-clause-stepped
 returns-in-Some-clause-stepped c =
     taken_stepped c.args.self.now c.self.inside c.in-Asking.field-0 c.in-Asking.field-1 c.deref.result.now c.self.view_is c.self.invariant c.if-self.false (sym c.standing.ensures ∙ c.in-Asking.is) c.requires.answered c.deref.ensures.value c.in-Some.answer.now c.in-Some.ensures.value c.event_of.result c.standing-in-Asking.result c.take.new.self c.take.ensures.linked c.take.ensures.taken c.event_of.ensures c.standing-in-Asking.ensures
+
+pub returns-in_default-step-clause-wanting : goal.returns-in_default-step-clause-wanting
+returns-in_default-step-clause-wanting c = inr (wants_at c.args.self.now c.self.inside c.self.view_is c.self.invariant c.if-self.false c.in_default-step.ensures.wanting)
 
 pub returns-in-Ok-clause-arguments : goal.returns-in-Ok-clause-arguments
 returns-in-Ok-clause-arguments c = λ L linked.
@@ -47,7 +54,8 @@ returns-in-Ok-clause-arguments c = λ L linked.
 
 pub returns-in_default : goal.returns-in_default
 returns-in_default c = record {
-  stepped = ended_stepped c.event_of-in_default.result c.standing.result c.args.self.now c.self.inside c.self.view_is c.self.invariant c.if-self.false (end_so c.standing.result c.in_default.not-Moving c.in_default.not-Asking c.in_default.not-Stuck) c.standing.ensures c.event_of-in_default.ensures;
+  stepped = ended_stepped c.event_of-in_default.result c.standing.result c.args.self.now c.self.inside c.self.view_is c.self.invariant c.if-self.false (end_so c.standing.result c.in_default.not-Moving c.in_default.not-Asking) c.standing.ensures c.event_of-in_default.ensures;
+  wanting = tt;
   lost = tt;
   again = λ lost. absurd (let clash : true ≡ false = search rules in cc);
   same = refl;

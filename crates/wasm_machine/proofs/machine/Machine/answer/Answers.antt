@@ -1,4 +1,4 @@
-use Rattle.wasm_machine.proofs.Receiving.{reply_fits, received_over}
+use Rattle.wasm_machine.proofs.Receiving.{reply_fits, replied_over}
 use Rattle.wasm_machine.proofs.machine.Machine.answer.Goals as goal
 
 pub receive-requires : goal.receive-requires
@@ -8,4 +8,7 @@ receive-requires g c =
 
 pub returns-in-Reply-clause-over : goal.returns-in-Reply-clause-over
 returns-in-Reply-clause-over g c =
-    rw c.write_all.ensures.others (received_over (g.V.View.seen c.args.view.now).fixed (g.V.View.seen c.args.view.now).units c.items-in-Reply.result.now c.receive.new.self c.args.self.now c.requires.over c.receive.ensures.received c.receive.ensures.rooms)
+    let fits = rw c.in-Reply.is at c.requires.fits in
+    let bytes = rw c.in-Reply.is at c.requires.bytes in
+    let received = rw c.items-in-Reply.ensures at c.receive.ensures.received in
+    rw (c.write_all.ensures.others, c.write_all.ensures.memory, c.items.ensures) (replied_over (g.V.View.seen c.args.view.now).fixed (g.V.View.seen c.args.view.now).units (g.V.View.seen c.args.view.now).memory c.in-Reply.results c.in-Reply.writes c.args.self.now c.receive.new.self c.requires.over fits bytes received c.receive.ensures.rooms)

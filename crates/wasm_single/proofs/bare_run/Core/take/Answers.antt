@@ -4,4 +4,4 @@ use Rattle.wasm_single.proofs.CoreSteps.{fits_view}
 use Rattle.wasm_single.proofs.bare_run.Core.take.Goals as goal
 
 pub answer-requires : goal.answer-requires
-answer-requires c κs = ((refl, tt), (over_view c.args.self.now c.requires.core, fits_view c.args.self.now c.args.a.now c.requires.core c.requires.fits))
+answer-requires c κs = ((refl, tt), (over_view c.args.self.now c.requires.core, (fits_view c.args.self.now c.args.a.now c.requires.core c.requires.fits, c.is_of_bytes.ensures)))

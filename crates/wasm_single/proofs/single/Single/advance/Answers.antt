@@ -1,11 +1,14 @@
-use Rattle.std.proofs.Common.{arith, rules, subst, sym, ◌∙◌, ◌≡◌, suc, true, false}
+use Rattle.std.proofs.Common.{arith, rules, subst, sym, ◌∙◌, ◌≡◌, ◌⊎◌, inr, OnErr, suc, true, false}
+use Rattle.std.proofs.lemmas.Bool.{false≢true}
 use Rattle.wasm_single.specs.declared.bare_run.Phase.TheVariants as phase
 use Rattle.wasm_machine.specs.Steps.{Advances}
+use Rattle.wasm_single.specs.declared.single.Single.TheInside.{Inside}
+use Rattle.wasm_single.specs.Singles.{MayWantAt}
 use Rattle.wasm_single.specs.Kept.{run_of, IsSingle}
 use Rattle.wasm_single.proofs.Stopping.{HasNoneLeft, stopped_idle, stopped_opened, none_left, on_either}
 use Rattle.wasm_single.proofs.Advancing.{IsByCode, goes_on, is_nearer, stops}
 use Rattle.wasm_single.proofs.single.Single.advance.Goals as goal
-use Rattle.wasm_single.proofs.single.Single.advance.Goals.{in-Moving, in_default, then-code-test+else-quick_step, else-code-test}
+use Rattle.wasm_single.proofs.single.Single.advance.Goals.{in-Moving, in_default, then-code-test+else-quick_step, else-code-test, then-self-2, else-self-2}
 
 pub returns-then-eq-clause-left : goal.returns-then-eq-clause-left
 returns-then-eq-clause-left c =
@@ -50,6 +53,20 @@ returns-clause-code c = elim c.code-test.branch [
   | then-code-test+else-quick_step w ↦ subst (λ i. IsByCode c.args.self.now (run_of i).run) (sym w.self-inside-is) (stops c.args.most c.args.self.now c.code.self-inside w.quick_step.new.core w.quick_step.new.steps w.quick_step.new.lost c.code.invariant w.code-test.true w.quick_step.ensures.wasm w.quick_step.ensures.core w.if-quick_step.ensures.counted).code
   | else-code-test w ↦ subst (λ i. IsByCode c.args.self.now (run_of i).run) (sym w.self-inside-is) c.code.invariant.code
 ]
+
+pub returns-clause-wanting : goal.returns-clause-wanting
+returns-clause-wanting c =
+    let v = c.args.self.now in
+    let Wants : Inside → Type 0 = λ i. i.lost ≡ true → MayWantAt v.wasm (run_of i).run in
+    let wants : Wants c.code-test.self-inside = elim c.code-test.branch [
+      | then-code-test+else-quick_step w ↦ subst Wants (sym w.self-inside-is) (stops c.args.most c.args.self.now c.code.self-inside w.quick_step.new.core w.quick_step.new.steps w.quick_step.new.lost c.code.invariant w.code-test.true w.quick_step.ensures.wasm w.quick_step.ensures.core w.if-quick_step.ensures.counted).wants
+      | else-code-test w ↦ subst Wants (sym w.self-inside-is) (λ lost. absurd (false≢true (sym c.code.invariant.found ∙ lost)))
+    ] in
+    let Q : Type 0 = (v.run.lost ≡ true) ⊎ MayWantAt v.wasm (run_of c.code-test.self-inside).run in
+    elim c.if-self-2.branch [
+      | then-self-2 w ↦ subst (λ r. OnErr r Q) (sym w.result-is) (inr (wants w.if-self-2.true))
+      | else-self-2 w ↦ subst (λ r. OnErr r Q) (sym w.result-is) tt
+    ]
 
 pub returns-clause-same : goal.returns-clause-same
 returns-clause-same c = elim c.code-test.branch [

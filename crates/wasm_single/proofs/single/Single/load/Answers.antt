@@ -20,9 +20,8 @@ invariant_of-result c =
     let m = c.args.checked.now in
     let met = met_of c.module-m.result.now m c.args.names.now c.items.result.now c.in_ok-hosts.hosts c.module-m.ensures.same c.items.ensures c.in_ok-hosts.ensures in
     let found = sym c.in-Some.ensures in
-    let law = c.checked_code_is_in_range.ensures in
     rw (c.new.ensures, c.module-m.ensures.same)
-    (single_is c.args.checked c.in-Some.entry c.in-Ok.instance found c.in-Ok.ensures c.args.names.now met.0 c.module-m.ensures.formed c.module-m.ensures.valid law.code law.opened c.in_ok-hosts.hosts c.new-2.result met.1 c.new-2.ensures.items)
+    (single_is c.args.checked c.in-Some.entry c.in-Ok.instance found c.in-Ok.ensures c.args.names.now met.0 c.module-m.ensures.formed c.module-m.ensures.valid c.requires.numbers (rw c.module-m.ensures.same at c.holds_bytes.ensures) c.checked_code_is_typed.ensures.sound c.modules_open_soundly.ensures c.in_ok-hosts.hosts c.new-2.result met.1 c.new-2.ensures.items)
 
 pub returns : goal.returns
 returns c =

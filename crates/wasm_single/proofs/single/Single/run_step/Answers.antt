@@ -1,4 +1,4 @@
-use Rattle.std.proofs.Common.{◌≡◌, sym, ◌∙◌, ap, subst}
+use Rattle.std.proofs.Common.{◌≡◌, inr, sym, ◌∙◌, ap, subst}
 use Rattle.std.specs.Borrow.{Bor}
 use Rattle.wasm_form.specs.declared.module.Module.{Module}
 use Rattle.spec_safety.specs.spec_execution.Instances.{module_hosts}
@@ -6,7 +6,7 @@ use Rattle.spec_safety.specs.spec_runtime.Courses.{state_at}
 use Rattle.wasm_machine.specs.Steps.{ArgumentsFit}
 use Rattle.wasm_single.specs.Singles.{SingleRun, module_course}
 use Rattle.wasm_single.specs.Kept.{run_of}
-use Rattle.wasm_single.proofs.Stepping.{core_stepped, last_found, last_taken, answer_stepped}
+use Rattle.wasm_single.proofs.Stepping.{core_stepped, wants_at, last_found, last_taken, answer_stepped}
 use Rattle.wasm_single.proofs.Arguments.{arguments_told}
 use Rattle.wasm_single.proofs.single.Single.run_step.Goals as goal
 
@@ -24,6 +24,9 @@ returns-in-Ok-clause-arguments c =
     let s = state_at (module_course c.self.inside.core.checked.now q.0) (run_of c.self.inside).run in
     let same : c.step.new.self.checked.now ≡ c.args.self.now.wasm = ap (λ (b : Bor Module). b.now) c.step.ensures.wasm ∙ ap (λ (v : SingleRun). v.wasm) c.self.view_is in
     subst (λ m. ArgumentsFit (module_hosts m) c.in-Ok.event) same (arguments_told c.in-Ok.event s c.step.new.self (c.in-Ok.ensures.stepped s q.1.2) c.are_numbers.ensures)
+
+pub returns-in_default-step-clause-wanting : goal.returns-in_default-step-clause-wanting
+returns-in_default-step-clause-wanting c = inr (wants_at c.args.self.now c.self.inside c.self.view_is c.self.invariant c.if-self.false c.in_default-step.ensures.wanting)
 
 pub unreachable-requires : goal.unreachable-requires
 unreachable-requires c =

@@ -1,0 +1,13 @@
+use Rattle.std.proofs.Common.{subst, arith, ap, ◌∙◌}
+use Rattle.spec_loading.specs.spec_safety.SoundModules.{HoldsBytes}
+use Rattle.dyl_link.specs.dyl_search.declared.set.ClosedSet.{ClosedSet}
+use Rattle.dyl_store.proofs.Runnable.{next_bytes, all_bytes}
+use Rattle.dyl_store.proofs.store.hold_bytes.Goals as goal
+
+pub loop-member-preserved : goal.loop-member-preserved
+loop-member-preserved c =
+    next_bytes _ c.loop-member.member-index c.member-item.result c.loop-member-test.true c.member-item.is (subst HoldsBytes c.module.ensures.same c.holds_bytes.ensures) c.loop-member.invariant
+
+pub returns : goal.returns
+returns c =
+    all_bytes c.args.linked.now _ c.loop-member.member-index (c.items-member-items.ensures ∙ ap (λ (S : ClosedSet). S.members) c.set.ensures) (omega arith) c.loop-member.invariant
