@@ -9,7 +9,6 @@ use Rattle.wasm_machine.specs.Stacks.{CallStack}
 use Rattle.wasm_machine.specs.Machines.{MachineState, IsOver, Marks}
 use Rattle.wasm_machine.specs.Marks.{marked_stack}
 use Rattle.wasm_machine.specs.declared.machine.Standing.{Standing}
-use Rattle.wasm_machine.specs.declared.machine.Standing.TheVariants as standing
 use Rattle.spec_loading.specs.declared.task.Task.{Task}
 use Rattle.spec_loading.specs.declared.task.After.{After}
 use Rattle.spec_loading.specs.declared.task.After.TheVariants.{CallEntry}

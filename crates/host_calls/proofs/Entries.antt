@@ -1,5 +1,5 @@
 -- The entry of a host function that is called.
-use Rattle.std.proofs.Common.{◌≡◌, ℕ, suc, ◌+◌, ◌-◌, Bool, true, false, cond, List, [], ◌∷◌, map, Some, None, IsSomeAnd, slice_get, sym, ◌∙◌, subst, zero-add, arith}
+use Rattle.std.proofs.Common.{◌≡◌, ℕ, suc, ◌+◌, Bool, true, false, cond, List, [], ◌∷◌, map, Some, None, IsSomeAnd, slice_get, sym, ◌∙◌, subst, zero-add, arith}
 use Rattle.std.specs.List.{position_from}
 use Rattle.spec_hosts.specs.spec_runtime.Names.{HostName}
 use Rattle.spec_hosts.specs.Laws.{host_called}

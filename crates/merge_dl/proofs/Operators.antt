@@ -1,6 +1,6 @@
 -- The run of each instruction that the code of the loader's functions has, and what reading a byte comes to.
 use denote.Hole.Carrier.{out}
-use Rattle.std.proofs.Common.{◌≡◌, ℕ, ◌+◌, ◌%◌, ◌^◌, ◌<◌, List, [], ◌∷◌, length, take, drop, nat_eq, nat_le, bit_and, Some, None, option_map, Bool, true, false, if◌then◌else◌, refl, ap, arith, slice_get}
+use Rattle.std.proofs.Common.{◌≡◌, ℕ, ◌+◌, ◌%◌, ◌^◌, ◌<◌, List, [], ◌∷◌, length, take, drop, nat_eq, nat_le, bit_and, Some, None, option_map, Bool, true, false, if◌then◌else◌, refl, arith, slice_get}
 use Rattle.std.proofs.lemmas.Option.{slice_get-get_or}
 use Rattle.std.proofs.lemmas.Bool.Decides.{nat_tests}
 use Rattle.wasm_form.specs.declared.instr.Instr.{Plain, Access, out-Instr}

@@ -1,5 +1,5 @@
 -- The module that is written for a linked set, part by part.
-use Rattle.std.specs.Prelude.{ℕ, ◌+◌, ◌*◌, true, false, List, [], ◌∷◌, ◌++◌, length, map, replicate, slice_get, nat_eq, Bool, Option, Some, None, unwrap_or, codes, if◌then◌else◌}
+use Rattle.std.specs.Prelude.{ℕ, ◌+◌, ◌*◌, true, false, List, [], ◌∷◌, ◌++◌, length, map, replicate, slice_get, nat_eq, Bool, Option, Some, None, unwrap_or, if◌then◌else◌}
 use Rattle.std.specs.Int.{cast_signed, w64}
 use Rattle.std.specs.List.{flat_map, find, list_any, position_or_len, range_with_len}
 use Rattle.spec_reading.specs.wasm_form.declared.types.ValType.{ValType}

@@ -1,5 +1,5 @@
 -- Items that are spelled one after the other have a byte each at least, so there are no more of them than bytes.
-use Rattle.std.proofs.Common.{ℕ, ◌+◌, ◌≤◌, List, [], ◌∷◌, ◌++◌, length, arith, length-append}
+use Rattle.std.proofs.Common.{ℕ, ◌≤◌, List, [], ◌∷◌, ◌++◌, length, arith, length-append}
 use Rattle.spec_binary.specs.wasm_form.declared.types.ValType.{ValType}
 use Rattle.spec_binary.specs.wasm_form.declared.types.FuncType.{FuncType}
 use Rattle.spec_binary.specs.wasm_form.declared.types.TableType.{TableType}

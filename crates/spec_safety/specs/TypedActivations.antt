@@ -1,5 +1,4 @@
--- Activations whose values and whose code are typed, continuation by continuation (WebAssembly Core 2.0, section 4.5.3 of the appendix on
--- soundness).
+-- Activations whose values and whose code are typed, continuation by continuation (WebAssembly Core 2.0, appendix on soundness).
 use Rattle.std.specs.Prelude.{◌≡◌, ◌≤◌, ◌+◌, ℕ, suc, List, [], ◌∷◌, ◌++◌, length, map, reverse, Option, Some, None, true, false}
 use Rattle.spec_execution.specs.wasm_form.declared.types.ValType.{ValType}
 use Rattle.spec_execution.specs.wasm_form.declared.instr.Instr.{Instr}
