@@ -3,6 +3,7 @@ mod Known
 mod Loading
 mod Slashes
 mod Origins
+mod Absents
 mod Finding
 mod NextFile
 mod NextMember

@@ -11,7 +11,7 @@ use Rattle.spec_linking.specs.spec_validation.Faults as validation
 use Rattle.spec_linking.specs.Records.{HasRecord}
 use Rattle.spec_linking.specs.Sets as sets
 use Rattle.spec_linking.specs.Wanted.{Wanted, wanted, with_names, with_later, number_of}
-use Rattle.spec_linking.specs.Gathering.{Lookup, first_in, Reaches, next, Fetches, IsRead, IsNext, Fails, not_decoded, not_recorded, not_valid, failed, IsGathered, gathers, total_size, paths_for}
+use Rattle.spec_linking.specs.Gathering.{Lookup, first_in, Reaches, next, Fetches, IsRead, IsNext, Fails, not_decoded, not_recorded, not_valid, failed, IsGathered, gathers, total_size, paths_for, tried_from, tried_next}
 use Rattle.dyl_section.specs.Recorded.{record_of}
 use Rattle.spec_linking.specs.declared.fault.SetFault.{SetFault}
 use Rattle.spec_linking.specs.declared.fault.SetFault.TheVariants.{Missing, ReadFault, Decode, Record, Check, ModuleCount, SetSize, Memory}
@@ -21,9 +21,11 @@ use Rattle.dyl_search.specs.declared.find.Found.{Found}
 use Rattle.dyl_search.specs.declared.load.Loaded.{Loaded}
 use Rattle.dyl_search.specs.declared.progress.Progress.{Progress}
 use Rattle.dyl_search.specs.Loaded.{IsModule, IsLoaded, Holds}
-use Rattle.dyl_search.specs.Gathers.{options_of, member_of, members_of, known_in, Stands, IsNextFile, Stops}
+use Rattle.dyl_search.specs.Absents.{RisesAt, CountsTried, TriedFor, CountsFor}
+use Rattle.dyl_search.specs.Gathers.{options_of, member_of, members_of, known_in, Stands, Counted, CountsNext, IsNextFile, Stops}
 use Rattle.dyl_search.specs.Steps.{IsMade}
 use Rattle.spec_linking.proofs.Numbering.{wanted_push}
+use Rattle.dyl_search.proofs.Absents.{rises_append, rises_more, nothing_left}
 use Rattle.dyl_search.proofs.NextFile.{told_reaches}
 
 same_wanted : (o : Option Wanted) (v w : Wanted) → o ≡ Some v → o ≡ Some w → v ≡ w
@@ -63,6 +65,50 @@ module _ (told : Option FileMap) (o : SetOptions) (g : Progress) (s : Stands tol
 
   pub no_member : (n : ℕ) (fault : SetFault) → n ≡ length g.members.items → IsLoaded n f.bytes.items (Err fault) → ForSome told (λ m. Stops (get m) (options_of o) fault)
   no_member n fault is h m e = loaded_in m n fault is e h
+
+  -- how the Absent answers are counted, of all that was tried
+  module _ (start before now : ℕ) (counted : Counted told o g start before) (next_counted : CountsNext told o g before now) where
+    whole : (m : FileMap) → told ≡ Some m → RisesAt (get m) (tried_from (get m) (options_of o) [] (members_of g) ++ tried_next (get m) (options_of o) (members_of g)) start now
+    whole m e = rises_append (get m) (tried_from (get m) (options_of o) [] (members_of g)) (tried_next (get m) (options_of o) (members_of g)) start before now (counted m e) (next_counted m e)
+
+    pub lost_counts : CountsFor told (options_of o) (Err Memory) start now
+    lost_counts m e = record {
+      tried = _;
+      are = ([], nothing_left (get m) (options_of o) (members_of g) (told_reaches told m (options_of o) (members_of g) e s.reached));
+      absents = whole m e;
+    }
+
+    counts_in : (m : FileMap) (n : ℕ) (fault : SetFault) → n ≡ length g.members.items → told ≡ Some m → IsLoaded n f.bytes.items (Err fault)
+        → CountsTried (get m) (TriedFor (get m) (options_of o) (Err fault)) start now
+    counts_in m n (Decode k fault) is e h =
+        let P : ℕ → Type 0 = λ i. CountsTried (get m) (TriedFor (get m) (options_of o) (Err (Decode i fault))) start now in
+        let fails = not_decoded (fetches (first_in (get m)) (nf.first m e)) h.1 in
+        subst P (as_many ∙ sym is ∙ sym h.0)
+        (record { tried = _; are = gathers (failed (told_reaches told m (options_of o) (members_of g) e s.reached) fails); absents = whole m e })
+    counts_in m n (Record k fault) is e h =
+        let P : ℕ → Type 0 = λ i. CountsTried (get m) (TriedFor (get m) (options_of o) (Err (Record i fault))) start now in
+        let fails = not_recorded (fetches (first_in (get m)) (nf.first m e)) h.1.told h.1.is in
+        subst P (as_many ∙ sym is ∙ sym h.0)
+        (record { tried = _; are = gathers (failed (told_reaches told m (options_of o) (members_of g) e s.reached) fails); absents = whole m e })
+    counts_in m n (Check k fault) is e h =
+        let P : ℕ → Type 0 = λ i. CountsTried (get m) (TriedFor (get m) (options_of o) (Err (Check i fault))) start now in
+        let fails = not_valid (fetches (first_in (get m)) (nf.first m e)) h.1.told h.1.is.recorded h.1.is.why.is in
+        subst P (as_many ∙ sym is ∙ sym h.0)
+        (record { tried = _; are = gathers (failed (told_reaches told m (options_of o) (members_of g) e s.reached) fails); absents = whole m e })
+    counts_in m n Memory is e h = lost_counts m e
+    counts_in m n (Missing name) is e h = absurd h
+    counts_in m n (ReadFault at) is e h = absurd h
+    counts_in m n ModuleCount is e h = absurd h
+    counts_in m n SetSize is e h = absurd h
+
+    pub no_member_counts : (n : ℕ) (fault : SetFault) → n ≡ length g.members.items → IsLoaded n f.bytes.items (Err fault) → CountsFor told (options_of o) (Err fault) start now
+    no_member_counts n fault is h m e = counts_in m n fault is e h
+
+    pub counted_more : (m : Member) (h : Progress) → h.members.items ≡ g.members.items ++ m ∷ [] → Counted told o h start now
+    counted_more m h members files e =
+        let all : members_of h ≡ members_of g ++ member_of m ∷ [] = ap (map member_of) members ∙ map-append member_of g.members.items (m ∷ []) in
+        subst (λ ms. RisesAt (get files) (tried_from (get files) (options_of o) [] ms) start now) (sym all)
+        (rises_more (get files) (options_of o) [] (members_of g) (member_of m) start before now (counted files e) (next_counted files e))
 
   -- ---- a member more
 

@@ -1,15 +1,16 @@
 -- What a search for a file answers.
-use Rattle.std.specs.Prelude.{◌≡◌, ℕ, ◌<◌, ◌≤◌, List, length, Option, Some, None, Result, Ok, Err}
+use Rattle.std.specs.Prelude.{◌≡◌, ℕ, ◌<◌, ◌≤◌, List, ◌∷◌, ◌++◌, length, Option, Some, None, Result, Ok, Err}
 use Rattle.std.specs.Option.{ForSome}
 use Rattle.std.specs.FinMap.{get}
 use Rattle.dyl_outside.specs.FileMap.{FileMap}
 use Rattle.dyl_outside.specs.Files.{FilesState}
 use Rattle.dyl_outside.specs.Faults.{Rises}
 use Rattle.spec_linking.specs.Sets.{Files}
-use Rattle.spec_linking.specs.Paths.{first_file, IsTried}
+use Rattle.spec_linking.specs.Paths.{first_file, tried_of, IsTried}
 use Rattle.spec_linking.specs.declared.fault.SetFault.{SetFault}
 use Rattle.spec_linking.specs.declared.fault.SetFault.TheVariants.{ReadFault, SetSize, Memory}
 use Rattle.dyl_search.specs.declared.find.Found.{Found}
+use Rattle.dyl_search.specs.Absents.{CountsTried}
 
 -- the first of these paths at which there is a file is that of one with more bytes than may be
 pub record IsTooLong (files : Files) (paths : List (List ℕ)) (most : ℕ) : Type 0 where
@@ -36,9 +37,16 @@ IsFinding most (Err (ReadFault path)) = Unit {0}
 IsFinding most (Err Memory) = Unit {0}
 IsFinding most (Err _) = ⊥
 
-pub record Finds (told : Option FileMap) (paths : List (List ℕ)) (most : ℕ) (result : Result (Option Found) SetFault) : Type 0 where
+-- the paths that it tried: up to the first at which there is a file, or some of the first ones; a path that can't be read is the one after them
+abbrev pub IsSearched : Files → List (List ℕ) → Result (Option Found) SetFault → List (List ℕ) → Type 0
+IsSearched files paths (Err (ReadFault path)) tried = (left : List (List ℕ)) × (tried_of files paths ≡ tried ++ path ∷ left)
+IsSearched files paths (Err Memory) tried = (left : List (List ℕ)) × (tried_of files paths ≡ tried ++ left)
+IsSearched files paths _ tried = tried ≡ tried_of files paths
+
+pub record Finds (told : Option FileMap) (paths : List (List ℕ)) (most : ℕ) (result : Result (Option Found) SetFault) (before now : ℕ) : Type 0 where
   pub finding : IsFinding most result
   pub files : ForSome told (λ m. FindsIn (get m) paths most result)
+  pub absents : ForSome told (λ m. CountsTried (get m) (IsSearched (get m) paths result) before now)
 
 -- ---- what changes of the outside
 

@@ -1,5 +1,5 @@
 -- What is gathered so far, and what gathering answers.
-use Rattle.std.specs.Prelude.{◌≡◌, ℕ, ◌+◌, ◌<◌, ◌≤◌, List, map, length, slice_get, Option, Some, None, Result, Ok, Err}
+use Rattle.std.specs.Prelude.{◌≡◌, ℕ, ◌+◌, ◌<◌, ◌≤◌, List, [], map, length, slice_get, Option, Some, None, Result, Ok, Err}
 use Rattle.std.specs.Option.{ForSome}
 use Rattle.std.specs.FinMap.{get}
 use Rattle.dyl_outside.specs.FileMap.{FileMap}
@@ -12,13 +12,14 @@ use Rattle.spec_linking.specs.Sets as sets
 use Rattle.spec_linking.specs.Sets.{Files, most_bytes, most_members}
 use Rattle.spec_linking.specs.Wanted.{Wanted, wanted}
 use Rattle.spec_linking.specs.Paths.{first_file}
-use Rattle.spec_linking.specs.Gathering.{Lookup, Reaches, IsGathered, Tries, total_size, paths_for}
+use Rattle.spec_linking.specs.Gathering.{Lookup, Reaches, IsGathered, Tries, total_size, paths_for, tried_from, tried_next}
 use Rattle.dyl_section.specs.Recorded.{record_of}
 use Rattle.dyl_search.specs.declared.set.SetOptions.{SetOptions}
 use Rattle.dyl_search.specs.declared.set.Member.{Member}
 use Rattle.dyl_search.specs.declared.set.ClosedSet.{ClosedSet}
 use Rattle.dyl_search.specs.declared.find.Found.{Found}
 use Rattle.dyl_search.specs.declared.progress.Progress.{Progress}
+use Rattle.dyl_search.specs.Absents.{RisesAt}
 
 abbrev pub options_of : SetOptions → sets.SetOptions
 options_of o = record { main = o.main; dl = o.dl; paths = o.paths }
@@ -43,6 +44,14 @@ pub record Stands (told : Option FileMap) (o : SetOptions) (g : Progress) : Type
   pub total : g.total ≡ total_size (members_of g)
   pub few_bytes : g.total ≤ most_bytes
   pub few : length g.members.items ≤ most_members
+
+-- the Absent answers are counted of the paths that were tried for these members
+abbrev pub Counted : Option FileMap → SetOptions → Progress → ℕ → ℕ → Type 0
+Counted told o g before now = ForSome told (λ m. RisesAt (get m) (tried_from (get m) (options_of o) [] (members_of g)) before now)
+
+-- and of those that are tried for the next one
+abbrev pub CountsNext : Option FileMap → SetOptions → Progress → ℕ → ℕ → Type 0
+CountsNext told o g before now = ForSome told (λ m. RisesAt (get m) (tried_next (get m) (options_of o) (members_of g)) before now)
 
 -- the file of the next name is found
 pub record IsNextFile (told : Option FileMap) (o : SetOptions) (g : Progress) (f : Found) : Type 0 where

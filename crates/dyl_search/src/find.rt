@@ -29,7 +29,7 @@ pub fn find_at<F: Files>(
     path: String,
     most: usize,
 ) -> Result<Option<Found>, SetFault>
-    ensures answer { Finds (F.seen files.old).told (string_bytes path ∷ []) most result }
+    ensures answer { Finds (F.seen files.old).told (string_bytes path ∷ []) most result (F.seen files.old).absents (F.seen files.new).absents }
     ensures outside { Leaves result (F.seen files.old) (F.seen files.new) }
     ensures absent { result ≡ Ok None → Rises (F.seen files.old).absents (F.seen files.new).absents }
 {
@@ -56,7 +56,7 @@ fn find_inside<F: Files>(
     name: &str,
     most: usize,
 ) -> Result<Option<Found>, SetFault>
-    ensures answer { Finds (F.seen files.old).told (in_directory (expanded_from (option_copied from.entry) directory.now) name.now ∷ []) most result }
+    ensures answer { Finds (F.seen files.old).told (in_directory (expanded_from (option_copied from.entry) directory.now) name.now ∷ []) most result (F.seen files.old).absents (F.seen files.new).absents }
     ensures outside { Leaves result (F.seen files.old) (F.seen files.new) }
 {
     let path = file_in(alloc, from, directory, name)?;
@@ -73,7 +73,7 @@ pub fn find_in<F: Files>(
     name: &str,
     most: usize,
 ) -> Result<Option<Found>, SetFault>
-    ensures answer { Finds (F.seen files.old).told (map (λ d. in_directory (expanded_from (option_copied from.entry) d) name.now) directories.now) most result }
+    ensures answer { Finds (F.seen files.old).told (map (λ d. in_directory (expanded_from (option_copied from.entry) d) name.now) directories.now) most result (F.seen files.old).absents (F.seen files.new).absents }
     ensures outside { Leaves result (F.seen files.old) (F.seen files.new) }
 {
     for directory in directories {
@@ -94,7 +94,7 @@ fn find_listed<F: Files>(
     name: &str,
     most: usize,
 ) -> Result<Option<Found>, SetFault>
-    ensures answer { Finds (F.seen files.old).told (map (λ d. in_directory d name.now) o.now.paths ++ (folder o.now.main ++ name.now) ∷ []) most result }
+    ensures answer { Finds (F.seen files.old).told (map (λ d. in_directory d name.now) o.now.paths ++ (folder o.now.main ++ name.now) ∷ []) most result (F.seen files.old).absents (F.seen files.new).absents }
     ensures outside { Leaves result (F.seen files.old) (F.seen files.new) }
     ensures absent { result ≡ Ok None → Rises (F.seen files.old).absents (F.seen files.new).absents }
 {
@@ -114,7 +114,7 @@ pub fn find_needed<F: Files>(
     name: &str,
     most: usize,
 ) -> Result<Option<Found>, SetFault>
-    ensures answer { Finds (F.seen files.old).told (search_paths (options_of o.now) member.now.path member.now.dylink.paths name.now) most result }
+    ensures answer { Finds (F.seen files.old).told (search_paths (options_of o.now) member.now.path member.now.dylink.paths name.now) most result (F.seen files.old).absents (F.seen files.new).absents }
     ensures outside { Leaves result (F.seen files.old) (F.seen files.new) }
     ensures absent { result ≡ Ok None → Rises (F.seen files.old).absents (F.seen files.new).absents }
 {

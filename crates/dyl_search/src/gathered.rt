@@ -1,12 +1,13 @@
 // The closed set of a main module.
-ghost use Rattle.std.specs.Prelude.{◌≡◌, ◌≤◌, ◌<◌, ℕ, List, map, length, Option, IfOk, IfErr, OnOk, Ok, Err};
+ghost use Rattle.std.specs.Prelude.{◌≡◌, ◌≤◌, ◌<◌, ℕ, List, [], map, length, Option, IfOk, IfErr, OnOk, Ok, Err};
 ghost use Rattle.std.specs.Option.{ForSome};
 ghost use Rattle.std.specs.FinMap.{get};
 ghost use Rattle.dyl_outside.specs.FileMap.{FileMap};
 ghost use Rattle.dyl_outside.specs.Faults.{Rises};
 ghost use Rattle.spec_linking.specs.Gathering as gathering;
 ghost use Rattle.dyl_search.specs.Found.{Leaves};
-ghost use Rattle.dyl_search.specs.Gathers.{options_of, set_of, member_of, Stands, Stops, GathersFrom, OnlyGathers, IsWhole};
+ghost use Rattle.dyl_search.specs.Absents.{CountsFor};
+ghost use Rattle.dyl_search.specs.Gathers.{options_of, set_of, member_of, Stands, Counted, Stops, GathersFrom, OnlyGathers, IsWhole};
 ghost use Rattle.spec_linking.specs.declared.fault.SetFault.TheVariants as faults;
 
 use crate::names::Names;
@@ -22,7 +23,8 @@ use wasm_form::{List as Listing, Memory};
 
 // The name of the main module has a number, and no member is found.
 fn begun(alloc: Global, o: &SetOptions) -> Result<Progress, Memory>
-    ensures { IfOk result (λ g. (told : Option FileMap) → Stands told o.now g) }
+    ensures stands { IfOk result (λ g. (told : Option FileMap) → Stands told o.now g) }
+    ensures none { IfOk result (λ g. g.members.items ≡ []) }
 {
     let names = Names::of(alloc, name_of(o.main.as_str()))?;
     Ok(Progress {
@@ -58,6 +60,8 @@ fn gather_members<F: Files>(
     requires { Stands (F.seen files.old).told o.now g.old }
     ensures stands { OnOk result (Stands (F.seen files.old).told o.now g.new) }
     ensures all { OnOk result (length g.new.names ≤ length g.new.members.items) }
+    ensures tried { (start : ℕ) → Counted (F.seen files.old).told o.now g.old start (F.seen files.old).absents → OnOk result (Counted (F.seen files.old).told o.now g.new start (F.seen files.new).absents) }
+    ensures broken { (start : ℕ) → Counted (F.seen files.old).told o.now g.old start (F.seen files.old).absents → IfErr result (λ e. CountsFor (F.seen files.old).told (options_of o.now) (Err e) start (F.seen files.new).absents) }
     ensures stops { IfErr result (λ e. ForSome (F.seen files.old).told (λ m. Stops (get m) (options_of o.now) e)) }
     ensures whole { IfErr result IsWhole }
     ensures outside { Leaves result (F.seen files.old) (F.seen files.new) }
@@ -76,6 +80,8 @@ fn gathered_set<F: Files>(
     o: &SetOptions,
 ) -> Result<ClosedSet, SetFault>
     ensures answer { ForSome (F.seen files.old).told (λ m. GathersFrom (get m) (options_of o.now) result) }
+    ensures tried { IfOk result (λ S. CountsFor (F.seen files.old).told (options_of o.now) (Ok (set_of S)) (F.seen files.old).absents (F.seen files.new).absents) }
+    ensures broken { IfErr result (λ e. CountsFor (F.seen files.old).told (options_of o.now) (Err e) (F.seen files.old).absents (F.seen files.new).absents) }
     ensures set { IfOk result (λ S. gathering.IsSet (set_of S)) }
     ensures whole { IfErr result IsWhole }
     ensures outside { Leaves result (F.seen files.old) (F.seen files.new) }
@@ -98,11 +104,14 @@ fn gathered_set<F: Files>(
 /// reaches.
 ///
 /// Where the files are told, each answer but ReadFault and Memory is the set, or the first fault, that they give, and there is no other;
-/// ReadFault names a path that is tried. Whatever is told, a set has its shape, ReadFault comes only where the count of read faults rose in
-/// this call, Missing only where that of Absent answers did, and no file changes.
+/// ReadFault names a path that is tried; and the count of Absent answers rises once for each path that is tried and has no file, and no
+/// more. Whatever is told, a set has its shape, ReadFault comes only where the count of read faults rose in this call, Missing only where
+/// that of Absent answers did, and no file changes.
 pub fn gather<F: Files>(alloc: Global, files: &mut F, o: &SetOptions) -> Result<ClosedSet, SetFault>
     ensures answer { ForSome (F.seen files.old).told (λ m. GathersFrom (get m) (options_of o.now) result) }
     ensures only { ForSome (F.seen files.old).told (λ m. OnlyGathers (get m) (options_of o.now) result) }
+    ensures tried { IfOk result (λ S. CountsFor (F.seen files.old).told (options_of o.now) (Ok (set_of S)) (F.seen files.old).absents (F.seen files.new).absents) }
+    ensures broken { IfErr result (λ e. CountsFor (F.seen files.old).told (options_of o.now) (Err e) (F.seen files.old).absents (F.seen files.new).absents) }
 
     // Whatever is told.
     ensures set { IfOk result (λ S. gathering.IsSet (set_of S)) }

@@ -1,11 +1,12 @@
 // The file of the next name.
-ghost use Rattle.std.specs.Prelude.{◌≡◌, ◌<◌, List, ℕ, map, length, slice_get, Some, None, Ok, Err, IfOk, IfErr};
+ghost use Rattle.std.specs.Prelude.{◌≡◌, ◌<◌, List, ℕ, map, length, slice_get, Some, None, Ok, Err, IfOk, IfErr, OnOk};
 ghost use Rattle.std.specs.Option.{ForSome};
 ghost use Rattle.std.specs.FinMap.{get};
 ghost use Rattle.dyl_outside.specs.Faults.{Rises};
 ghost use Rattle.spec_linking.specs.Gathering.{paths_from};
 ghost use Rattle.dyl_search.specs.Found.{Finds, Leaves};
-ghost use Rattle.dyl_search.specs.Gathers.{options_of, member_of, Stands, IsNextFile, Stops, OrMissing, IsSearchFault};
+ghost use Rattle.dyl_search.specs.Absents.{CountsFor};
+ghost use Rattle.dyl_search.specs.Gathers.{options_of, member_of, Stands, Counted, CountsNext, IsNextFile, Stops, OrMissing, IsSearchFault};
 ghost use Rattle.spec_linking.specs.declared.fault.SetFault.TheVariants as faults;
 
 use crate::find::{Found, find_at, find_needed};
@@ -32,7 +33,7 @@ fn find_wanted<F: Files>(
     needed_by: u32,
     most: usize,
 ) -> Result<Option<Found>, SetFault>
-    ensures answer { Finds (F.seen files.old).told (paths_from (options_of o.now) name.now (slice_get (map member_of members.now) needed_by)) most result }
+    ensures answer { Finds (F.seen files.old).told (paths_from (options_of o.now) name.now (slice_get (map member_of members.now) needed_by)) most result (F.seen files.old).absents (F.seen files.new).absents }
     ensures outside { Leaves result (F.seen files.old) (F.seen files.new) }
     ensures absent { result ≡ Ok None → Rises (F.seen files.old).absents (F.seen files.new).absents }
 {
@@ -72,6 +73,8 @@ pub fn find_next<F: Files>(
     ensures found { IfOk result (IsNextFile (F.seen files.old).told o.now g.now) }
     ensures stops { IfErr result (λ e. ForSome (F.seen files.old).told (λ m. Stops (get m) (options_of o.now) e)) }
     ensures fault { IfErr result IsSearchFault }
+    ensures tried { OnOk result (CountsNext (F.seen files.old).told o.now g.now (F.seen files.old).absents (F.seen files.new).absents) }
+    ensures broken { (start : ℕ) → Counted (F.seen files.old).told o.now g.now start (F.seen files.old).absents → IfErr result (λ e. CountsFor (F.seen files.old).told (options_of o.now) (Err e) start (F.seen files.new).absents) }
     ensures outside { Leaves result (F.seen files.old) (F.seen files.new) }
     ensures absent { (name : List ℕ) → result ≡ Err (faults.Missing name) → Rises (F.seen files.old).absents (F.seen files.new).absents }
 {

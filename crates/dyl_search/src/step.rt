@@ -5,7 +5,8 @@ ghost use Rattle.std.specs.FinMap.{get};
 ghost use Rattle.dyl_outside.specs.Faults.{Rises};
 ghost use Rattle.spec_linking.specs.Wanted.{with_names, with_later, number_of};
 ghost use Rattle.dyl_search.specs.Found.{Leaves};
-ghost use Rattle.dyl_search.specs.Gathers.{options_of, Stands, Stops, IsWhole};
+ghost use Rattle.dyl_search.specs.Absents.{CountsFor};
+ghost use Rattle.dyl_search.specs.Gathers.{options_of, Stands, Counted, Stops, IsWhole};
 ghost use Rattle.dyl_search.specs.Steps.{AreNamed, IsMade};
 ghost use Rattle.spec_linking.specs.declared.fault.SetFault.TheVariants as faults;
 
@@ -119,6 +120,8 @@ pub fn step<F: Files>(
     requires more { length g.old.members.items < length g.old.names }
     ensures stands { OnOk result (Stands (F.seen files.old).told o.now g.new) }
     ensures one_more { OnOk result (length g.new.members.items ≡ length g.old.members.items + 1) }
+    ensures tried { (start : ℕ) → Counted (F.seen files.old).told o.now g.old start (F.seen files.old).absents → OnOk result (Counted (F.seen files.old).told o.now g.new start (F.seen files.new).absents) }
+    ensures broken { (start : ℕ) → Counted (F.seen files.old).told o.now g.old start (F.seen files.old).absents → IfErr result (λ e. CountsFor (F.seen files.old).told (options_of o.now) (Err e) start (F.seen files.new).absents) }
     ensures stops { IfErr result (λ e. ForSome (F.seen files.old).told (λ m. Stops (get m) (options_of o.now) e)) }
     ensures whole { IfErr result IsWhole }
     ensures outside { Leaves result (F.seen files.old) (F.seen files.new) }

@@ -11,5 +11,5 @@ invariant-loop-directory g l = record {
   reads : (g.F.Files.seen l.files).read_faults ≡ (g.F.Files.seen l.fn.files).read_faults;
   writes : (g.F.Files.seen l.files).write_faults ≡ (g.F.Files.seen l.fn.files).write_faults;
   absents : (g.F.Files.seen l.fn.files).absents ≤ (g.F.Files.seen l.files).absents;
-  none : NoneAt (g.F.Files.seen l.fn.files).told (map (λ d. in_directory (expanded_from (option_copied l.from) d) l.name) (take l.directory-index l.directories));
+  none : NoneAt (g.F.Files.seen l.fn.files).told (map (λ d. in_directory (expanded_from (option_copied l.from) d) l.name) (take l.directory-index l.directories)) (g.F.Files.seen l.fn.files).absents (g.F.Files.seen l.files).absents;
 }

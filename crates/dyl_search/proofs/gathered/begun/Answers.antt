@@ -7,7 +7,7 @@ use Rattle.dyl_search.proofs.gathered.begun.Goals as goal
 named : List ℕ → List Wanted
 named name = record { name = name; needed_by = 0 } ∷ []
 
-pub returns : goal.returns
+pub returns-clause-stands : goal.returns-clause-stands
 unfolding named
-returns c = λ told. begins told c.args.o.now (record { names = c.in_ok-names.names; members = c.new.result; total = 0 }) c.new.ensures.items
+returns-clause-stands c = λ told. begins told c.args.o.now (record { names = c.in_ok-names.names; members = c.new.result; total = 0 }) c.new.ensures.items
     (c.in_ok-names.ensures ∙ ap named (c.name_of.ensures ∙ ap main_name c.as_str.ensures)) refl
