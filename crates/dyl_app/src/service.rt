@@ -13,19 +13,23 @@ ghost use Rattle.dyl_commands.specs.Causes.{Caused, has_inner_memory};
 ghost use Rattle.dyl_commands.specs.Told.{TellsErrors};
 ghost use Rattle.dyl_commands.specs.Served.{Serves};
 ghost use Rattle.dyl_commands.specs.Runs.{guest_arguments, PlanWorks, GenWorks};
-ghost use Rattle.dyl_commands.specs.Clauses.{DoesBy, RunDoes, ExecDoes};
+ghost use Rattle.dyl_commands.specs.Clauses.{DoesBy, RunDoes, ExecDoes, TraceDoes};
 
-use dyl_commands::{exec_file, gen_main, merge_main, plan_main, run_main, tell};
+use dyl_commands::{
+    exec_file, gen_main, merge_main, plan_main, replay_main, run_main, tell, trace_main,
+};
 use dyl_front::{Order, Outcome, WordFault, read_words};
 use dyl_gen::generated_set_links;
 use dyl_link::LinkOptions;
 use dyl_link::dyl_search::SetOptions;
 use dyl_link::dyl_section::one_record_answer;
 use dyl_link::host_table::HostTable;
+use replay_check::runs_agree_up_to_one_call;
 use spec_hosts::dyl_outside::{Ambient, Files, Sink, Source};
 use spec_linking::one_gathered;
 use spec_merging::wasm_form::Text;
 use spec_reading::reading_answers;
+use spec_traces::texts_are_of_one_trace;
 use std::alloc::Global;
 
 /// Merges a set, and tells what came of it.
@@ -139,6 +143,55 @@ fn perform_gen<O: Sink, E: Sink>(
     tell(alloc, made, errors)
 }
 
+/// Runs a set or a module, writes the trace of the run, and tells what came of it.
+fn perform_trace<F: Files, I: Source, O: Sink, E: Sink, A: Ambient>(
+    alloc: Global,
+    one: bool,
+    set: &SetOptions,
+    link: &LinkOptions,
+    steps: u64,
+    out: &str,
+    args: &[Text],
+    files: &mut F,
+    input: &mut I,
+    output: &mut O,
+    errors: &mut E,
+    ambient: &mut A,
+    host: &HostTable,
+) -> Outcome
+    requires link { IsLinkInRange link.now }
+    requires steps { steps ≤ 9223372036854775807 }
+    ensures serves { Serves (names_of host.now) (Ok (Order.Trace one set.now link.now steps out.now args.now)) result (F.seen files.old) (F.seen files.new) (O.seen output.old).faults (O.seen output.new).faults }
+    ensures does { TraceDoes host.now (F.seen files.old) one set.now link.now steps out.now args.now result (I.seen input.old) (O.seen output.old) (E.seen errors.old) (A.seen ambient.old) (I.seen input.new) (O.seen output.new) (E.seen errors.new) (A.seen ambient.new) }
+    ensures quiet { is_done result ≡ true → errors.new ≡ errors.old }
+{
+    let traced = trace_main(
+        alloc, one, set, link, steps, out, args, files, input, output, errors, ambient, host,
+    );
+    tell(alloc, traced, errors)
+}
+
+/// Checks that a file is the trace of a run of a set or a module, and tells what came of it.
+fn perform_replay<F: Files, E: Sink>(
+    alloc: Global,
+    one: bool,
+    trace: &str,
+    set: &SetOptions,
+    link: &LinkOptions,
+    steps: u64,
+    files: &mut F,
+    errors: &mut E,
+    host: &HostTable,
+) -> Outcome
+    requires { IsLinkInRange link.now }
+    ensures serves { (before now : ℕ) → Serves (names_of host.now) (Ok (Order.Replay one trace.now set.now link.now steps)) result (F.seen files.old) (F.seen files.new) before now }
+    ensures told { TellsErrors result (E.seen errors.old) (E.seen errors.new) }
+    ensures quiet { is_done result ≡ true → errors.new ≡ errors.old }
+{
+    let replayed = replay_main(alloc, one, trace, set, link, steps, files, host);
+    tell(alloc, replayed, errors)
+}
+
 /// Does what an order asks for, and answers what came of it, as `serve` does for words.
 pub fn perform<F: Files, I: Source, O: Sink, E: Sink, A: Ambient>(
     alloc: Global,
@@ -151,7 +204,7 @@ pub fn perform<F: Files, I: Source, O: Sink, E: Sink, A: Ambient>(
     host: &HostTable,
 ) -> Outcome
     requires { IsInRange order.now }
-    ensures due { ForSome (F.seen files.old).told (λ told. (due : Outcome) → DueFor (names_of host.now) (get told) (Ok order.now) due → Yields due result) }
+    ensures due { ForSome (F.seen files.old).told (λ told. (due : Outcome) → DueFor (names_of host.now) (get told) (Ok order.now) due → Yields (Ok order.now) due result) }
     ensures tells { ForSome (F.seen files.old).told (λ told. TellsFor (names_of host.now) (get told) (Ok order.now) result) }
     ensures files { ForSome (F.seen files.old).told (λ told. LeavesFor (names_of host.now) (Ok order.now) told result (F.seen files.old) (F.seen files.new)) }
     ensures complete { ForSome (F.seen files.old).told (λ told. IsComplete (names_of host.now) (get told) (Ok order.now) result (F.seen files.old) (F.seen files.new) (O.seen output.old).faults (O.seen output.new).faults) }
@@ -164,6 +217,8 @@ pub fn perform<F: Files, I: Source, O: Sink, E: Sink, A: Ambient>(
     one_record_answer();
     one_gathered();
     generated_set_links();
+    texts_are_of_one_trace();
+    runs_agree_up_to_one_call();
     match order {
         Order::Merge { set, link, out } => {
             perform_merge(alloc, set, link, out.as_str(), files, errors, host)
@@ -202,6 +257,45 @@ pub fn perform<F: Files, I: Source, O: Sink, E: Sink, A: Ambient>(
             ambient,
             host,
         ),
+        Order::Trace {
+            one,
+            set,
+            link,
+            steps,
+            out,
+            args,
+        } => perform_trace(
+            alloc,
+            *one,
+            set,
+            link,
+            *steps,
+            out.as_str(),
+            args.items(),
+            files,
+            input,
+            output,
+            errors,
+            ambient,
+            host,
+        ),
+        Order::Replay {
+            one,
+            trace,
+            set,
+            link,
+            steps,
+        } => perform_replay(
+            alloc,
+            *one,
+            trace.as_str(),
+            set,
+            link,
+            *steps,
+            files,
+            errors,
+            host,
+        ),
     }
 }
 
@@ -217,10 +311,14 @@ pub fn perform<F: Files, I: Source, O: Sink, E: Sink, A: Ambient>(
 ///   runs to the output.
 /// - `run MAIN` gathers and links the set, and runs it as loaded.
 /// - `exec FILE` runs the module at the path FILE.
+/// - `trace MAIN OUT` runs the set as `run` does, or with `--one` the module at the path MAIN as `exec` does, and writes the trace of the run
+///   at OUT: its host calls with their answers, its steps and its end. A trace of more than 67,108,864 bytes is not written.
+/// - `replay TRACE MAIN` checks that the file at TRACE is the trace of a run of the set, or with `--one` of the module at the path MAIN: it is
+///   done exactly where the steps of that program over the answers of the trace come to its host calls and to its end.
 ///
-/// A run of `run` and `exec` makes at most 1,000,000,000 steps, or as many as `--steps` says. Its calls of `wasi_snapshot_preview1` are
-/// answered over the input, the output, the errors, the clock and the random words, and others by the callbacks of the table. The options of
-/// a set are `--dl`, `--path`, `--pages`, `--stack` and `--no-duplicates`.
+/// A run of `run`, `exec` and `trace` makes at most 1,000,000,000 steps, or as many as `--steps` says, and so does one that is replayed. Calls
+/// of `wasi_snapshot_preview1` are answered over the input, the output, the errors, the clock and the random words, and others by the
+/// callbacks of the table. The options of a set are `--dl`, `--path`, `--pages`, `--stack` and `--no-duplicates`.
 ///
 /// What is not done, and the end of a run that neither returned nor exited, is told by one line, which is put to the errors at the end.
 pub fn serve<F: Files, I: Source, O: Sink, E: Sink, A: Ambient>(
@@ -234,7 +332,7 @@ pub fn serve<F: Files, I: Source, O: Sink, E: Sink, A: Ambient>(
     host: &HostTable,
 ) -> Outcome
     // The answer is the outcome that is due over the files that are told, and what it tells of them holds.
-    ensures due { ForSome (F.seen files.old).told (λ told. (due : Outcome) → DueFor (names_of host.now) (get told) (order_of words.now) due → Yields due result) }
+    ensures due { ForSome (F.seen files.old).told (λ told. (due : Outcome) → DueFor (names_of host.now) (get told) (order_of words.now) due → Yields (order_of words.now) due result) }
     ensures tells { ForSome (F.seen files.old).told (λ told. TellsFor (names_of host.now) (get told) (order_of words.now) result) }
     ensures files { ForSome (F.seen files.old).told (λ told. LeavesFor (names_of host.now) (order_of words.now) told result (F.seen files.old) (F.seen files.new)) }
 

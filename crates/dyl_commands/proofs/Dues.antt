@@ -1,26 +1,22 @@
 -- At most one outcome is due; so what an answer tells says what it is where one is due.
-use Rattle.std.proofs.Common.{◌≡◌, ◌⊎◌, ◌<◌, ◌≤◌, ◌^◌, arith, ℕ, nat_le, List, [], Bool, true, false, cond, Option, Some, None, Result, Ok, Err, refl, sym, ap, ◌∙◌, subst, inl, inr}
+use Rattle.std.proofs.Common.{◌≡◌, ◌⊎◌, ◌<◌, ◌≤◌, ◌^◌, arith, ℕ, nat_le, List, [], Bool, true, false, cond, Some, None, Result, Ok, Err, refl, sym, ap, ◌∙◌, subst, inl, inr}
 use Rattle.std.proofs.lemmas.Bool.Decides.{nat_tests}
 use Rattle.std.specs.Option.{ForSome}
 use Rattle.std.specs.FinMap.{get}
-use Rattle.wasm_form.specs.declared.module.Module.{Module}
 use Rattle.spec_hosts.specs.dyl_outside.Files.{FilesState}
 use Rattle.spec_hosts.specs.dyl_outside.Faults.{Rose}
 use Rattle.spec_hosts.specs.spec_runtime.Names.{HostNames}
-use Rattle.spec_loading.specs.spec_execution.declared.fault.SingleFault.{SingleFault}
-use Rattle.spec_loading.specs.spec_execution.OneModule.{ModuleState, module_opening}
 use Rattle.spec_hosts.specs.declared.ran.Ran as ran
-use Rattle.spec_hosts.specs.declared.ran.RunEnd.TheVariants as end
 use Rattle.spec_loading.specs.spec_linking.declared.fault.LinkFault.{LinkFault}
 use Rattle.spec_loading.specs.spec_linking.declared.fault.LinkFault.TheVariants.{MemoryLimit}
 use Rattle.spec_loading.specs.spec_linking.declared.fault.SetFault.{SetFault}
 use Rattle.spec_loading.specs.spec_linking.declared.fault.SetFault.TheVariants.{ReadFault}
-use Rattle.spec_loading.specs.spec_linking.Sets.{Files, ClosedSet, SetOptions}
-use Rattle.spec_loading.specs.spec_linking.Gathering.{IsGathered}
+use Rattle.spec_loading.specs.spec_linking.Sets.{Files, SetOptions}
 use Rattle.spec_loading.specs.spec_linking.Plans.{LinkOptions, limit}
-use Rattle.spec_loading.specs.spec_linking.Links.{link_fault}
-use Rattle.spec_loading.specs.spec_linking.Laws.{OneAnswer, OneRecord, OneGathered}
+use Rattle.spec_loading.specs.spec_linking.Laws.{OneGathered}
 use Rattle.spec_reading.specs.Laws.{ReadingAnswers}
+use Rattle.spec_traces.specs.Laws.{OneTrace}
+use Rattle.replay_check.specs.Laws.{OneAgreeing}
 use Rattle.dyl_link.specs.dyl_section.Laws.{OneRecordAnswer}
 use Rattle.dyl_gen.specs.declared.fault.GenFault.{GenFault}
 use Rattle.dyl_gen.specs.declared.fault.GenFault.TheVariants.{Range}
@@ -34,119 +30,18 @@ use Rattle.dyl_link.specs.declared.options.LinkOptions as linking
 use Rattle.dyl_link.specs.Kept as links
 use Rattle.dyl_front.specs.declared.outcome.UsageKind.{UsageKind}
 use Rattle.dyl_front.specs.declared.outcome.Outcome.{Outcome}
-use Rattle.dyl_front.specs.declared.outcome.Outcome.TheVariants.{Done, Ran, Usage, Set, Link, Merge, Single, Gen, WriteFault, Memory}
+use Rattle.dyl_front.specs.declared.outcome.Outcome.TheVariants.{Done, Ran, Usage, Set, Link, Merge, Single, Gen, Trace, TooLong, WriteFault, Memory}
 use Rattle.dyl_front.specs.declared.order.Order.{Order}
 use Rattle.dyl_front.specs.declared.order.Order.TheVariants as order
-use Rattle.dyl_commands.specs.OneFile.{OfFile}
-use Rattle.dyl_commands.specs.Linking.{linked, LinksAt, FaultDue}
+use Rattle.dyl_commands.specs.Linking.{linked, LinksAt}
+use Rattle.dyl_commands.specs.Traced.{LoadFault, ReplayDue}
 use Rattle.dyl_commands.specs.Generated.{GenDue}
-use Rattle.dyl_commands.specs.Due.{MergeDue, RunDue, PlanDue, ExecDue, DueFor, TellsFor, MergeFaultTells, is_run, is_done, Yields, IsComplete}
-use Rattle.dyl_commands.specs.Causes.{Caused}
+use Rattle.dyl_commands.specs.Due.{MergeDue, RunDue, PlanDue, ExecDue, TraceDue, DueFor, TellsFor, MergeFaultTells, TooLongTells, WriteFaultTells, is_run, is_done, is_written, is_traced, Yields, IsComplete}
+use Rattle.dyl_commands.specs.Causes.{ProgramCause, FaultCause, WriteCause, IsTraceOrder, Caused}
 use Rattle.dyl_commands.specs.Served.{Serves}
-use Rattle.dyl_commands.proofs.OneFile.{one_of_file}
-
--- what is so of definitions
-pub record Laws : Type 0 where
-  pub one_answer : OneAnswer
-  pub one_record : OneRecord
-  pub one_gathered : OneGathered
-  pub three_pages : NeedsThreePages
-
--- some run, which stands for each
-abbrev any_run : Outcome
-any_run = Ran (record { end = end.Return; steps = 0; answers = [] })
-
-abbrev canon : Outcome → Outcome
-canon (Ran ran) = any_run
-canon (Done runs) = Done []
-canon outcome = outcome
-
--- the same outcome, or one whose runs may be others
-abbrev pub Alike : Outcome → Outcome → Type 0
-Alike due answer = canon due ≡ canon answer
-
--- the outcome by the link fault of the set
-abbrev verdict : Outcome → Option LinkFault → Outcome
-verdict done None = done
-verdict done (Some fault) = Link fault
-
--- ---- a set
-
-module _ (laws : Laws) (names : HostNames) (files : Files) (o : SetOptions) (l : LinkOptions) (done : Outcome) where
-  abbrev BySet : Result ClosedSet SetFault → Outcome → Type 0
-  BySet (Ok S) due = canon due ≡ verdict done (link_fault (linked names l S))
-  BySet (Err fault) due = canon due ≡ Set fault
-
-  one_by_set : (answer : Result ClosedSet SetFault) (a b : Outcome) → BySet answer a → BySet answer b → Alike a b
-  one_by_set (Ok S) a b h k = h ∙ sym k
-  one_by_set (Err fault) a b h k = h ∙ sym k
-
-  abbrev pub SetBy : Outcome → Type 0
-  SetBy due = (answer : Result ClosedSet SetFault) × IsGathered files o answer × BySet answer due
-
-  pub one_set_due : (a b : Outcome) → SetBy a → SetBy b → Alike a b
-  one_set_due a b x y =
-      let same = (laws.one_gathered laws.one_answer laws.one_record files o x.1.tried y.1.tried x.0 y.0 x.1.gathers y.1.gathers).1 in
-      one_by_set y.0 a b (subst (λ answer. BySet answer a) same x.2) y.2
-
-  -- a set that links
-  pub links_by : (due : Outcome) (S : ClosedSet) → IsGathered files o (Ok S) → link_fault (linked names l S) ≡ None → canon due ≡ done → SetBy due
-  links_by due S gathered links same = (Ok S, gathered, same ∙ ap (verdict done) (sym links))
-
-  pub fault_by : (due : Outcome) → FaultDue names files o l due → SetBy due
-  fault_by (Set fault) d = (Err fault, d, refl)
-  fault_by (Link fault) d = (Ok d.set, d.gathered, ap (verdict done) (sym d.found))
-  fault_by _ d = absurd d
-
-module _ (laws : Laws) (names : HostNames) (files : Files) (o : SetOptions) (l : LinkOptions) where
-  merge_by : (due : Outcome) → MergeDue names files o l due → SetBy laws names files o l (Done []) due
-  merge_by (Done []) d = links_by laws names files o l (Done []) (Done []) d.set d.gathered d.links refl
-  merge_by due d = fault_by laws names files o l (Done []) due d
-
-  run_by : (due : Outcome) → RunDue names files o l due → SetBy laws names files o l any_run due
-  run_by (Ran ran) d = links_by laws names files o l any_run (Ran ran) d.set d.gathered d.links refl
-  run_by due d = fault_by laws names files o l any_run due d
-
-  plan_by : (due : Outcome) → PlanDue names files o l due → SetBy laws names files o l (Done []) due
-  plan_by (Done []) d = links_by laws names files o l (Done []) (Done []) d.set d.gathered d.links refl
-  plan_by due d = fault_by laws names files o l (Done []) due d
-
-  one_merge_due : (a b : Outcome) → MergeDue names files o l a → MergeDue names files o l b → Alike a b
-  one_merge_due a b h k = one_set_due laws names files o l (Done []) a b (merge_by a h) (merge_by b k)
-
-  one_run_due : (a b : Outcome) → RunDue names files o l a → RunDue names files o l b → Alike a b
-  one_run_due a b h k = one_set_due laws names files o l any_run a b (run_by a h) (run_by b k)
-
-  one_plan_due : (a b : Outcome) → PlanDue names files o l a → PlanDue names files o l b → Alike a b
-  one_plan_due a b h k = one_set_due laws names files o l (Done []) a b (plan_by a h) (plan_by b k)
-
--- ---- one module
-
-module _ (laws : Laws) (names : HostNames) (files : Files) (path : List ℕ) where
-  abbrev opened : Result ModuleState SingleFault → Outcome
-  opened (Ok opening) = any_run
-  opened (Err fault) = Single fault
-
-  abbrev ByFile : Result Module SetFault → Outcome → Type 0
-  ByFile (Ok wasm) due = canon due ≡ opened (module_opening wasm names)
-  ByFile (Err fault) due = canon due ≡ Set fault
-
-  one_by_file : (said : Result Module SetFault) (a b : Outcome) → ByFile said a → ByFile said b → Alike a b
-  one_by_file (Ok wasm) a b h k = h ∙ sym k
-  one_by_file (Err fault) a b h k = h ∙ sym k
-
-  exec_by : (due : Outcome) → ExecDue names files path due → (said : Result Module SetFault) × OfFile files path said × ByFile said due
-  exec_by (Ran ran) d = (Ok d.wasm, d.file, ap opened (sym d.opens))
-  exec_by (Set fault) d = (Err fault, d, refl)
-  exec_by (Single fault) d = (Ok d.wasm, d.file, ap opened (sym d.refused))
-  exec_by _ d = absurd d
-
-  one_exec_due : (a b : Outcome) → ExecDue names files path a → ExecDue names files path b → Alike a b
-  one_exec_due a b h k =
-      let x = exec_by a h in
-      let y = exec_by b k in
-      let same = one_of_file laws.one_answer path files x.0 y.0 x.1 y.1 in
-      one_by_file y.0 a b (subst (λ said. ByFile said a) same x.2) y.2
+use Rattle.dyl_commands.proofs.Alike.{Laws, any_run, canon, Alike, verdict, one_merge_due, one_run_due, one_plan_due, one_exec_due}
+use Rattle.dyl_commands.proofs.Programs.{run_due}
+use Rattle.dyl_commands.proofs.OneReplay.{one_replay_due}
 
 -- ---- a generated set
 
@@ -178,6 +73,13 @@ module _ (laws : Laws) (names : HostNames) (can : CanWrite names) (n pages : ℕ
   one_gen_due : (a b : Outcome) → GenDue names n pages a → GenDue names n pages b → Alike a b
   one_gen_due a b h k = one_gen_by a b (gen_by a h) (gen_by b k)
 
+-- ---- causes
+
+-- a path that can't be read, of what is run
+read_rose : (old new : FilesState) (one : Bool) (path at : List ℕ) → ProgramCause one path (ReadFault at) old new → Rose old.read_faults new.read_faults
+read_rose old new false path at h = h.rose
+read_rose old new true path at h = h.1.rose
+
 -- ---- runs
 
 -- an outcome carries what came of runs
@@ -196,6 +98,8 @@ canon_is (Link fault) none = refl
 canon_is (Merge fault) none = refl
 canon_is (Single fault) none = refl
 canon_is (Gen fault) none = refl
+canon_is (Trace fault) none = refl
+canon_is (TooLong run) none = refl
 canon_is WriteFault none = refl
 canon_is Memory none = refl
 
@@ -210,6 +114,8 @@ module _ (test : Outcome → Bool) (of_runs : (r : ran.Ran) → test any_run ≡
   canon_tests (Merge fault) = refl
   canon_tests (Single fault) = refl
   canon_tests (Gen fault) = refl
+  canon_tests (Trace fault) = refl
+  canon_tests (TooLong run) = refl
   canon_tests WriteFault = refl
   canon_tests Memory = refl
 
@@ -227,6 +133,23 @@ no_runs due answer none alike = sym (canon_is due (alike_tests carries_runs (λ 
 
 -- ---- what is asked
 
+module _ (laws : Laws) (names : HostNames) (files : Files) (o : SetOptions) (l : LinkOptions) where
+  one_trace_due : (one : Bool) (a b : Outcome) → TraceDue names files one o l a → TraceDue names files one o l b → Alike a b
+  one_trace_due false a b h k = one_run_due laws names files o l a b h k
+  one_trace_due true a b h k = one_exec_due laws names files o.main a b h k
+
+  no_trace_usage : (one : Bool) (kind : UsageKind) → TraceDue names files one o l (Usage kind) → ⊥
+  no_trace_usage false kind h = h
+  no_trace_usage true kind h = h
+
+  no_load_usage : (one : Bool) (kind : UsageKind) → LoadFault names files one o l (Usage kind) → ⊥
+  no_load_usage false kind h = h
+  no_load_usage true kind h = h
+
+  no_replay_usage : (one : Bool) (path : List ℕ) (most : ℕ) (kind : UsageKind) → ReplayDue names files one path o l most (Usage kind) → ⊥
+  no_replay_usage one path most kind (inl h) = h
+  no_replay_usage one path most kind (inr h) = no_load_usage one kind h.2
+
 module _ (laws : Laws) (names : HostNames) (can : CanWrite names) (files : Files) where
   one_due : (asked : Result Order UsageKind) (a b : Outcome) → DueFor names files asked a → DueFor names files asked b → Alike a b
   one_due (Err kind) a b h k = ap canon (h ∙ sym k)
@@ -235,6 +158,8 @@ module _ (laws : Laws) (names : HostNames) (can : CanWrite names) (files : Files
   one_due (Ok (order.Exec file steps args)) a b h k = one_exec_due laws names files file a b h k
   one_due (Ok (order.Plan o l)) a b h k = one_plan_due laws names files (options_of o) (links.options_of l) a b h k
   one_due (Ok (order.Gen n pages steps)) a b h k = one_gen_due laws names can n pages a b h k
+  one_due (Ok (order.Trace one o l steps out args)) a b h k = one_trace_due laws names files (options_of o) (links.options_of l) one a b h k
+  one_due (Ok (order.Replay one path o l steps)) a b h k = one_replay_due laws names files one path (options_of o) (links.options_of l) steps a b h k
 
   no_usage : (asked : Result Order UsageKind) (at : List ℕ) (due : Outcome) → TellsFor names files asked (Set (ReadFault at)) → DueFor names files asked due → (kind : UsageKind) → due ≡ Usage kind → ⊥
   no_usage (Err other) at due tells d kind is = tells
@@ -243,29 +168,45 @@ module _ (laws : Laws) (names : HostNames) (can : CanWrite names) (files : Files
   no_usage (Ok (order.Exec file steps args)) at due tells d kind is = subst (ExecDue names files file) is d
   no_usage (Ok (order.Plan o l)) at due tells d kind is = subst (PlanDue names files (options_of o) (links.options_of l)) is d
   no_usage (Ok (order.Gen n pages steps)) at due tells d kind is = tells
+  no_usage (Ok (order.Trace one o l steps out args)) at due tells d kind is =
+      no_trace_usage laws names files (options_of o) (links.options_of l) one kind (subst (TraceDue names files one (options_of o) (links.options_of l)) is d)
+  no_usage (Ok (order.Replay one path o l steps)) at due tells d kind is =
+      no_replay_usage laws names files (options_of o) (links.options_of l) one path steps kind (subst (ReplayDue names files one path (options_of o) (links.options_of l) steps) is d)
 
   -- where a section is too long, Done is due
   done_due : (asked : Result Order UsageKind) (fault : MergeFault) → MergeFaultTells names files asked fault → DueFor names files asked (Done [])
   done_due (Ok (order.Merge o l out)) (merge.SectionSize id) h = h.merges
   done_due _ _ h = absurd h
 
+  -- where a trace is too long, a run is due
+  long_due : (asked : Result Order UsageKind) (run : ran.Ran) → TooLongTells names files asked run → DueFor names files asked (Ran run)
+  long_due (Ok (order.Trace one o l steps out args)) run h = h
+  long_due _ run h = absurd h
+
+  -- what is due is written where a write fault is told
+  written_due : (asked : Result Order UsageKind) → WriteFaultTells names files asked → (due : Outcome) → DueFor names files asked due → is_written asked due ≡ true
+  written_due (Ok (order.Trace one o l steps out args)) t due d = a_run due (Ran t.0) (one_due (Ok (order.Trace one o l steps out args)) due (Ran t.0) d t.1)
+  written_due asked t due d = a_done due (Done []) (one_due asked due (Done []) d t)
+
   -- where an outcome is due, the answer is that one, or yields
-  told_yields : (asked : Result Order UsageKind) (answer : Outcome) → TellsFor names files asked answer → (due : Outcome) → DueFor names files asked due → Yields due answer
+  told_yields : (asked : Result Order UsageKind) (answer : Outcome) → TellsFor names files asked answer → (due : Outcome) → DueFor names files asked due → Yields asked due answer
   told_yields asked answer tells due d = go answer tells
     where
-      go : (a : Outcome) → TellsFor names files asked a → Yields due a
+      go : (a : Outcome) → TellsFor names files asked a → Yields asked due a
       go Memory t = tt
-      go WriteFault t = a_done due (Done []) (one_due asked due (Done []) d t)
+      go WriteFault t = written_due asked t due d
       go (Merge fault) t = a_done due (Done []) (one_due asked due (Done []) d (done_due asked fault t))
-      go (Ran ran) t = a_run due (Ran ran) (one_due asked due (Ran ran) d t)
+      go (Ran run) t = a_run due (Ran run) (one_due asked due (Ran run) d t)
+      go (TooLong run) t = a_run due (Ran run) (one_due asked due (Ran run) d (long_due asked run t))
       go (Done runs) t = a_done due (Done runs) (one_due asked due (Done runs) d t)
       go (Usage kind) t = no_runs due (Usage kind) refl (one_due asked due (Usage kind) d t)
       go (Link fault) t = no_runs due (Link fault) refl (one_due asked due (Link fault) d t)
       go (Gen fault) t = no_runs due (Gen fault) refl (one_due asked due (Gen fault) d t)
+      go (Trace fault) t = no_runs due (Trace fault) refl (one_due asked due (Trace fault) d t)
       go (Single fault) t = no_runs due (Single fault) refl (one_due asked due (Single fault) d t)
       go (Set fault) t = of_set fault t
         where
-          of_set : (fault : SetFault) → TellsFor names files asked (Set fault) → Yields due (Set fault)
+          of_set : (fault : SetFault) → TellsFor names files asked (Set fault) → Yields asked due (Set fault)
           of_set (ReadFault at) t = no_usage asked at due t d
           of_set other t = no_runs due (Set other) refl (one_due asked due (Set other) d t)
 
@@ -290,56 +231,95 @@ module _ (laws : Laws) (names : HostNames) (can : CanWrite names) (files : Files
         too_big n big few = omega arith
 
     merged_whole : (o : search.SetOptions) (l : linking.LinkOptions) (out : List ℕ) (answer : Outcome) (m : LinksAt names files (options_of o) (links.options_of l))
-        → TellsFor names files (Ok (order.Merge o l out)) answer → Yields (Done []) answer → Caused names (Ok (order.Merge o l out)) answer old new before now
+        → TellsFor names files (Ok (order.Merge o l out)) answer → Yields (Ok (order.Merge o l out)) (Done []) answer → Caused names (Ok (order.Merge o l out)) answer old new before now
         → bulk (linked names (links.options_of l) m.set) < 2 ^ 32 → ¬ Rose old.read_faults new.read_faults → ¬ Rose old.write_faults new.write_faults → (answer ≡ Done []) ⊎ (answer ≡ Memory)
     merged_whole o l out (Done runs) m tells y caused few reads writes = inl (ap Done caused)
     merged_whole o l out Memory m tells y caused few reads writes = inr refl
     merged_whole o l out (Merge fault) m tells y caused few reads writes = absurd (not_long o l out fault m tells few)
     merged_whole o l out WriteFault m tells y caused few reads writes = absurd (writes caused.rose)
-    merged_whole o l out (Ran ran) m tells y caused few reads writes = absurd cc
+    merged_whole o l out (Ran run) m tells y caused few reads writes = absurd cc
+    merged_whole o l out (TooLong run) m tells y caused few reads writes = absurd cc
+    merged_whole o l out (Trace fault) m tells y caused few reads writes = absurd cc
     merged_whole o l out (Usage kind) m tells y caused few reads writes = absurd cc
     merged_whole o l out (Link fault) m tells y caused few reads writes = absurd cc
     merged_whole o l out (Single fault) m tells y caused few reads writes = absurd cc
     merged_whole o l out (Gen fault) m tells y caused few reads writes = absurd cc
     merged_whole o l out (Set fault) m tells y caused few reads writes = of_set fault y caused
       where
-        of_set : (fault : SetFault) → Yields (Done []) (Set fault) → Caused names (Ok (order.Merge o l out)) (Set fault) old new before now → (Set fault ≡ Done []) ⊎ (Set fault ≡ Memory)
+        of_set : (fault : SetFault) → Yields (Ok (order.Merge o l out)) (Done []) (Set fault) → Caused names (Ok (order.Merge o l out)) (Set fault) old new before now → (Set fault ≡ Done []) ⊎ (Set fault ≡ Memory)
         of_set (ReadFault at) y caused = absurd (reads caused.rose)
         of_set other y caused = absurd cc
 
-    listed_whole : (o : search.SetOptions) (l : linking.LinkOptions) (answer : Outcome) → Yields (Done []) answer → Caused names (Ok (order.Plan o l)) answer old new before now
+    listed_whole : (o : search.SetOptions) (l : linking.LinkOptions) (answer : Outcome) → Yields (Ok (order.Plan o l)) (Done []) answer → Caused names (Ok (order.Plan o l)) answer old new before now
         → ¬ Rose old.read_faults new.read_faults → ¬ Rose before now → (answer ≡ Done []) ⊎ (answer ≡ Memory)
     listed_whole o l (Done runs) y caused reads puts = inl (ap Done caused)
     listed_whole o l Memory y caused reads puts = inr refl
     listed_whole o l (Merge fault) y caused reads puts = absurd caused
     listed_whole o l WriteFault y caused reads puts = absurd (puts caused.rose)
-    listed_whole o l (Ran ran) y caused reads puts = absurd cc
+    listed_whole o l (Ran run) y caused reads puts = absurd cc
+    listed_whole o l (TooLong run) y caused reads puts = absurd cc
+    listed_whole o l (Trace fault) y caused reads puts = absurd cc
     listed_whole o l (Usage kind) y caused reads puts = absurd cc
     listed_whole o l (Link fault) y caused reads puts = absurd cc
     listed_whole o l (Single fault) y caused reads puts = absurd cc
     listed_whole o l (Gen fault) y caused reads puts = absurd cc
     listed_whole o l (Set fault) y caused reads puts = of_set fault y caused
       where
-        of_set : (fault : SetFault) → Yields (Done []) (Set fault) → Caused names (Ok (order.Plan o l)) (Set fault) old new before now → (Set fault ≡ Done []) ⊎ (Set fault ≡ Memory)
+        of_set : (fault : SetFault) → Yields (Ok (order.Plan o l)) (Done []) (Set fault) → Caused names (Ok (order.Plan o l)) (Set fault) old new before now → (Set fault ≡ Done []) ⊎ (Set fault ≡ Memory)
         of_set (ReadFault at) y caused = absurd (reads caused.rose)
         of_set other y caused = absurd cc
 
-    -- a run, where no path can't be read
-    run_whole : (answer : Outcome) → Yields any_run answer → ((at : List ℕ) → answer ≡ Set (ReadFault at) → ⊥) → (is_run answer ≡ true) ⊎ (answer ≡ Memory)
-    run_whole (Ran ran) y read = inl refl
-    run_whole Memory y read = inr refl
-    run_whole (Merge fault) y read = absurd cc
-    run_whole WriteFault y read = absurd cc
-    run_whole (Done runs) y read = absurd cc
-    run_whole (Usage kind) y read = absurd cc
-    run_whole (Link fault) y read = absurd cc
-    run_whole (Single fault) y read = absurd cc
-    run_whole (Gen fault) y read = absurd cc
-    run_whole (Set fault) y read = of_set fault y read
+    replayed_whole : (one : Bool) (path : List ℕ) (o : search.SetOptions) (l : linking.LinkOptions) (steps : ℕ) (answer : Outcome) → Yields (Ok (order.Replay one path o l steps)) (Done []) answer
+        → Caused names (Ok (order.Replay one path o l steps)) answer old new before now → ¬ Rose old.read_faults new.read_faults → (answer ≡ Done []) ⊎ (answer ≡ Memory)
+    replayed_whole one path o l steps (Done runs) y caused reads = inl (ap Done caused)
+    replayed_whole one path o l steps Memory y caused reads = inr refl
+    replayed_whole one path o l steps (Merge fault) y caused reads = absurd caused
+    replayed_whole one path o l steps WriteFault y caused reads = absurd caused
+    replayed_whole one path o l steps (Ran run) y caused reads = absurd cc
+    replayed_whole one path o l steps (TooLong run) y caused reads = absurd cc
+    replayed_whole one path o l steps (Trace fault) y caused reads = absurd cc
+    replayed_whole one path o l steps (Usage kind) y caused reads = absurd cc
+    replayed_whole one path o l steps (Link fault) y caused reads = absurd cc
+    replayed_whole one path o l steps (Single fault) y caused reads = absurd cc
+    replayed_whole one path o l steps (Gen fault) y caused reads = absurd cc
+    replayed_whole one path o l steps (Set fault) y caused reads = of_set fault y caused
       where
-        of_set : (fault : SetFault) → Yields any_run (Set fault) → ((at : List ℕ) → Set fault ≡ Set (ReadFault at) → ⊥) → (is_run (Set fault) ≡ true) ⊎ (Set fault ≡ Memory)
+        of_set : (fault : SetFault) → Yields (Ok (order.Replay one path o l steps)) (Done []) (Set fault) → FaultCause (order.Replay one path o l steps) fault old new → (Set fault ≡ Done []) ⊎ (Set fault ≡ Memory)
+        of_set (ReadFault at) y (inl caused) = absurd (reads caused.1.rose)
+        of_set (ReadFault at) y (inr caused) = absurd (reads (read_rose old new one o.main at caused))
+        of_set other y caused = absurd cc
+
+    -- a run, where no path can't be read, and whose trace, if there is to be one, can be written
+    run_whole : (asked : Result Order UsageKind) (answer : Outcome) → Yields asked any_run answer → ((at : List ℕ) → answer ≡ Set (ReadFault at) → ⊥) → (answer ≡ WriteFault → ⊥)
+        → (is_traced answer ≡ true) ⊎ (answer ≡ Memory)
+    run_whole asked (Ran run) y read write = inl refl
+    run_whole asked (TooLong run) y read write = inl refl
+    run_whole asked Memory y read write = inr refl
+    run_whole asked WriteFault y read write = absurd (write refl)
+    run_whole asked (Merge fault) y read write = absurd cc
+    run_whole asked (Done runs) y read write = absurd cc
+    run_whole asked (Usage kind) y read write = absurd cc
+    run_whole asked (Link fault) y read write = absurd cc
+    run_whole asked (Single fault) y read write = absurd cc
+    run_whole asked (Gen fault) y read write = absurd cc
+    run_whole asked (Trace fault) y read write = absurd cc
+    run_whole asked (Set fault) y read write = of_set fault y read
+      where
+        of_set : (fault : SetFault) → Yields asked any_run (Set fault) → ((at : List ℕ) → Set fault ≡ Set (ReadFault at) → ⊥) → (is_traced (Set fault) ≡ true) ⊎ (Set fault ≡ Memory)
         of_set (ReadFault at) y read = absurd (read at refl)
         of_set other y read = absurd cc
+
+    -- it is told as such where there is to be no trace
+    plain_run : (answer : Outcome) → ((run : ran.Ran) → answer ≡ TooLong run → ⊥) → (is_traced answer ≡ true) ⊎ (answer ≡ Memory) → (is_run answer ≡ true) ⊎ (answer ≡ Memory)
+    plain_run (TooLong run) none h = absurd (none run refl)
+    plain_run answer none h = h
+
+    -- a run of a set or of a module, of which there is to be no trace
+    run_alone : (what : Order) (answer : Outcome) → ((at : List ℕ) → FaultCause what (ReadFault at) old new → ⊥) → (WriteCause what old new before now → ⊥) → (IsTraceOrder what → ⊥)
+        → Yields (Ok what) any_run answer → Caused names (Ok what) answer old new before now → (is_run answer ≡ true) ⊎ (answer ≡ Memory)
+    run_alone what answer reads writes traces y caused =
+        plain_run answer (λ run is. traces (subst (λ a. Caused names (Ok what) a old new before now) is caused))
+        (run_whole (Ok what) answer y (λ at is. reads at (subst (λ a. Caused names (Ok what) a old new before now) is caused)) (λ is. writes (subst (λ a. Caused names (Ok what) a old new before now) is caused)))
 
     -- the runs of a generated set, which may have three pages
     module _ (n pages steps : ℕ) (some : 0 < n) (few : n ≤ 255) (enough : 3 ≤ pages) where
@@ -362,7 +342,9 @@ module _ (laws : Laws) (names : HostNames) (can : CanWrite names) (files : Files
       gen_whole (Link fault) caused puts = absurd (linked_then fault caused)
       gen_whole (Gen fault) caused puts = absurd (in_range fault caused)
       gen_whole (Merge fault) caused puts = absurd caused
-      gen_whole (Ran ran) caused puts = absurd caused
+      gen_whole (Ran run) caused puts = absurd caused
+      gen_whole (TooLong run) caused puts = absurd caused
+      gen_whole (Trace fault) caused puts = absurd caused
       gen_whole (Usage kind) caused puts = absurd caused
       gen_whole (Single fault) caused puts = absurd caused
       gen_whole (Set fault) caused puts = absurd caused
@@ -372,26 +354,35 @@ module _ (laws : Laws) (names : HostNames) (can : CanWrite names) (files : Files
     told_complete (Ok (order.Merge o l out)) answer tells caused = λ merges few reads writes.
         merged_whole o l out answer merges tells (told_yields (Ok (order.Merge o l out)) answer tells (Done []) merges) caused few reads writes
     told_complete (Ok (order.Run o l steps args)) answer tells caused = λ links reads.
-        run_whole answer (told_yields (Ok (order.Run o l steps args)) answer tells any_run links) (λ at is. reads (subst (λ a. Caused names (Ok (order.Run o l steps args)) a old new before now) is caused).rose)
+        run_alone (order.Run o l steps args) answer (λ at rises. reads rises.rose) (λ none. none) (λ none. none) (told_yields (Ok (order.Run o l steps args)) answer tells any_run links) caused
     told_complete (Ok (order.Exec file steps args)) answer tells caused = λ opens reads.
-        run_whole answer (told_yields (Ok (order.Exec file steps args)) answer tells any_run opens) (λ at is. reads (subst (λ a. Caused names (Ok (order.Exec file steps args)) a old new before now) is caused).1.rose)
+        run_alone (order.Exec file steps args) answer (λ at rises. reads rises.1.rose) (λ none. none) (λ none. none) (told_yields (Ok (order.Exec file steps args)) answer tells any_run opens) caused
     told_complete (Ok (order.Plan o l)) answer tells caused = λ links reads puts.
         listed_whole o l answer (told_yields (Ok (order.Plan o l)) answer tells (Done []) links) caused reads puts
     told_complete (Ok (order.Gen n pages steps)) answer tells caused = λ some few enough puts. gen_whole n pages steps some few enough answer caused puts
+    told_complete (Ok (order.Trace one o l steps out args)) answer tells caused = λ x gives reads writes.
+        run_whole (Ok (order.Trace one o l steps out args)) answer
+        (told_yields (Ok (order.Trace one o l steps out args)) answer tells any_run (run_due names files (options_of o) (links.options_of l) one x gives _))
+        (λ at is. reads (read_rose old new one o.main at (subst (λ a. Caused names (Ok (order.Trace one o l steps out args)) a old new before now) is caused)))
+        (λ is. writes (subst (λ a. Caused names (Ok (order.Trace one o l steps out args)) a old new before now) is caused).rose)
+    told_complete (Ok (order.Replay one path o l steps)) answer tells caused = λ due reads.
+        replayed_whole one path o l steps answer (told_yields (Ok (order.Replay one path o l steps)) answer tells (Done []) due) caused reads
 
 -- of what serves: that the answer is due, and that it is complete
 module _ (laws : Laws) (names : HostNames) (can : CanWrite names) (asked : Result Order UsageKind) (answer : Outcome) (old new : FilesState) (before now : ℕ) (serves : Serves names asked answer old new before now) where
-  pub served_due : ForSome old.told (λ told. (due : Outcome) → DueFor names (get told) asked due → Yields due answer)
+  pub served_due : ForSome old.told (λ told. (due : Outcome) → DueFor names (get told) asked due → Yields asked due answer)
   served_due = λ told is. told_yields laws names can (get told) asked answer (serves.tells told is)
 
   pub served_complete : ForSome old.told (λ told. IsComplete names (get told) asked answer old new before now)
   served_complete = λ told is. told_complete laws names can (get told) old new before now asked answer (serves.tells told is) serves.caused
 
 -- the laws, as they are told
-pub laws_of : ReadingAnswers → OneRecordAnswer → OneGathered → NeedsThreePages → Laws
-laws_of answers records gathers pages = record {
+pub laws_of : ReadingAnswers → OneRecordAnswer → OneGathered → NeedsThreePages → OneTrace → OneAgreeing → Laws
+laws_of answers records gathers pages traces agreeing = record {
   one_answer = λ bytes one other h k. (answers bytes).1 one h ∙ sym ((answers bytes).1 other k);
   one_record = records;
   one_gathered = gathers;
   three_pages = pages;
+  one_trace = traces;
+  one_agreeing = agreeing;
 }

@@ -47,7 +47,7 @@ module _ (embedder : List (List ℕ) → Embedder) (path : List ℕ) (steps : �
   pub is_valid : validation.fault wasm ≡ None
   is_valid = ap validation.fault read.spelled.said.2.0 ∙ read.spelled.said.2.1
 
-  pub executed_works : (answer : Outcome) → ExecutesModule wasm (embedder (guest_arguments args)) steps answer begun now → ExecWorks old.told path steps (embedder (guest_arguments args)) answer begun now
+  unfoldable pub executed_works : (answer : Outcome) → ExecutesModule wasm (embedder (guest_arguments args)) steps answer begun now → ExecWorks old.told path steps (embedder (guest_arguments args)) answer begun now
   executed_works (Ran r) h = record { wasm = wasm; opening = h.0; begun = record { file = read.tells; valid = is_valid; opens = h.1 }; run = h.2 }
   executed_works (Single single.Memory) h = absurd h
   executed_works (Single fault) h = h.1

@@ -1,6 +1,10 @@
+pub mod AtPaths
 pub mod OneFile
+pub mod Programs
 pub mod HeldNumbers
 pub mod Reading
+pub mod Alike
+pub mod OneReplay
 pub mod Dues
 pub mod Writing
 pub mod Generating
@@ -10,6 +14,9 @@ pub mod Merging
 pub mod Listing
 pub mod Running
 pub mod Executing
+pub mod Tracing
+pub mod Opened
+pub mod Replaying
 pub mod ToldLines
 pub mod Telling
 pub mod Performing

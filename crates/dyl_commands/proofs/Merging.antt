@@ -24,12 +24,8 @@ use Rattle.dyl_commands.specs.Files.{IsMerged}
 use Rattle.dyl_commands.specs.Served.{Serves, Gets, HoldsMerged, StoresOutput, WritesMerged, merge_outcome}
 
 -- what is stored is what was merged
-pub stored_merged : (k : Kept) (out bytes : List ℕ) (answer : Outcome) (old new : FilesState) → ((L : LinkedSet) → IsLinked L k → whole.Merges L bytes) → StoresOutput out bytes answer old new
-    → WritesMerged k out answer old new
-stored_merged k out bytes (Done []) old new merges h = λ files told. subst (λ after. IsSomeAnd after (HoldsMerged k out files)) (sym (h files told)) (record { output = bytes; merges = merges; written = refl })
-stored_merged k out bytes WriteFault old new merges h = h
-stored_merged k out bytes Memory old new merges h = h
-stored_merged k out bytes _ old new merges h = absurd h
+pub stored_merged : (k : Kept) (out bytes : List ℕ) (old new : FilesState) → ((L : LinkedSet) → IsLinked L k → whole.Merges L bytes) → StoresOutput out bytes (Ok tt) old new → WritesMerged k out (Done []) old new
+stored_merged k out bytes old new merges h = λ files told. subst (λ after. IsSomeAnd after (HoldsMerged k out files)) (sym (h files told)) (record { output = bytes; merges = merges; written = refl })
 
 -- nothing is merged
 pub not_merged : (k : Kept) (out : List ℕ) (fault : MergeFault) (old : FilesState)

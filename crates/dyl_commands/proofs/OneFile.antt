@@ -1,6 +1,5 @@
 -- There is one thing to say of the file at a path.
-use Rattle.std.proofs.Common.{◌≡◌, ◌⊎◌, ℕ, ◌<◌, ◌≤◌, List, length, Option, Some, None, Result, Ok, Err, refl, sym, ap, ◌∙◌, subst, inl, inr, arith}
-use Rattle.std.specs.Prelude.{IsSomeAnd}
+use Rattle.std.proofs.Common.{◌≡◌, ◌⊎◌, ℕ, List, Result, Ok, Err, refl, sym, ap, ◌∙◌, subst, inl, inr}
 use Rattle.wasm_form.specs.declared.module.Module.{Module}
 use Rattle.spec_reading.specs.spec_binary.declared.fault.DecodeFault.{DecodeFault}
 use Rattle.spec_reading.specs.spec_binary.DecodeAnswers.{DecodeAnswer}
@@ -8,7 +7,8 @@ use Rattle.spec_loading.specs.spec_linking.declared.fault.SetFault.{SetFault}
 use Rattle.spec_loading.specs.spec_linking.declared.fault.SetFault.TheVariants.{Missing, Decode, Check, SetSize}
 use Rattle.spec_loading.specs.spec_linking.Sets.{Files, main_name}
 use Rattle.spec_loading.specs.spec_linking.Laws.{OneAnswer}
-use Rattle.dyl_commands.specs.OneFile.{most_run, OfModule, OfBytes, OfFile}
+use Rattle.dyl_commands.specs.OneFile.{OfModule, OfBytes, OfFile}
+use Rattle.dyl_commands.proofs.AtPaths.{There, one_there}
 
 module _ (one_answer : OneAnswer) where
   -- ---- of a module
@@ -56,29 +56,10 @@ module _ (one_answer : OneAnswer) where
   -- ---- of a file
 
   module _ (path : List ℕ) where
-    -- what is there, if anything is, and what is said of it
-    abbrev There : Option (List ℕ) → Result Module SetFault → Type 0
-    There o said =
-        ((o ≡ None) × (said ≡ Err (Missing (main_name path))))
-        ⊎ ((IsSomeAnd o (λ bytes. most_run < length bytes) × (said ≡ Err SetSize)) ⊎ IsSomeAnd o (λ bytes. (length bytes ≤ most_run) × OfBytes bytes said))
-
-    there : (files : Files) (said : Result Module SetFault) → OfFile files path said → There (files path) said
+    there : (files : Files) (said : Result Module SetFault) → OfFile files path said → There (Err (Missing (main_name path))) (Err SetSize) OfBytes (files path) said
     there files (Err (Missing name)) h = inl (h.0, ap (λ n. Err (Missing n)) h.1)
     there files (Err SetSize) h = inr (inl (h, refl))
     there files _ h = inr (inr h)
 
-    one_there : (o : Option (List ℕ)) (a b : Result Module SetFault) → There o a → There o b → a ≡ b
-    one_there o a b (inl h) (inl k) = h.1 ∙ sym k.1
-    one_there None a b (inl h) (inr (inl k)) = absurd k.0
-    one_there None a b (inl h) (inr (inr k)) = absurd k
-    one_there (Some bytes) a b (inl h) (inr k) = absurd (let none = h.0 in cc)
-    one_there None a b (inr (inl h)) k = absurd h.0
-    one_there None a b (inr (inr h)) k = absurd h
-    one_there (Some bytes) a b (inr h) (inl k) = absurd (let none = k.0 in cc)
-    one_there (Some bytes) a b (inr (inl h)) (inr (inl k)) = h.1 ∙ sym k.1
-    one_there (Some bytes) a b (inr (inl h)) (inr (inr k)) = absurd (omega (arith, h.0, k.0))
-    one_there (Some bytes) a b (inr (inr h)) (inr (inl k)) = absurd (omega (arith, h.0, k.0))
-    one_there (Some bytes) a b (inr (inr h)) (inr (inr k)) = one_of_bytes bytes a b h.1 k.1
-
     pub one_of_file : (files : Files) (a b : Result Module SetFault) → OfFile files path a → OfFile files path b → a ≡ b
-    one_of_file files a b h k = one_there (files path) a b (there files a h) (there files b k)
+    one_of_file files a b h k = one_there (Err (Missing (main_name path))) (Err SetSize) OfBytes one_of_bytes (files path) a b (there files a h) (there files b k)

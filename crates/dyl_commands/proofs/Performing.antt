@@ -1,5 +1,5 @@
 -- What is so of an order and of words, from what is so of what they hold.
-use Rattle.std.proofs.Common.{◌≡◌, ℕ, ◌≤◌, List, Option, Result, Ok, Err, refl, sym, subst, inl, inr}
+use Rattle.std.proofs.Common.{◌≡◌, ℕ, ◌≤◌, Bool, true, false, List, Option, Result, Ok, Err, refl, sym, subst, inl, inr}
 use Rattle.std.specs.Option.{ForSome}
 use Rattle.std.specs.FinMap.{get}
 use Rattle.spec_hosts.specs.dyl_outside.FileMap.{FileMap}
@@ -8,16 +8,20 @@ use Rattle.spec_hosts.specs.dyl_outside.Sink.{SinkState}
 use Rattle.spec_hosts.specs.spec_runtime.Names.{HostNames}
 use Rattle.spec_hosts.specs.Devices.{Devices}
 use Rattle.spec_hosts.specs.Hosted.{Embedder}
+use Rattle.spec_loading.specs.spec_linking.Sets as sets
+use Rattle.spec_loading.specs.spec_linking.Plans as plans
 use Rattle.dyl_link.specs.dyl_search.declared.set.SetOptions.{SetOptions}
+use Rattle.dyl_link.specs.dyl_search.Gathers.{options_of}
 use Rattle.dyl_link.specs.declared.options.LinkOptions.{LinkOptions}
+use Rattle.dyl_link.specs.Kept as links
 use Rattle.dyl_front.specs.Orders.{IsLinkInRange, AreArgumentsInRange, IsInRange}
 use Rattle.dyl_front.specs.declared.order.Order.{Order}
-use Rattle.dyl_front.specs.declared.order.Order.TheVariants.{Merge, Run, Exec, Plan, Gen}
+use Rattle.dyl_front.specs.declared.order.Order.TheVariants.{Merge, Run, Exec, Plan, Gen, Trace, Replay}
 use Rattle.dyl_front.specs.declared.outcome.UsageKind.{UsageKind}
 use Rattle.dyl_front.specs.declared.outcome.Outcome.{Outcome}
 use Rattle.dyl_front.specs.declared.outcome.Outcome.TheVariants.{Usage, Memory}
 use Rattle.dyl_commands.specs.Told.{IsTold, TellsErrors}
-use Rattle.dyl_commands.specs.Runs.{Works, Does}
+use Rattle.dyl_commands.specs.Runs.{guest_arguments, ProgramWorks, Works, Does}
 use Rattle.dyl_commands.specs.Due.{DueFor, Yields, IsComplete}
 use Rattle.dyl_commands.proofs.Telling.{told_keeps}
 
@@ -37,6 +41,15 @@ at_plan P order set link is h = subst (λ o. P (Ok o)) (sym is) h
 pub at_gen : (P : Asked → Type 0) (order : Order) (n pages steps : ℕ) → order ≡ Gen n pages steps → P (Ok (Gen n pages steps)) → P (Ok order)
 at_gen P order n pages steps is h = subst (λ o. P (Ok o)) (sym is) h
 
+pub at_trace : (P : Asked → Type 0) (order : Order) (one : Bool) (set : SetOptions) (link : LinkOptions) (steps : ℕ) (out path : List ℕ) (args items : List (List ℕ)) → order ≡ Trace one set link steps out args → path ≡ out
+    → items ≡ args → P (Ok (Trace one set link steps path items)) → P (Ok order)
+at_trace P order one set link steps out path args items is same texts h =
+    subst (λ o. P (Ok o)) (sym is) (subst (λ t. P (Ok (Trace one set link steps out t))) texts (subst (λ p. P (Ok (Trace one set link steps p items))) same h))
+
+pub at_replay : (P : Asked → Type 0) (order : Order) (one : Bool) (trace path : List ℕ) (set : SetOptions) (link : LinkOptions) (steps : ℕ) → order ≡ Replay one trace set link steps → path ≡ trace
+    → P (Ok (Replay one path set link steps)) → P (Ok order)
+at_replay P order one trace path set link steps is same h = subst (λ o. P (Ok o)) (sym is) (subst (λ p. P (Ok (Replay one p set link steps))) same h)
+
 -- the numbers of an order are in their ranges
 pub range_of_merge : (order : Order) (set : SetOptions) (link : LinkOptions) (out : List ℕ) → order ≡ Merge set link out → IsInRange order → IsLinkInRange link
 range_of_merge order set link out is h = (subst IsInRange is h).1
@@ -50,17 +63,24 @@ range_of_plan order set link is h = (subst IsInRange is h).1
 pub range_of_gen : (order : Order) (n pages steps : ℕ) → order ≡ Gen n pages steps → IsInRange order → (1 ≤ pages) × (pages ≤ 16384) × (steps ≤ 9223372036854775807)
 range_of_gen order n pages steps is h = subst IsInRange is h
 
+pub range_of_trace : (order : Order) (one : Bool) (set : SetOptions) (link : LinkOptions) (steps : ℕ) (out : List ℕ) (args : List (List ℕ)) → order ≡ Trace one set link steps out args → IsInRange order
+    → IsLinkInRange link × (steps ≤ 9223372036854775807)
+range_of_trace order one set link steps out args is h = let r = subst IsInRange is h in (r.1, r.3.0)
+
+pub range_of_replay : (order : Order) (one : Bool) (trace : List ℕ) (set : SetOptions) (link : LinkOptions) (steps : ℕ) → order ≡ Replay one trace set link steps → IsInRange order → IsLinkInRange link
+range_of_replay order one trace set link steps is h = (subst IsInRange is h).2
+
 pub at_exec : (P : Asked → Type 0) (order : Order) (file path : List ℕ) (steps : ℕ) (args items : List (List ℕ)) → order ≡ Exec file steps args → path ≡ file → items ≡ args → P (Ok (Exec path steps items)) → P (Ok order)
 at_exec P order file path steps args items is same texts h =
     subst (λ o. P (Ok o)) (sym is) (subst (λ t. P (Ok (Exec file steps t))) texts (subst (λ p. P (Ok (Exec p steps items))) same h))
 
 -- Words that are no order, or no memory to read them: what is due, and that it is complete.
 module _ (names : HostNames) (asked : Asked) (answer : Outcome) (old : FilesState) where
-  pub usage_due : (kind : UsageKind) → asked ≡ Err kind → IsTold (Usage kind) answer → ForSome old.told (λ told. (due : Outcome) → DueFor names (get told) asked due → Yields due answer)
-  usage_due kind is told = λ files there due d. told_keeps (Yields due) (Usage kind) answer told (λ line. tt) (subst (λ a. DueFor names (get files) a due) is d)
+  pub usage_due : (kind : UsageKind) → asked ≡ Err kind → IsTold (Usage kind) answer → ForSome old.told (λ told. (due : Outcome) → DueFor names (get told) asked due → Yields asked due answer)
+  usage_due kind is told = λ files there due d. told_keeps (Yields asked due) (Usage kind) answer told (λ line. tt) (subst (λ a. DueFor names (get files) a due) is d)
 
-  pub memory_due : IsTold Memory answer → ForSome old.told (λ told. (due : Outcome) → DueFor names (get told) asked due → Yields due answer)
-  memory_due told = λ files there due d. told_keeps (Yields due) Memory answer told (λ line. tt) tt
+  pub memory_due : IsTold Memory answer → ForSome old.told (λ told. (due : Outcome) → DueFor names (get told) asked due → Yields asked due answer)
+  memory_due told = λ files there due d. told_keeps (Yields asked due) Memory answer told (λ line. tt) tt
 
   module _ (new : FilesState) (before now : ℕ) where
     pub usage_complete : (kind : UsageKind) → asked ≡ Err kind → ForSome old.told (λ told. IsComplete names (get told) asked answer old new before now)
@@ -73,6 +93,8 @@ module _ (names : HostNames) (asked : Asked) (answer : Outcome) (old : FilesStat
     whole files (Ok (Exec file steps args)) = λ opens reads. inr refl
     whole files (Ok (Plan set link)) = λ links reads puts. inr refl
     whole files (Ok (Gen n pages steps)) = λ some few enough puts. inr refl
+    whole files (Ok (Trace one set link steps out args)) = λ x gives reads writes. inr refl
+    whole files (Ok (Replay one trace set link steps)) = λ due reads. inr refl
 
     pub memory_complete : IsTold Memory answer → ForSome old.told (λ told. IsComplete names (get told) asked answer old new before now)
     memory_complete told = λ files there. told_keeps (λ a. IsComplete names (get files) asked a old new before now) Memory answer told (λ line. whole files asked) (whole files asked)
@@ -85,6 +107,10 @@ module _ (told : Option FileMap) (embedder : List (List ℕ) → Embedder) where
       subst (λ a. Does told embedder a answer old (record old { errors = errors })) (sym is) (record { errors = old.errors; works = refl; line = line })
 
   -- nothing was done
+  nothing_traced : (one : Bool) (o : sets.SetOptions) (l : plans.LinkOptions) (steps : ℕ) (embedder : Embedder) (old : Devices) → ProgramWorks told one o l steps embedder Memory old old
+  nothing_traced false o l steps embedder old = inl refl
+  nothing_traced true o l steps embedder old = inl refl
+
   nothing_works : (asked : Asked) (old : Devices) → Works told embedder asked Memory old old
   nothing_works (Err kind) old = refl
   nothing_works (Ok (Merge set link out)) old = refl
@@ -92,6 +118,8 @@ module _ (told : Option FileMap) (embedder : List (List ℕ) → Embedder) where
   nothing_works (Ok (Exec file steps args)) old = inl refl
   nothing_works (Ok (Plan set link)) old = (inl refl, refl)
   nothing_works (Ok (Gen n pages steps)) old = (inl refl, refl)
+  nothing_works (Ok (Trace one set link steps out args)) old = nothing_traced one (options_of set) (links.options_of link) steps (embedder (guest_arguments args)) old
+  nothing_works (Ok (Replay one trace set link steps)) old = refl
 
   -- memory was wanting before anything was done, and that is told
   pub memory_does : (asked : Asked) (answer : Outcome) (old : Devices) (errors : SinkState) → IsTold Memory answer → TellsErrors answer old.errors errors → Does told embedder asked answer old (record old { errors = errors })

@@ -1,6 +1,11 @@
 -- What comes of reading a file, step by step.
-use Rattle.std.proofs.Common.{◌≡◌, ℕ, ◌≤◌, List, length, false, Result, Ok, Err, IfOk, refl}
+use Rattle.std.proofs.Common.{◌≡◌, ℕ, ◌≤◌, List, length, false, Some, Result, Ok, Err, refl, sym, ap, ◌∙◌, subst}
+use Rattle.std.specs.Prelude.{IsSomeAnd, IfOk, IfErr, Vec}
+use Rattle.std.specs.declared.alloc.Global.{Global}
+use Rattle.std.specs.FinMap.{get}
 use Rattle.wasm_form.specs.declared.module.Module.{Module}
+use Rattle.spec_hosts.specs.dyl_outside.Files.{FilesState, Fetches}
+use Rattle.spec_hosts.specs.dyl_outside.declared.fault.FileFault.TheVariants as fetch
 use Rattle.spec_reading.specs.spec_binary.declared.fault.DecodeFault.{DecodeFault}
 use Rattle.spec_reading.specs.spec_binary.declared.fault.DecodeFault.TheVariants as decode
 use Rattle.spec_reading.specs.spec_binary.DecodeAnswers.{DecodeAnswer}
@@ -8,12 +13,13 @@ use Rattle.spec_loading.specs.spec_validation.declared.fault.CheckFault.{CheckFa
 use Rattle.spec_loading.specs.spec_validation.declared.fault.CheckFault.TheVariants as check
 use Rattle.spec_loading.specs.spec_validation.Faults as validation
 use Rattle.spec_loading.specs.spec_linking.declared.fault.SetFault.{SetFault}
-use Rattle.spec_loading.specs.spec_linking.declared.fault.SetFault.TheVariants.{Decode, Memory}
+use Rattle.spec_loading.specs.spec_linking.declared.fault.SetFault.TheVariants.{Missing, ReadFault, Decode, Check, SetSize, Memory}
+use Rattle.spec_loading.specs.spec_linking.Sets.{Files}
 use Rattle.wasm_decode.specs.Decoded.{Decodes}
 use Rattle.dyl_link.specs.wasm_check.Answers.{IsFirst}
-use Rattle.dyl_commands.specs.OneFile.{most_run, OfModule, OfBytes}
-use Rattle.dyl_commands.specs.Causes.{wants_inside}
-use Rattle.dyl_commands.specs.Fetched.{decode_fault, check_fault, OrMemory, IsOfSome}
+use Rattle.dyl_commands.specs.OneFile.{most_run, OfModule, OfBytes, TellsFile}
+use Rattle.dyl_commands.specs.Causes.{FileCause, wants_inside}
+use Rattle.dyl_commands.specs.Fetched.{decode_fault, check_fault, OrMemory, IsMissing, IsUnread, IsOfSome, FetchesFile, ReadsFile}
 
 -- no fault of a module carries want of memory
 pub decode_inside : (fault : DecodeFault) → wants_inside (decode_fault fault) ≡ false
@@ -48,3 +54,76 @@ of_undecoded bytes fault told = (refl, told)
 pub of_some : (bytes : List ℕ) (said : Result Module SetFault) → length bytes ≤ most_run → OrMemory (OfBytes bytes) said → IfOk said IsOfSome
 of_some bytes (Ok wasm) few h = record { bytes = bytes; few = few; said = h }
 of_some bytes (Err fault) few h = tt
+
+-- ---- its bytes
+
+-- nothing of files changed
+same_files : (old new : FilesState) → new.told ≡ old.told → new.read_faults ≡ old.read_faults → new.write_faults ≡ old.write_faults → new.absents ≡ old.absents → new ≡ old
+same_files old new told reads writes absents =
+    ap (λ t. record new { told = t }) told ∙ ap (λ n. record new { told = old.told; read_faults = n }) reads
+    ∙ ap (λ n. record new { told = old.told; read_faults = old.read_faults; write_faults = n }) writes ∙ ap (λ n. record old { absents = n }) absents
+
+module _ (path : List ℕ) (old new : FilesState) where
+  pub fetched : (bytes : Vec ℕ Global) → Fetches path most_run (Ok bytes) old new → FetchesFile path (Ok bytes) old new
+  fetched bytes h = record {
+    tells = h.answer;
+    few = h.size;
+    caused = tt;
+    files = h.files;
+    writes = h.writes;
+    same = same_files old new h.files h.reads h.writes h.absents;
+  }
+
+  pub absent : (fault : SetFault) → IsMissing path fault → Fetches path most_run (Err fetch.Absent) old new → FetchesFile path (Err fault) old new
+  absent (Missing name) named h = record { tells = λ files told. (h.answer files told, named); few = tt; caused = (named, h.absents); files = h.files; writes = h.writes; same = tt }
+  absent Memory named h = record { tells = λ files told. tt; few = tt; caused = tt; files = h.files; writes = h.writes; same = tt }
+  absent _ named h = absurd named
+
+  pub unread : (fault : SetFault) → IsUnread path fault → Fetches path most_run (Err fetch.Failed) old new → FetchesFile path (Err fault) old new
+  unread (ReadFault at) named h = record { tells = λ files told. named; few = tt; caused = (named, h.reads); files = h.files; writes = h.writes; same = tt }
+  unread Memory named h = record { tells = λ files told. tt; few = tt; caused = tt; files = h.files; writes = h.writes; same = tt }
+  unread _ named h = absurd named
+
+  pub too_long : Fetches path most_run (Err fetch.TooLong) old new → FetchesFile path (Err SetSize) old new
+  too_long h = record { tells = h.answer; few = tt; caused = tt; files = h.files; writes = h.writes; same = tt }
+
+  pub unfetched : Fetches path most_run (Err fetch.Memory) old new → FetchesFile path (Err Memory) old new
+  unfetched h = record { tells = λ files told. tt; few = tt; caused = tt; files = h.files; writes = h.writes; same = tt }
+
+  -- ---- its module
+
+  -- what there is to say of the bytes is to be said of the file
+  tells_file : (bytes : List ℕ) (said : Result Module SetFault) (files : Files) → files path ≡ Some bytes → length bytes ≤ most_run → OrMemory (OfBytes bytes) said → TellsFile files path said
+  tells_file bytes (Err Memory) files found few h = tt
+  tells_file bytes (Err (ReadFault at)) files found few h = absurd h.2
+  tells_file bytes (Err (Missing name)) files found few h = absurd h.2
+  tells_file bytes (Err SetSize) files found few h = absurd h.2
+  tells_file bytes said files found few h = subst (λ there. IsSomeAnd there (λ b. (length b ≤ most_run) × OfBytes b said)) (sym found) (few, h)
+
+  -- and has its cause
+  file_cause : (bytes : List ℕ) (fault : SetFault) → OrMemory (OfBytes bytes) (Err fault) → FileCause path fault old new
+  file_cause bytes Memory h = tt
+  file_cause bytes (Decode member fault) h = h.0
+  file_cause bytes (Check member fault) h = h.2.0
+  file_cause bytes _ h = absurd h.2
+
+  file_caused : (bytes : List ℕ) (said : Result Module SetFault) → OrMemory (OfBytes bytes) said → IfErr said (λ fault. FileCause path fault old new)
+  file_caused bytes (Ok wasm) h = tt
+  file_caused bytes (Err fault) h = file_cause bytes fault h
+
+  pub fetched_reads : (bytes : Vec ℕ Global) (said : Result Module SetFault) → FetchesFile path (Ok bytes) old new → OrMemory (OfBytes bytes.items) said → IfErr said (λ fault. wants_inside fault ≡ false) → ReadsFile path said old new
+  fetched_reads bytes said h told inner = record {
+    tells = λ files is. tells_file bytes.items said (get files) (h.tells files is) h.few told;
+    spelled = of_some bytes.items said h.few told;
+    caused = file_caused bytes.items said told;
+    inner = inner;
+    files = h.files;
+    writes = h.writes;
+  }
+
+  pub unfetched_reads : (fault : SetFault) → FetchesFile path (Err fault) old new → ReadsFile path (Err fault) old new
+  unfetched_reads Memory h = record { tells = λ files told. tt; spelled = tt; caused = tt; inner = refl; files = h.files; writes = h.writes }
+  unfetched_reads (ReadFault at) h = record { tells = h.tells; spelled = tt; caused = h.caused; inner = refl; files = h.files; writes = h.writes }
+  unfetched_reads (Missing name) h = record { tells = h.tells; spelled = tt; caused = h.caused; inner = refl; files = h.files; writes = h.writes }
+  unfetched_reads SetSize h = record { tells = h.tells; spelled = tt; caused = tt; inner = refl; files = h.files; writes = h.writes }
+  unfetched_reads _ h = absurd h.caused

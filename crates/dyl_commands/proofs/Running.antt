@@ -26,7 +26,7 @@ module _ (embedder : Embedder) (o : SetOptions) (l : LinkOptions) (steps : ℕ) 
   links_at : (files : FileMap) → old.told ≡ Some files → LinksAt embedder.names (get files) (options_of o) (links.options_of l)
   links_at files told = record { set = gets.got.set; gathered = gets.got.gathered files told; links = gets.got.linked.links }
 
-  there : IsThere old.told embedder.names (options_of o) (links.options_of l) gets.got.set
+  abbrev pub there : IsThere old.told embedder.names (options_of o) (links.options_of l) gets.got.set
   there = record { gathered = gets.got.gathered; shape = gets.got.linked.shape; links = gets.got.linked.links }
 
   pub run_serves : (args : List (List ℕ)) (answer : Outcome) → ExecutesSet k embedder steps answer begun now → (before after : ℕ) → Serves embedder.names (Ok (order.Run o l steps args)) answer old new before after
@@ -34,7 +34,7 @@ module _ (embedder : Embedder) (o : SetOptions) (l : LinkOptions) (steps : ℕ) 
   run_serves args Memory h before after = record { tells = λ files told. tt; leaves = λ files told. gets.files ∙ told; caused = tt; inner = refl }
   run_serves args _ h before after = absurd h
 
-  pub run_works : (answer : Outcome) → ExecutesSet k embedder steps answer begun now → RunWorks old.told (options_of o) (links.options_of l) steps embedder answer begun now
+  unfoldable pub run_works : (answer : Outcome) → ExecutesSet k embedder steps answer begun now → RunWorks old.told (options_of o) (links.options_of l) steps embedder answer begun now
   run_works (Ran r) h = record { set = gets.got.set; there = there; run = h L gets.got.linked }
   run_works Memory (inl same) = inl same
   run_works Memory (inr cut) = inr (record { set = gets.got.set; there = there; cut = cut L gets.got.linked })

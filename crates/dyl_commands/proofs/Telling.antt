@@ -1,6 +1,7 @@
 -- What telling of an outcome leaves of what is known of it.
 use Rattle.std.proofs.Common.{◌≡◌, ℕ, List, [], ◌∷◌, Bool, true, false, Option, Some, None, Result, Ok, Err, refl, sym, ap, ◌∙◌, subst, inl, inr}
-use Rattle.std.specs.Prelude.{IsSome}
+use Rattle.std.specs.Prelude.{IsSome, IsSomeAnd}
+use Rattle.spec_hosts.specs.dyl_outside.Faults.{Rose}
 use Rattle.spec_hosts.specs.dyl_outside.FileMap.{FileMap}
 use Rattle.spec_hosts.specs.dyl_outside.Files.{FilesState}
 use Rattle.spec_hosts.specs.spec_runtime.Names.{HostNames}
@@ -22,16 +23,18 @@ use Rattle.dyl_link.specs.declared.options.LinkOptions.{LinkOptions}
 use Rattle.dyl_link.specs.Kept as links
 use Rattle.dyl_front.specs.declared.outcome.UsageKind.{UsageKind}
 use Rattle.dyl_front.specs.declared.outcome.Outcome.{Outcome}
-use Rattle.dyl_front.specs.declared.outcome.Outcome.TheVariants.{Done, Ran, Usage, Set, Link, Merge, Single, Gen, WriteFault, Memory}
+use Rattle.dyl_front.specs.declared.outcome.Outcome.TheVariants.{Done, Ran, Usage, Set, Link, Merge, Single, Gen, Trace, TooLong, WriteFault, Memory}
 use Rattle.dyl_front.specs.declared.order.Order.{Order}
 use Rattle.dyl_front.specs.declared.order.Order.TheVariants as order
 use Rattle.dyl_front.specs.Lines.{line_of}
-use Rattle.dyl_commands.specs.Files.{MergeLeaves, LeavesFor}
+use Rattle.spec_traces.specs.Traces.{Traces, IsTraceOf}
+use Rattle.dyl_commands.specs.Traced.{IsShort, IsLong}
+use Rattle.dyl_commands.specs.Files.{MergeLeaves, IsTraced, TraceLeaves, LeavesFor}
 use Rattle.dyl_commands.specs.Causes.{Caused}
 use Rattle.dyl_commands.specs.Due.{is_done}
 use Rattle.dyl_commands.specs.Told.{IsTold}
 use Rattle.dyl_commands.specs.Linking.{linked}
-use Rattle.dyl_commands.specs.Runs.{guest_arguments, IsFileRun, IsFileCut, ExecWorks, IsLoadedRun, IsLoadedCut, RunWorks, PlanWorks, GenWorks, Works}
+use Rattle.dyl_commands.specs.Runs.{guest_arguments, IsFileRun, IsFileCut, ExecWorks, IsLoadedRun, IsLoadedCut, RunWorks, ProgramWorks, IsTracedRun, TraceWorks, PlanWorks, GenWorks, Works}
 use Rattle.dyl_commands.specs.Served.{Serves}
 
 -- what is so of the outcome, and of want of memory, is so of the answer
@@ -52,6 +55,8 @@ done_silent (Link fault) is = absurd cc
 done_silent (Merge fault) is = absurd cc
 done_silent (Single fault) is = absurd cc
 done_silent (Gen fault) is = absurd cc
+done_silent (Trace fault) is = absurd cc
+done_silent (TooLong run) is = absurd cc
 done_silent WriteFault is = absurd cc
 done_silent Memory is = absurd cc
 
@@ -65,6 +70,20 @@ merge_memory names o l out files WriteFault old new before now line caused leave
 merge_memory names o l out files Memory old new before now line caused leaves = leaves
 merge_memory names o l out files _ old new before now line caused leaves = inl leaves
 
+-- a trace of this run is one of a run
+traced_memory : (names : HostNames) (one : Bool) (o : sets.SetOptions) (l : plans.LinkOptions) (out : List ℕ) (r : ran.Ran) (files : FileMap) (told : Option FileMap)
+    → IsSomeAnd told (IsTraced names one o l out (λ C t. IsTraceOf C r t) files) → IsSomeAnd told (IsTraced names one o l out Traces files)
+traced_memory names one o l out r files None h = h
+traced_memory names one o l out r files (Some after) h =
+    record { program = h.program; gives = h.gives; trace = h.trace; is = h.is.traces; text = h.text; of_trace = h.of_trace; written = h.written }
+
+trace_memory : (names : HostNames) (one : Bool) (o : sets.SetOptions) (l : plans.LinkOptions) (out : List ℕ) (files : FileMap) (outcome : Outcome) (old new : FilesState)
+    → (outcome ≡ WriteFault → Rose old.write_faults new.write_faults) → TraceLeaves names one o l out files outcome old new → TraceLeaves names one o l out files Memory old new
+trace_memory names one o l out files (Ran r) old new rose leaves = inr (inl (traced_memory names one o l out r files new.told leaves))
+trace_memory names one o l out files WriteFault old new rose leaves = inr (inr (rose refl, leaves))
+trace_memory names one o l out files Memory old new rose leaves = leaves
+trace_memory names one o l out files _ old new rose leaves = inl leaves
+
 leaves_memory : (names : HostNames) (asked : Result Order UsageKind) (files : FileMap) (outcome : Outcome) (old new : FilesState) (before now : ℕ) → IsSome (line_of outcome)
     → Caused names asked outcome old new before now → LeavesFor names asked files outcome old new → LeavesFor names asked files Memory old new
 leaves_memory names (Err kind) files outcome old new before now line caused leaves = leaves
@@ -73,6 +92,10 @@ leaves_memory names (Ok (order.Run o l steps args)) files outcome old new before
 leaves_memory names (Ok (order.Exec file steps args)) files outcome old new before now line caused leaves = leaves
 leaves_memory names (Ok (order.Plan o l)) files outcome old new before now line caused leaves = leaves
 leaves_memory names (Ok (order.Gen n pages steps)) files outcome old new before now line caused leaves = leaves
+leaves_memory names (Ok (order.Trace one o l steps out args)) files outcome old new before now line caused leaves =
+    trace_memory names one (options_of o) (links.options_of l) out files outcome old new
+    (λ is. (subst (λ a. Caused names (Ok (order.Trace one o l steps out args)) a old new before now) is caused).rose) leaves
+leaves_memory names (Ok (order.Replay one path o l steps)) files outcome old new before now line caused leaves = leaves
 
 memory_caused : (names : HostNames) (asked : Result Order UsageKind) (old new : FilesState) (before now : ℕ) → Caused names asked Memory old new before now
 memory_caused names (Err kind) old new before now = inr refl
@@ -100,6 +123,8 @@ memory_serves names asked old before now = record { tells = λ files is. tt; lea
     same (Ok (order.Exec file steps args)) files is = is
     same (Ok (order.Plan o l)) files is = is
     same (Ok (order.Gen n pages steps)) files is = is
+    same (Ok (order.Trace one o l steps out args)) files is = inl is
+    same (Ok (order.Replay one path o l steps)) files is = is
 
 pub usage_serves : (names : HostNames) (asked : Result Order UsageKind) (kind : UsageKind) → asked ≡ Err kind → (old : FilesState) (before now : ℕ) → Serves names asked (Usage kind) old old before now
 usage_serves names asked kind is old before now =
@@ -160,6 +185,26 @@ exec_memory told file steps embedder (Ran r) old new h = inr (cut_of told file s
 exec_memory told file steps embedder Memory old new h = h
 exec_memory told file steps embedder _ old new h = inl h
 
+-- of a run with its trace
+
+pub program_memory : (told : Option FileMap) (one : Bool) (o : sets.SetOptions) (l : plans.LinkOptions) (steps : ℕ) (embedder : Embedder) (outcome : Outcome) (old new : Devices)
+    → ProgramWorks told one o l steps embedder outcome old new → ProgramWorks told one o l steps embedder Memory old new
+program_memory told false o l steps embedder outcome old new h = run_memory told o l steps embedder outcome old new h
+program_memory told true o l steps embedder outcome old new h = exec_memory told o.main steps embedder outcome old new h
+
+-- its run was made
+traced_run : (Size : ℕ → Type 0) (told : Option FileMap) (one : Bool) (o : sets.SetOptions) (l : plans.LinkOptions) (steps : ℕ) (embedder : Embedder) (r : ran.Ran) (old new : Devices)
+    → IsTracedRun Size told one o l steps embedder r old new → ProgramWorks told one o l steps embedder (Ran r) old new
+traced_run Size told false o l steps embedder r old new h = h.0
+traced_run Size told true o l steps embedder r old new h = h.0
+
+cut_trace : (told : Option FileMap) (one : Bool) (o : sets.SetOptions) (l : plans.LinkOptions) (steps : ℕ) (embedder : Embedder) (outcome : Outcome) (old new : Devices)
+    → TraceWorks told one o l steps embedder outcome old new → TraceWorks told one o l steps embedder Memory old new
+cut_trace told one o l steps embedder (Ran r) old new h = program_memory told one o l steps embedder (Ran r) old new (traced_run IsShort told one o l steps embedder r old new h)
+cut_trace told one o l steps embedder (TooLong r) old new h = program_memory told one o l steps embedder (Ran r) old new (traced_run IsLong told one o l steps embedder r old new h)
+cut_trace told one o l steps embedder WriteFault old new h = program_memory told one o l steps embedder (Ran h.0) old new (traced_run IsShort told one o l steps embedder h.0 old new h.1)
+cut_trace told one o l steps embedder outcome old new h = program_memory told one o l steps embedder outcome old new h
+
 plan_memory : (told : Option FileMap) (names : HostNames) (o : sets.SetOptions) (l : plans.LinkOptions) (outcome : Outcome) (old new : SinkState) → IsSome (line_of outcome)
     → PlanWorks told names o l outcome old new → PlanWorks told names o l Memory old new
 plan_memory told names o l (Done runs) old new line h = absurd cc
@@ -193,6 +238,8 @@ works_memory told embedder (Ok (order.Plan o l)) outcome old new line h =
     (plan_memory told (embedder []).names (options_of o) (links.options_of l) outcome old.output new.output line h.0, h.1)
 works_memory told embedder (Ok (order.Gen n pages steps)) outcome old new line h =
     (gen_memory (embedder (guest_arguments [])) n pages steps outcome old.output new.output line h.0, h.1)
+works_memory told embedder (Ok (order.Trace one o l steps out args)) outcome old new line h = cut_trace told one (options_of o) (links.options_of l) steps (embedder (guest_arguments args)) outcome old new h
+works_memory told embedder (Ok (order.Replay one path o l steps)) outcome old new line h = h
 
 pub told_works : (told : Option FileMap) (embedder : List (List ℕ) → Embedder) (asked : Result Order UsageKind) (outcome answer : Outcome) (old new : Devices) → IsTold outcome answer → Works told embedder asked outcome old new
     → Works told embedder asked answer old new

@@ -12,6 +12,8 @@ use Rattle.spec_loading.specs.spec_linking.declared.fault.SetFault.TheVariants a
 use Rattle.spec_loading.specs.spec_linking.Sets.{main_name}
 use Rattle.spec_hosts.specs.spec_runtime.Names.{HostNames}
 use Rattle.spec_merging.specs.declared.fault.MergeFault.TheVariants as merge
+use Rattle.spec_traces.specs.declared.trace.TraceFault.{TraceFault}
+use Rattle.spec_traces.specs.declared.trace.TraceFault.TheVariants as trace
 use Rattle.spec_hosts.specs.declared.ran.Ran as ran
 use Rattle.dyl_gen.specs.declared.fault.GenFault.{GenFault}
 use Rattle.dyl_gen.specs.declared.fault.GenFault.TheVariants as gen
@@ -19,7 +21,7 @@ use Rattle.spec_hosts.specs.dyl_outside.Faults.{Rises}
 use Rattle.spec_hosts.specs.dyl_outside.Files.{FilesState}
 use Rattle.dyl_front.specs.declared.outcome.UsageKind.{UsageKind}
 use Rattle.dyl_front.specs.declared.outcome.Outcome.{Outcome}
-use Rattle.dyl_front.specs.declared.outcome.Outcome.TheVariants.{Done, Ran, Usage, Set, Link, Merge, Single, Gen, WriteFault, Memory}
+use Rattle.dyl_front.specs.declared.outcome.Outcome.TheVariants.{Done, Ran, Usage, Set, Link, Merge, Single, Gen, Trace, TooLong, WriteFault, Memory}
 use Rattle.dyl_front.specs.declared.order.Order.{Order}
 use Rattle.dyl_front.specs.declared.order.Order.TheVariants as order
 use Rattle.dyl_commands.specs.Generated.{GenDue}
@@ -40,17 +42,32 @@ FileCause path (set.Check member fault) old new = member ≡ 0
 FileCause path set.ModuleCount old new = ⊥
 FileCause path fault old new = Unit {0}
 
--- of a set, or of the one file that is run; a generated set has none
+-- a fault of a set, or with `--one` of the file at this path
+abbrev pub ProgramCause : Bool → List ℕ → SetFault → FilesState → FilesState → Type 0
+ProgramCause false path fault old new = SetCause fault old new
+ProgramCause true path fault old new = FileCause path fault old new
+
+-- a fault of the file of a trace
+abbrev pub TraceFileCause : List ℕ → SetFault → FilesState → FilesState → Type 0
+TraceFileCause path (set.Missing name) old new = (name ≡ main_name path) × Rises old.absents new.absents
+TraceFileCause path (set.ReadFault at) old new = (at ≡ path) × Rises old.read_faults new.read_faults
+TraceFileCause path set.SetSize old new = Unit {0}
+TraceFileCause path _ old new = ⊥
+
+-- of a set, or of the one file that is run; of the file of a trace, or of the program that it is checked against; a generated set has none
 abbrev pub FaultCause : Order → SetFault → FilesState → FilesState → Type 0
 FaultCause (order.Exec file steps args) fault old new = FileCause file fault old new
 FaultCause (order.Gen n pages steps) fault old new = ⊥
+FaultCause (order.Trace one o l steps out args) fault old new = ProgramCause one o.main fault old new
+FaultCause (order.Replay one path o l steps) fault old new = TraceFileCause path fault old new ⊎ ProgramCause one o.main fault old new
 FaultCause _ fault old new = SetCause fault old new
 
--- what a command writes couldn't be written: the output of a merge, a listing, or the summary of a generated set
+-- what a command writes couldn't be written: the output of a merge, a trace, a listing, or the summary of a generated set
 abbrev pub WriteCause : Order → FilesState → FilesState → ℕ → ℕ → Type 0
 WriteCause (order.Merge o l out) old new before now = Rises old.write_faults new.write_faults
 WriteCause (order.Plan o l) old new before now = Rises before now
 WriteCause (order.Gen n pages steps) old new before now = Rises before now
+WriteCause (order.Trace one o l steps out args) old new before now = Rises old.write_faults new.write_faults
 WriteCause _ old new before now = ⊥
 
 -- what is run ends as a run does, and isn't done; what is done otherwise has no runs, but a generated set
@@ -58,12 +75,15 @@ abbrev pub DoneCause : Order → List ran.Ran → Type 0
 DoneCause (order.Gen n pages steps) runs = Unit {0}
 DoneCause (order.Run o l steps args) runs = ⊥
 DoneCause (order.Exec file steps args) runs = ⊥
+DoneCause (order.Trace one o l steps out args) runs = ⊥
 DoneCause _ runs = runs ≡ []
 
 -- a generated set has at most too few pages, whatever files there are, and nothing is linked for the one file that is run
 abbrev pub LinkCause : HostNames → Order → LinkFault → Type 0
 LinkCause names (order.Gen n pages steps) fault = GenDue names n pages (Link fault)
 LinkCause names (order.Exec file steps args) fault = ⊥
+LinkCause names (order.Trace true o l steps out args) fault = ⊥
+LinkCause names (order.Replay true path o l steps) fault = ⊥
 LinkCause names _ fault = Unit {0}
 
 -- only for a generated set is there a number of members
@@ -71,16 +91,31 @@ abbrev pub GenCause : HostNames → Order → GenFault → Type 0
 GenCause names (order.Gen n pages steps) fault = GenDue names n pages (Gen fault)
 GenCause names _ fault = ⊥
 
+-- only there is a trace written
+abbrev pub IsTraceOrder : Order → Type 0
+IsTraceOrder (order.Trace one o l steps out args) = Unit {0}
+IsTraceOrder _ = ⊥
+
 -- only a set or a file is run
 abbrev pub IsRunOrder : Order → Type 0
 IsRunOrder (order.Run o l steps args) = Unit {0}
 IsRunOrder (order.Exec file steps args) = Unit {0}
+IsRunOrder (order.Trace one o l steps out args) = Unit {0}
 IsRunOrder _ = ⊥
 
 -- only such a file may be refused as it is opened
-abbrev pub IsExecOrder : Order → Type 0
-IsExecOrder (order.Exec file steps args) = Unit {0}
-IsExecOrder _ = ⊥
+abbrev pub IsOneOrder : Order → Type 0
+IsOneOrder (order.Exec file steps args) = Unit {0}
+IsOneOrder (order.Trace true o l steps out args) = Unit {0}
+IsOneOrder (order.Replay true path o l steps) = Unit {0}
+IsOneOrder _ = ⊥
+
+-- only what is replayed is no trace, or that of no run; that a module isn't opened, or want of memory, is an outcome of its own
+abbrev pub TraceCause : Order → TraceFault → Type 0
+TraceCause (order.Replay one path o l steps) (trace.Single fault) = ⊥
+TraceCause (order.Replay one path o l steps) trace.Memory = ⊥
+TraceCause (order.Replay one path o l steps) fault = Unit {0}
+TraceCause _ fault = ⊥
 
 -- only what was merged can have too long a section
 abbrev pub IsMergeOrder : Order → Type 0
@@ -97,8 +132,10 @@ Caused names (Ok order) (Ran ran) old new before now = IsRunOrder order
 Caused names (Ok order) (Set fault) old new before now = FaultCause order fault old new
 Caused names (Ok order) (Link fault) old new before now = LinkCause names order fault
 Caused names (Ok order) (Merge fault) old new before now = IsMergeOrder order
-Caused names (Ok order) (Single fault) old new before now = IsExecOrder order
+Caused names (Ok order) (Single fault) old new before now = IsOneOrder order
 Caused names (Ok order) (Gen fault) old new before now = GenCause names order fault
+Caused names (Ok order) (Trace fault) old new before now = TraceCause order fault
+Caused names (Ok order) (TooLong ran) old new before now = IsTraceOrder order
 Caused names (Ok order) WriteFault old new before now = WriteCause order old new before now
 Caused names (Ok order) Memory old new before now = Unit {0}
 
@@ -117,4 +154,6 @@ has_inner_memory (Link link.Memory) = true
 has_inner_memory (Merge merge.Memory) = true
 has_inner_memory (Single single.Memory) = true
 has_inner_memory (Gen gen.Memory) = true
+has_inner_memory (Trace trace.Memory) = true
+has_inner_memory (Trace (trace.Single single.Memory)) = true
 has_inner_memory answer = false

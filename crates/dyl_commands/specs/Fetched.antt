@@ -1,6 +1,7 @@
--- What comes of reading the file at a path.
+-- What comes of reading the file at a path, of a module or of a trace.
 -- Cited by no clause of `serve`: what its parts promise.
-use Rattle.std.specs.Prelude.{◌≡◌, ◌≤◌, ℕ, List, length, false, IfOk, IfErr, Result, Ok, Err}
+use Rattle.std.specs.Prelude.{◌≡◌, ◌<◌, ◌≤◌, ℕ, List, length, false, None, Some, IsSomeAnd, IfOk, IfErr, OnOk, Result, Ok, Err, Vec}
+use Rattle.std.specs.declared.alloc.Global.{Global}
 use Rattle.std.specs.Option.{ForSome}
 use Rattle.std.specs.FinMap.{get}
 use Rattle.wasm_form.specs.declared.module.Module.{Module}
@@ -10,10 +11,10 @@ use Rattle.spec_reading.specs.spec_binary.declared.fault.DecodeFault.TheVariants
 use Rattle.spec_loading.specs.spec_validation.declared.fault.CheckFault.{CheckFault}
 use Rattle.spec_loading.specs.spec_validation.declared.fault.CheckFault.TheVariants as check
 use Rattle.spec_loading.specs.spec_linking.declared.fault.SetFault.{SetFault}
-use Rattle.spec_loading.specs.spec_linking.declared.fault.SetFault.TheVariants.{Missing, ReadFault, Decode, Check, Memory}
-use Rattle.spec_loading.specs.spec_linking.Sets.{main_name}
+use Rattle.spec_loading.specs.spec_linking.declared.fault.SetFault.TheVariants.{Missing, ReadFault, Decode, Check, SetSize, Memory}
+use Rattle.spec_loading.specs.spec_linking.Sets.{Files, main_name}
 use Rattle.dyl_commands.specs.OneFile.{most_run, OfBytes, TellsFile}
-use Rattle.dyl_commands.specs.Causes.{FileCause, wants_inside}
+use Rattle.dyl_commands.specs.Causes.{FileCause, TraceFileCause, wants_inside}
 
 -- how a fault of module 0 is answered
 abbrev pub decode_fault : DecodeFault → SetFault
@@ -45,6 +46,29 @@ pub record IsOfSome (wasm : Module) : Type 0 where
   pub bytes : List ℕ
   pub few : length bytes ≤ most_run
   pub said : OfBytes bytes (Ok wasm)
+
+-- what there is to say of the bytes at a path, or what is answered in their place
+abbrev pub TellsBytes : Files → List ℕ → Result (Vec ℕ Global) SetFault → Type 0
+TellsBytes files path (Ok bytes) = files path ≡ Some bytes.items
+TellsBytes files path (Err (Missing name)) = (files path ≡ None) × (name ≡ main_name path)
+TellsBytes files path (Err SetSize) = IsSomeAnd (files path) (λ bytes. most_run < length bytes)
+TellsBytes files path (Err (ReadFault at)) = at ≡ path
+TellsBytes files path (Err Memory) = Unit {0}
+TellsBytes files path (Err _) = ⊥
+
+-- why they aren't had, whatever the files tell
+abbrev pub NoBytesCause : List ℕ → SetFault → FilesState → FilesState → Type 0
+NoBytesCause path Memory old new = Unit {0}
+NoBytesCause path fault old new = TraceFileCause path fault old new
+
+-- What comes of fetching the file.
+pub record FetchesFile (path : List ℕ) (result : Result (Vec ℕ Global) SetFault) (old new : FilesState) : Type 0 where
+  pub tells : ForSome old.told (λ told. TellsBytes (get told) path result)
+  pub few : IfOk result (λ bytes. length bytes.items ≤ most_run)
+  pub caused : IfErr result (λ fault. NoBytesCause path fault old new)
+  pub files : new.told ≡ old.told
+  pub writes : new.write_faults ≡ old.write_faults
+  pub same : OnOk result (new ≡ old)
 
 -- What comes of reading the file: what there is to say of it where the files are told; and, whatever they tell, a module that some bytes
 -- spell, or a fault that has its cause.

@@ -1,25 +1,31 @@
 -- What an answer leaves of the files.
 -- Cited by the clause `files` of `serve`.
-use Rattle.std.specs.Prelude.{◌≡◌, ◌⊎◌, ℕ, List, Some, Result, Ok, IsSomeAnd}
+use Rattle.std.specs.Prelude.{◌≡◌, ◌⊎◌, ℕ, List, Bool, Some, Result, Ok, IsSomeAnd}
 use Rattle.std.specs.FinMap.{get, insert}
 use Rattle.spec_hosts.specs.dyl_outside.Faults.{Rose}
 use Rattle.spec_hosts.specs.dyl_outside.FileMap.{FileMap, SameBut}
 use Rattle.spec_hosts.specs.dyl_outside.Files.{FilesState}
 use Rattle.spec_hosts.specs.spec_runtime.Names.{HostNames}
+use Rattle.spec_hosts.specs.spec_runtime.Courses.{Course}
 use Rattle.spec_loading.specs.spec_linking.Sets.{ClosedSet, SetOptions}
 use Rattle.spec_loading.specs.spec_linking.Gathering.{IsGathered}
 use Rattle.spec_loading.specs.spec_linking.Plans.{LinkOptions}
 use Rattle.spec_loading.specs.spec_linking.Links.{Links}
 use Rattle.spec_loading.specs.Merged.{Merged}
 use Rattle.merge_whole.specs.Merges.{HasShape}
+use Rattle.spec_traces.specs.declared.trace.Trace.{Trace}
+use Rattle.spec_traces.specs.Texts.{IsTextOf}
+use Rattle.spec_traces.specs.Traces.{Traces, IsTraceOf}
+use Rattle.run_loaded.specs.Courses.{Origin, course_of}
 use Rattle.dyl_link.specs.dyl_search.Gathers.{options_of}
 use Rattle.dyl_link.specs.Kept as links
 use Rattle.dyl_front.specs.declared.outcome.UsageKind.{UsageKind}
 use Rattle.dyl_front.specs.declared.outcome.Outcome.{Outcome}
-use Rattle.dyl_front.specs.declared.outcome.Outcome.TheVariants.{Done, WriteFault, Memory}
+use Rattle.dyl_front.specs.declared.outcome.Outcome.TheVariants.{Done, Ran, WriteFault, Memory}
 use Rattle.dyl_front.specs.declared.order.Order.{Order}
 use Rattle.dyl_front.specs.declared.order.Order.TheVariants as order
 use Rattle.dyl_commands.specs.Linking.{linked}
+use Rattle.dyl_commands.specs.Traced.{IsProgram}
 
 -- The set is gathered from the files and links, and the path of the output holds bytes that merge it, whose module has the shape of a merged
 -- one. Every other path is as it was.
@@ -39,7 +45,28 @@ MergeLeaves names o link out files WriteFault old new = IsSomeAnd new.told (Same
 MergeLeaves names o link out files Memory old new = (new.told ≡ Some files) ⊎ (Rose old.write_faults new.write_faults × IsSomeAnd new.told (SameBut out files))
 MergeLeaves names o link out files answer old new = new.told ≡ Some files
 
--- only merging changes a file
+-- The path of the output holds the text of a trace, of which this is so by the run of the program that the files give. Every other path is as it
+-- was.
+pub record IsTraced (names : HostNames) (one : Bool) (o : SetOptions) (link : LinkOptions) (out : List ℕ) (Of : Course → Trace → Type 0) (files after : FileMap) : Type 0 where
+  pub program : Origin
+  pub gives : IsProgram names (get files) one o link program
+  pub trace : Trace
+  pub is : Of (course_of program) trace
+  pub text : List ℕ
+  pub of_trace : IsTextOf text trace
+  pub written : after ≡ insert files out text
+
+-- What an answer of tracing leaves of these files. After a write fault the path of the output may hold anything. Memory may be wanting once the
+-- trace is written: for the line that tells how the run ended.
+abbrev pub TraceLeaves : HostNames → Bool → SetOptions → LinkOptions → List ℕ → FileMap → Outcome → FilesState → FilesState → Type 0
+TraceLeaves names one o link out files (Ran r) old new = IsSomeAnd new.told (IsTraced names one o link out (λ C t. IsTraceOf C r t) files)
+TraceLeaves names one o link out files WriteFault old new = IsSomeAnd new.told (SameBut out files)
+TraceLeaves names one o link out files Memory old new =
+    (new.told ≡ Some files) ⊎ (IsSomeAnd new.told (IsTraced names one o link out Traces files) ⊎ (Rose old.write_faults new.write_faults × IsSomeAnd new.told (SameBut out files)))
+TraceLeaves names one o link out files answer old new = new.told ≡ Some files
+
+-- only merging and tracing change a file
 abbrev pub LeavesFor : HostNames → Result Order UsageKind → FileMap → Outcome → FilesState → FilesState → Type 0
 LeavesFor names (Ok (order.Merge o link out)) files answer old new = MergeLeaves names (options_of o) (links.options_of link) out files answer old new
+LeavesFor names (Ok (order.Trace one o link steps out args)) files answer old new = TraceLeaves names one (options_of o) (links.options_of link) out files answer old new
 LeavesFor names _ files answer old new = new.told ≡ Some files

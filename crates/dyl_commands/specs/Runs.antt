@@ -1,6 +1,6 @@
 -- What a call does to the input, the output, the errors, the clock and the random words.
 -- Cited by the clause `does` of `serve`, through Clauses.
-use Rattle.std.specs.Prelude.{◌≡◌, ◌⊎◌, ℕ, List, [], ◌∷◌, true, Option, None, Some, Result, Ok, Err, codes}
+use Rattle.std.specs.Prelude.{◌≡◌, ◌⊎◌, ℕ, List, [], ◌∷◌, Bool, true, false, Option, None, Some, Result, Ok, Err, codes}
 use Rattle.std.specs.Option.{ForSome}
 use Rattle.std.specs.FinMap.{get}
 use Rattle.wasm_form.specs.declared.module.Module.{Module}
@@ -34,9 +34,11 @@ use Rattle.dyl_front.specs.declared.order.Order.{Order}
 use Rattle.dyl_front.specs.declared.order.Order.TheVariants as order
 use Rattle.dyl_front.specs.declared.outcome.UsageKind.{UsageKind}
 use Rattle.dyl_front.specs.declared.outcome.Outcome.{Outcome}
-use Rattle.dyl_front.specs.declared.outcome.Outcome.TheVariants.{Done, Ran, WriteFault, Memory}
+use Rattle.dyl_front.specs.declared.outcome.Outcome.TheVariants.{Done, Ran, TooLong, WriteFault, Memory}
+use Rattle.run_loaded.specs.Courses.{OfModule, OfSet, course_of}
 use Rattle.dyl_commands.specs.OneFile.{OfFile}
 use Rattle.dyl_commands.specs.Linking.{linked}
+use Rattle.dyl_commands.specs.Traced.{HasText, IsShort, IsLong}
 use Rattle.dyl_commands.specs.Generated.{with_pages, AreMade}
 use Rattle.dyl_commands.specs.Told.{TellsErrors}
 
@@ -98,6 +100,29 @@ abbrev pub RunWorks : Option FileMap → SetOptions → LinkOptions → ℕ → 
 RunWorks told o link steps embedder (Ran r) old new = IsLoadedRun told o link steps embedder r old new
 RunWorks told o link steps embedder Memory old new = (new ≡ old) ⊎ IsLoadedCut told o link steps embedder old new
 RunWorks told o link steps embedder answer old new = new ≡ old
+
+-- ---- a run with its trace, of a set, or with `--one` of one module
+
+-- what a run does
+abbrev pub ProgramWorks : Option FileMap → Bool → SetOptions → LinkOptions → ℕ → Embedder → Outcome → Devices → Devices → Type 0
+ProgramWorks told false o link steps embedder answer old new = RunWorks told o link steps embedder answer old new
+ProgramWorks told true o link steps embedder answer old new = ExecWorks told o.main steps embedder answer old new
+
+-- it was run, as is told, and the text of its trace has so many bytes
+abbrev pub IsTracedRun : (ℕ → Type 0) → Option FileMap → Bool → SetOptions → LinkOptions → ℕ → Embedder → ran.Ran → Devices → Devices → Type 0
+IsTracedRun Size told false o link steps embedder r old new =
+    (h : IsLoadedRun told o link steps embedder r old new) × HasText Size (course_of (OfSet (linked embedder.names link h.set))) r
+IsTracedRun Size told true o link steps embedder r old new =
+    (h : IsFileRun told o.main steps embedder r old new) × HasText Size (course_of (OfModule h.wasm h.opening)) r
+
+-- A run is told where its trace may be written, as it was where that failed, and else that the trace is too long.
+abbrev pub TraceWorks : Option FileMap → Bool → SetOptions → LinkOptions → ℕ → Embedder → Outcome → Devices → Devices → Type 0
+TraceWorks told one o link steps embedder (Ran r) old new = IsTracedRun IsShort told one o link steps embedder r old new
+TraceWorks told one o link steps embedder (TooLong r) old new = IsTracedRun IsLong told one o link steps embedder r old new
+TraceWorks told one o link steps embedder WriteFault old new = (r : ran.Ran) × IsTracedRun IsShort told one o link steps embedder r old new
+TraceWorks told one o link steps embedder answer old new = ProgramWorks told one o link steps embedder answer old new
+
+-- ---- a listing
 
 -- its listing was put to the output in one put, with this result
 pub record PutsListing (told : Option FileMap) (names : HostNames) (o : SetOptions) (link : LinkOptions) (result : Result (Unit {0}) IoFault) (old new : SinkState) : Type 0 where
@@ -168,6 +193,8 @@ Works told embedder (Ok (order.Plan o link)) answer old new =
     PlanWorks told (embedder []).names (options_of o) (links.options_of link) answer old.output new.output × (new ≡ record old { output = new.output })
 Works told embedder (Ok (order.Gen n pages steps)) answer old new =
     GenWorks (embedder (guest_arguments [])) n pages steps answer old.output new.output × (new ≡ record old { output = new.output })
+Works told embedder (Ok (order.Trace one o link steps out args)) answer old new =
+    TraceWorks told one (options_of o) (links.options_of link) steps (embedder (guest_arguments args)) answer old new
 Works told embedder asked answer old new = new ≡ old
 
 -- What is done to the devices: that, and then what is told of the answer is put to the errors.

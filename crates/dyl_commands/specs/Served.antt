@@ -84,6 +84,15 @@ LinksTo L (Err (Link fault)) = link_fault L ≡ Some fault
 LinksTo L (Err Memory) = Unit {0}
 LinksTo L (Err _) = ⊥
 
+-- ---- storing what a command writes
+
+-- what each answer of a store leaves of the files
+abbrev pub StoresOutput : List ℕ → List ℕ → Result (Unit {0}) Outcome → FilesState → FilesState → Type 0
+StoresOutput out bytes (Ok done) old new = ForSome old.told (λ files. new.told ≡ Some (insert files out bytes))
+StoresOutput out bytes (Err WriteFault) old new = ForSome old.told (λ files. IsSomeAnd new.told (SameBut out files)) × Rises old.write_faults new.write_faults
+StoresOutput out bytes (Err Memory) old new = ForSome old.told (λ files. new.told ≡ Some files)
+StoresOutput out bytes (Err _) old new = ⊥
+
 -- ---- merging a linked set
 
 -- the path of the output holds what merges the set of which this is kept, and every other path is as it was
@@ -92,14 +101,7 @@ pub record HoldsMerged (k : Kept) (out : List ℕ) (files after : FileMap) : Typ
   pub merges : (L : LinkedSet) → IsLinked L k → whole.Merges L output
   pub written : after ≡ insert files out output
 
--- what each outcome of a store leaves of the files
-abbrev pub StoresOutput : List ℕ → List ℕ → Outcome → FilesState → FilesState → Type 0
-StoresOutput out bytes (Done []) old new = ForSome old.told (λ files. new.told ≡ Some (insert files out bytes))
-StoresOutput out bytes WriteFault old new = ForSome old.told (λ files. IsSomeAnd new.told (SameBut out files)) × Rises old.write_faults new.write_faults
-StoresOutput out bytes Memory old new = ForSome old.told (λ files. new.told ≡ Some files)
-StoresOutput out bytes _ old new = ⊥
-
--- and of merging
+-- what each outcome of merging leaves of the files
 abbrev pub WritesMerged : Kept → List ℕ → Outcome → FilesState → FilesState → Type 0
 WritesMerged k out (Done []) old new = ForSome old.told (λ files. IsSomeAnd new.told (HoldsMerged k out files))
 WritesMerged k out WriteFault old new = ForSome old.told (λ files. IsSomeAnd new.told (SameBut out files)) × Rises old.write_faults new.write_faults

@@ -5,6 +5,7 @@ ghost use Rattle.spec_loading.specs.spec_safety.SoundModules.{HoldsNumbers};
 ghost use Rattle.dyl_commands.specs.Runs.{guest_arguments};
 ghost use Rattle.dyl_commands.specs.Due.{is_done};
 ghost use Rattle.dyl_commands.specs.Served.{Serves};
+ghost use Rattle.dyl_commands.specs.Tracing.{BeginsAsModule, TakesAnswers};
 ghost use Rattle.dyl_commands.specs.Clauses.{ModuleDoes, ExecWorksBy};
 
 use crate::one_file::read_module;
@@ -31,7 +32,7 @@ pub(crate) fn guest_arguments(alloc: Global, args: &[Text]) -> Result<List<Text>
 }
 
 /// Runs a module that was read.
-fn exec_module<I: Source, O: Sink, E: Sink, A: Ambient>(
+pub(crate) fn exec_module<I: Source, O: Sink, E: Sink, A: Ambient>(
     alloc: Global,
     checked: &Checked,
     steps: u64,
@@ -44,7 +45,8 @@ fn exec_module<I: Source, O: Sink, E: Sink, A: Ambient>(
 ) -> Outcome
     requires steps { steps ≤ 9223372036854775807 }
     requires numbers { HoldsNumbers checked.now }
-    ensures { ModuleDoes host.now checked.now args.now steps result (I.seen input.old) (O.seen output.old) (E.seen errors.old) (A.seen ambient.old) (I.seen input.new) (O.seen output.new) (E.seen errors.new) (A.seen ambient.new) }
+    ensures taken { TakesAnswers (BeginsAsModule checked.now (names_of host.now)) result }
+    ensures runs { ModuleDoes host.now checked.now args.now steps result (I.seen input.old) (O.seen output.old) (E.seen errors.old) (A.seen ambient.old) (I.seen input.new) (O.seen output.new) (E.seen errors.new) (A.seen ambient.new) }
 {
     let Ok(args) = guest_arguments(alloc, args) else {
         return Outcome::Memory;

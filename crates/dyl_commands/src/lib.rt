@@ -8,12 +8,17 @@ mod generated;
 mod merge;
 mod one_file;
 mod plan;
+mod replay;
 mod run;
 mod sets;
+mod store;
+mod trace;
 
 pub use error_line::tell;
 pub use exec::exec_file;
 pub use generated::gen_main;
 pub use merge::merge_main;
 pub use plan::plan_main;
+pub use replay::replay_main;
 pub use run::run_main;
+pub use trace::trace_main;

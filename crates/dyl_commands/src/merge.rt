@@ -5,28 +5,18 @@ ghost use Rattle.spec_loading.specs.spec_linking.LinkedSets.{LinkedSet};
 ghost use Rattle.dyl_link.specs.Kept.{IsLinked};
 ghost use Rattle.merge_whole.specs.Merges.{IsSupported};
 ghost use Rattle.dyl_front.specs.Orders.{IsLinkInRange};
-ghost use Rattle.dyl_commands.specs.Served.{Serves, StoresOutput, WritesMerged, merge_outcome};
+ghost use Rattle.dyl_commands.specs.Served.{Serves, WritesMerged, merge_outcome};
 
 use crate::sets::linked_set;
+use crate::store::store_output;
 use dyl_front::{Order, Outcome};
 use dyl_link::dyl_search::SetOptions;
 use dyl_link::host_table::HostTable;
 use dyl_link::{LinkOptions, Linked};
 use merge_whole::merge;
-use spec_hosts::dyl_outside::{Files, IoFault};
+use spec_hosts::dyl_outside::Files;
 use spec_merging::MergeFault;
 use std::alloc::Global;
-
-/// Stores the output.
-fn store_output<F: Files>(alloc: Global, out: &str, bytes: &[u8], files: &mut F) -> Outcome
-    ensures { StoresOutput out.now bytes.now result (F.seen files.old) (F.seen files.new) }
-{
-    match files.store(alloc, out, bytes) {
-        Ok(()) => Outcome::done(alloc),
-        Err(IoFault::Failed) => Outcome::WriteFault,
-        Err(IoFault::Memory) => Outcome::Memory,
-    }
-}
 
 /// What is answered where nothing is merged.
 fn unmerged(fault: MergeFault) -> Outcome
@@ -45,7 +35,10 @@ fn write_merged<F: Files>(alloc: Global, linked: &Linked, out: &str, files: &mut
     ensures { WritesMerged linked.now out.now result (F.seen files.old) (F.seen files.new) }
 {
     match merge(alloc, linked) {
-        Ok(bytes) => store_output(alloc, out, &bytes, files),
+        Ok(bytes) => match store_output(alloc, out, &bytes, files) {
+            Ok(()) => Outcome::done(alloc),
+            Err(outcome) => outcome,
+        },
         Err(fault) => unmerged(fault),
     }
 }

@@ -1,9 +1,9 @@
-// The module of a file that is run.
+// The file of a module that is run, or of a trace.
 ghost use Rattle.std.specs.Prelude.{◌≡◌, IfErr, false};
 ghost use Rattle.spec_reading.specs.spec_binary.WellFormed.{IsWellFormed};
 ghost use Rattle.dyl_commands.specs.OneFile.{OfModule, OfBytes};
 ghost use Rattle.dyl_commands.specs.Causes.{wants_inside};
-ghost use Rattle.dyl_commands.specs.Fetched.{decode_fault, check_fault, OrMemory, IsMissing, IsUnread, ReadsFile};
+ghost use Rattle.dyl_commands.specs.Fetched.{decode_fault, check_fault, OrMemory, IsMissing, IsUnread, FetchesFile, ReadsFile};
 
 use dyl_link::dyl_search::name_of;
 use dyl_link::wasm_check::{Checked, check};
@@ -15,8 +15,8 @@ use std::alloc::Global;
 use wasm_decode::decode;
 use wasm_form::{Module, Text};
 
-/// The most bytes of a module that is run.
-const MOST_RUN: usize = 67_108_864;
+/// The most bytes of a module that is run, and of the text of a trace.
+pub(crate) const MOST_RUN: usize = 67_108_864;
 
 /// That there is no file at a path.
 fn missing(alloc: Global, path: &str) -> SetFault
@@ -85,15 +85,29 @@ fn module_of(alloc: Global, bytes: &[u8]) -> Result<Checked, SetFault>
     }
 }
 
-/// The module of the file at a path.
-pub fn read_module<F: Files>(alloc: Global, path: &str, files: &mut F) -> Result<Checked, SetFault>
-    ensures { ReadsFile path.now result (F.seen files.old) (F.seen files.new) }
+/// The bytes of the file at a path, of which there may be so many, or why they aren't had.
+pub(crate) fn fetch_file<F: Files>(
+    alloc: Global,
+    path: &str,
+    files: &mut F,
+) -> Result<Vec<u8>, SetFault>
+    ensures { FetchesFile path.now result (F.seen files.old) (F.seen files.new) }
 {
     match files.fetch(alloc, path, MOST_RUN) {
-        Ok(bytes) => module_of(alloc, &bytes),
+        Ok(bytes) => Ok(bytes),
         Err(FileFault::Absent) => Err(missing(alloc, path)),
         Err(FileFault::Failed) => Err(unread(alloc, path)),
         Err(FileFault::TooLong) => Err(SetFault::SetSize),
         Err(FileFault::Memory) => Err(SetFault::Memory),
+    }
+}
+
+/// The module of the file at a path.
+pub fn read_module<F: Files>(alloc: Global, path: &str, files: &mut F) -> Result<Checked, SetFault>
+    ensures { ReadsFile path.now result (F.seen files.old) (F.seen files.new) }
+{
+    match fetch_file(alloc, path, files) {
+        Ok(bytes) => module_of(alloc, &bytes),
+        Err(fault) => Err(fault),
     }
 }

@@ -5,6 +5,7 @@ ghost use Rattle.dyl_front.specs.Orders.{IsLinkInRange};
 ghost use Rattle.wasm_exec.specs.Executed.{HaveIntegers, IsLinkedOver};
 ghost use Rattle.dyl_commands.specs.Due.{is_done};
 ghost use Rattle.dyl_commands.specs.Served.{Serves};
+ghost use Rattle.dyl_commands.specs.Tracing.{BeginsAsSet, TakesAnswers};
 ghost use Rattle.dyl_commands.specs.Clauses.{SetRuns, RunWorksBy};
 
 use crate::exec::guest_arguments;
@@ -19,7 +20,7 @@ use wasm_exec::execute_set;
 use wasm_form::{Memory, Text};
 
 /// Runs a linked set.
-fn run_linked<I: Source, O: Sink, E: Sink, A: Ambient>(
+pub(crate) fn run_linked<I: Source, O: Sink, E: Sink, A: Ambient>(
     alloc: Global,
     linked: &Linked,
     steps: u64,
@@ -33,7 +34,8 @@ fn run_linked<I: Source, O: Sink, E: Sink, A: Ambient>(
     requires names { IsLinkedOver linked.now (names_of host.now) }
     requires integers { HaveIntegers (names_of host.now) }
     requires steps { steps ≤ 9223372036854775807 }
-    ensures { SetRuns host.now linked.now args.now steps result (I.seen input.old) (O.seen output.old) (E.seen errors.old) (A.seen ambient.old) (I.seen input.new) (O.seen output.new) (E.seen errors.new) (A.seen ambient.new) }
+    ensures taken { TakesAnswers (BeginsAsSet linked.now) result }
+    ensures runs { SetRuns host.now linked.now args.now steps result (I.seen input.old) (O.seen output.old) (E.seen errors.old) (A.seen ambient.old) (I.seen input.new) (O.seen output.new) (E.seen errors.new) (A.seen ambient.new) }
 {
     let Ok(args) = guest_arguments(alloc, args) else {
         return Outcome::Memory;

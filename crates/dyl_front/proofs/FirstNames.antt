@@ -1,7 +1,7 @@
 -- The first name of a function is that of the first export at whose place it is noted.
 use Rattle.std.proofs.Common.{◌≡◌, ℕ, suc, ◌+◌, Bool, true, false, List, [], ◌∷◌, find, Option, Some, None, slice_get, refl, ap, sym, ◌∙◌, zero-add, arith}
 use Rattle.std.specs.List.{position_from}
-use Rattle.spec_hosts.specs.spec_binary.Options.{◌>>=◌}
+use Rattle.spec_traces.specs.spec_hosts.spec_binary.Options.{◌>>=◌}
 use Rattle.spec_linking.specs.Definitions.{or_other}
 
 pub or_nothing : (o : Option ℕ) → or_other o None ≡ o

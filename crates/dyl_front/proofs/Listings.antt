@@ -5,10 +5,10 @@ use Rattle.std.proofs.lemmas.List.{length-map}
 use Rattle.spec_merging.specs.wasm_form.declared.module.Import.{Import}
 use Rattle.spec_merging.specs.wasm_form.declared.runtime.Ref.{Ref}
 use Rattle.spec_merging.specs.wasm_form.declared.runtime.Ref.TheVariants.{Own}
-use Rattle.spec_hosts.specs.spec_binary.IndexSpaces.{functions_in, globals_in}
-use Rattle.spec_hosts.specs.spec_binary.Options.{◌>>=◌}
-use Rattle.spec_hosts.specs.spec_runtime.Memories.{page_size}
-use Rattle.spec_hosts.specs.spec_runtime.Names.{HostName}
+use Rattle.spec_traces.specs.spec_hosts.spec_binary.IndexSpaces.{functions_in, globals_in}
+use Rattle.spec_traces.specs.spec_hosts.spec_binary.Options.{◌>>=◌}
+use Rattle.spec_traces.specs.spec_hosts.spec_runtime.Memories.{page_size}
+use Rattle.spec_traces.specs.spec_hosts.spec_runtime.Names.{HostName}
 use Rattle.spec_linking.specs.Sets.{Member}
 use Rattle.spec_linking.specs.Plans.{Plan, Region, bases, rounded_up, region_of, regions_of}
 use Rattle.spec_linking.specs.Imports.{use_of}

@@ -14,7 +14,7 @@ use Rattle.dyl_front.specs.declared.outcome.Opt.{Opt}
 use Rattle.dyl_front.specs.declared.outcome.Opt.TheVariants.{Dl, Path, Pages, Stack, Steps, N}
 use Rattle.dyl_front.specs.declared.outcome.UsageKind.{UsageKind}
 use Rattle.dyl_front.specs.declared.order.Order.{Order}
-use Rattle.dyl_front.specs.declared.order.Order.TheVariants.{Merge, Run, Exec, Plan, Gen}
+use Rattle.dyl_front.specs.declared.order.Order.TheVariants.{Merge, Run, Exec, Plan, Gen, Trace, Replay}
 use Rattle.dyl_front.specs.Orders.{Text, on_ok, is_number, is_between, number_of, number_in, is_empty, items_of, items_in, set_in, pages_in, link_in, steps_in, over_set, order_by, order_asked, order_for, order_of, has_no_zero, is_item, IsSetInRange, IsLinkInRange, IsInRange}
 
 parts_false : (a b : Bool) → (a || b) ≡ false → (a ≡ false) × (b ≡ false)
@@ -137,6 +137,22 @@ module _ (a : Asked) (free : IsZeroFree a) where
       (λ n m. ok_then (λ k. (0 ≤ k) × (k ≤ 4294967295)) IsInRange (number_of N 0 4294967295 number) (λ k. Ok (Gen k most n))
       (numbers N 0 4294967295 0 (Some number) (omega arith) (omega arith)) (λ k q. (p.0, p.1, m))))
   orders command.Gen (number ∷ word ∷ words) h = tt
+  orders command.Trace [] h = tt
+  orders command.Trace (main ∷ []) h = tt
+  orders command.Trace (main ∷ out ∷ args) h =
+      let first = parts_false (has_zero main) (list_any has_zero (out ∷ args)) h in
+      let second = parts_false (has_zero out) (list_any has_zero args) first.1 in
+      over main (λ set link. on_ok (steps_in a) (λ n. Ok (Trace a.one set link n out args))) first.0
+      (λ set link s l. ok_then (λ n. n ≤ 9223372036854775807) IsInRange (steps_in a) (λ n. Ok (Trace a.one set link n out args)) steps
+      (λ n m. (s, l, ap not second.0, (m, args_free args second.1))))
+  orders command.Replay [] h = tt
+  orders command.Replay (trace ∷ []) h = tt
+  orders command.Replay (trace ∷ main ∷ []) h =
+      let first = parts_false (has_zero trace) (list_any has_zero (main ∷ [])) h in
+      over main (λ set link. on_ok (steps_in a) (λ n. Ok (Replay a.one trace set link n))) (parts_false (has_zero main) false first.1).0
+      (λ set link s l. ok_then (λ n. n ≤ 9223372036854775807) IsInRange (steps_in a) (λ n. Ok (Replay a.one trace set link n)) steps
+      (λ n m. (ap not first.0, s, l, m)))
+  orders command.Replay (trace ∷ main ∷ word ∷ words) h = tt
 
 asked_in_range : (c : CommandName) (r : Option Asked) → ((a : Asked) → r ≡ Some a → IsZeroFree a) → IfOk (order_asked c r) IsInRange
 asked_in_range c None h = tt

@@ -2,8 +2,8 @@
 use Rattle.std.proofs.Common.{◌≡◌, ℕ, zero, suc, ◌+◌, List, [], ◌∷◌, ◌++◌, map, drop, Option, Some, is_some, unwrap_or, slice_get, true≢false, refl, sym, ap, ◌∙◌, append_assoc, arith}
 use Rattle.spec_merging.specs.wasm_form.declared.runtime.Ref.{Ref}
 use Rattle.spec_merging.specs.wasm_form.declared.runtime.Ref.TheVariants.{Own}
-use Rattle.spec_hosts.specs.spec_binary.Options.{◌>>=◌}
-use Rattle.spec_hosts.specs.spec_runtime.Names.{HostName}
+use Rattle.spec_traces.specs.spec_hosts.spec_binary.Options.{◌>>=◌}
+use Rattle.spec_traces.specs.spec_hosts.spec_runtime.Names.{HostName}
 use Rattle.spec_linking.specs.Sets.{Member}
 use Rattle.dyl_link.specs.Kept.{KeptMember}
 use Rattle.dyl_front.specs.Listing.{slot_line, slot_lines}

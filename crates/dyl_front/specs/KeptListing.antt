@@ -5,8 +5,8 @@ use Rattle.std.specs.Option.{option_map}
 use Rattle.spec_merging.specs.wasm_form.declared.module.Export.{Export}
 use Rattle.spec_merging.specs.wasm_form.declared.runtime.Ref.{Ref}
 use Rattle.spec_merging.specs.wasm_form.declared.runtime.Ref.TheVariants.{Own}
-use Rattle.spec_hosts.specs.spec_binary.Options.{◌>>=◌}
-use Rattle.spec_hosts.specs.spec_runtime.Memories.{page_size}
+use Rattle.spec_traces.specs.spec_hosts.spec_binary.Options.{◌>>=◌}
+use Rattle.spec_traces.specs.spec_hosts.spec_runtime.Memories.{page_size}
 use Rattle.spec_linking.specs.Sets.{Member}
 use Rattle.dyl_link.specs.dyl_search.Gathers.{set_of}
 use Rattle.dyl_link.specs.Kept.{Kept, KeptMember, slot_in, function_in, cell_in}

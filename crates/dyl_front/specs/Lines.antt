@@ -1,8 +1,8 @@
 -- The line that is put to the errors for each outcome.
 use Rattle.std.specs.Option.{option_map}
-use Rattle.std.specs.Prelude.{ℕ, ◌+◌, ◌/◌, ◌%◌, List, [], ◌∷◌, ◌++◌, flat_map, codes, decimal, Bool, ◌&&◌, nat_eq, nat_lt, not, if◌then◌else◌, Option, Some, None}
-use Rattle.spec_hosts.specs.spec_binary.declared.fault.DecodeFault.{DecodeFault}
-use Rattle.spec_hosts.specs.spec_binary.declared.fault.DecodeFault.TheVariants as decode
+use Rattle.std.specs.Prelude.{ℕ, ◌/◌, List, [], ◌∷◌, ◌++◌, codes, decimal, nat_lt, if◌then◌else◌, Option, Some, None}
+use Rattle.spec_traces.specs.spec_hosts.spec_binary.declared.fault.DecodeFault.{DecodeFault}
+use Rattle.spec_traces.specs.spec_hosts.spec_binary.declared.fault.DecodeFault.TheVariants as decode
 use Rattle.spec_linking.specs.declared.fault.RecordFault.{RecordFault}
 use Rattle.spec_linking.specs.declared.fault.RecordFault.TheVariants as record_faults
 use Rattle.spec_linking.specs.declared.fault.Kind.{Kind}
@@ -15,16 +15,17 @@ use Rattle.spec_linking.specs.spec_validation.declared.fault.Field.{Field}
 use Rattle.spec_linking.specs.spec_validation.declared.fault.Field.TheVariants as field
 use Rattle.spec_linking.specs.spec_validation.declared.fault.CheckFault.{CheckFault}
 use Rattle.spec_linking.specs.spec_validation.declared.fault.CheckFault.TheVariants as check
-use Rattle.spec_merging.specs.wasm_form.declared.runtime.Trap.{Trap}
-use Rattle.spec_merging.specs.wasm_form.declared.runtime.Trap.TheVariants as trap
 use Rattle.spec_linking.specs.spec_execution.declared.fault.SingleFault.{SingleFault}
 use Rattle.spec_linking.specs.spec_execution.declared.fault.SingleFault.TheVariants as single
-use Rattle.spec_hosts.specs.declared.ran.RunEnd.{RunEnd}
-use Rattle.spec_hosts.specs.declared.ran.RunEnd.TheVariants as end
+use Rattle.spec_traces.specs.dyl_print.Printed.{hex_byte, escaped, trap_text}
+use Rattle.spec_traces.specs.spec_hosts.declared.ran.RunEnd.{RunEnd}
+use Rattle.spec_traces.specs.spec_hosts.declared.ran.RunEnd.TheVariants as end
 use Rattle.spec_merging.specs.declared.fault.MergeFault.{MergeFault}
 use Rattle.spec_merging.specs.declared.fault.MergeFault.TheVariants as merge
 use Rattle.dyl_gen.specs.declared.fault.GenFault.{GenFault}
 use Rattle.dyl_gen.specs.declared.fault.GenFault.TheVariants as gen
+use Rattle.spec_traces.specs.declared.trace.TraceFault.{TraceFault}
+use Rattle.spec_traces.specs.declared.trace.TraceFault.TheVariants as trace
 use Rattle.dyl_front.specs.declared.outcome.Opt.{Opt}
 use Rattle.dyl_front.specs.declared.outcome.Opt.TheVariants.{Dl, Path, Pages, Stack, Steps, N}
 use Rattle.dyl_front.specs.declared.outcome.UsageKind.{UsageKind}
@@ -33,26 +34,7 @@ use Rattle.spec_linking.specs.declared.fault.SetFault.{SetFault}
 use Rattle.spec_linking.specs.declared.fault.SetFault.TheVariants as set
 use Rattle.spec_linking.specs.declared.fault.SetFault.TheVariants.{Missing, ReadFault, Decode, Record, Check, ModuleCount, SetSize}
 use Rattle.dyl_front.specs.declared.outcome.Outcome.{Outcome}
-use Rattle.dyl_front.specs.declared.outcome.Outcome.TheVariants.{Done, Ran, Usage, Set, Link, Merge, Single, Gen, WriteFault, Memory}
-
--- a lower-case hexadecimal digit
-abbrev pub hex_digit : ℕ → ℕ
-hex_digit n = if nat_lt n 10 then n + 48 else n + 87
-
--- the two last hexadecimal digits
-abbrev pub hex_byte : ℕ → List ℕ
-hex_byte n = hex_digit (n / 16 % 16) ∷ hex_digit (n % 16) ∷ []
-
--- a character of ASCII that is seen, and no backslash
-abbrev pub is_printed : ℕ → Bool
-is_printed b = nat_lt 0x20 b && nat_lt b 0x7F && not (nat_eq b 0x5C)
-
--- such a byte itself, and for another one a backslash and two hexadecimal digits
-abbrev pub escaped_byte : ℕ → List ℕ
-escaped_byte b = if is_printed b then b ∷ [] else 0x5C ∷ hex_byte b
-
-abbrev pub escaped : List ℕ → List ℕ
-escaped bytes = flat_map escaped_byte bytes
+use Rattle.dyl_front.specs.declared.outcome.Outcome.TheVariants.{Done, Ran, Usage, Set, Link, Merge, Single, Gen, Trace, TooLong, WriteFault, Memory}
 
 abbrev pub option_text : Opt → List ℕ
 option_text Dl = codes "--dl"
@@ -142,15 +124,6 @@ abbrev pub merge_text : MergeFault → List ℕ
 merge_text (merge.SectionSize id) = codes "section " ++ decimal id ++ codes " too long"
 merge_text merge.Memory = codes "out of memory"
 
-abbrev pub trap_text : Trap → List ℕ
-trap_text trap.Unreachable = codes "unreachable"
-trap_text trap.MemoryBounds = codes "memory bounds"
-trap_text trap.TableBounds = codes "table bounds"
-trap_text trap.NullEntry = codes "null entry"
-trap_text trap.WrongType = codes "wrong type"
-trap_text trap.DivideByZero = codes "divide by zero"
-trap_text trap.Overflow = codes "overflow"
-
 -- a run that returned or exited has no text
 abbrev pub end_text : RunEnd → Option (List ℕ)
 end_text end.Return = None
@@ -171,6 +144,14 @@ abbrev pub gen_text : GenFault → List ℕ
 gen_text gen.Range = codes "N must be 1 to 255"
 gen_text gen.Memory = codes "out of memory"
 
+-- why a trace isn't that of a run
+abbrev pub trace_fault_text : TraceFault → List ℕ
+trace_fault_text (trace.Line n) = codes "trace malformed in line " ++ decimal n
+trace_fault_text trace.Steps = codes "trace has too many steps"
+trace_fault_text (trace.Single fault) = single_text fault
+trace_fault_text (trace.Differs call) = codes "trace differs at call " ++ decimal call
+trace_fault_text trace.Memory = codes "out of memory"
+
 abbrev pub memory_text : List ℕ
 memory_text = codes "out of memory"
 
@@ -184,6 +165,8 @@ outcome_text (Link fault) = Some (link_text fault)
 outcome_text (Merge fault) = Some (merge_text fault)
 outcome_text (Single fault) = Some (single_text fault)
 outcome_text (Gen fault) = Some (gen_text fault)
+outcome_text (Trace fault) = Some (trace_fault_text fault)
+outcome_text (TooLong ran) = Some (codes "trace too long")
 outcome_text WriteFault = Some (codes "write fault")
 outcome_text Memory = Some memory_text
 

@@ -10,15 +10,15 @@ use Rattle.spec_merging.specs.wasm_form.declared.runtime.LoaderCall.{LoaderCall}
 use Rattle.spec_merging.specs.wasm_form.declared.runtime.LoaderCall.TheVariants.{Dlopen, Dlsym, Dlclose, Dlerror}
 use Rattle.spec_merging.specs.wasm_form.declared.runtime.Ref.{Ref}
 use Rattle.spec_merging.specs.wasm_form.declared.runtime.Ref.TheVariants.{Own, Loader, Host, Stub}
-use Rattle.spec_hosts.specs.spec_binary.IndexSpaces.{functions_in, globals_in}
-use Rattle.spec_hosts.specs.spec_runtime.Names.{HostName}
+use Rattle.spec_traces.specs.spec_hosts.spec_binary.IndexSpaces.{functions_in, globals_in}
+use Rattle.spec_traces.specs.spec_hosts.spec_runtime.Names.{HostName}
 use Rattle.spec_linking.specs.Sets.{Member}
 use Rattle.spec_linking.specs.Plans.{Plan, stack_end, texts_size}
 use Rattle.spec_linking.specs.Definitions.{is_one_of, reserved_names}
 use Rattle.spec_linking.specs.Imports.{ImportUse, DataCell, SlotCell, EnvFunction, ModuleFunction, use_of}
 use Rattle.spec_linking.specs.LinkedSets.{LinkedSet, hosts_of, function_ref}
 use Rattle.spec_linking.specs.Slots.{linked_plan, slot_of, fresh_slots, table_entries, table_most, heap_end, imported_number}
-use Rattle.dyl_front.specs.Lines.{escaped}
+use Rattle.spec_traces.specs.dyl_print.Printed.{escaped}
 
 abbrev pub line_end : List ℕ
 line_end = 0x0A ∷ []

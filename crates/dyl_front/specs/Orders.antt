@@ -19,7 +19,7 @@ use Rattle.dyl_front.specs.declared.outcome.UsageKind.TheVariants.{NoCommand, Un
 use Rattle.dyl_front.specs.declared.outcome.Outcome.{Outcome}
 use Rattle.dyl_front.specs.declared.outcome.Outcome.TheVariants as outcome
 use Rattle.dyl_front.specs.declared.order.Order.{Order}
-use Rattle.dyl_front.specs.declared.order.Order.TheVariants.{Merge, Run, Exec, Plan, Gen}
+use Rattle.dyl_front.specs.declared.order.Order.TheVariants.{Merge, Run, Exec, Plan, Gen, Trace, Replay}
 use Rattle.dyl_front.specs.declared.words.WordFault.{WordFault}
 use Rattle.dyl_front.specs.declared.words.WordFault.TheVariants as word
 
@@ -95,6 +95,13 @@ plan_order main a = over_set main a (λ set link. Ok (Plan set link))
 abbrev pub gen_order : Text → Asked → Result Order UsageKind
 gen_order number a = on_ok (pages_in a) (λ pages. on_ok (steps_in a) (λ steps. on_ok (number_of N 0 4294967295 number) (λ n. Ok (Gen n pages steps))))
 
+-- with `--one`, which no other option of a set stands beside, main is the path of the one module
+abbrev pub trace_order : Text → Text → List Text → Asked → Result Order UsageKind
+trace_order main out args a = over_set main a (λ set link. on_ok (steps_in a) (λ steps. Ok (Trace a.one set link steps out args)))
+
+abbrev pub replay_order : Text → Text → Asked → Result Order UsageKind
+replay_order trace main a = over_set main a (λ set link. on_ok (steps_in a) (λ steps. Ok (Replay a.one trace set link steps)))
+
 -- by the plain words, of which `asked` leaves neither too few nor too many
 abbrev pub order_by : CommandName → List Text → Asked → Result Order UsageKind
 order_by command.Merge (main ∷ out ∷ []) a = merge_order main out a
@@ -102,6 +109,8 @@ order_by command.Run (main ∷ args) a = run_order main args a
 order_by command.Exec (file ∷ args) a = exec_order file args a
 order_by command.Plan (main ∷ []) a = plan_order main a
 order_by command.Gen (number ∷ []) a = gen_order number a
+order_by command.Trace (main ∷ out ∷ args) a = trace_order main out args a
+order_by command.Replay (trace ∷ main ∷ []) a = replay_order trace main a
 order_by _ _ a = Err Words
 
 abbrev pub order_asked : CommandName → Option Asked → Result Order UsageKind
@@ -157,3 +166,5 @@ IsInRange (Run set link steps args) = IsSetInRange set × IsLinkInRange link × 
 IsInRange (Exec file steps args) = (has_no_zero file ≡ true) × AreArgumentsInRange steps args
 IsInRange (Plan set link) = IsSetInRange set × IsLinkInRange link
 IsInRange (Gen n pages steps) = (1 ≤ pages) × (pages ≤ 16384) × (steps ≤ 9223372036854775807)
+IsInRange (Trace one set link steps out args) = IsSetInRange set × IsLinkInRange link × (has_no_zero out ≡ true) × AreArgumentsInRange steps args
+IsInRange (Replay one trace set link steps) = (has_no_zero trace ≡ true) × IsSetInRange set × IsLinkInRange link × (steps ≤ 9223372036854775807)

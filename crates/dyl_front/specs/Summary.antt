@@ -1,27 +1,11 @@
 -- The summary of a set that was run as loaded and as merged.
-use Rattle.std.specs.Prelude.{ℕ, List, [], ◌∷◌, ◌++◌, length, flat_map, codes, decimal}
-use Rattle.spec_hosts.specs.declared.ran.Ran.{Ran}
-use Rattle.spec_hosts.specs.declared.ran.RunEnd.{RunEnd}
-use Rattle.spec_hosts.specs.declared.ran.RunEnd.TheVariants as end
+use Rattle.std.specs.Prelude.{ℕ, List, ◌++◌, length, codes, decimal}
+use Rattle.spec_traces.specs.spec_hosts.declared.ran.Ran.{Ran}
 use Rattle.spec_linking.specs.LinkedSets.{LinkedSet}
 use Rattle.spec_linking.specs.Slots.{linked_plan, table_entries, table_most}
 use Rattle.dyl_front.specs.declared.reports.Report.{Report}
-use Rattle.dyl_front.specs.Lines.{hex_byte, trap_text}
+use Rattle.spec_traces.specs.dyl_print.Printed.{bytes_word, end_word}
 use Rattle.dyl_front.specs.Listing.{line_end, space, range_line}
-
--- how a run ended
-abbrev pub end_word : RunEnd → List ℕ
-end_word end.Return = codes "return"
-end_word (end.Exit code) = codes "exit " ++ decimal code
-end_word (end.Trap why) = codes "trap " ++ trap_text why
-end_word end.StepLimit = codes "steplimit"
-end_word end.DepthLimit = codes "depthlimit"
-end_word end.HostCallLimit = codes "hostcalllimit"
-
--- bytes as hexadecimal digits, or a hyphen where there are none
-abbrev pub bytes_word : List ℕ → List ℕ
-bytes_word [] = codes "-"
-bytes_word (b ∷ bytes) = flat_map hex_byte (b ∷ bytes)
 
 -- a name, how a run ended, how many answers its host gave, and the bytes that it put to its output
 abbrev pub run_line : List ℕ → Ran → List ℕ → List ℕ

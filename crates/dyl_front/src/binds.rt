@@ -1,6 +1,6 @@
 // The lines of what each import is.
 ghost use Rattle.std.specs.Prelude.{◌≡◌, ◌++◌, ◌<◌, ◌≤◌, ◌^◌, codes, decimal, length, IfOk, OnOk, string_bytes};
-ghost use Rattle.spec_hosts.specs.spec_binary.IndexSpaces.{functions_in, globals_in};
+ghost use Rattle.spec_traces.specs.spec_hosts.spec_binary.IndexSpaces.{functions_in, globals_in};
 ghost use Rattle.spec_linking.specs.Imports as imports;
 ghost use Rattle.dyl_link.specs.dyl_search.Gathers.{set_of};
 ghost use Rattle.dyl_link.specs.Kept.{function_in, cell_in};

@@ -3,11 +3,11 @@ ghost use Rattle.std.specs.Prelude.{◌≡◌, ◌++◌, IfOk, OnOk, string_byte
 ghost use Rattle.spec_linking.specs.spec_validation.declared.fault.CheckFault.TheVariants as check;
 ghost use Rattle.dyl_front.specs.Lines.{decode_text, record_text, opcode_text, place_text, field_text, check_text, set_text};
 
-use crate::put::{put_escaped, put_hex, put_text};
-use spec_hosts::spec_binary::DecodeFault;
 use spec_linking::spec_validation::{CheckFault, Field, Place};
 use spec_linking::{RecordFault, SetFault};
 use spec_merging::wasm_form::Memory;
+use spec_traces::dyl_print::{put_escaped, put_hex, put_text};
+use spec_traces::spec_hosts::spec_binary::DecodeFault;
 use std::alloc::Global;
 
 /// Why a module isn't decoded.

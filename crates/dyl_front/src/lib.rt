@@ -9,7 +9,6 @@ mod names;
 mod options;
 mod order;
 mod outcome;
-mod put;
 mod reports;
 mod slots;
 mod words;

@@ -1,17 +1,19 @@
 // The line that is put to the errors for an outcome.
 ghost use Rattle.std.specs.Prelude.{◌≡◌, ◌++◌, [], codes, decimal, unwrap_or, Some, IsSome, IfOk, OnOk, string_bytes};
 ghost use Rattle.spec_linking.specs.declared.fault.LinkFault.TheVariants as link;
-ghost use Rattle.dyl_front.specs.Lines.{escaped, option_text, usage_text, set_text, kind_text, link_text, merge_text, trap_text, end_text, single_text, gen_text, outcome_text, line_with, line_of};
+ghost use Rattle.spec_traces.specs.dyl_print.Printed.{escaped};
+ghost use Rattle.dyl_front.specs.Lines.{option_text, usage_text, set_text, kind_text, link_text, merge_text, end_text, single_text, gen_text, trace_fault_text, outcome_text, line_with, line_of};
 
 use crate::faults::put_set;
 use crate::outcome::{Opt, Outcome, UsageKind};
-use crate::put::{put_escaped, put_text};
 use dyl_gen::GenFault;
-use spec_hosts::RunEnd;
 use spec_linking::spec_execution::SingleFault;
 use spec_linking::{Kind, LinkFault, SetFault};
 use spec_merging::MergeFault;
-use spec_merging::wasm_form::{Memory, Text, Trap};
+use spec_merging::wasm_form::{Memory, Text};
+use spec_traces::TraceFault;
+use spec_traces::dyl_print::{put_escaped, put_number, put_text, put_trap};
+use spec_traces::spec_hosts::RunEnd;
 use std::alloc::Global;
 
 /// An option as it is written.
@@ -195,28 +197,6 @@ fn merging_text(alloc: Global, fault: MergeFault) -> Result<String, Memory>
     Ok(text)
 }
 
-/// Why code trapped.
-fn cause_text(trap: Trap) -> &'static str
-    ensures { result.now ≡ trap_text trap }
-{
-    match trap {
-        Trap::Unreachable => "unreachable",
-        Trap::MemoryBounds => "memory bounds",
-        Trap::TableBounds => "table bounds",
-        Trap::NullEntry => "null entry",
-        Trap::WrongType => "wrong type",
-        Trap::DivideByZero => "divide by zero",
-        Trap::Overflow => "overflow",
-    }
-}
-
-/// Puts why a run trapped.
-pub(crate) fn put_trap(trap: Trap, to: &mut Vec<u8>) -> Result<(), Memory>
-    ensures { OnOk result (to.new.items ≡ to.old.items ++ (codes "trap " ++ trap_text trap)) }
-{
-    put_both("trap ", cause_text(trap), to)
-}
-
 /// Puts how a run ended that neither returned nor exited.
 fn put_end(end: RunEnd, to: &mut Vec<u8>) -> Result<(), Memory>
     ensures { OnOk result (to.new.items ≡ to.old.items ++ unwrap_or (end_text end) []) }
@@ -268,6 +248,27 @@ fn making_text(fault: GenFault) -> &'static str
     }
 }
 
+/// Puts a text and a number.
+fn put_numbered(alloc: Global, text: &str, n: u32, to: &mut Vec<u8>) -> Result<(), Memory>
+    ensures { OnOk result (to.new.items ≡ to.old.items ++ (text.now ++ decimal n)) }
+{
+    put_text(text, to)?;
+    put_number(alloc, u64::from(n), to)
+}
+
+/// Puts why a trace isn't that of a run.
+fn put_trace(alloc: Global, fault: &TraceFault, to: &mut Vec<u8>) -> Result<(), Memory>
+    ensures { OnOk result (to.new.items ≡ to.old.items ++ trace_fault_text fault.now) }
+{
+    match fault {
+        TraceFault::Line { line } => put_numbered(alloc, "trace malformed in line ", *line, to),
+        TraceFault::Steps => put_text("trace has too many steps", to),
+        TraceFault::Single(fault) => put_single(fault, to),
+        TraceFault::Differs { call } => put_numbered(alloc, "trace differs at call ", *call, to),
+        TraceFault::Memory => put_text("out of memory", to),
+    }
+}
+
 /// Puts the text of an outcome, if there is one.
 fn put_outcome(alloc: Global, outcome: &Outcome, to: &mut Vec<u8>) -> Result<(), Memory>
     ensures { OnOk result (to.new.items ≡ to.old.items ++ unwrap_or (outcome_text outcome.now) []) }
@@ -281,6 +282,8 @@ fn put_outcome(alloc: Global, outcome: &Outcome, to: &mut Vec<u8>) -> Result<(),
         Outcome::Merge(fault) => put_text(&merging_text(alloc, *fault)?, to),
         Outcome::Single(fault) => put_single(fault, to),
         Outcome::Gen(fault) => put_text(making_text(*fault), to),
+        Outcome::Trace(fault) => put_trace(alloc, fault, to),
+        Outcome::TooLong(_) => put_text("trace too long", to),
         Outcome::WriteFault => put_text("write fault", to),
         Outcome::Memory => put_text("out of memory", to),
     }

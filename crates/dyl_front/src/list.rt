@@ -1,6 +1,6 @@
 // The listing of a linked set.
 ghost use Rattle.std.specs.Prelude.{◌≡◌, ◌++◌, ◌*◌, codes, decimal, IfOk, OnOk, string_bytes};
-ghost use Rattle.spec_hosts.specs.spec_runtime.Memories.{page_size};
+ghost use Rattle.spec_traces.specs.spec_hosts.spec_runtime.Memories.{page_size};
 ghost use Rattle.spec_linking.specs.LinkedSets.{LinkedSet};
 ghost use Rattle.dyl_link.specs.dyl_search.Gathers.{member_of, set_of};
 ghost use Rattle.dyl_link.specs.Kept.{IsLinked};
@@ -9,11 +9,11 @@ ghost use Rattle.dyl_front.specs.KeptListing.{listed_in, HasMembers};
 
 use crate::binds::put_binds;
 use crate::lines::put_around;
-use crate::put::put_text;
 use crate::slots::put_all_slots;
 use dyl_link::Linked;
 use dyl_link::dyl_search::Member;
 use spec_merging::wasm_form::Memory;
+use spec_traces::dyl_print::put_text;
 use std::alloc::Global;
 
 /// A name, and where a range begins and ends.

@@ -1,9 +1,9 @@
 // The values of options.
-ghost use Rattle.std.specs.Prelude.{◌≡◌, ◌==◌, ◌≤◌, ◌<◌, ◌^◌, IfOk, IfSome, IsNone, map, length, true, false};
+ghost use Rattle.std.specs.Prelude.{◌≡◌, ◌==◌, ◌≤◌, ◌<◌, ◌^◌, IfOk, IfSome, IsNone, map, true};
 ghost use Rattle.std.specs.List.{list_any, list_all, slice_split};
 ghost use Rattle.std.specs.Str.Parse.{digits_value};
 ghost use Rattle.dyl_words.specs.Shown.{shown, text_in};
-ghost use Rattle.dyl_front.specs.Orders.{Reads, is_digit, is_number, is_between, is_empty, number_of, number_in, items_of, items_in, set_in, pages_in, link_in, steps_in};
+ghost use Rattle.dyl_front.specs.Orders.{Reads, is_digit, is_number, is_empty, number_of, number_in, items_in, set_in, pages_in, link_in, steps_in};
 ghost use Rattle.dyl_front.specs.declared.outcome.Opt.TheVariants.{N};
 
 use crate::order::{LEAST_PAGES, LEAST_STACK, MOST_PAGES, MOST_STACK, MOST_STEPS};

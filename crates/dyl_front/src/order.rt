@@ -118,6 +118,26 @@ pub enum Order {
         pages: u32,
         steps: u64,
     },
+    /// Runs the set of a main module for at most so many steps, for a program with these arguments after its name, and writes the trace of the
+    /// run at a path. Where `one`, the one module at the path of the main module is run in its place; words then give the other options of a
+    /// set their defaults.
+    Trace {
+        one: bool,
+        set: SetOptions,
+        link: LinkOptions,
+        steps: u64,
+        out: Text,
+        args: List<Text>,
+    },
+    /// Checks that the file at a path is the trace of a run, of at most so many steps, of the set of a main module. Where `one`, the one module
+    /// at the path of the main module is taken in its place; words then give the other options of a set their defaults.
+    Replay {
+        one: bool,
+        trace: Text,
+        set: SetOptions,
+        link: LinkOptions,
+        steps: u64,
+    },
 }
 
 impl Order {
@@ -145,6 +165,31 @@ impl Order {
             }
             Order::Plan { set, link } => is_set_in_range(set) && is_link_in_range(link),
             Order::Gen { n: _, pages, steps } => are_pages_in_range(*pages) && *steps <= MOST_STEPS,
+            Order::Trace {
+                one: _,
+                set,
+                link,
+                steps,
+                out,
+                args,
+            } => {
+                is_set_in_range(set)
+                    && is_link_in_range(link)
+                    && is_whole(out)
+                    && are_arguments_in_range(*steps, args)
+            }
+            Order::Replay {
+                one: _,
+                trace,
+                set,
+                link,
+                steps,
+            } => {
+                is_whole(trace)
+                    && is_set_in_range(set)
+                    && is_link_in_range(link)
+                    && *steps <= MOST_STEPS
+            }
         }
     }
 }

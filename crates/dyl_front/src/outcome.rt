@@ -3,11 +3,12 @@ ghost use Rattle.std.specs.Prelude.{◌≡◌, []};
 ghost use Rattle.dyl_front.specs.Status.{end_status, status_of};
 
 use dyl_gen::GenFault;
-use spec_hosts::{Ran, RunEnd};
 use spec_linking::spec_execution::SingleFault;
 use spec_linking::{LinkFault, SetFault};
 use spec_merging::MergeFault;
 use spec_merging::wasm_form::List;
+use spec_traces::TraceFault;
+use spec_traces::spec_hosts::{Ran, RunEnd};
 use std::alloc::Global;
 
 /// An option that has a value, or the number of a generated set.
@@ -61,6 +62,10 @@ pub enum Outcome {
     Single(SingleFault),
     /// No set is made. The fault is never `Memory`.
     Gen(GenFault),
+    /// The trace is not that of a run. The fault is never `Memory` nor that of a module that isn't run: these are outcomes of their own.
+    Trace(TraceFault),
+    /// The module was run, and the text of the run's trace, which isn't written, would have more than 67,108,864 bytes.
+    TooLong(Ran),
     /// The output could not be written.
     WriteFault,
     /// No memory could be had.
@@ -104,7 +109,9 @@ pub fn status(outcome: &Outcome) -> u8
         | Outcome::Link(_)
         | Outcome::Merge(_)
         | Outcome::Single(_)
-        | Outcome::Gen(_) => 65,
+        | Outcome::Gen(_)
+        | Outcome::Trace(_)
+        | Outcome::TooLong(_) => 65,
         Outcome::Memory => 71,
         Outcome::WriteFault => 74,
     }

@@ -1,17 +1,15 @@
 // The summary of a set that was run as loaded and as merged.
-ghost use Rattle.std.specs.Prelude.{◌≡◌, ◌++◌, length, flat_map, codes, decimal, IfOk, OnOk, string_bytes};
+ghost use Rattle.std.specs.Prelude.{◌≡◌, ◌++◌, length, decimal, IfOk, OnOk, string_bytes};
 ghost use Rattle.spec_linking.specs.LinkedSets.{LinkedSet};
 ghost use Rattle.dyl_link.specs.Kept.{IsLinked};
-ghost use Rattle.dyl_front.specs.Lines.{hex_byte};
-ghost use Rattle.dyl_front.specs.Listing.{space, line_end};
-ghost use Rattle.dyl_front.specs.Summary.{end_word, bytes_word, run_line, modules_line, sizes_lines, summary_of};
+ghost use Rattle.dyl_front.specs.Listing.{space};
+ghost use Rattle.dyl_front.specs.Summary.{run_line, modules_line, sizes_lines, summary_of};
 
-use crate::lines::put_trap;
 use crate::list::put_range;
-use crate::put::{put_hex, put_text};
 use dyl_link::Linked;
-use spec_hosts::{Ran, RunEnd};
 use spec_merging::wasm_form::{List, Memory};
+use spec_traces::dyl_print::{put_bytes, put_end, put_text};
+use spec_traces::spec_hosts::Ran;
 use std::alloc::Global;
 
 /// What came of a run: how it ended, and what it put to its output.
@@ -19,48 +17,6 @@ use std::alloc::Global;
 pub struct Report {
     pub ran: Ran,
     pub output: List<u8>,
-}
-
-/// How a run exited.
-fn exit_text(alloc: Global, code: u32) -> Result<String, Memory>
-    ensures { IfOk result (λ text. string_bytes text ≡ codes "exit " ++ decimal code) }
-{
-    let text = format!(in alloc; "exit {code}")?;
-    Ok(text)
-}
-
-/// Puts how a run ended.
-fn put_end(alloc: Global, end: RunEnd, to: &mut Vec<u8>) -> Result<(), Memory>
-    ensures { OnOk result (to.new.items ≡ to.old.items ++ end_word end) }
-{
-    match end {
-        RunEnd::Return => put_text("return", to),
-        RunEnd::Exit(code) => put_text(&exit_text(alloc, code)?, to),
-        RunEnd::Trap(trap) => put_trap(trap, to),
-        RunEnd::StepLimit => put_text("steplimit", to),
-        RunEnd::DepthLimit => put_text("depthlimit", to),
-        RunEnd::HostCallLimit => put_text("hostcalllimit", to),
-    }
-}
-
-/// Puts the digits of bytes.
-fn put_digits(bytes: &[u8], to: &mut Vec<u8>) -> Result<(), Memory>
-    ensures { OnOk result (to.new.items ≡ to.old.items ++ flat_map hex_byte bytes.now) }
-{
-    for b in bytes {
-        put_hex(*b, to)?;
-    }
-    Ok(())
-}
-
-/// Puts bytes as digits, or a hyphen where there are none.
-fn put_bytes(bytes: &[u8], to: &mut Vec<u8>) -> Result<(), Memory>
-    ensures { OnOk result (to.new.items ≡ to.old.items ++ bytes_word bytes.now) }
-{
-    if bytes.is_empty() {
-        return put_text("-", to);
-    }
-    put_digits(bytes, to)
 }
 
 /// How many answers a host gave.

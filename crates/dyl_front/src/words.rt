@@ -5,7 +5,7 @@ ghost use Rattle.std.specs.Vec.Iter.{into_iter_items};
 ghost use Rattle.dyl_words.specs.Words.{asked};
 ghost use Rattle.dyl_words.specs.declared.names.CommandName.TheVariants as command;
 ghost use Rattle.dyl_words.specs.Shown.{shown};
-ghost use Rattle.dyl_front.specs.Orders.{Reads, word_fault, merge_order, run_order, exec_order, plan_order, gen_order, order_by, order_asked, order_of, refused_words, IsInRange};
+ghost use Rattle.dyl_front.specs.Orders.{Reads, word_fault, merge_order, run_order, exec_order, plan_order, gen_order, trace_order, replay_order, order_by, order_asked, order_of, refused_words, IsInRange};
 ghost use Rattle.dyl_front.specs.declared.words.WordFault.TheVariants as word;
 
 use crate::options::{link_in, members_in, owned_all, pages_in, set_in, steps_in};
@@ -171,6 +171,70 @@ fn gen_order(number: &str, asked: &Asked<'_>) -> Result<Order, WordFault>
     Ok(Order::Gen { n, pages, steps })
 }
 
+/// The order of `trace`.
+fn trace_order(
+    alloc: Global,
+    main: &str,
+    out: &str,
+    args: &[&str],
+    asked: &Asked<'_>,
+) -> Result<Order, WordFault>
+    ensures { Reads result (trace_order main.now out.now (map (λ x. x.now) args.now) (shown asked.now)) }
+{
+    let set = set_in(alloc, main, asked)?;
+    let link = link_in(asked)?;
+    let steps = steps_in(asked)?;
+    let out = Text::copied(alloc, out)?;
+    let args = owned_all(alloc, args)?;
+    Ok(Order::Trace {
+        one: asked.one,
+        set,
+        link,
+        steps,
+        out,
+        args,
+    })
+}
+
+/// The order of `trace`, by its plain words.
+fn trace_words(alloc: Global, words: &[&str], asked: &Asked<'_>) -> Result<Order, WordFault>
+    ensures { Reads result (order_by command.Trace (map (λ x. x.now) words.now) (shown asked.now)) }
+{
+    match words.split_first() {
+        Some((main, rest)) => match rest.split_first() {
+            Some((out, args)) => trace_order(alloc, main, out, args, asked),
+            None => Err(WordFault::Usage {
+                kind: UsageKind::Words,
+            }),
+        },
+        None => Err(WordFault::Usage {
+            kind: UsageKind::Words,
+        }),
+    }
+}
+
+/// The order of `replay`.
+fn replay_order(
+    alloc: Global,
+    trace: &str,
+    main: &str,
+    asked: &Asked<'_>,
+) -> Result<Order, WordFault>
+    ensures { Reads result (replay_order trace.now main.now (shown asked.now)) }
+{
+    let set = set_in(alloc, main, asked)?;
+    let link = link_in(asked)?;
+    let steps = steps_in(asked)?;
+    let trace = Text::copied(alloc, trace)?;
+    Ok(Order::Replay {
+        one: asked.one,
+        trace,
+        set,
+        link,
+        steps,
+    })
+}
+
 /// The order that a command is, by what is asked for.
 fn order_by(alloc: Global, command: CommandName, asked: &Asked<'_>) -> Result<Order, WordFault>
     ensures { Reads result (order_by command (shown asked.now).plain (shown asked.now)) }
@@ -181,6 +245,8 @@ fn order_by(alloc: Global, command: CommandName, asked: &Asked<'_>) -> Result<Or
         (CommandName::Exec, [file, args @ ..]) => exec_order(alloc, file, args, asked),
         (CommandName::Plan, [main]) => plan_order(alloc, main, asked),
         (CommandName::Gen, [number]) => gen_order(number, asked),
+        (CommandName::Trace, words) => trace_words(alloc, words, asked),
+        (CommandName::Replay, [trace, main]) => replay_order(alloc, trace, main, asked),
         _ => Err(WordFault::Usage {
             kind: UsageKind::Words,
         }),

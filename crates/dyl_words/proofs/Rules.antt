@@ -3,9 +3,9 @@ use Rattle.std.proofs.Common.{◌≡◌, Bool, true, false, not, List, [], ◌�
 use lib.Pointwise.{bytes_decides}
 use Rattle.std.specs.Str.{bytes_eq}
 use Rattle.dyl_words.specs.declared.names.CommandName.{CommandName}
-use Rattle.dyl_words.specs.declared.names.CommandName.TheVariants.{Merge, Run, Exec, Plan, Gen}
+use Rattle.dyl_words.specs.declared.names.CommandName.TheVariants.{Merge, Run, Exec, Plan, Gen, Trace, Replay}
 use Rattle.dyl_words.specs.declared.names.OptionName.{OptionName}
-use Rattle.dyl_words.specs.declared.names.OptionName.TheVariants.{Dl, Path, Pages, Stack, NoDuplicates, Steps}
+use Rattle.dyl_words.specs.declared.names.OptionName.TheVariants.{Dl, Path, Pages, Stack, NoDuplicates, Steps, One}
 use Rattle.dyl_words.specs.Words.{option_word, option_named, is_flag}
 use Rattle.dyl_words.specs.Clap.{app, words_arg, value_arg, flag_arg}
 use Rattle.clap.specs.Words.{Rule, Text}
@@ -38,6 +38,8 @@ simple Run = refl
 simple Exec = refl
 simple Plan = refl
 simple Gen = refl
+simple Trace = refl
+simple Replay = refl
 
 pub simple_is : (c : CommandName) → is_simple (app c) ≡ true
 simple_is Merge = refl
@@ -45,12 +47,10 @@ simple_is Run = refl
 simple_is Exec = refl
 simple_is Plan = refl
 simple_is Gen = refl
+simple_is Trace = refl
+simple_is Replay = refl
 
 -- ---- the rule of an option
-
--- by its word alone
-abbrev rule_by : Text → Rule
-rule_by word = cond (bytes_eq word (codes "no-duplicates")) (flag_rule word) (value_rule word)
 
 id_is : (p : OptionName) (id : Text) → bytes_eq (option_rule p).id id ≡ bytes_eq (option_word p) id
 id_is Dl id = refl
@@ -59,6 +59,7 @@ id_is Pages id = refl
 id_is Stack id = refl
 id_is NoDuplicates id = refl
 id_is Steps id = refl
+id_is One id = refl
 
 or_false : (b : Bool) → (b || false) ≡ b
 or_false true = refl
@@ -71,6 +72,7 @@ long_is Pages name = or_false _
 long_is Stack name = or_false _
 long_is NoDuplicates name = or_false _
 long_is Steps name = or_false _
+long_is One name = or_false _
 
 pub words_differ : (o : OptionName) → bytes_eq (codes "words") (option_word o) ≡ false
 words_differ Dl = refl
@@ -79,6 +81,7 @@ words_differ Pages = refl
 words_differ Stack = refl
 words_differ NoDuplicates = refl
 words_differ Steps = refl
+words_differ One = refl
 
 -- the first rule that passes a test which holds of the option of a name
 find_by : (test : Rule → Bool) (name : Text) → ((p : OptionName) → test (option_rule p) ≡ bytes_eq (option_word p) name) → (known : List OptionName)
@@ -117,3 +120,4 @@ option_differs Pages = refl
 option_differs Stack = refl
 option_differs NoDuplicates = refl
 option_differs Steps = refl
+option_differs One = refl

@@ -6,7 +6,7 @@ use Rattle.dyl_words.specs.Forms.{Text, Form, ends, option, stray, plain, is_equ
 use Rattle.dyl_words.specs.declared.names.CommandName.{CommandName}
 use Rattle.dyl_words.specs.declared.names.OptionName.{OptionName}
 use Rattle.dyl_words.specs.declared.names.OptionName.TheVariants.{Dl, Path}
-use Rattle.dyl_words.specs.Words.{Given, Asked, option_word, option_named, options, options_of, is_flag, yes, with_plain, with_use, at_option, at_form, given, has_zero, values_of, is_right, first_of, takes_plain, asked_of, asked_in, asked, some_has_zero, IsZeroFree}
+use Rattle.dyl_words.specs.Words.{Given, Asked, option_word, option_named, options, options_of, is_flag, yes, with_plain, with_use, at_option, at_form, given, has_zero, values_of, is_right, first_of, takes_plain, asked_of, mixes, unmixed, asked_in, asked, some_has_zero, IsZeroFree}
 
 parts_false : (a b : Bool) → (a || b) ≡ false → (a ≡ false) × (b ≡ false)
 parts_false true b h = absurd (true≢false h)
@@ -107,9 +107,13 @@ first_value_free : (vs : List Text) → list_any has_zero vs ≡ false → some_
 first_value_free [] h = refl
 first_value_free (v ∷ vs) h = (parts_false (has_zero v) (list_any has_zero vs) h).0
 
+unmixed_free : (b : Bool) (x a : Asked) → IsZeroFree x → cond b None (Some x) ≡ Some a → IsZeroFree a
+unmixed_free true x a h e = absurd (true≢false (sym (ap is_some e)))
+unmixed_free false x a h e = subst IsZeroFree (ap (λ y. unwrap_or y a) e) h
+
 by_free : (c : Bool) (ws : List Text) (f : OptionName → List Text) (a : Asked) → list_any has_zero ws ≡ false → ((p : OptionName) → list_any has_zero (f p) ≡ false)
-    → cond c (Some (asked_of ws f)) None ≡ Some a → IsZeroFree a
-by_free true ws f a h k e = subst IsZeroFree (ap (λ x. unwrap_or x a) e) (h, first_value_free (f Dl) (k Dl), first_value_free (f Path) (k Path))
+    → cond c (unmixed (asked_of ws f)) None ≡ Some a → IsZeroFree a
+by_free true ws f a h k e = unmixed_free (mixes (asked_of ws f)) (asked_of ws f) a (h, first_value_free (f Dl) (k Dl), first_value_free (f Path) (k Path)) e
 by_free false ws f a h k e = absurd (true≢false (sym (ap is_some e)))
 
 in_free : (c : CommandName) (r : Option Given) (a : Asked) → Free r → option_and_then (asked_in c) r ≡ Some a → IsZeroFree a

@@ -1,12 +1,12 @@
 -- How the words after a command are read.
-use Rattle.std.specs.Prelude.{◌≡◌, ℕ, ◌==◌, Bool, true, false, ◌&&◌, nat_le, List, [], ◌∷◌, map, length, find, Option, Some, None, is_some, option_and_then, option_map, codes, if◌then◌else◌}
+use Rattle.std.specs.Prelude.{◌≡◌, ℕ, ◌==◌, Bool, true, false, ◌&&◌, ◌||◌, nat_le, List, [], ◌∷◌, map, length, find, Option, Some, None, is_some, option_and_then, option_map, codes, if◌then◌else◌}
 use Rattle.std.specs.List.{list_any, list_all, filter}
 use Rattle.std.specs.Str.{bytes_eq}
 use Rattle.dyl_words.specs.Forms.{Text, Form, ends, option, plain, stray, form_of, begins_with_hyphen}
 use Rattle.dyl_words.specs.declared.names.CommandName.{CommandName}
-use Rattle.dyl_words.specs.declared.names.CommandName.TheVariants.{Merge, Run, Exec, Plan, Gen}
+use Rattle.dyl_words.specs.declared.names.CommandName.TheVariants.{Merge, Run, Exec, Plan, Gen, Trace, Replay}
 use Rattle.dyl_words.specs.declared.names.OptionName.{OptionName}
-use Rattle.dyl_words.specs.declared.names.OptionName.TheVariants.{Dl, Path, Pages, Stack, NoDuplicates, Steps}
+use Rattle.dyl_words.specs.declared.names.OptionName.TheVariants.{Dl, Path, Pages, Stack, NoDuplicates, Steps, One}
 
 -- ---- commands and their options
 
@@ -16,9 +16,11 @@ command_word Run = codes "run"
 command_word Exec = codes "exec"
 command_word Plan = codes "plan"
 command_word Gen = codes "gen"
+command_word Trace = codes "trace"
+command_word Replay = codes "replay"
 
 abbrev pub commands : List CommandName
-commands = Merge ∷ Run ∷ Exec ∷ Plan ∷ Gen ∷ []
+commands = Merge ∷ Run ∷ Exec ∷ Plan ∷ Gen ∷ Trace ∷ Replay ∷ []
 
 abbrev pub command_named : Text → Option CommandName
 command_named word = find (λ c. bytes_eq word (command_word c)) commands
@@ -31,35 +33,44 @@ option_word Pages = codes "pages"
 option_word Stack = codes "stack"
 option_word NoDuplicates = codes "no-duplicates"
 option_word Steps = codes "steps"
+option_word One = codes "one"
 
 abbrev pub options : List OptionName
-options = Dl ∷ Path ∷ Pages ∷ Stack ∷ NoDuplicates ∷ Steps ∷ []
+options = Dl ∷ Path ∷ Pages ∷ Stack ∷ NoDuplicates ∷ Steps ∷ One ∷ []
 
 -- the option has no value
 abbrev pub is_flag : OptionName → Bool
 is_flag NoDuplicates = true
+is_flag One = true
 is_flag _ = false
 
 abbrev pub set_options : List OptionName
 set_options = Dl ∷ Path ∷ Pages ∷ Stack ∷ NoDuplicates ∷ []
 
+abbrev pub run_options : List OptionName
+run_options = Dl ∷ Path ∷ Pages ∷ Stack ∷ NoDuplicates ∷ Steps ∷ []
+
 abbrev pub options_of : CommandName → List OptionName
 options_of Merge = set_options
-options_of Run = options
+options_of Run = run_options
 options_of Exec = Steps ∷ []
 options_of Plan = set_options
 options_of Gen = Pages ∷ Steps ∷ []
+options_of Trace = options
+options_of Replay = options
 
 abbrev pub option_named : List OptionName → Text → Option OptionName
 option_named known word = find (λ o. bytes_eq (option_word o) word) known
 
--- so many plain words are taken: MAIN and OUT, MAIN alone, a path and arguments, or a number
+-- so many plain words are taken: MAIN and OUT, MAIN alone, a path and arguments, a number, MAIN and OUT and arguments, or TRACE and MAIN
 abbrev pub takes_plain : CommandName → ℕ → Bool
 takes_plain Merge n = n == 2
 takes_plain Run n = nat_le 1 n
 takes_plain Exec n = nat_le 1 n
 takes_plain Plan n = n == 1
 takes_plain Gen n = n == 1
+takes_plain Trace n = nat_le 2 n
+takes_plain Replay n = n == 2
 
 -- ---- what words give
 
@@ -138,6 +149,7 @@ pub record Asked : Type 0 where
   pub stack : Option Text
   pub no_duplicates : Bool
   pub steps : Option Text
+  pub one : Bool
 
 -- by the plain words, and the values of each option
 abbrev pub asked_of : List Text → (OptionName → List Text) → Asked
@@ -149,11 +161,19 @@ asked_of words values = record {
   stack = first_of (values Stack);
   no_duplicates = is_some (first_of (values NoDuplicates));
   steps = first_of (values Steps);
+  one = is_some (first_of (values One));
 }
 
--- no plain word is missing or too many, no option is given twice, and no value is empty
+-- an option of a set stands beside `--one`
+abbrev pub mixes : Asked → Bool
+mixes a = a.one && (is_some a.dl || is_some a.path || is_some a.pages || is_some a.stack || a.no_duplicates)
+
+abbrev pub unmixed : Asked → Option Asked
+unmixed a = if mixes a then None else Some a
+
+-- no plain word is missing or too many, no option is given twice, no value is empty, and no option of a set stands beside `--one`
 abbrev pub asked_by : CommandName → List Text → (OptionName → List Text) → Option Asked
-asked_by command words values = if takes_plain command (length words) && list_all (λ o. is_right (values o)) options then Some (asked_of words values) else None
+asked_by command words values = if takes_plain command (length words) && list_all (λ o. is_right (values o)) options then unmixed (asked_of words values) else None
 
 abbrev pub asked_in : CommandName → Given → Option Asked
 asked_in command g = asked_by command g.plain (λ o. values_of o g.uses)

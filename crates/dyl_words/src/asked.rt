@@ -1,9 +1,8 @@
 // What words ask for.
-ghost use Rattle.std.specs.Prelude.{◌≡◌, IfOk, IfErr, OnErr, map, string_bytes, drop, length, Some, None, true, false};
+ghost use Rattle.std.specs.Prelude.{◌≡◌, IfOk, IfErr, map, string_bytes, drop, length, Some, None, true, false};
 ghost use Rattle.std.specs.List.{list_any};
 ghost use Rattle.clap.specs.Words.{rows_of};
 ghost use Rattle.clap.specs.Matches.{found_of};
-ghost use Rattle.clap.specs.Values.{kind_of};
 ghost use Rattle.dyl_words.specs.Words as spec;
 ghost use Rattle.dyl_words.specs.Clap.{has_stray, is_stray, texts_in, values_in, words_in, asked_in_rows};
 ghost use Rattle.dyl_words.specs.Shown.{shown, text_in};
@@ -24,6 +23,7 @@ pub struct Asked<'a> {
     pub stack: Option<&'a str>,
     pub no_duplicates: bool,
     pub steps: Option<&'a str>,
+    pub one: bool,
 }
 
 /// Why nothing is asked for.
@@ -166,13 +166,13 @@ fn plain_in<'a>(
     Ok(Vec::from_slice(alloc, words)?)
 }
 
-// What matches ask for.
-fn asked_in<'a>(
+// The plain words, and the values of the options.
+fn values_in<'a>(
     alloc: Global,
     command: CommandName,
     matches: &ArgMatches<'a>,
 ) -> Result<Asked<'a>, AskFault>
-    ensures right { IfOk result (λ a. asked_in_rows command (rows_of (found_of matches.now)) ≡ Some (shown a)) }
+    ensures right { IfOk result (λ a. asked_in_rows command (rows_of (found_of matches.now)) ≡ spec.unmixed (shown a)) }
     ensures wrong { IfErr result (λ e. e ≡ AskFault.Words → asked_in_rows command (rows_of (found_of matches.now)) ≡ None) }
 {
     let plain = plain_in(alloc, command, matches)?;
@@ -182,6 +182,7 @@ fn asked_in<'a>(
     let stack = value_in(matches, OptionName::Stack)?;
     let no_duplicates = value_in(matches, OptionName::NoDuplicates)?.is_some();
     let steps = value_in(matches, OptionName::Steps)?;
+    let one = value_in(matches, OptionName::One)?.is_some();
     Ok(Asked {
         plain,
         dl,
@@ -190,7 +191,36 @@ fn asked_in<'a>(
         stack,
         no_duplicates,
         steps,
+        one,
     })
+}
+
+// Whether an option of a set stands beside `--one`.
+fn mixes(asked: &Asked<'_>) -> bool
+    ensures { result ≡ spec.mixes (shown asked.now) }
+{
+    asked.one
+        && (asked.dl.is_some()
+            || asked.path.is_some()
+            || asked.pages.is_some()
+            || asked.stack.is_some()
+            || asked.no_duplicates)
+}
+
+// What matches ask for.
+fn asked_in<'a>(
+    alloc: Global,
+    command: CommandName,
+    matches: &ArgMatches<'a>,
+) -> Result<Asked<'a>, AskFault>
+    ensures right { IfOk result (λ a. asked_in_rows command (rows_of (found_of matches.now)) ≡ Some (shown a)) }
+    ensures wrong { IfErr result (λ e. e ≡ AskFault.Words → asked_in_rows command (rows_of (found_of matches.now)) ≡ None) }
+{
+    let asked = values_in(alloc, command, matches)?;
+    if mixes(&asked) {
+        return Err(AskFault::Words);
+    }
+    Ok(asked)
 }
 
 /// What the words after a command ask for. The first of `words` is the command's own.

@@ -27,7 +27,9 @@ fn option_argument<'a>(alloc: Global, option: OptionName) -> Arg<'a>
         .long(option.word())
         .action(ArgAction::Append);
     match option {
-        OptionName::NoDuplicates => argument.num_args(0_usize).default_missing_value("yes"),
+        OptionName::NoDuplicates | OptionName::One => {
+            argument.num_args(0_usize).default_missing_value("yes")
+        }
         _ => argument,
     }
 }

@@ -15,6 +15,10 @@ pub enum CommandName {
     Plan,
     /// Makes a set, and runs it loaded and merged.
     Gen,
+    /// Runs a set or one module, and writes the trace of the run.
+    Trace,
+    /// Checks that a trace is that of a run.
+    Replay,
 }
 
 /// An option of a command.
@@ -32,6 +36,8 @@ pub enum OptionName {
     NoDuplicates,
     /// The most steps of a run.
     Steps,
+    /// Whether the main module is run alone, without its set. It has no value.
+    One,
 }
 
 /// The options of a command over a set.
@@ -53,6 +59,17 @@ const RUN_OPTIONS: [OptionName; 6] = [
     OptionName::Steps,
 ];
 
+/// The options of a command that runs a set, or one module in its place.
+const TRACE_OPTIONS: [OptionName; 7] = [
+    OptionName::Dl,
+    OptionName::Path,
+    OptionName::Pages,
+    OptionName::Stack,
+    OptionName::NoDuplicates,
+    OptionName::Steps,
+    OptionName::One,
+];
+
 /// The options of a command that runs one module.
 const EXEC_OPTIONS: [OptionName; 1] = [OptionName::Steps];
 
@@ -69,6 +86,7 @@ impl CommandName {
             CommandName::Run => &RUN_OPTIONS,
             CommandName::Exec => &EXEC_OPTIONS,
             CommandName::Gen => &GEN_OPTIONS,
+            CommandName::Trace | CommandName::Replay => &TRACE_OPTIONS,
         }
     }
 
@@ -77,9 +95,10 @@ impl CommandName {
         ensures { result ≡ takes_plain self count }
     {
         match self {
-            CommandName::Merge => count == 2,
+            CommandName::Merge | CommandName::Replay => count == 2,
             CommandName::Run | CommandName::Exec => count >= 1,
             CommandName::Plan | CommandName::Gen => count == 1,
+            CommandName::Trace => count >= 2,
         }
     }
 
@@ -93,6 +112,8 @@ impl CommandName {
             CommandName::Exec => "exec",
             CommandName::Plan => "plan",
             CommandName::Gen => "gen",
+            CommandName::Trace => "trace",
+            CommandName::Replay => "replay",
         }
     }
 
@@ -106,6 +127,8 @@ impl CommandName {
             "exec" => Some(CommandName::Exec),
             "plan" => Some(CommandName::Plan),
             "gen" => Some(CommandName::Gen),
+            "trace" => Some(CommandName::Trace),
+            "replay" => Some(CommandName::Replay),
             _ => None,
         }
     }
@@ -123,6 +146,7 @@ impl OptionName {
             OptionName::Stack => "stack",
             OptionName::NoDuplicates => "no-duplicates",
             OptionName::Steps => "steps",
+            OptionName::One => "one",
         }
     }
 }

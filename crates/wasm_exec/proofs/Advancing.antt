@@ -14,7 +14,7 @@ use Rattle.spec_hosts.specs.Ends.{taken_of}
 use Rattle.spec_hosts.specs.spec_runtime.Courses.{Course, after, status_at, IsAt}
 use Rattle.wasm_machine.specs.Steps.{Advances, AreOfCode}
 use Rattle.wasm_exec.specs.Driving.{Progress, IsAskedOf, IsFree, IsRunning, KeepsCalls}
-use Rattle.wasm_exec.proofs.Growth.{real_front, events_last}
+use Rattle.run_loaded.proofs.Growth.{real_front, events_last}
 use Rattle.wasm_exec.proofs.Limits.{not_due, free_to}
 
 -- a run that goes on by itself asks for nothing

@@ -3,9 +3,7 @@ use Rattle.std.proofs.Common.{◌≡◌, ℕ, ◌<◌, ◌+◌, true, false, Lis
 use Rattle.std.proofs.Math.Nat.{sub-zero}
 use Rattle.std.proofs.Math.Seq.{take-length}
 use Rattle.std.proofs.lemmas.List.Sums.{sum-map, sum_by_push}
-use Rattle.std.proofs.lemmas.Option.{same_Some, slice_get-map, slice_get_within}
-use Rattle.std.proofs.lemmas.List.{length-map}
-use Rattle.std.specs.Option.{option_map}
+use Rattle.std.proofs.lemmas.Option.{same_Some}
 use Rattle.spec_hosts.specs.wasm_form.declared.runtime.Trap.{Trap}
 use Rattle.spec_hosts.specs.wasm_form.declared.runtime.Answer.{Answer}
 use Rattle.spec_hosts.specs.wasm_form.declared.runtime.Asked.{Asked}
@@ -22,6 +20,7 @@ use Rattle.dyl_link.specs.host_table.Names.{host_name_of}
 use Rattle.dyl_link.specs.host_table.declared.host.HostName as code
 use Rattle.spec_hosts.specs.spec_runtime.Courses.{Course, reached, status_at, memory_at, IsAt, with_answer}
 use Rattle.wasm_machine.specs.Steps.{Awaits}
+use Rattle.run_loaded.proofs.Hosts.{entry_within}
 use Rattle.wasm_exec.specs.Driving.{Progress, IsAskedOf, event_reached, IsRunning, IsReady, IsDriven, IsPrepared}
 use Rattle.wasm_exec.proofs.Hosting.{hosted_last}
 use Rattle.wasm_exec.proofs.Limits.{taken_append, free_append}
@@ -40,10 +39,6 @@ asked_call_of host Moving asked asks = absurd asks
 asked_call_of host Returned asked asks = absurd asks
 asked_call_of host (Exited code) asked asks = absurd asks
 asked_call_of host (Trapped why) asked asks = absurd asks
-
--- the host function of an entry, as the code keeps it
-pub host_of_entry : (host : ℕ → Option HostName) (all : List code.HostName) (entry : ℕ) (h : code.HostName) → host ≡ slice_get (map host_name_of all) → slice_get all entry ≡ Some h → host entry ≡ Some (host_name_of h)
-host_of_entry host all entry h same at = ap (λ (f : ℕ → Option HostName). f entry) same ∙ slice_get-map host_name_of all entry ∙ ap (option_map host_name_of) at
 
 pub taken_all : (given : List Answer) → taken_of given [] ≡ given
 taken_all given = ap (λ n. take n given) (sub-zero (length given)) ∙ take-length given
@@ -130,9 +125,7 @@ pub asked_within : (C : Course) (names : HostNames) (p : Progress) → IsRunning
     → asked.entry < length all
 asked_within C names p running asked asks all same =
     let call = asked_call_of C.host (status_at C p.run) asked (subst (IsAskedOf C.host (status_at C p.run)) asks running.asks) in
-    let read : (ℕ → Option HostName) → Option HostName = λ f. f asked.entry in
-    let at : slice_get (map host_name_of all) asked.entry ≡ Some call.call.host = sym (ap read same) ∙ call.there in
-    subst (λ n. asked.entry < n) (length-map all host_name_of) (slice_get_within (map host_name_of all) asked.entry call.call.host at)
+    entry_within C.host all same asked.entry call.call.host call.there
 
 module _ {C : Course} {embedder : Embedder} {p : Progress} {begun middle : Devices} (driven : IsDriven C embedder p begun middle)
     (asked : Asked) (asks : p.asked ≡ Some asked) (h : HostName) (there : C.host asked.entry ≡ Some h) (memory : MemoryInstance) (seen : memory ≡ memory_at C p.run) where

@@ -1,13 +1,8 @@
 -- A run that has made no step.
-use Rattle.std.proofs.Common.{◌≡◌, ℕ, [], Option, Some, None, Result, Ok, Err, inl, refl, sym, ap, subst, arith}
+use Rattle.std.proofs.Common.{◌≡◌, ℕ, [], None, Ok, inl, refl, sym, subst, arith}
 use Rattle.spec_hosts.specs.wasm_form.declared.module.Module.{Module}
-use Rattle.spec_hosts.specs.wasm_form.declared.runtime.Trap.{Trap}
-use Rattle.spec_hosts.specs.spec_runs.Systems.{Status, Moving}
 use Rattle.spec_hosts.specs.spec_runtime.Names.{HostNames}
-use Rattle.spec_hosts.specs.spec_runtime.Hosts.{HostCall}
-use Rattle.spec_loading.specs.spec_execution.Instances.{ModuleParts}
-use Rattle.spec_loading.specs.spec_execution.OneModule.{ModuleState, module_entry, segments_performed, opened_with, module_opening}
-use Rattle.spec_loading.specs.spec_execution.Segments.{Performed}
+use Rattle.spec_loading.specs.spec_execution.OneModule.{ModuleState, module_opening}
 use Rattle.spec_loading.specs.spec_execution.declared.fault.SingleFault.{SingleFault}
 use Rattle.spec_loading.specs.spec_execution.declared.fault.SingleFault.TheVariants as fault
 use Rattle.spec_hosts.specs.Devices.{Devices}
@@ -16,14 +11,15 @@ use Rattle.spec_hosts.specs.Ends.{IsCutShort}
 use Rattle.wasm_single.specs.Starts.{IsTold}
 use Rattle.wasm_single.specs.Singles.{SingleRun, new_run}
 use Rattle.wasm_exec.specs.declared.driver.Driver.{Driver}
-use Rattle.wasm_exec.specs.declared.program.Program.{Program}
-use Rattle.wasm_exec.specs.declared.program.Program.TheVariants as program
+use Rattle.run_loaded.specs.declared.loaded.Loaded.{Loaded}
+use Rattle.run_loaded.specs.declared.loaded.Loaded.TheVariants as loaded
 use Rattle.spec_hosts.specs.spec_runtime.Courses.{Course, no_steps}
-use Rattle.wasm_exec.specs.Courses.{Origin, OfModule, course_of}
-use Rattle.wasm_exec.specs.Programs.{recorded_of, IsOf}
+use Rattle.run_loaded.specs.Courses.{Origin, OfModule, course_of}
+use Rattle.run_loaded.specs.Programs.{recorded_of, IsOf}
 use Rattle.wasm_exec.specs.Driving.{Progress, IsDriven, progress_of, Drives, Begins, Opens}
 use Rattle.wasm_exec.specs.Executed.{HaveIntegers, IsRefused}
-use Rattle.wasm_exec.proofs.Openings.{opening_parts, are_declared}
+use Rattle.run_loaded.proofs.Openings.{module_loaded, opening_moves}
+use Rattle.wasm_exec.proofs.Openings.{are_declared}
 use Rattle.wasm_exec.proofs.Proceeding.{cut_here}
 
 -- ---- whatever it is that is run
@@ -45,7 +41,7 @@ new_driven C embedder begun begins = record {
 }
 
 -- a driver of a program that was opened drives it from there
-pub begins_driven : (embedder : Embedder) (o : Origin) (p : Program) (d : Driver) (begun : Devices) → Opens o embedder.names p → recorded_of p ≡ no_steps
+pub begins_driven : (embedder : Embedder) (o : Origin) (p : Loaded) (d : Driver) (begun : Devices) → Opens o embedder.names p → recorded_of p ≡ no_steps
     → progress_of d ≡ record { run = recorded_of p; asked = None; written = 0 } → d.program ≡ p → Drives embedder o d begun begun
 begins_driven embedder o p d begun opens fresh progress same = (
   subst (λ x. IsOf x o) (sym same) opens.0,
@@ -58,29 +54,11 @@ not_begun C embedder begun most begins = cut_here (new_driven C embedder begun b
 
 -- ---- one module
 
-opened_moving : (m : Module) (opening : ModuleState) (entry : Option ℕ) (o : Option (Performed ModuleParts)) → opened_with m entry o ≡ Ok opening → opening.status ≡ Moving
-opened_moving m opening None o e = absurd cc
-opened_moving m opening (Some entry) None e = absurd cc
-opened_moving m opening (Some entry) (Some p) e = go p.trap refl
-  where
-    status_of : Result ModuleState SingleFault → Status HostCall Trap
-    status_of (Ok s) = s.status
-    status_of (Err fault) = Moving
-
-    go : (trap : Option Trap) → p.trap ≡ trap → opening.status ≡ Moving
-    go None q = let is = rw q at e in sym (ap status_of is)
-    go (Some why) q = let is = rw q at e in absurd cc
-
 -- a module that was loaded begins at its opening state
-pub module_opens : (names : HostNames) (m : Module) (opening : ModuleState) (s : SingleRun) → HaveIntegers names → module_opening m names ≡ Ok opening → s ≡ new_run m → Opens (OfModule m opening) names (program.Module s)
+pub module_opens : (names : HostNames) (m : Module) (opening : ModuleState) (s : SingleRun) → HaveIntegers names → module_opening m names ≡ Ok opening → s ≡ new_run m → Opens (OfModule m opening) names (loaded.Module s)
 module_opens names m opening s integers opens new =
-    let parts = opening_parts m names opening opens in (
-      (ap (λ (x : SingleRun). x.wasm) new, parts.1),
-      record {
-        declared = are_declared m names integers opening opens;
-        moving = opened_moving m opening (module_entry m) (segments_performed m) parts.1;
-      },
-    )
+    let of = module_loaded m names opening s opens new in
+    (of, record { declared = are_declared m names integers opening opens; moving = opening_moves (loaded.Module s) (OfModule m opening) of })
 
 -- a module is refused before anything is done
 pub refuses : (m : Module) (embedder : Embedder) (most : ℕ) (why : SingleFault) (d : Devices) → IsTold (module_opening m embedder.names) why → IsRefused m embedder most why d d

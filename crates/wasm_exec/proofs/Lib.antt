@@ -1,7 +1,6 @@
 pub mod Advancing
 pub mod Answering
 pub mod Beginning
-pub mod Growth
 pub mod Hosting
 pub mod Integers
 pub mod Limits
@@ -10,5 +9,5 @@ pub mod Proceeding
 pub mod Readiness
 pub mod SetHosts
 pub mod Sets
-pub mod Singles
 pub mod Stepping
+pub mod Taken

@@ -11,7 +11,7 @@ use Rattle.spec_hosts.specs.spec_runtime.Recorded.{waits}
 use Rattle.spec_hosts.specs.Ends.{are_many, taken_of, is_due}
 use Rattle.spec_hosts.specs.spec_runtime.Courses.{Course, after}
 use Rattle.wasm_exec.specs.Driving.{IsFree}
-use Rattle.wasm_exec.proofs.Growth.{real_front}
+use Rattle.run_loaded.proofs.Growth.{real_front}
 
 -- further answers were not taken
 pub taken_append : (given left further : List Answer) → taken_of (given ++ further) (left ++ further) ≡ taken_of given left

@@ -1,5 +1,5 @@
 -- What follows from an opening state: the imports are met by declared host functions.
-use Rattle.std.proofs.Common.{◌≡◌, ℕ, zero, suc, List, [], ◌∷◌, ◌++◌, map, slice_get, Option, Some, None, Result, Ok, Err, refl, subst}
+use Rattle.std.proofs.Common.{◌≡◌, ℕ, zero, suc, List, [], ◌∷◌, ◌++◌, map, slice_get, Option, Some, None, Ok, refl, subst}
 use Rattle.std.proofs.lemmas.Option.{same_Some}
 use Rattle.spec_hosts.specs.wasm_form.declared.types.FuncType.{FuncType}
 use Rattle.spec_hosts.specs.wasm_form.declared.module.Import.{Import}
@@ -8,20 +8,11 @@ use Rattle.spec_hosts.specs.wasm_form.declared.module.ImportDesc.TheVariants as 
 use Rattle.spec_hosts.specs.wasm_form.declared.module.Module.{Module}
 use Rattle.spec_hosts.specs.spec_runtime.Names.{HostName, HostNames, HostMatch, Unknown, Fits, OtherType, host_match}
 use Rattle.spec_loading.specs.spec_execution.Instances.{hosts_in, named_host, imported_hosts, module_hosts}
-use Rattle.spec_loading.specs.spec_execution.OneModule.{ModuleState, import_matched, import_met, imports_met, opened_after, module_opening}
-use Rattle.spec_loading.specs.spec_execution.declared.fault.SingleFault.{SingleFault}
-use Rattle.wasm_single.specs.Starts.{opened}
+use Rattle.spec_loading.specs.spec_execution.OneModule.{ModuleState, import_matched, import_met, imports_met, module_opening}
 use Rattle.wasm_single.proofs.Imports.{both_met}
+use Rattle.run_loaded.proofs.Openings.{opening_parts}
 use Rattle.wasm_exec.specs.Driving.{AreDeclared}
 use Rattle.wasm_exec.specs.Executed.{HaveIntegers}
-
--- an opening state is one whose imports are met
-pub opening_parts : (m : Module) (names : HostNames) (opening : ModuleState) → module_opening m names ≡ Ok opening → (imports_met m names m.imports ≡ Ok tt) × (opened m ≡ Ok opening)
-opening_parts m names opening opens = by (imports_met m names m.imports) refl opens
-  where
-    by : (met : Result (Unit {0}) SingleFault) → imports_met m names m.imports ≡ met → opened_after m met ≡ Ok opening → (imports_met m names m.imports ≡ Ok tt) × (opened m ≡ Ok opening)
-    by (Ok u) e opens = (e, opens)
-    by (Err fault) e opens = absurd cc
 
 module _ (m : Module) (names : HostNames) where
   -- a host function is declared with its type

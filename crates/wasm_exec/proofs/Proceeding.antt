@@ -17,8 +17,8 @@ use Rattle.spec_hosts.specs.declared.ran.RunEnd.TheVariants as end
 use Rattle.spec_hosts.proofs.Fronts.{breaks_none, run_fronts, cut_fronts}
 use Rattle.wasm_exec.specs.declared.driver.Driver.{Driver}
 use Rattle.spec_hosts.specs.spec_runtime.Courses.{Course, reached, status_at, memory_at}
-use Rattle.wasm_exec.specs.Courses.{Origin, course_of}
-use Rattle.wasm_exec.specs.Programs.{recorded_of}
+use Rattle.run_loaded.specs.Courses.{Origin, course_of}
+use Rattle.run_loaded.specs.Programs.{recorded_of}
 use Rattle.wasm_exec.specs.Driving.{Progress, IsAskedOf, event_reached, IsRunning, KeepsCalls, Grows, StepGives, HasEnded, IsDriven, IsPrepared, CourseGives, Proceeds, ran_of, progress_of, Drives, Prepared, GoesAlong, Steps, EndsSo, Comes}
 use Rattle.wasm_exec.proofs.Answering.{asked_call_of, taken_all, none_left}
 use Rattle.wasm_exec.proofs.Readiness.{ready_still}

@@ -1,22 +1,15 @@
 -- A run that doesn't wait may make a step.
-use Rattle.std.proofs.Common.{◌≡◌, Bool, true, false, true≢false, refl, sym, ap, ◌∙◌, le_refl}
-use Rattle.std.specs.Prelude.{◌&&◌, not}
+use Rattle.std.proofs.Common.{◌≡◌, true, false, true≢false, refl, sym, ◌∙◌, le_refl}
 use Rattle.spec_hosts.specs.wasm_form.declared.runtime.Trap.{Trap}
 use Rattle.spec_hosts.specs.spec_runs.Systems.{Status, Moving, Waits, Returned, Exited, Trapped}
 use Rattle.spec_hosts.specs.spec_runtime.Names.{HostNames}
 use Rattle.spec_hosts.specs.spec_runtime.Hosts.{HostCall}
-use Rattle.spec_hosts.specs.spec_runtime.Recorded.{Recorded, has_ended, waits, waits_unanswered}
+use Rattle.spec_hosts.specs.spec_runtime.Recorded.{has_ended, waits}
 use Rattle.spec_hosts.specs.Ends.{goes_on}
 use Rattle.spec_hosts.specs.declared.ran.RunEnd.TheVariants as end
 use Rattle.spec_hosts.specs.spec_runtime.Courses.{Course, status_at}
+use Rattle.run_loaded.proofs.Waiting.{not_waiting}
 use Rattle.wasm_exec.specs.Driving.{Progress, IsRunning, IsReady, HasEnded}
-
-both_false : (a : Bool) → (a && false) ≡ false
-both_false true = refl
-both_false false = refl
-
-pub not_waiting : (x : Recorded) (status : Status HostCall Trap) → waits status ≡ false → waits_unanswered x status ≡ false
-not_waiting x status still = ap (λ b. not x.answered && b) still ∙ both_false (not x.answered)
 
 live : (status : Status HostCall Trap) → has_ended status ≡ false → goes_on status ≡ true
 live Moving unended = refl

@@ -16,8 +16,9 @@ use Rattle.wasm_machine.specs.declared.event.Event.{Event}
 use Rattle.wasm_machine.specs.declared.event.Event.TheVariants as event
 use Rattle.spec_hosts.specs.spec_runtime.Courses.{Course, after, reached, status_at, memory_at, IsAt}
 use Rattle.wasm_machine.specs.Steps.{TellsStatus, StepMade, RunStepped, ArgumentsFit}
-use Rattle.wasm_exec.specs.Driving.{end_by, asked_by, Progress, AreDeclared, IsAskedOf, IsFree, IsRunning, IsReady, HasEnded, Grows, StepGives}
-use Rattle.wasm_exec.proofs.Growth.{events_last}
+use Rattle.run_loaded.specs.Events.{end_by, asked_by}
+use Rattle.wasm_exec.specs.Driving.{Progress, AreDeclared, IsAskedOf, IsFree, IsRunning, IsReady, HasEnded, Grows, StepGives}
+use Rattle.run_loaded.proofs.Growth.{events_last}
 use Rattle.wasm_exec.proofs.Limits.{not_due, free_to}
 
 -- ---- how the run stands that was told of

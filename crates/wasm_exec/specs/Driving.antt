@@ -15,32 +15,14 @@ use Rattle.spec_hosts.specs.Hosted.{Embedder, Hosted, BreaksOff}
 use Rattle.spec_hosts.specs.Ends.{bytes_written, are_many, taken_of, is_due, RunsTo, AreHosted, IsRunOf, IsCutShort}
 use Rattle.spec_hosts.specs.declared.ran.Ran.{Ran}
 use Rattle.spec_hosts.specs.declared.ran.RunEnd.{RunEnd}
-use Rattle.spec_hosts.specs.declared.ran.RunEnd.TheVariants as end
 use Rattle.host_calls.specs.declared.hosts.Hosts.{Hosts}
 use Rattle.host_calls.specs.Bindings.{IsBound}
 use Rattle.host_calls.specs.Embedders.{embedder}
-use Rattle.wasm_machine.specs.declared.event.Event.{Event}
-use Rattle.wasm_machine.specs.declared.event.Event.TheVariants as event
 use Rattle.wasm_exec.specs.declared.driver.Driver.{Driver}
-use Rattle.wasm_exec.specs.declared.program.Program.{Program}
+use Rattle.run_loaded.specs.declared.loaded.Loaded.{Loaded}
 use Rattle.spec_hosts.specs.spec_runtime.Courses.{Course, after, reached, status_at, is_waiting, IsAt}
-use Rattle.wasm_exec.specs.Courses.{Origin, course_of}
-use Rattle.wasm_exec.specs.Programs.{recorded_of, IsOf}
-
--- ---- what came of a step
-
--- the end that it is; a call of the loader and a mark are never told
-abbrev pub end_by : Event → Option RunEnd
-end_by event.Returned = Some end.Return
-end_by (event.Trapped why) = Some (end.Trap why)
-end_by (event.Exited code) = Some (end.Exit code)
-end_by event.Deep = Some end.DepthLimit
-end_by _ = None
-
--- the host call that it waits for
-abbrev pub asked_by : Event → Option Asked
-asked_by (event.Waits asked) = Some asked
-asked_by _ = None
+use Rattle.run_loaded.specs.Courses.{Origin, course_of}
+use Rattle.run_loaded.specs.Programs.{recorded_of, IsOf}
 
 -- ---- host functions, by their entries
 
@@ -221,9 +203,9 @@ pub record Begins (C : Course) (names : HostNames) : Type 0 where
   pub moving : C.system.status C.opening ≡ Moving
 
 -- a program is a run of this, which begins over these host functions
-abbrev pub Opens : Origin → HostNames → Program → Type 0
+abbrev pub Opens : Origin → HostNames → Loaded → Type 0
 Opens o names p = IsOf p o × Begins (course_of o) names
 
 -- What came of the run of a program from its opening state.
-abbrev pub IsRunFrom : Embedder → ℕ → Result Ran Memory → Program → Devices → Devices → Type 0
+abbrev pub IsRunFrom : Embedder → ℕ → Result Ran Memory → Loaded → Devices → Devices → Type 0
 IsRunFrom embedder most result p begun now = (o : Origin) → Opens o embedder.names p → CourseGives (course_of o) embedder most result begun now

@@ -1,5 +1,5 @@
 -- What came of running a module, or a linked set.
-use Rattle.std.specs.Prelude.{◌≡◌, ◌⊎◌, ℕ, List, Result, Ok, Err, IsTrue}
+use Rattle.std.specs.Prelude.{◌≡◌, ◌⊎◌, ℕ, List, Result, Ok, Err, IfOk, IsTrue}
 use Rattle.spec_hosts.specs.wasm_form.declared.memory.Memory.{Memory}
 use Rattle.spec_hosts.specs.wasm_form.declared.module.Module.{Module}
 use Rattle.spec_hosts.specs.wasm_form.declared.types.FuncType.{FuncType}
@@ -11,10 +11,13 @@ use Rattle.spec_loading.specs.spec_linking.LinkedSets.{LinkedSet}
 use Rattle.spec_loading.specs.Loading.{loaded_too_deep}
 use Rattle.spec_loading.specs.LoadedSet.{set_loading, set_system, set_opening}
 use Rattle.dyl_link.specs.Kept.{Kept, IsLinked}
+use Rattle.wasm_single.specs.Singles.{module_course}
+use Rattle.dyl_store.specs.Stores.{set_course}
 use Rattle.spec_hosts.specs.declared.ran.Ran.{Ran}
 use Rattle.spec_hosts.specs.Devices.{Devices}
 use Rattle.spec_hosts.specs.Hosted.{Embedder}
 use Rattle.spec_hosts.specs.Ends.{IsRunOf, IsCutShort}
+use Rattle.run_loaded.specs.Courses.{TakesAll}
 
 -- what came of a run of one module
 abbrev pub IsModuleRun : Module → Embedder → ModuleState → ℕ → Ran → Devices → Devices → Type 0
@@ -34,6 +37,10 @@ IsRefused m embedder most why begun now = (module_opening m embedder.names ≡ E
 abbrev pub Executes : Module → Embedder → ℕ → Result Ran SingleFault → Devices → Devices → Type 0
 Executes m embedder most (Ok r) begun now = (opening : ModuleState) × (module_opening m embedder.names ≡ Ok opening) × IsModuleRun m embedder opening most r begun now
 Executes m embedder most (Err why) begun now = IsRefused m embedder most why begun now
+
+-- all answers of a run of a module were taken
+abbrev pub ModuleTakesAll : Module → HostNames → Result Ran SingleFault → Type 0
+ModuleTakesAll m names result = IfOk result (λ r. (opening : ModuleState) → module_opening m names ≡ Ok opening → TakesAll (module_course m opening) r)
 
 -- ---- a linked set
 
@@ -61,3 +68,7 @@ ExecutesSet L embedder most (Err why) begun now = IsSetCut L embedder most begun
 -- the same of the set that this is kept of
 abbrev pub ExecutesKept : Kept → Embedder → ℕ → Result Ran Memory → Devices → Devices → Type 0
 ExecutesKept k embedder most result begun now = (L : LinkedSet) → IsLinked L k → ExecutesSet L embedder most result begun now
+
+-- all answers of a run of it were taken
+abbrev pub SetTakesAll : Kept → Result Ran Memory → Type 0
+SetTakesAll k result = IfOk result (λ r. (L : LinkedSet) → IsLinked L k → TakesAll (set_course L) r)

@@ -1,4 +1,2 @@
-pub mod Courses
 pub mod Driving
 pub mod Executed
-pub mod Programs

@@ -1,18 +1,16 @@
 // A run that is driven by its host.
-ghost use Rattle.std.specs.Prelude.{◌≡◌, ◌<◌, ◌≤◌, ◌+◌, ◌&&◌, map, sum, length, slice_get, Some, None, false, is_some, nat_lt, OnOk, IfOk};
+ghost use Rattle.std.specs.Prelude.{◌≡◌, ◌<◌, ◌≤◌, ◌+◌, ◌&&◌, map, sum, None, false, is_some, nat_lt, OnOk, IfOk};
 ghost use Rattle.spec_hosts.specs.spec_runtime.Names.{HostNames};
 ghost use Rattle.spec_hosts.specs.Devices.{Devices, devices};
 ghost use Rattle.spec_hosts.specs.Ends.{bytes_written, are_many};
 ghost use Rattle.host_calls.specs.Embedders.{names_of, embedder};
-ghost use Rattle.wasm_exec.specs.Courses.{Origin};
-ghost use Rattle.wasm_exec.specs.Programs.{recorded_of, Keeps};
+ghost use Rattle.run_loaded.specs.Courses.{Origin};
+ghost use Rattle.run_loaded.specs.Programs.{recorded_of, Keeps};
 ghost use Rattle.wasm_exec.specs.Driving.{IsBoundTo, Runs, MayStep, Drives, GoesAlong, Steps, EndsSo, GoesOn, IsServed, progress_of, ran_of};
 
-use crate::events::{asked_by, end_by};
-use crate::program::Program;
-use dyl_link::host_table::HostName;
 use host_calls::Hosts;
 use run_limits::{are_many, bytes_written, may_step};
+use run_loaded::{Loaded, asked_by, end_by, host_at};
 use spec_hosts::dyl_outside::{Ambient, Sink, Source};
 use spec_hosts::wasm_form::{List, Memory};
 use spec_hosts::{Ran, RunEnd};
@@ -21,14 +19,14 @@ use wasm_machine::{Answer, Asked};
 
 /// A run with the host call that it waits for, and how many bytes the answers so far have written.
 pub(crate) struct Driver<'m> {
-    pub program: Program<'m>,
+    pub program: Loaded<'m>,
     pub asked: Option<Asked>,
     pub written: u128,
 }
 
 impl<'m> Driver<'m> {
     /// A program that has made no step.
-    pub fn new(program: Program<'m>) -> Driver<'m>
+    pub fn new(program: Loaded<'m>) -> Driver<'m>
         ensures progress { progress_of result ≡ (record { run = recorded_of program.entry; asked = None; written = 0 }) }
         ensures program { result.program ≡ program.entry }
     {
@@ -176,12 +174,4 @@ impl<'m> Driver<'m> {
         } = self;
         program.into_answers()
     }
-}
-
-/// The host function of an entry.
-fn host_at<'a>(hosts: &'a [HostName], entry: u32) -> &'a HostName
-    requires { entry < length hosts.now }
-    ensures { slice_get hosts.now entry ≡ Some result.now }
-{
-    &hosts[entry as usize]
 }

@@ -2,21 +2,21 @@
 ghost use Rattle.std.specs.Prelude.{◌≡◌, ◌<◌, ◌≤◌, IfOk, OnOk};
 ghost use Rattle.spec_hosts.specs.Devices.{devices, KeepsFronts};
 ghost use Rattle.host_calls.specs.Embedders.{names_of, embedder_of, embedder};
-ghost use Rattle.wasm_exec.specs.Executed.{HaveIntegers, IsLinkedOver, Executes, ExecutesKept};
+ghost use Rattle.wasm_exec.specs.Executed.{HaveIntegers, IsLinkedOver, Executes, ExecutesKept, ModuleTakesAll, SetTakesAll};
 ghost use Rattle.spec_loading.specs.spec_safety.SoundModules.{HoldsNumbers};
-ghost use Rattle.wasm_exec.specs.Courses.{Origin};
-ghost use Rattle.wasm_exec.specs.Programs.{recorded_of};
+ghost use Rattle.run_loaded.specs.Courses.{Origin};
+ghost use Rattle.run_loaded.specs.Programs.{recorded_of};
 ghost use Rattle.spec_hosts.specs.spec_runtime.Courses.{no_steps};
 ghost use Rattle.wasm_exec.specs.Driving.{IsBegun, IsDrivenTo, IsDrivenOn, Opens, IsRunFrom};
 
 use crate::driver::Driver;
-use crate::program::Program;
 use dyl_link::Linked;
 use dyl_link::host_table::{HostNames, HostTable};
 use dyl_link::wasm_check::Checked;
 use dyl_store::Store;
 use host_calls::Hosts;
 use host_wasi::{Wasi, declare};
+use run_loaded::Loaded;
 use spec_hosts::dyl_outside::{Ambient, Sink, Source};
 use spec_hosts::wasm_form::{List, Memory, Text};
 use spec_hosts::{Ran, RunEnd, names_have_their_types};
@@ -51,6 +51,7 @@ pub fn execute<I: Source, O: Sink, E: Sink, A: Ambient>(
     requires numbers { HoldsNumbers checked.now }
     ensures executes { Executes checked.now (embedder_of args table.now) most result (devices (I.seen input.old) (O.seen output.old) (E.seen errors.old) (A.seen ambient.old)) (devices (I.seen input.new) (O.seen output.new) (E.seen errors.new) (A.seen ambient.new)) }
     ensures fronts { KeepsFronts (devices (I.seen input.old) (O.seen output.old) (E.seen errors.old) (A.seen ambient.old)) (devices (I.seen input.new) (O.seen output.new) (E.seen errors.new) (A.seen ambient.new)) }
+    ensures taken { ModuleTakesAll checked.now (names_of table.now) result }
 {
     let names = host_names(alloc, table)?;
     let single = match Single::load(alloc, checked, &names) {
@@ -61,7 +62,7 @@ pub fn execute<I: Source, O: Sink, E: Sink, A: Ambient>(
         }
     };
     drop(names);
-    let program = Program::Module(single);
+    let program = Loaded::Module(single);
     match run_program(
         alloc, program, args, most, table, input, output, errors, ambient,
     ) {
@@ -89,11 +90,12 @@ pub fn execute_set<I: Source, O: Sink, E: Sink, A: Ambient>(
     requires integers { HaveIntegers (names_of table.now) }
     ensures executes { ExecutesKept linked.now (embedder_of args table.now) most result (devices (I.seen input.old) (O.seen output.old) (E.seen errors.old) (A.seen ambient.old)) (devices (I.seen input.new) (O.seen output.new) (E.seen errors.new) (A.seen ambient.new)) }
     ensures fronts { KeepsFronts (devices (I.seen input.old) (O.seen output.old) (E.seen errors.old) (A.seen ambient.old)) (devices (I.seen input.new) (O.seen output.new) (E.seen errors.new) (A.seen ambient.new)) }
+    ensures taken { SetTakesAll linked.now result }
 {
     match Store::load(alloc, linked) {
         Ok(store) => run_program(
             alloc,
-            Program::Set(store),
+            Loaded::Set(store),
             args,
             most,
             table,
@@ -112,7 +114,7 @@ pub fn execute_set<I: Source, O: Sink, E: Sink, A: Ambient>(
 /// Runs what was opened.
 fn run_program<I: Source, O: Sink, E: Sink, A: Ambient>(
     alloc: Global,
-    program: Program,
+    program: Loaded,
     args: List<Text>,
     most: u64,
     table: &HostTable,

@@ -2,9 +2,7 @@
 #![tactic(auto)]
 
 mod driver;
-mod events;
 mod exec;
-mod program;
 
 pub use exec::{execute, execute_set, host_names};
 pub use spec_hosts::{Ran, RunEnd};

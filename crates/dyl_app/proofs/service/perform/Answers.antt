@@ -6,7 +6,7 @@ use Rattle.dyl_commands.specs.Runs.{Does}
 use Rattle.dyl_commands.specs.Served.{Serves}
 use Rattle.dyl_commands.proofs.Writing.{can_write}
 use Rattle.dyl_commands.proofs.Dues.{laws_of, served_due, served_complete}
-use Rattle.dyl_commands.proofs.Performing.{at_merge, at_run, at_exec, at_plan, at_gen, range_of_merge, range_of_run, range_of_plan, range_of_gen}
+use Rattle.dyl_commands.proofs.Performing.{at_merge, at_run, at_exec, at_plan, at_gen, at_trace, at_replay, range_of_merge, range_of_run, range_of_plan, range_of_gen, range_of_trace, range_of_replay}
 use Rattle.dyl_app.proofs.service.perform.Goals as goal
 
 pub perform_merge-requires : goal.perform_merge-requires
@@ -21,9 +21,15 @@ perform_plan-requires g c = range_of_plan c.args.order.now _ _ c.in-Plan.is c.re
 pub perform_gen-requires : goal.perform_gen-requires
 perform_gen-requires g c = let r = range_of_gen c.args.order.now _ _ _ c.in-Gen.is c.requires in record { some = r.0; few = r.1; steps = r.2 }
 
+pub perform_trace-requires : goal.perform_trace-requires
+perform_trace-requires g c = let r = range_of_trace c.args.order.now _ _ _ _ _ _ c.in-Trace.is c.requires in record { link = r.0; steps = r.1 }
+
+pub perform_replay-requires : goal.perform_replay-requires
+perform_replay-requires g c = range_of_replay c.args.order.now _ _ _ _ _ c.in-Replay.is c.requires
+
 pub returns-in-Merge : goal.returns-in-Merge
 returns-in-Merge g c =
-    let laws = (laws_of c.reading_answers.ensures c.one_record_answer.ensures c.one_gathered.ensures c.generated_set_links.ensures.three) in
+    let laws = laws_of c.reading_answers.ensures c.one_record_answer.ensures c.one_gathered.ensures c.generated_set_links.ensures.three c.texts_are_of_one_trace.ensures c.runs_agree_up_to_one_call.ensures.one in
     let can = can_write (functions_of c.args.host.now) in
     let serves =
     at_merge (λ asked. Serves (names_of c.args.host.now) asked c.perform_merge.result (g.F.Files.seen c.args.files.now) (g.F.Files.seen c.perform_merge.new.files) (g.O.Sink.seen c.args.output.now).faults (g.O.Sink.seen c.args.output.now).faults)
@@ -45,7 +51,7 @@ returns-in-Merge g c =
 
 pub returns-in-Run : goal.returns-in-Run
 returns-in-Run g c =
-    let laws = (laws_of c.reading_answers.ensures c.one_record_answer.ensures c.one_gathered.ensures c.generated_set_links.ensures.three) in
+    let laws = laws_of c.reading_answers.ensures c.one_record_answer.ensures c.one_gathered.ensures c.generated_set_links.ensures.three c.texts_are_of_one_trace.ensures c.runs_agree_up_to_one_call.ensures.one in
     let can = can_write (functions_of c.args.host.now) in
     let serves =
     at_run (λ asked. Serves (names_of c.args.host.now) asked c.perform_run.result (g.F.Files.seen c.args.files.now) (g.F.Files.seen c.perform_run.new.files) (g.O.Sink.seen c.args.output.now).faults (g.O.Sink.seen c.perform_run.new.output).faults)
@@ -67,7 +73,7 @@ returns-in-Run g c =
 
 pub returns-in-Exec : goal.returns-in-Exec
 returns-in-Exec g c =
-    let laws = (laws_of c.reading_answers.ensures c.one_record_answer.ensures c.one_gathered.ensures c.generated_set_links.ensures.three) in
+    let laws = laws_of c.reading_answers.ensures c.one_record_answer.ensures c.one_gathered.ensures c.generated_set_links.ensures.three c.texts_are_of_one_trace.ensures c.runs_agree_up_to_one_call.ensures.one in
     let can = can_write (functions_of c.args.host.now) in
     let serves =
     at_exec (λ asked. Serves (names_of c.args.host.now) asked c.perform_exec.result (g.F.Files.seen c.args.files.now) (g.F.Files.seen c.perform_exec.new.files) (g.O.Sink.seen c.args.output.now).faults (g.O.Sink.seen c.perform_exec.new.output).faults)
@@ -89,7 +95,7 @@ returns-in-Exec g c =
 
 pub returns-in-Plan : goal.returns-in-Plan
 returns-in-Plan g c =
-    let laws = (laws_of c.reading_answers.ensures c.one_record_answer.ensures c.one_gathered.ensures c.generated_set_links.ensures.three) in
+    let laws = laws_of c.reading_answers.ensures c.one_record_answer.ensures c.one_gathered.ensures c.generated_set_links.ensures.three c.texts_are_of_one_trace.ensures c.runs_agree_up_to_one_call.ensures.one in
     let can = can_write (functions_of c.args.host.now) in
     let serves =
     at_plan (λ asked. Serves (names_of c.args.host.now) asked c.perform_plan.result (g.F.Files.seen c.args.files.now) (g.F.Files.seen c.perform_plan.new.files) (g.O.Sink.seen c.args.output.now).faults (g.O.Sink.seen c.perform_plan.new.output).faults)
@@ -111,7 +117,7 @@ returns-in-Plan g c =
 
 pub returns-in-Gen : goal.returns-in-Gen
 returns-in-Gen g c =
-    let laws = (laws_of c.reading_answers.ensures c.one_record_answer.ensures c.one_gathered.ensures c.generated_set_links.ensures.three) in
+    let laws = laws_of c.reading_answers.ensures c.one_record_answer.ensures c.one_gathered.ensures c.generated_set_links.ensures.three c.texts_are_of_one_trace.ensures c.runs_agree_up_to_one_call.ensures.one in
     let can = can_write (functions_of c.args.host.now) in
     let serves =
     at_gen (λ asked. Serves (names_of c.args.host.now) asked c.perform_gen.result (g.F.Files.seen c.args.files.now) (g.F.Files.seen c.args.files.now) (g.O.Sink.seen c.args.output.now).faults (g.O.Sink.seen c.perform_gen.new.output).faults)
@@ -129,4 +135,48 @@ returns-in-Gen g c =
           (devices (g.I.Source.seen c.args.input.now) (g.O.Sink.seen c.perform_gen.new.output) (g.E.Sink.seen c.perform_gen.new.errors) (g.A.Ambient.seen c.args.ambient.now)))
           c.args.order.now _ _ _ c.in-Gen.is (record { errors = g.E.Sink.seen c.args.errors.now; works = (c.perform_gen.ensures.works, refl); line = c.perform_gen.ensures.told });
       quiet = c.perform_gen.ensures.quiet;
+    }
+
+pub returns-in-Trace : goal.returns-in-Trace
+returns-in-Trace g c =
+    let laws = laws_of c.reading_answers.ensures c.one_record_answer.ensures c.one_gathered.ensures c.generated_set_links.ensures.three c.texts_are_of_one_trace.ensures c.runs_agree_up_to_one_call.ensures.one in
+    let can = can_write (functions_of c.args.host.now) in
+    let serves =
+    at_trace (λ asked. Serves (names_of c.args.host.now) asked c.perform_trace.result (g.F.Files.seen c.args.files.now) (g.F.Files.seen c.perform_trace.new.files) (g.O.Sink.seen c.args.output.now).faults (g.O.Sink.seen c.perform_trace.new.output).faults)
+    c.args.order.now _ _ _ _ _ _ _ _ c.in-Trace.is c.as_str-in-Trace.ensures c.items-in-Trace.ensures c.perform_trace.ensures.serves in
+    record {
+      due = served_due laws (names_of c.args.host.now) can _ _ _ _ _ _ serves;
+      tells = serves.tells;
+      files = serves.leaves;
+      complete = served_complete laws (names_of c.args.host.now) can _ _ _ _ _ _ serves;
+      caused = serves.caused;
+      inner = serves.inner;
+      does = at_trace
+          (λ asked. Does (g.F.Files.seen c.args.files.now).told (λ texts. embedder_of texts c.args.host.now) asked c.perform_trace.result
+          (devices (g.I.Source.seen c.args.input.now) (g.O.Sink.seen c.args.output.now) (g.E.Sink.seen c.args.errors.now) (g.A.Ambient.seen c.args.ambient.now))
+          (devices (g.I.Source.seen c.perform_trace.new.input) (g.O.Sink.seen c.perform_trace.new.output) (g.E.Sink.seen c.perform_trace.new.errors) (g.A.Ambient.seen c.perform_trace.new.ambient)))
+          c.args.order.now _ _ _ _ _ _ _ _ c.in-Trace.is c.as_str-in-Trace.ensures c.items-in-Trace.ensures c.perform_trace.ensures.does;
+      quiet = c.perform_trace.ensures.quiet;
+    }
+
+pub returns-in-Replay : goal.returns-in-Replay
+returns-in-Replay g c =
+    let laws = laws_of c.reading_answers.ensures c.one_record_answer.ensures c.one_gathered.ensures c.generated_set_links.ensures.three c.texts_are_of_one_trace.ensures c.runs_agree_up_to_one_call.ensures.one in
+    let can = can_write (functions_of c.args.host.now) in
+    let serves =
+    at_replay (λ asked. Serves (names_of c.args.host.now) asked c.perform_replay.result (g.F.Files.seen c.args.files.now) (g.F.Files.seen c.perform_replay.new.files) (g.O.Sink.seen c.args.output.now).faults (g.O.Sink.seen c.args.output.now).faults)
+    c.args.order.now _ _ _ _ _ _ c.in-Replay.is c.as_str-in-Replay.ensures (c.perform_replay.ensures.serves _ _) in
+    record {
+      due = served_due laws (names_of c.args.host.now) can _ _ _ _ _ _ serves;
+      tells = serves.tells;
+      files = serves.leaves;
+      complete = served_complete laws (names_of c.args.host.now) can _ _ _ _ _ _ serves;
+      caused = serves.caused;
+      inner = serves.inner;
+      does = at_replay
+          (λ asked. Does (g.F.Files.seen c.args.files.now).told (λ texts. embedder_of texts c.args.host.now) asked c.perform_replay.result
+          (devices (g.I.Source.seen c.args.input.now) (g.O.Sink.seen c.args.output.now) (g.E.Sink.seen c.args.errors.now) (g.A.Ambient.seen c.args.ambient.now))
+          (devices (g.I.Source.seen c.args.input.now) (g.O.Sink.seen c.args.output.now) (g.E.Sink.seen c.perform_replay.new.errors) (g.A.Ambient.seen c.args.ambient.now)))
+          c.args.order.now _ _ _ _ _ _ c.in-Replay.is c.as_str-in-Replay.ensures (record { errors = g.E.Sink.seen c.args.errors.now; works = refl; line = c.perform_replay.ensures.told });
+      quiet = c.perform_replay.ensures.quiet;
     }

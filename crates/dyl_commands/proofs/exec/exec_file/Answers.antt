@@ -10,11 +10,11 @@ exec_module-outcome-requires-clause-numbers g c = read_numbers c.in-Ok.checked c
 
 pub returns-in-Ok-clause-serves : goal.returns-in-Ok-clause-serves
 returns-in-Ok-clause-serves g c =
-    executed_serves (λ texts. embedder_of texts c.args.host.now) c.args.file.now c.args.steps c.args.args.now _ _ _ c.in-Ok.ensures _ _ c.exec_module-outcome.result c.exec_module-outcome.ensures _ _
+    executed_serves (λ texts. embedder_of texts c.args.host.now) c.args.file.now c.args.steps c.args.args.now _ _ _ c.in-Ok.ensures _ _ c.exec_module-outcome.result c.exec_module-outcome.ensures.runs _ _
 
 pub returns-in-Ok-clause-works : goal.returns-in-Ok-clause-works
 returns-in-Ok-clause-works g c =
-    executed_works (λ texts. embedder_of texts c.args.host.now) c.args.file.now c.args.steps c.args.args.now _ _ _ c.in-Ok.ensures _ _ c.exec_module-outcome.result c.exec_module-outcome.ensures
+    executed_works (λ texts. embedder_of texts c.args.host.now) c.args.file.now c.args.steps c.args.args.now _ _ _ c.in-Ok.ensures _ _ c.exec_module-outcome.result c.exec_module-outcome.ensures.runs
 
 pub returns-in-Err-clause-serves : goal.returns-in-Err-clause-serves
 returns-in-Err-clause-serves g c = rw c.refused.ensures (exec_refused _ c.args.file.now c.args.steps c.args.args.now c.in-Err.fault _ _ _ _ c.in-Err.ensures)
@@ -23,7 +23,7 @@ pub returns-in-Err-clause-works : goal.returns-in-Err-clause-works
 returns-in-Err-clause-works g c = rw c.refused.ensures (refused_works _ (λ texts. embedder_of texts c.args.host.now) c.args.file.now c.args.steps c.args.args.now c.in-Err.fault _)
 
 pub returns-in-Ok-clause-done : goal.returns-in-Ok-clause-done
-returns-in-Ok-clause-done g c = never_done c.in-Ok.checked (embedder_of (guest_arguments c.args.args.now) c.args.host.now) c.args.steps c.exec_module-outcome.result _ _ c.exec_module-outcome.ensures
+returns-in-Ok-clause-done g c = never_done c.in-Ok.checked (embedder_of (guest_arguments c.args.args.now) c.args.host.now) c.args.steps c.exec_module-outcome.result _ _ c.exec_module-outcome.ensures.runs
 
 pub returns-in-Err-clause-done : goal.returns-in-Err-clause-done
 returns-in-Err-clause-done g c = rw c.refused.ensures (set_not_done c.in-Err.fault)

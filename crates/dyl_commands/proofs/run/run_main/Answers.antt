@@ -14,14 +14,14 @@ run_linked-outcome-requires g c =
 
 pub returns-in-Ok-clause-serves : goal.returns-in-Ok-clause-serves
 returns-in-Ok-clause-serves g c =
-    run_serves (embedder_of (guest_arguments c.args.args.now) c.args.host.now) c.args.set.now c.args.link.now c.args.steps c.in-Ok.linked _ _ c.in-Ok.ensures _ _ c.args.args.now c.run_linked-outcome.result c.run_linked-outcome.ensures _ _
+    run_serves (embedder_of (guest_arguments c.args.args.now) c.args.host.now) c.args.set.now c.args.link.now c.args.steps c.in-Ok.linked _ _ c.in-Ok.ensures _ _ c.args.args.now c.run_linked-outcome.result c.run_linked-outcome.ensures.runs _ _
 
 pub returns-in-Ok-clause-works : goal.returns-in-Ok-clause-works
 returns-in-Ok-clause-works g c =
-    run_works (embedder_of (guest_arguments c.args.args.now) c.args.host.now) c.args.set.now c.args.link.now c.args.steps c.in-Ok.linked _ _ c.in-Ok.ensures _ _ c.run_linked-outcome.result c.run_linked-outcome.ensures
+    run_works (embedder_of (guest_arguments c.args.args.now) c.args.host.now) c.args.set.now c.args.link.now c.args.steps c.in-Ok.linked _ _ c.in-Ok.ensures _ _ c.run_linked-outcome.result c.run_linked-outcome.ensures.runs
 
 pub returns-in-Ok-clause-done : goal.returns-in-Ok-clause-done
-returns-in-Ok-clause-done g c = runs_not_done c.in-Ok.linked (embedder_of (guest_arguments c.args.args.now) c.args.host.now) c.args.steps c.run_linked-outcome.result _ _ c.run_linked-outcome.ensures
+returns-in-Ok-clause-done g c = runs_not_done c.in-Ok.linked (embedder_of (guest_arguments c.args.args.now) c.args.host.now) c.args.steps c.run_linked-outcome.result _ _ c.run_linked-outcome.ensures.runs
 
 pub returns-in-Err-clause-serves : goal.returns-in-Err-clause-serves
 returns-in-Err-clause-serves g c =

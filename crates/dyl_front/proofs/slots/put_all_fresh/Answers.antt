@@ -1,6 +1,6 @@
 use Rattle.std.proofs.Common.{rules, ◌≡◌, ◌∙◌, ◌++◌, ◌+◌, ap, map, drop, Some, slice_get}
 use Rattle.spec_merging.specs.wasm_form.declared.runtime.Ref.TheVariants.{Own}
-use Rattle.spec_hosts.specs.spec_binary.Options.{◌>>=◌}
+use Rattle.spec_traces.specs.spec_hosts.spec_binary.Options.{◌>>=◌}
 use Rattle.dyl_link.specs.dyl_search.Gathers.{set_of}
 use Rattle.dyl_link.specs.Kept.{slot_in}
 use Rattle.dyl_front.specs.Listing.{slot_lines}

@@ -1,7 +1,7 @@
 -- What comes of the run, at each of its ends.
 use Rattle.std.proofs.Common.{◌≡◌, arith}
 use Rattle.std.proofs.lemmas.Result.{err_from_is_err_and}
-use Rattle.wasm_exec.specs.Programs.{recorded_of}
+use Rattle.run_loaded.specs.Programs.{recorded_of}
 use Rattle.wasm_exec.proofs.Proceeding.{comes_last}
 use Rattle.wasm_exec.proofs.exec.drive_on.Goals as goal
 

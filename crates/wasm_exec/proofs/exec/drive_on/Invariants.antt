@@ -2,7 +2,7 @@
 use Rattle.std.proofs.Common.{◌≤◌, ◌-◌}
 use Rattle.spec_hosts.specs.Devices.{devices}
 use Rattle.host_calls.specs.Embedders.{embedder}
-use Rattle.wasm_exec.specs.Programs.{recorded_of}
+use Rattle.run_loaded.specs.Programs.{recorded_of}
 use Rattle.wasm_exec.specs.Driving.{LeadsTo}
 use Rattle.wasm_exec.proofs.exec.drive_on.Given as goal
 

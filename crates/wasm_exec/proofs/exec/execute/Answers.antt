@@ -7,9 +7,10 @@ use Rattle.spec_hosts.proofs.Fronts.{fronts_itself}
 use Rattle.host_calls.specs.Embedders.{embedder_of}
 use Rattle.wasm_single.specs.Starts.{IsTold}
 use Rattle.wasm_single.specs.Singles.{SingleRun}
-use Rattle.wasm_exec.specs.Courses.{OfModule, course_of}
+use Rattle.run_loaded.specs.Courses.{OfModule, course_of}
 use Rattle.wasm_exec.proofs.Beginning.{module_opens, refuses}
 use Rattle.wasm_exec.proofs.Proceeding.{course_fronts}
+use Rattle.wasm_exec.proofs.Taken.{all_taken}
 use Rattle.wasm_exec.proofs.exec.execute.Goals as goal
 
 pub run_program-requires-clause-fresh : goal.run_program-requires-clause-fresh
@@ -41,6 +42,12 @@ returns-in-Ok-run_program-clause-fronts g c =
     let now = devices (g.I.Source.seen c.run_program.new.input) (g.O.Sink.seen c.run_program.new.output) (g.E.Sink.seen c.run_program.new.errors) (g.A.Ambient.seen c.run_program.new.ambient) in
     course_fronts (course_of (OfModule m loaded.1.0)) e c.args.most (Ok c.in-Ok-run_program.ran) begun now (c.in-Ok-run_program.ensures (OfModule m loaded.1.0) (module_opens e.names m loaded.1.0 c.in-Ok.single c.in_ok-names.ensures.integers opens loaded.0))
 
+pub returns-in-Ok-run_program-clause-taken : goal.returns-in-Ok-run_program-clause-taken
+returns-in-Ok-run_program-clause-taken g c = λ opening opens.
+    let m = c.args.checked.now in
+    let e = embedder_of c.args.args c.args.table.now in
+    all_taken e c.args.most _ _ (course_of (OfModule m opening)) c.in-Ok-run_program.ran (c.in-Ok-run_program.ensures (OfModule m opening) (module_opens e.names m opening c.in-Ok.single c.in_ok-names.ensures.integers opens c.in-Ok.ensures.0))
+
 pub returns-in-Err-run_program-clause-executes : goal.returns-in-Err-run_program-clause-executes
 returns-in-Err-run_program-clause-executes g c =
     let m = c.args.checked.now in
@@ -63,6 +70,11 @@ pub returns-in_err-names-clause-executes : goal.returns-in_err-names-clause-exec
 returns-in_err-names-clause-executes g c =
     let p = err_from_is_err_and c.from_residual.result c.from_residual.ensures.1 in
     rw (p.1, p.2) (inl refl)
+
+pub returns-in_err-names-clause-taken : goal.returns-in_err-names-clause-taken
+returns-in_err-names-clause-taken g c =
+    let p = err_from_is_err_and c.from_residual.result c.from_residual.ensures.1 in
+    rw p.1 tt
 
 pub returns-in_err-names-clause-fronts : goal.returns-in_err-names-clause-fronts
 returns-in_err-names-clause-fronts g c =

@@ -3,9 +3,10 @@ use Rattle.std.proofs.Common.{ap}
 use Rattle.spec_hosts.proofs.Fronts.{fronts_itself}
 use Rattle.host_calls.specs.Embedders.{embedder_of}
 use Rattle.dyl_store.specs.Stores.{StoreRun}
-use Rattle.wasm_exec.specs.Courses.{OfSet, course_of}
+use Rattle.run_loaded.specs.Courses.{OfSet, course_of}
 use Rattle.wasm_exec.proofs.Beginning.{not_begun}
 use Rattle.wasm_exec.proofs.Proceeding.{course_fronts}
+use Rattle.wasm_exec.proofs.Taken.{set_taken}
 use Rattle.wasm_exec.proofs.Sets.{set_begins, set_opens, set_executes}
 use Rattle.wasm_exec.proofs.exec.execute_set.Goals as goal
 
@@ -27,6 +28,11 @@ returns-in-Ok-clause-fronts g c =
     let over = c.requires.names in
     let e = embedder_of c.args.args c.args.table.now in
     course_fronts (course_of (OfSet over.0)) e c.args.most c.run_program.result _ _ (c.run_program.ensures (OfSet over.0) (set_opens c.args.linked.now e.names c.requires.integers over c.in-Ok.store c.in-Ok.ensures over.0 over.1))
+
+pub returns-in-Ok-clause-taken : goal.returns-in-Ok-clause-taken
+returns-in-Ok-clause-taken g c =
+    let e = embedder_of c.args.args c.args.table.now in
+    set_taken e c.args.most _ _ c.args.linked.now c.run_program.result (λ L of. c.run_program.ensures (OfSet L) (set_opens c.args.linked.now e.names c.requires.integers c.requires.names c.in-Ok.store c.in-Ok.ensures L of))
 
 pub returns-in-Err-clause-executes : goal.returns-in-Err-clause-executes
 returns-in-Err-clause-executes g c = λ L of.

@@ -2,7 +2,7 @@
 use Rattle.std.proofs.Common.{◌≡◌, ◌∙◌, ap, sym}
 use Rattle.spec_hosts.specs.Devices.{devices}
 use Rattle.host_calls.specs.Embedders.{embedder_of, embedder}
-use Rattle.wasm_exec.specs.Courses.{course_of}
+use Rattle.run_loaded.specs.Courses.{course_of}
 use Rattle.wasm_exec.proofs.Beginning.{begins_driven, not_begun}
 use Rattle.wasm_exec.proofs.exec.run_program.Goals as goal
 

@@ -1,10 +1,11 @@
 use Rattle.std.proofs.Common.{◌≡◌, true, rules, sym, ◌∙◌}
 use Rattle.spec_hosts.specs.spec_runtime.Recorded.{has_ended}
 use Rattle.spec_hosts.specs.spec_runtime.Courses.{Course, status_at}
-use Rattle.wasm_exec.specs.Courses.{course_of}
-use Rattle.wasm_exec.specs.Programs.{recorded_of}
+use Rattle.run_loaded.specs.Courses.{course_of}
+use Rattle.run_loaded.specs.Programs.{recorded_of}
 use Rattle.wasm_exec.specs.Driving.{progress_of}
-use Rattle.wasm_exec.proofs.Readiness.{not_waiting, ready_still, limited}
+use Rattle.run_loaded.proofs.Waiting.{not_waiting}
+use Rattle.wasm_exec.proofs.Readiness.{ready_still, limited}
 use Rattle.wasm_exec.proofs.Stepping.{ended_still, ended_again}
 use Rattle.wasm_exec.proofs.driver.Driver.last.Goals as goal
 

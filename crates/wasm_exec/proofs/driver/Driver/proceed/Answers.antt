@@ -1,7 +1,7 @@
 -- The run after its steps of code, then with its answer, and then after one step more.
 use Rattle.std.proofs.Common.{◌<◌, ◌∙◌, sym, subst, arith, ltb-true}
 use Rattle.std.proofs.lemmas.Result.{err_from_is_err_and}
-use Rattle.wasm_exec.specs.Programs.{recorded_of}
+use Rattle.run_loaded.specs.Programs.{recorded_of}
 use Rattle.wasm_exec.specs.Driving.{progress_of}
 use Rattle.wasm_exec.proofs.Proceeding.{driven_along, steps_so, step_proceeds, full, cut_short, cut_here}
 use Rattle.wasm_exec.proofs.driver.Driver.proceed.Goals as goal

@@ -1,5 +1,5 @@
-use Rattle.wasm_exec.specs.Courses.{course_of}
-use Rattle.wasm_exec.specs.Programs.{recorded_of}
+use Rattle.run_loaded.specs.Courses.{course_of}
+use Rattle.run_loaded.specs.Programs.{recorded_of}
 use Rattle.wasm_exec.specs.Driving.{progress_of}
 use Rattle.wasm_exec.proofs.Stepping.{step_gives}
 use Rattle.wasm_exec.proofs.driver.Driver.step.Goals as goal

@@ -1,0 +1,10 @@
+use Rattle.host_calls.specs.Embedders.{names_of}
+use Rattle.dyl_commands.proofs.Telling.{done_silent, told_serves}
+use Rattle.dyl_app.proofs.service.perform_replay.Goals as goal
+
+pub returns-clause-serves : goal.returns-clause-serves
+returns-clause-serves g c = λ before now.
+    told_serves (names_of c.args.host.now) _ c.replay_main-replayed.result c.tell.result _ _ before now c.tell.ensures.answer (c.replay_main-replayed.ensures before now)
+
+pub returns-clause-quiet : goal.returns-clause-quiet
+returns-clause-quiet g c = λ is. c.tell.ensures.quiet (done_silent c.tell.result is)

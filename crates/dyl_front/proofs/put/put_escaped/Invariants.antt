@@ -1,6 +1,0 @@
-use Rattle.std.proofs.Common.{◌≡◌, ◌++◌, drop}
-use Rattle.dyl_front.specs.Lines.{escaped}
-use Rattle.dyl_front.proofs.put.put_escaped.Given as goal
-
-abbrev pub invariant-loop-b : goal.invariant-loop-b
-invariant-loop-b l = l.to.items ++ escaped (drop l.b-index l.b-items) ≡ l.fn.to.items ++ escaped l.text

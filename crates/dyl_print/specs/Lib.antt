@@ -1,0 +1,2 @@
+pub mod Printed
+pub use Rattle.spec_hosts.specs as spec_hosts

@@ -1,0 +1,12 @@
+pub mod Agreeing
+pub mod Asking
+pub mod Beginning
+pub mod Comparing
+pub mod Deciding
+pub mod Ending
+pub mod Fitting
+pub mod Following
+pub mod Left
+pub mod Loading
+pub mod Recording
+pub mod Replaying

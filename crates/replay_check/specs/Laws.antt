@@ -1,0 +1,13 @@
+-- What is so of the calls in which a run agrees with a trace.
+use Rattle.std.specs.Prelude.{◌≡◌, ℕ, length}
+use Rattle.spec_traces.specs.declared.trace.Trace.{Trace}
+use Rattle.spec_traces.specs.Traces.{Traces, IsAgreeing}
+use Rattle.run_loaded.specs.Courses.{Origin, course_of}
+
+-- it agrees up to one call
+abbrev pub OneAgreeing : Type 0
+OneAgreeing = (o : Origin) (t : Trace) (k j : ℕ) → IsAgreeing (course_of o) t k → IsAgreeing (course_of o) t j → k ≡ j
+
+-- where it is that of the trace, it agrees with all calls
+abbrev pub TracesAgree : Type 0
+TracesAgree = (o : Origin) (t : Trace) → Traces (course_of o) t → IsAgreeing (course_of o) t (length t.calls)

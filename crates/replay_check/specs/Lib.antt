@@ -1,0 +1,4 @@
+pub mod Checks
+pub mod Following
+pub mod Laws
+pub mod Recording

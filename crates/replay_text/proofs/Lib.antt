@@ -1,0 +1,7 @@
+mod WordsTaken
+mod LinesTaken
+mod Stepping
+mod Lines
+mod Ended
+mod Loops
+mod FromStd

@@ -1,9 +1,0 @@
-use Rattle.wasm_exec.proofs.Singles as one
-use Rattle.wasm_exec.proofs.Sets as set
-use Rattle.wasm_exec.proofs.program.Program.hosts.Goals as goal
-
-pub returns-in-Module : goal.returns-in-Module
-returns-in-Module c = rw c.in-Module.is (one.hosts_so c.in-Module.single c.hosts.result.now c.hosts.ensures)
-
-pub returns-in-Set : goal.returns-in-Set
-returns-in-Set c = rw c.in-Set.is (set.hosts_so c.in-Set.store c.hosts-in-Set.result.now c.hosts-in-Set.ensures)
