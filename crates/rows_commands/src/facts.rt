@@ -17,9 +17,11 @@ const KEYS: &[(&str, &str)] = &[
     ("wrote", ""),
     ("order", ""),
     ("has", "*"),
+    ("holds", "*"),
     ("end", "*"),
     ("steps", "*"),
     ("answers", "*"),
+    ("calls", "*"),
 ];
 
 // What the keys are isn't looked into where they are gone through.
@@ -46,7 +48,7 @@ impl<'a> Facts<'a> {
     }
 
     /// Whether something is said of one thing.
-    fn names(&self, key: &str) -> bool {
+    pub fn names(&self, key: &str) -> bool {
         self.facts.iter().any(|(other, _)| *other == key)
     }
 
@@ -81,15 +83,33 @@ impl<'a> Facts<'a> {
         Ok(())
     }
 
+    /// Appends one thing, if it is told, and otherwise than it came.
+    fn compare_one(
+        &self,
+        alloc: Global,
+        key: &str,
+        unnamed: &str,
+        came: &Facts,
+        to: &mut String,
+    ) -> Result<(), AllocError> {
+        let told = self.of(alloc, key, unnamed)?;
+        if key == "has" || told.as_str() == "*" {
+            return Ok(());
+        }
+        let came = came.of(alloc, key, unnamed)?;
+        if told.as_str() != came.as_str() {
+            to.push_str(&format!(in alloc; " {key} told {told} came {came};")?)?;
+        }
+        Ok(())
+    }
+
     /// Appends each thing that is told otherwise than it came.
     pub fn compare(&self, alloc: Global, came: &Facts, to: &mut String) -> Result<(), AllocError> {
         for (key, unnamed) in keys() {
-            let told = self.of(alloc, key, unnamed)?;
-            let came = came.of(alloc, key, unnamed)?;
             if *key == "out" && self.names("has") {
-                self.seek(alloc, &came, to)?;
-            } else if *key != "has" && told.as_str() != "*" && told.as_str() != came.as_str() {
-                to.push_str(&format!(in alloc; " {key} told {told} came {came};")?)?;
+                self.seek(alloc, &came.of(alloc, key, unnamed)?, to)?;
+            } else {
+                self.compare_one(alloc, key, unnamed, came, to)?;
             }
         }
         Ok(())

@@ -1,5 +1,5 @@
 // Modules by their parts.
-use crate::texts::{names_of, word_of};
+use crate::texts::{bytes_of, names_of, word_of};
 use crate::words::{Words, put_sized};
 use spec_binary::wasm_form::Memory;
 use std::alloc::Global;
@@ -147,6 +147,7 @@ impl<'a> Module<'a> {
             _ if text.is_empty() => Ok(Vec::new(alloc)),
             "imports" | "exports" | "bodies" => list_of(alloc, words, key, text, ", "),
             "needed" => list_of(alloc, words, key, text, " "),
+            "text" => Ok(bytes_of(alloc, text)?),
             _ => words.bytes(alloc, text),
         }
     }
@@ -187,6 +188,9 @@ impl<'a> Module<'a> {
     /// The bytes of the module.
     pub fn bytes(&self, alloc: Global, words: &Words) -> Result<Vec<u8>, Memory> {
         let mut bytes = self.contents(alloc, words, "bytes")?;
+        if bytes.is_empty() {
+            bytes = self.contents(alloc, words, "text")?;
+        }
         if bytes.is_empty() {
             self.put_sections(alloc, words, &mut bytes)?;
         }

@@ -37,6 +37,41 @@ fn run_shown(
     format!(in alloc; "{what} steps={steps} args={args}")
 }
 
+/// Whether there is to be one module alone.
+fn one_shown(one: bool) -> &'static str {
+    if one { "yes" } else { "no" }
+}
+
+/// The words of an order about a trace, that has a set.
+fn trace_order_shown(alloc: Global, order: &Order, set: &str) -> Result<String, AllocError> {
+    match order {
+        Order::Trace {
+            one,
+            out,
+            steps,
+            args,
+            ..
+        } => {
+            let one = one_shown(*one);
+            let what = format!(in alloc; "trace one={one} {set} out={}", out.as_str())?;
+            run_shown(alloc, &what, *steps, args)
+        }
+        Order::Replay {
+            one,
+            trace,
+            steps,
+            ..
+        } => {
+            let one = one_shown(*one);
+            format!(in alloc;
+                "replay one={one} trace={} {set} steps={steps}",
+                trace.as_str()
+            )
+        }
+        _ => format!(in alloc; "plan {set}"),
+    }
+}
+
 /// The words of an order that has a set.
 fn set_order_shown(alloc: Global, order: &Order, set: &str) -> Result<String, AllocError> {
     match order {
@@ -44,18 +79,21 @@ fn set_order_shown(alloc: Global, order: &Order, set: &str) -> Result<String, Al
         Order::Run { steps, args, .. } => {
             run_shown(alloc, &format!(in alloc; "run {set}")?, *steps, args)
         }
-        _ => format!(in alloc; "plan {set}"),
+        _ => trace_order_shown(alloc, order, set),
     }
 }
 
 /// An order in a line.
 fn order_shown(alloc: Global, order: &Order) -> Result<String, AllocError> {
     match order {
-        Order::Merge { set, link, .. } | Order::Run { set, link, .. } | Order::Plan { set, link } =>
-            {
-                let set = set_shown(alloc, set, link)?;
-                set_order_shown(alloc, order, &set)
-            }
+        Order::Merge { set, link, .. }
+        | Order::Run { set, link, .. }
+        | Order::Plan { set, link }
+        | Order::Trace { set, link, .. }
+        | Order::Replay { set, link, .. } => {
+            let set = set_shown(alloc, set, link)?;
+            set_order_shown(alloc, order, &set)
+        }
         Order::Exec { file, steps, args } => {
             run_shown(
                 alloc,

@@ -3,6 +3,14 @@ use dyl_outside::MemFiles;
 use spec_binary::wasm_form::Memory;
 use std::alloc::{AllocError, Global};
 
+/// A file of which each command finds the first bytes alone, and the least and the greatest number of these: for each one it is performed.
+#[derive(Clone, Copy)]
+pub struct Cut<'a> {
+    pub path: &'a str,
+    pub least: usize,
+    pub most: usize,
+}
+
 /// A row: what its commands find, and what is told otherwise than it came.
 #[derive(Drop)]
 pub struct Row<'a> {
@@ -13,6 +21,8 @@ pub struct Row<'a> {
     pub random: &'a str,
     pub table: &'a str,
     pub fails: Vec<&'a str>,
+    pub cut: Option<Cut<'a>>,
+    pub counts_calls: bool,
     pub report: String,
 }
 
@@ -27,6 +37,8 @@ impl<'a> Row<'a> {
             random: "",
             table: "",
             fails: Vec::new(alloc),
+            cut: None,
+            counts_calls: false,
             report: String::new(alloc),
         }
     }
@@ -43,6 +55,19 @@ impl<'a> Row<'a> {
         for (path, bytes) in &self.files {
             to.add(alloc, path, bytes)?;
         }
+        Ok(())
+    }
+
+    /// Adds the first bytes of the file at a path in its place.
+    pub fn cut_file(&mut self, alloc: Global, path: &str, length: usize) -> Result<(), Memory> {
+        let mut bytes = Vec::new(alloc);
+        for (other, held) in &self.files {
+            if other.as_str() == path {
+                bytes = held.clone()?;
+            }
+        }
+        bytes.truncate(length);
+        self.files.push((String::from_str(alloc, path)?, bytes))?;
         Ok(())
     }
 

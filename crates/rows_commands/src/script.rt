@@ -3,7 +3,7 @@ use crate::facts::{Facts, is_told};
 use crate::lines::note_line;
 use crate::modules::Module;
 use crate::orders::note_words;
-use crate::row::Row;
+use crate::row::{Cut, Row};
 use crate::texts::{bytes_of, names_of, words_of};
 use crate::words::Words;
 use crate::world::{add_generated, perform};
@@ -34,6 +34,7 @@ fn compare(
 ) -> Result<(), Memory> {
     let words = words_of(alloc, line)?;
     let mut came = Facts::new(alloc);
+    row.counts_calls = told.names("calls");
     match key {
         "order" => note_words(alloc, &words, &mut came)?,
         "line" => note_line(alloc, line, &mut came)?,
@@ -67,6 +68,40 @@ fn perform_line(
         "words" | "line" => compare(alloc, key, text, told, row),
         _ => compare(alloc, key, &format!(in alloc; "wdyl {text}")?, told, row),
     }
+}
+
+/// Performs a command for each length to which a file is cut, and reports these where something is told otherwise.
+fn perform_cut(
+    alloc: Global,
+    cut: Cut,
+    key: &str,
+    text: &str,
+    told: &Facts,
+    row: &mut Row,
+) -> Result<(), Memory> {
+    let kept = row.files.len();
+    for length in cut.least..=cut.most {
+        let reported = row.report.len();
+        row.cut_file(alloc, cut.path, length)?;
+        perform_line(alloc, key, text, told, row)?;
+        row.files.truncate(kept);
+        if row.report.len() > reported {
+            row.report
+                .push_str(&format!(in alloc; " at {length} bytes;")?)?;
+        }
+    }
+    Ok(())
+}
+
+/// A path, and how many bytes of its file are left at the least and at the most.
+fn cut_of(text: &str) -> Option<Cut<'_>> {
+    let (path, lengths) = text.split_once(' ')?;
+    let (least, most) = lengths.split_once(' ').unwrap_or((lengths, lengths));
+    Some(Cut {
+        path,
+        least: least.parse::<usize>().ok()?,
+        most: most.parse::<usize>().ok()?,
+    })
 }
 
 /// Adds files: a path, or more of one name, with a module, or a module at the path of its own name.
@@ -161,7 +196,10 @@ impl<'a> Script<'a> {
         let Some((key, text)) = self.command.take() else {
             return Ok(());
         };
-        let performed = perform_line(alloc, key, text, &self.told, &mut self.row);
+        let performed = match self.row.cut {
+            Some(cut) => perform_cut(alloc, cut, key, text, &self.told, &mut self.row),
+            None => perform_line(alloc, key, text, &self.told, &mut self.row),
+        };
         self.told = Facts::new(alloc);
         if performed.is_err() {
             self.row.refuse(alloc, text)?;
@@ -180,7 +218,9 @@ impl<'a> Script<'a> {
             "generated" => {
                 add_generated(alloc, text.parse::<u32>().unwrap_or(0), &mut self.row)?;
             }
+            "fails" if text == "nothing" => self.row.fails.clear(),
             "fails" => self.row.fails.push(text)?,
+            "cut" => self.row.cut = cut_of(text),
             "input" => self.row.input = bytes_of(alloc, text)?,
             "reads" => self.row.input = self.words.bytes(alloc, text)?,
             "clock" => self.row.clock = text,

@@ -5,7 +5,9 @@ use crate::row::Row;
 use crate::texts::words_of;
 use dyl_app::{Outcome, Ran, RunEnd, serve, status};
 use dyl_gen::make;
-use dyl_outside::{Files, MemAmbient, MemFiles, MemSink, MemSource};
+use dyl_outside::{
+    Ambient, FileFault, Files, IoFault, MemAmbient, MemFiles, MemSink, MemSource, Sink, Source,
+};
 use host_table::HostTable;
 use spec_binary::wasm_form::Memory;
 use std::alloc::{AllocError, Global};
@@ -43,10 +45,8 @@ fn world_of(alloc: Global, row: &Row) -> Result<World, Memory> {
     })
 }
 
-/// Lets a call fail.
-fn set_failing(alloc: Global, world: &mut World, text: &str) -> Result<(), Memory> {
-    let (what, number) = text.split_once(' ').unwrap_or((text, ""));
-    let call = number.parse::<u64>().unwrap_or(0);
+/// Lets a call of a device fail.
+fn let_fail(alloc: Global, world: &mut World, what: &str, call: u64) -> Result<(), Memory> {
     match what {
         "files" => world.files.fail_at(alloc, call),
         "input" => world.input.fail_at(alloc, call),
@@ -55,6 +55,48 @@ fn set_failing(alloc: Global, world: &mut World, text: &str) -> Result<(), Memor
         "clock" => world.ambient.fail_at(alloc, call),
         _ => Err(Memory),
     }
+}
+
+/// Lets the call fail that a text names.
+fn set_failing(alloc: Global, world: &mut World, text: &str) -> Result<(), Memory> {
+    let (what, number) = text.split_once(' ').unwrap_or((text, ""));
+    let_fail(alloc, world, what, number.parse::<u64>().unwrap_or(0))
+}
+
+/// Whether the next call of a device fails.
+fn is_failing(alloc: Global, world: &mut World, what: &str) -> bool {
+    match what {
+        "files" => matches!(world.files.fetch(alloc, "", 0), Err(FileFault::Failed)),
+        "input" => matches!(world.input.take(alloc, 1), Err(IoFault::Failed)),
+        "output" => matches!(world.output.put(alloc, b""), Err(IoFault::Failed)),
+        "errors" => matches!(world.errors.put(alloc, b""), Err(IoFault::Failed)),
+        _ => matches!(world.ambient.now(alloc), Err(IoFault::Failed)),
+    }
+}
+
+/// How many calls were made of a device, of which no later one is to fail yet: before the call that comes so many calls later, those with
+/// numbers up to twice as many are let fail.
+fn calls_of(alloc: Global, world: &mut World, what: &str) -> Result<u64, Memory> {
+    let_fail(alloc, world, what, 0)?;
+    for later in 0..100_000u64 {
+        if is_failing(alloc, world, what) {
+            return Ok(later);
+        }
+        let_fail(alloc, world, what, 2 * later + 1)?;
+        let_fail(alloc, world, what, 2 * later + 2)?;
+    }
+    Err(Memory)
+}
+
+/// Notes how many calls were made of each device.
+fn note_calls(alloc: Global, world: &mut World, came: &mut Facts) -> Result<(), Memory> {
+    let mut space = "";
+    for what in ["files", "input", "output", "errors", "clock"] {
+        let calls = calls_of(alloc, world, what)?;
+        came.add("calls", format!(in alloc; "{space}{calls}")?.into_bytes())?;
+        space = " ";
+    }
+    Ok(())
 }
 
 /// The words of how a run ended.
@@ -110,7 +152,27 @@ fn fetched(alloc: Global, files: &mut MemFiles, path: &str) -> Option<Vec<u8>> {
     }
 }
 
-/// Notes the paths whose contents changed, which the row's files have from now on.
+/// Notes what was written at a path, if that is new there.
+fn note_new(
+    alloc: Global,
+    path: &str,
+    bytes: Vec<u8>,
+    row: &mut Row,
+    written: &mut String,
+    came: &mut Facts,
+) -> Result<(), Memory> {
+    if !row.changes(alloc, path, bytes)? {
+        return Ok(());
+    }
+    written.push_str(if written.is_empty() { "" } else { " " })?;
+    written.push_str(path)?;
+    if let Some((_, held)) = row.files.last() {
+        came.add("holds", held.clone()?)?;
+    }
+    Ok(())
+}
+
+/// Notes the paths whose contents changed, which the row's files have from now on, and these contents.
 fn note_written(
     alloc: Global,
     paths: &[String],
@@ -121,10 +183,7 @@ fn note_written(
     let mut written = String::new(alloc);
     for path in paths {
         if let Some(bytes) = fetched(alloc, files, path) {
-            if row.changes(alloc, path, bytes)? {
-                written.push_str(if written.is_empty() { "" } else { " " })?;
-                written.push_str(path)?;
-            }
+            note_new(alloc, path, bytes, row, &mut written, came)?;
         }
     }
     came.add("wrote", written.into_bytes())
@@ -172,6 +231,9 @@ fn perform_in(
     noted?;
     came.add("out", world.output.held().to_vec(alloc)?)?;
     came.add("err", world.errors.held().to_vec(alloc)?)?;
+    if row.counts_calls {
+        note_calls(alloc, world, came)?;
+    }
     let paths = row.paths(alloc, words)?;
     note_written(alloc, &paths, &mut world.files, row, came)
 }

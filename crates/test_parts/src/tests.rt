@@ -7,6 +7,7 @@ mod constants;
 mod disk;
 mod in_memory;
 mod numbers;
+mod one_file;
 mod parts;
 mod readers;
 mod records;

@@ -1,19 +1,25 @@
-// The adapters: files of the system in folders of the test's own, streams, and the real clock and random words.
+// The adapters: files of the system in folders of the test's own, streams, pipes, and the real clock and random words.
 use super::answers::{fetches, takes};
+use super::one_file::OneFile;
 use super::readers::{BrokenReader, SlowReader, SlowWriter};
 use dyl_outside::{
     Ambient, DiskFiles, FileFault, Files, HostAmbient, IoFault, Sink, StreamSink, StreamSource,
 };
 use std::alloc::{AllocError, Global};
-use std::fs;
-use std::io::ErrorKind;
+use std::fs::{self, Permissions};
+use std::io::{self, ErrorKind, Write};
+use std::os::unix::fs::PermissionsExt;
+use std::rt::Files as FileSystem;
 use std::test::Fail;
+use std::time::Duration;
 
 const FOLDER: &str = "test_adapters_folder";
 
 const LARGE: &str = "test_adapters_folder/large";
 
 const SMALL: &str = "test_adapters_folder/small";
+
+const LOCKED: &str = "test_adapters_folder/locked";
 
 /// A path and why no file is fetched there.
 const FETCHES: &[(&str, FileFault)] = &[
@@ -26,7 +32,12 @@ const FETCHES: &[(&str, FileFault)] = &[
 ];
 
 /// Paths at which no file is stored.
-const STORES: &[&str] = &["test_adapters_folder/missing/below", FOLDER, ""];
+const STORES: &[&str] = &[
+    "test_adapters_folder/missing/below",
+    FOLDER,
+    "",
+    "/dev/full",
+];
 
 /// The bytes 0 to 250 over and over, 5,000,000 in all.
 fn long_bytes(alloc: Global) -> Result<Vec<u8>, AllocError> {
@@ -74,6 +85,18 @@ fn first_stored<F: Files>(alloc: Global, files: &mut F) -> Option<&'static str> 
     None
 }
 
+/// Makes a file that may be neither read nor written.
+fn lock<R: FileSystem>(rt: &R) -> io::Result<()> {
+    fs::write(rt, LOCKED, "abc")?;
+    fs::set_permissions(rt, LOCKED, Permissions::from_mode(0))
+}
+
+/// Whether that file is neither fetched nor stored.
+fn is_refused<F: Files>(alloc: Global, files: &mut F) -> bool {
+    fetches(alloc, files, LOCKED, 9, Err(FileFault::Failed))
+        && files.store(alloc, LOCKED, b"x") == Err(IoFault::Failed)
+}
+
 #[test]
 fn files_on_disk(rt: HostRuntime) -> Result<(), Fail> {
     let alloc = rt.alloc();
@@ -84,6 +107,10 @@ fn files_on_disk(rt: HostRuntime) -> Result<(), Fail> {
     assert_eq!(rt; first_fetched(alloc, &mut files), None);
     assert_eq!(rt; first_stored(alloc, &mut files), None);
     assert!(rt; empties(alloc, &mut files));
+    lock(&rt)?;
+    // One who may read all files, as root, reads it nevertheless.
+    let is_locked = fs::open(&rt, LOCKED).is_err();
+    assert!(rt; !is_locked || is_refused(alloc, &mut files));
     fs::remove_dir_all(&rt, FOLDER)?;
     Ok(())
 }
@@ -188,6 +215,36 @@ fn sink_over_a_writer(rt: HostRuntime) {
     }
 }
 
+/// What is put into a pipe is taken from it, as much as there is, and then none where it is closed.
+#[test]
+fn streams_over_a_pipe(rt: HostRuntime) -> Result<(), Fail> {
+    let alloc = rt.alloc();
+    let (reader, writer) = io::pipe(&rt)?;
+    let mut source = StreamSource::new(reader);
+    let mut sink = StreamSink::new(writer);
+    assert!(rt; sink.put(alloc, b"abc").is_ok());
+    assert!(rt; takes(alloc, &mut source, 2, Ok(b"ab")));
+    assert!(rt; takes(alloc, &mut source, 5, Ok(b"c")));
+    drop(sink);
+    assert!(rt; takes(alloc, &mut source, 5, Ok(b"")));
+    Ok(())
+}
+
+/// Whether a sink over a writer takes nothing.
+fn fails<W: Write + Drop>(alloc: Global, writer: W) -> bool {
+    let mut sink = StreamSink::new(writer);
+    sink.put(alloc, b"abc") == Err(IoFault::Failed)
+}
+
+#[test]
+fn sinks_that_fail(rt: HostRuntime) -> Result<(), Fail> {
+    let (reader, writer) = io::pipe(&rt)?;
+    drop(reader);
+    assert!(rt; fails(rt.alloc(), writer));
+    assert!(rt; fails(rt.alloc(), fs::create(&rt, "/dev/full")?));
+    Ok(())
+}
+
 /// Whether a clock tells a time after the start of 2020.
 fn tells_time<A: Ambient>(alloc: Global, ambient: &mut A) -> Result<bool, IoFault> {
     Ok(ambient.now(alloc)? > 1_577_836_800_000_000_000)
@@ -210,4 +267,58 @@ fn real_clock_and_random_words(rt: HostRuntime) {
     let mut ambient = HostAmbient::new(&rt);
     assert!(rt; tells_time(alloc, &mut ambient) == Ok(true));
     assert!(rt; draws_words(alloc, &mut ambient) == Ok(true));
+}
+
+/// A file in place of the random source, how many bytes it is made of, if it is made, and how many words it gives before it fails.
+const RANDOM_FILES: &[(&str, Option<usize>, u32)] = &[
+    ("test_adapters_missing", None, 0),
+    ("/dev/null", None, 0),
+    ("test_adapters_short", Some(4095), 0),
+    ("test_adapters_zeros", Some(4096), 512),
+];
+
+/// Makes a file of so many zeros.
+fn make_zeros<R: FileSystem>(rt: &R, alloc: Global, path: &str, size: usize) -> io::Result<()> {
+    let zeros = vec![in alloc; 0u8; size]?;
+    fs::write(rt, path, zeros.as_slice())
+}
+
+/// Whether so many random words are 0, and the next one fails.
+fn gives_zeros<A: Ambient>(alloc: Global, ambient: &mut A, count: u32) -> bool {
+    for _ in 0..count {
+        if ambient.word(alloc) != Ok(0) {
+            return false;
+        }
+    }
+    ambient.word(alloc) == Err(IoFault::Failed)
+}
+
+#[test]
+fn random_sources_that_end(rt: HostRuntime) -> Result<(), Fail> {
+    for (path, size, count) in RANDOM_FILES {
+        if let Some(size) = size {
+            make_zeros(&rt, rt.alloc(), path, *size)?;
+        }
+        let one_file = OneFile::new(&rt, path, Duration::ZERO);
+        let mut ambient = HostAmbient::new(&one_file);
+        assert!(rt; gives_zeros(rt.alloc(), &mut ambient, *count), "{path}");
+    }
+    fs::remove_file(&rt, "test_adapters_short")?;
+    fs::remove_file(&rt, "test_adapters_zeros")?;
+    Ok(())
+}
+
+/// What a clock tells that stands at a time since the start of 1970.
+fn told_at(rt: &HostRuntime, time: Duration) -> Result<u64, IoFault> {
+    let one_file = OneFile::new(rt, "", time);
+    let mut ambient = HostAmbient::new(&one_file);
+    ambient.now(rt.alloc())
+}
+
+/// The last time that is told is 2^64 - 1 nanoseconds after the start of 1970.
+#[test]
+fn clocks_that_end(rt: HostRuntime) {
+    assert!(rt; told_at(&rt, Duration::from_nanos(1)) == Ok(1));
+    assert!(rt; told_at(&rt, Duration::from_nanos(u64::MAX)) == Ok(u64::MAX));
+    assert!(rt; told_at(&rt, Duration::from_secs(18_446_744_074)) == Err(IoFault::Failed));
 }
