@@ -8,12 +8,18 @@
 # make speed  measures runs of whole programs beside other engines
 # make codec  measures decoding, encoding and checking beside wabt, and merging beside these
 # make inner  measures the memories and integer operators of a run beside C
-# make compare  runs random modules and random sets by wdyl and by node, and validates changed ones by wdyl and by wabt
+# make compare  runs random modules and random sets by wdyl and by node, validates changed ones by wdyl and by wabt, and replays traces
+#               of runs and changed ones
+# make adapters  runs wdyl over files, streams and a random source of the system that fail
+# make refused  refuses each request for memory in turn, of several orders, which have to end for want of memory or as if none was refused
+# make hostile  gives wdyl damaged files for MINUTES, from the seed SEED on, with a limit on memory and time
 # make test   makes docs, and proves, builds and tests everything
 
 SOURCES := crates.txt $(shell find crates -name out -prune -o -type f \( -name '*.rt' -o -name '*.antt' \) -print)
 
 PREFIX = /usr/local
+MINUTES = 10
+SEED = 0
 programs = $(DESTDIR)$(PREFIX)/bin
 manuals = $(DESTDIR)$(PREFIX)/share/man/man1
 shared = $(DESTDIR)$(PREFIX)/share/wdyl
@@ -21,7 +27,7 @@ shared = $(DESTDIR)$(PREFIX)/share/wdyl
 # what programs are compiled with: the entry and its arguments, dlopen and its like, text out and in; and a merged file run by node
 SHARED := start.c dl.h io.h io.c heap.h heap.c start_cxx.cpp runtime.cpp wasi.mjs
 
-.PHONY: all demo guide docs install uninstall bench speed codec inner compare test clean
+.PHONY: all demo guide docs install uninstall bench speed codec inner compare adapters refused hostile test clean
 
 all: bin/wdyl
 
@@ -78,6 +84,16 @@ inner:
 compare: bin/wdyl
 	python3 compare/compare.py bin/wdyl
 	python3 compare/compare_sets.py bin/wdyl
+	python3 compare/traces.py bin/wdyl
+
+adapters: bin/wdyl
+	sh compare/adapters.sh bin/wdyl
+
+refused: bin/wdyl
+	python3 compare/refused.py bin/wdyl
+
+hostile: bin/wdyl
+	python3 compare/hostile.py bin/wdyl --minutes $(MINUTES) --seed $(SEED)
 
 test: docs
 	rt ci
