@@ -16,7 +16,7 @@ PAGES = [path for path in [TOP / "README.md", TOP / "CONTRIBUTING.md", TOP / "CH
                            TOP / "examples/README.md", TOP / "bench/README.md"] if path.exists()]
 # crates of which pages tell that they were there
 PAST = {"test_commands", "test_hosts"}
-FRONTS = ("spec_", "wasm_", "host_", "dyl_", "merge_", "test_", "rows_", "run_")
+FRONTS = ("spec_", "wasm_", "host_", "dyl_", "merge_", "test_", "rows_", "run_", "replay_")
 COUNTS = {"one": 1, "two": 2, "three": 3, "four": 4, "five": 5, "six": 6}
 faults = []
 
@@ -253,7 +253,7 @@ def numbers():
             if not re.search(re.escape(word) + r"(?![\w-])", plain[name]) and (name, word) != ("docs/GUIDE.md", "wdyl gen"):
                 fault(TOP / name, f"nothing is said of {word}")
     shown = re.sub(r"\s+", " ", pages["docs/FORMATS.md"])
-    for text in re.findall(r'codes "([^"]+)"', read(CRATES / "dyl_front/specs/Lines.antt")):
+    for text in re.findall(r'codes "([^"]+)"', read(CRATES / "dyl_front/specs/Lines.antt") + read(CRATES / "dyl_print/specs/Printed.antt")):
         if text.strip() and text.strip() not in shown:
             fault(TOP / "docs/FORMATS.md", f"nothing is said of the text: {text.strip()}")
     limits = {
