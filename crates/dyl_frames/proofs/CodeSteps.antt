@@ -126,7 +126,7 @@ wanting_after w c moving (Err e) wanting = λ D s k. may_want D c w.units w.memo
 -- ---- what the run's step comes to
 
 module _ {Units : Type 0} (D : Loading Units) (s : LoadedState Units) (h : ℕ → LoaderFrame) where
-  code_next : (us : Units) (memory : MemoryInstance) (frames : List (Frame ℕ)) → is_running frames ≡ true → s.run.units ≡ us → s.run.memory ≡ memory
+  pub code_next : (us : Units) (memory : MemoryInstance) (frames : List (Frame ℕ)) → is_running frames ≡ true → s.run.units ≡ us → s.run.memory ≡ memory
       → loaded_next D s (marked_stack h frames) ≡ comes_to s (option_map (marked_next h) (next_of D.view us memory frames))
   code_next us memory [] code units space = absurd cc
   code_next us memory (Active a ∷ frames) code units space =

@@ -90,7 +90,7 @@ module _ (c : Core) (m : OnMark c) (enters : (top_frame c).after ≡ CallEntry) 
 
 -- ---- the run's step
 
-entry_on_top : {Units : Type 0} (D : Loading Units) (s : LoadedState Units) (f : LoaderFrame) (r : Ref) → f.tasks ≡ [] → f.after ≡ CallEntry → D.entry ≡ Some r
+pub entry_on_top : {Units : Type 0} (D : Loading Units) (s : LoadedState Units) (f : LoaderFrame) (r : Ref) → f.tasks ≡ [] → f.after ≡ CallEntry → D.entry ≡ Some r
     → loaded_next D s (Marked f ∷ []) ≡ comes_to s (call D.view s.run.units s.run.memory (λ values. []) [] r)
 entry_on_top D s f r tasks after entry =
     ap (λ (ts : List Task). loaded_next D s (Marked (record f { tasks = ts }) ∷ [])) tasks ∙ ap (λ (a : After). after_next D s [] a) after ∙ ap (λ (o : Option Ref). o >>= λ x. call_next D s [] (Some x)) entry

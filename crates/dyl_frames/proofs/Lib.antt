@@ -9,3 +9,4 @@ pub mod Opening
 pub mod Giving
 pub mod FewFrames
 pub mod Placed
+pub mod Deep

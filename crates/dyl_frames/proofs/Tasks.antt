@@ -99,20 +99,20 @@ module _ {Units : Type 0} (D : Loading Units) (s : LoadedState Units) where
       go [] e = absurd cc
       go (x ∷ xs) e = let same : x ≡ t = cc in ap (task_next D s (Marked (record f { tasks = xs }) ∷ under)) same
 
-  module _ (c : Core) (us : Units) (memory : MemoryInstance) (k : IsState D c us memory s) (moving : c.machine.standing ≡ standing.Moving) (m : OnMark c) (t : Task) (first : first_task (top_frame c) ≡ Some t) where
-    abbrev pub under : List (Frame LoaderFrame)
+  module _ (c : Core) (us : Units) (memory : MemoryInstance) (k : IsState D c us memory s) (moving : c.machine.standing ≡ standing.Moving) (m : OnMark c) where
+    abbrev under : List (Frame LoaderFrame)
     under = marked_stack (frame_at c.frames.items) m.rest
 
     top_is : frame_at c.frames.items m.number ≡ top_frame c
     top_is = let last : m.number ≡ length c.frames.items - 1 = (let e = m.count in omega arith) in ap (frame_at c.frames.items) last
 
-    stack_is : s.run.stack ≡ Marked (top_frame c) ∷ under
+    pub stack_is : s.run.stack ≡ Marked (top_frame c) ∷ under
     stack_is =
         (state_moving D c us memory s k moving).1 ∙ ap (λ (fs : List (Frame ℕ)). marked_stack (frame_at c.frames.items) fs) m.frames
         ∙ ap (λ (f : LoaderFrame). Marked f ∷ under) top_is
 
-    pub task_comes : loaded_next D s s.run.stack ≡ task_next D s (Marked (rest_of (top_frame c)) ∷ under) t
-    task_comes = ap (loaded_next D s) stack_is ∙ task_on_top (top_frame c) under t first
+    pub task_comes : (t : Task) → first_task (top_frame c) ≡ Some t → loaded_next D s s.run.stack ≡ task_next D s (Marked (rest_of (top_frame c)) ∷ under) t
+    task_comes t first = ap (loaded_next D s) stack_is ∙ task_on_top (top_frame c) under t first
 
   -- the stage test
   module _ (c : Core) (loader : s.loader ≡ loader_of c) (frames : List (Frame LoaderFrame)) (t : Task) where

@@ -199,6 +199,10 @@ abbrev pub QuickStepsFrom : {Units : Type 0} → Loading Units → Done → Core
 QuickStepsFrom {Units} D d old before new after =
     (s : LoadedState Units) → IsState D old before.units before.memory s → QuickSteps D d s new after.units after.memory
 
+-- from wherever the run stands, this is whether the next step would pass a limit of depth
+abbrev pub TellsDeep : {Units : Type 0} → Loading Units → Bool → Core → Seen Units → Type 0
+TellsDeep {Units} D deep c w = (s : LoadedState Units) → IsState D c w.units w.memory s → deep ≡ loaded_too_deep D s
+
 -- from wherever the run stands the next step may want memory
 abbrev pub WantsFrom : {Units : Type 0} → Loading Units → Core → Seen Units → Type 0
 WantsFrom {Units} D c w = (s : LoadedState Units) → IsState D c w.units w.memory s → MayWant s

@@ -17,14 +17,14 @@ ghost use Rattle.spec_loading.specs.spec_linking.LinkedSets.{LinkedSet};
 ghost use Rattle.spec_loading.specs.LoaderAnswers.{promoted_with};
 ghost use Rattle.dyl_link.specs.Kept.{IsLinked};
 ghost use Rattle.dyl_frames.specs.Cores.{IsHandle, GivesHandle, AreFrames, first_task, top_frame, TakesTask, Finishes, is_behind, raised_stages, is_mark, IsOwn, FitsHost};
-ghost use Rattle.dyl_frames.specs.Cores.{AnsweredFrom, WantsFrom, gives_number, opens_member, Drops};
+ghost use Rattle.dyl_frames.specs.Cores.{AnsweredFrom, WantsFrom, TellsDeep, gives_number, opens_member, Drops};
 
 use dyl_link::Linked;
 use dyl_world::{Errors, Promoted, Stages};
 use spec_loading::wasm_form::{Memory, Ref, Trap};
 use spec_loading::{After, Phase, Task};
 use std::alloc::Global;
-use wasm_machine::{Answer, Done, Event, Machine, Standing, View};
+use wasm_machine::{Answer, Done, Event, Machine, StackTop, Standing, View};
 
 // A frame of the loader: the tasks that are left, the next one last, and what follows them.
 #[derive(Drop)]
@@ -56,6 +56,14 @@ fn stage_of(phase: Phase) -> u8
         Phase::Relocate => 3,
         Phase::Construct => 4,
     }
+}
+
+/// Whether a phase places its member.
+pub fn is_place(phase: Phase) -> bool
+    ensures places { result ≡ true → phase ≡ phases.Place }
+    ensures calls { result ≡ false → phase ≢ phases.Place }
+{
+    matches!(phase, Phase::Place)
 }
 
 // Whether a call would be too deep.
@@ -486,5 +494,62 @@ impl<'m> Core<'m> {
         self.machine.give(view, member + 1);
         self.drop_top();
         self.promoted.add(linked, member);
+    }
+}
+
+// ---- the depth of the next step
+
+impl<'m> Core<'m> {
+    /// Whether a frame of the loader is on top.
+    pub fn is_marked(&self) -> bool
+        requires moving { self.now.machine.standing ≡ Standing.Moving }
+        ensures marked { result ≡ true → IsMarked self.now.machine }
+        ensures code { result ≡ false → IsMarked self.now.machine → ⊥ }
+    {
+        matches!(self.machine.top(), StackTop::Mark(_))
+    }
+
+    /// Whether the next step of the code on top would pass a limit of depth. It takes no memory.
+    pub fn code_deep<V: View<'m>>(&self, view: &V) -> bool
+        requires core { IsCore (V.seen view.now).fixed (V.seen view.now).units (V.seen view.now).memory self.now }
+        requires moving { self.now.machine.standing ≡ Standing.Moving }
+        requires code { IsMarked self.now.machine → ⊥ }
+        ensures { (D : Loading V.Units) → IsLoaded D (V.seen view.now).fixed → TellsDeep D result self.now (V.seen view.now) }
+    {
+        self.machine.deep(view)
+    }
+
+    /// Whether the next task, which calls this function, if any, where its member hasn't come so far, would pass a limit of depth. It takes
+    /// no memory. A task that places its member calls nothing.
+    pub fn task_deep<V: View<'m>>(&self, view: &V, task: Task, callee: Option<Ref>) -> bool
+        requires core { IsCore (V.seen view.now).fixed (V.seen view.now).units (V.seen view.now).memory self.now }
+        requires marked { IsMarked self.now.machine }
+        requires task { first_task (top_frame self.now) ≡ Some task }
+        requires member { task.member < length self.now.stages }
+        requires nullary { IfSome callee (λ r. type_seen (V.seen view.now).fixed r ≡ Some nullary) }
+        ensures { (D : Loading V.Units) → IsLoaded D (V.seen view.now).fixed → D.callee task.phase task.member ≡ Some callee → TellsDeep D result self.now (V.seen view.now) }
+    {
+        if is_place(task.phase) || !self.is_behind(task) {
+            return false;
+        }
+        match callee {
+            None => false,
+            Some(r) => self.machine.begin_deep(view, r),
+        }
+    }
+
+    /// Whether what follows the last task would pass a limit of depth, where the entry is this function. It takes no memory. Only the call
+    /// of the entry can.
+    pub fn follow_deep<V: View<'m>>(&self, view: &V, entry: Ref) -> bool
+        requires core { IsCore (V.seen view.now).fixed (V.seen view.now).units (V.seen view.now).memory self.now }
+        requires marked { IsMarked self.now.machine }
+        requires last { (top_frame self.now).tasks ≡ [] }
+        requires nullary { type_seen (V.seen view.now).fixed entry ≡ Some nullary }
+        ensures { (D : Loading V.Units) → IsLoaded D (V.seen view.now).fixed → D.entry ≡ Some entry → TellsDeep D result self.now (V.seen view.now) }
+    {
+        match self.follows(view) {
+            After::CallEntry => self.machine.begin_deep(view, entry),
+            After::GiveHandle(_) | After::GiveAndPromote(_) => false,
+        }
     }
 }

@@ -3,6 +3,6 @@
 
 mod frames;
 
-pub use frames::Core;
+pub use frames::{Core, is_place};
 pub use spec_loading::{After, Phase, Task};
 pub use wasm_machine::{Answer, Asked, Done, Event, Standing};

@@ -52,3 +52,4 @@ end_word (end.Trap why) = codes "trap " ++ trap_text why
 end_word end.StepLimit = codes "steplimit"
 end_word end.DepthLimit = codes "depthlimit"
 end_word end.HostCallLimit = codes "hostcalllimit"
+end_word end.TurnLimit = codes "turnlimit"

@@ -38,7 +38,7 @@ fn put_exit(alloc: Global, code: u32, to: &mut Vec<u8>) -> Result<(), Memory>
     put_number(alloc, u64::from(code), to)
 }
 
-/// Puts how a run ended: `return`, `exit` with its code, `trap` with its cause, `steplimit`, `depthlimit` or `hostcalllimit`.
+/// Puts how a run ended: `return`, `exit` with its code, `trap` with its cause, `steplimit`, `depthlimit`, `hostcalllimit` or `turnlimit`.
 pub fn put_end(alloc: Global, end: RunEnd, to: &mut Vec<u8>) -> Result<(), Memory>
     ensures { OnOk result (to.new.items ≡ to.old.items ++ end_word end) }
 {
@@ -49,5 +49,6 @@ pub fn put_end(alloc: Global, end: RunEnd, to: &mut Vec<u8>) -> Result<(), Memor
         RunEnd::StepLimit => put_text("steplimit", to),
         RunEnd::DepthLimit => put_text("depthlimit", to),
         RunEnd::HostCallLimit => put_text("hostcalllimit", to),
+        RunEnd::TurnLimit => put_text("turnlimit", to),
     }
 }

@@ -21,3 +21,4 @@ pub mod Beginning
 pub mod CellAddresses
 pub mod SharedTable
 pub mod Opened
+pub mod Standing

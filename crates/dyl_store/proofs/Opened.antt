@@ -35,6 +35,7 @@ use Rattle.spec_loading.specs.Loading.{LoaderState}
 use Rattle.spec_loading.specs.LoadedSet.{set_loading, set_opening, opening_memory}
 use Rattle.spec_loading.specs.Laws.{LinkedIsThere, OpeningHolds, SizesArePlanned}
 use Rattle.spec_loading.specs.SoundSets.{IsSoundState, SetIsSound, SetOpensSound, SetViewIsSound}
+use Rattle.wasm_machine.specs.declared.event.Event.TheVariants as event
 use Rattle.dyl_addresses.specs.Sets.{AreOf}
 use Rattle.dyl_addresses.proofs.Linked.{members_count}
 use Rattle.dyl_addresses.proofs.Ranges.{of_open}
@@ -223,7 +224,7 @@ running_is x set runnable opened core at placements =
     }
 
 abbrev inside_of : Running → Vec Answer Global → kept.Inside
-inside_of x answers = record { running = x; steps = 0; answers = answers; answered = false; lost = false }
+inside_of x answers = record { running = x; steps = 0; answers = answers; answered = false; lost = false; event = event.Moved }
 
 -- no step was made
 pub store_is : (x : Running) (answers : Vec Answer Global) → IsRunning x → ((L : LinkedSet) → IsLinked L x.linked.now → RunsAt L x (set_opening L)) → answers.items ≡ [] → IsStore (inside_of x answers)
@@ -231,4 +232,5 @@ store_is x answers running at none = record {
   running = λ e. running;
   bytes = subst (All IsOfBytes) (sym none) (All-nil IsOfBytes);
   stands = λ e L h. (record { found = refl; run = refl; real = tt; left = none }, at L h);
+  told = λ e L h. (tt, tt);
 }

@@ -5,16 +5,17 @@ use Rattle.std.specs.List.{All}
 use Rattle.std.proofs.lemmas.List.Elements.{All-nil, All-cons, All-append}
 use Rattle.wasm_form.specs.declared.runtime.Answer.{Answer}
 use Rattle.spec_loading.specs.spec_runtime.Recorded.{Recorded}
-use Rattle.spec_loading.specs.spec_linking.LinkedSets.{LinkedSet}
+use Rattle.spec_loading.specs.spec_linking.LinkedSets.{LinkedSet, set_hosts}
+use Rattle.spec_loading.specs.LoadedSet.{SetState}
 use Rattle.spec_loading.specs.spec_safety.ValueTypes.{IsOfBytes}
 use Rattle.spec_loading.specs.spec_runtime.Courses.{state_at}
-use Rattle.wasm_machine.specs.Steps.{Awaits}
+use Rattle.wasm_machine.specs.Steps.{TellsStatus, Awaits}
 use Rattle.wasm_machine.proofs.Courses.{at_recorded}
 use Rattle.dyl_link.specs.Kept.{IsLinked}
 use Rattle.dyl_store.specs.declared.store.Store.TheInside.{Inside}
 use Rattle.dyl_store.specs.Stores.{StoreRun, set_course}
 use Rattle.dyl_store.specs.Runs.{RunsAt}
-use Rattle.dyl_store.specs.Kept.{run_of, StandsFrom, IsStore}
+use Rattle.dyl_store.specs.Kept.{run_of, StandsFrom, IsToldOf, IsStore}
 use Rattle.dyl_store.proofs.Fitting.{wait_fits_host, host_fits_call}
 
 -- the parts of a run with these answers, of which the last is still to be taken
@@ -43,4 +44,12 @@ recorded_store a v i answers is h awaits bytes more =
           let s = at_recorded C x from.0 call.0 a w.2.0 call.1 call.2 in
           let P : List Answer → Type 0 = λ l. let y : Recorded = record x { answers = l; answered = true } in StandsFrom L y i.running in
           subst P (sym more) (s.0, subst (RunsAt L i.running) (sym s.1) from.1);
+      told = λ _ L of.
+          let C = set_course L in
+          let from = h.stands found L of in
+          let call = host_fits_call i.running running L of (state_at C x) from.1 a fits in
+          let s = at_recorded C x from.0 call.0 a w.2.0 call.1 call.2 in
+          let told = h.told found L of in
+          let P : List Answer → Type 0 = λ l. let y : Recorded = record x { answers = l; answered = true } in IsToldOf L i.event y in
+          subst P (sym more) (subst (λ (t : SetState). TellsStatus (set_hosts L) i.event t.run.status) (sym s.1) told.0, told.1);
     }

@@ -1,9 +1,10 @@
 -- What a step of a loaded set makes of its run.
-use Rattle.std.proofs.Common.{◌≡◌, ℕ, ◌+◌, ◌-◌, List, length, slice_get, Some, None, Bool, true, false, IsTrue, refl, sym, ap, ◌∙◌, subst, arith}
+use Rattle.std.proofs.Common.{◌≡◌, ◌⊎◌, inl, inr, ℕ, ◌+◌, ◌-◌, ◌≤◌, List, length, slice_get, Option, Some, None, Bool, true, false, IsTrue, refl, sym, ap, ◌∙◌, subst, arith}
 use Rattle.std.specs.Borrow.{Bor}
 use Rattle.std.proofs.lemmas.Option.{same_Some}
 use Rattle.wasm_form.specs.declared.runtime.Answer.{Answer}
 use Rattle.spec_loading.specs.spec_runs.Systems.{Moving, Waits}
+use Rattle.spec_loading.specs.spec_runtime.Names.{HostName}
 use Rattle.spec_loading.specs.spec_runtime.Hosts.{HostCall, answer_fits}
 use Rattle.spec_loading.specs.spec_runtime.Recorded.{Recorded, has_ended, waits}
 use Rattle.spec_loading.specs.spec_execution.Runs.{taken}
@@ -18,7 +19,7 @@ use Rattle.wasm_machine.specs.declared.machine.Standing.TheVariants as standing
 use Rattle.wasm_machine.specs.declared.event.Event.{Event}
 use Rattle.wasm_machine.specs.declared.event.Event.TheVariants as event
 use Rattle.spec_loading.specs.spec_runtime.Courses.{Course, state_at, status_at, memory_at, IsAt, is_waiting}
-use Rattle.wasm_machine.specs.Steps.{TellsStatus, event_of, steps_told, RunStepped, ArgumentsFit}
+use Rattle.wasm_machine.specs.Steps.{TellsStatus, event_of, steps_told, stands_told, StepMade, RunStepped, ArgumentsFit, AreNumbers}
 use Rattle.wasm_machine.proofs.Courses.{TakesLast, at_taken, answered_wait, read_last}
 use Rattle.wasm_machine.proofs.Steps.{moved, one_told, took, told_again, taken_goes}
 use Rattle.dyl_frames.specs.Cores.{StandsAs, Steps, FitsHost}
@@ -29,8 +30,9 @@ use Rattle.dyl_store.specs.declared.store.Store.TheInside.{Inside}
 use Rattle.dyl_store.specs.Stores.{StoreRun, set_course, MayWantAt}
 use Rattle.dyl_store.specs.Runs.{IsRunning, IsSomewhere, RunsAt, StepsTo, WantsTo}
 use Rattle.dyl_store.specs.Calls.{is_loader}
-use Rattle.dyl_store.specs.Kept.{run_of, StandsFrom, IsStore}
+use Rattle.dyl_store.specs.Kept.{run_of, StandsFrom, IsToldOf, IsStore}
 use Rattle.dyl_store.proofs.Fitting.{asking_status, fits_host}
+use Rattle.dyl_store.proofs.Arguments.{arguments_told}
 use Rattle.dyl_store.proofs.Runnable.{few_pages, hold_bytes}
 
 -- the parts of a run, once another one is running after so many steps
@@ -85,6 +87,82 @@ module _ (L : LinkedSet) (new : Running) (x : Recorded) (count : ℕ) where
     stepped_at (event.Exited code) plain told step = made (event.Exited code) refl told step
     stepped_at event.Deep plain told step = stayed event.Deep told step.2 (moving, step.0, refl)
 
+-- ---- what is told of how a run stands
+
+pub one_at_most : (e : Event) → steps_told e ≤ 1
+one_at_most event.Deep = omega arith
+one_at_most event.Moved = omega arith
+one_at_most (event.Waits asked) = omega arith
+one_at_most (event.Loader which first second) = omega arith
+one_at_most (event.Marked tag) = omega arith
+one_at_most event.Returned = omega arith
+one_at_most (event.Trapped why) = omega arith
+one_at_most (event.Exited code) = omega arith
+
+made_tells : (C : Course) (e : Event) (x y : Recorded)
+    → (StepMade C e x y × (status_at C x ≡ Moving → C.deep (state_at C x) ≡ false)) ⊎ ((has_ended (status_at C x) ≡ true) × TellsStatus C.host e (status_at C x) × (y ≡ x)) → TellsStatus C.host e (status_at C y)
+made_tells C e x y (inl made) = made.0.3
+made_tells C e x y (inr again) = subst (λ (z : Recorded). TellsStatus C.host e (status_at C z)) (sym again.2) again.1
+
+stepped_tells : (C : Course) (e : Event) (x y : Recorded) → RunStepped C e x y → TellsStatus C.host (stands_told e) (status_at C y)
+stepped_tells C event.Deep x y h =
+    subst (λ (z : Recorded). TellsStatus C.host event.Moved (status_at C z)) (sym h.2) (subst (TellsStatus C.host event.Moved) (sym h.0) tt)
+stepped_tells C event.Moved x y h = made_tells C event.Moved x y h
+stepped_tells C (event.Waits asked) x y h = made_tells C (event.Waits asked) x y h
+stepped_tells C (event.Loader which first second) x y h = made_tells C (event.Loader which first second) x y h
+stepped_tells C (event.Marked tag) x y h = made_tells C (event.Marked tag) x y h
+stepped_tells C event.Returned x y h = made_tells C event.Returned x y h
+stepped_tells C (event.Trapped why) x y h = made_tells C (event.Trapped why) x y h
+stepped_tells C (event.Exited code) x y h = made_tells C (event.Exited code) x y h
+
+told_same : (st : Standing) → stands_told (event_of st) ≡ event_of st
+told_same standing.Moving = refl
+told_same (standing.Asking entry count) = refl
+told_same standing.Loading = refl
+told_same standing.Returned = refl
+told_same (standing.Trapped why) = refl
+told_same (standing.Exited code) = refl
+told_same standing.Lost = refl
+
+still_fits : (host : ℕ → Option HostName) (e : Event) → ArgumentsFit host e → ArgumentsFit host (stands_told e)
+still_fits host event.Deep h = tt
+still_fits host event.Moved h = h
+still_fits host (event.Waits asked) h = h
+still_fits host (event.Loader which first second) h = h
+still_fits host (event.Marked tag) h = h
+still_fits host event.Returned h = h
+still_fits host (event.Trapped why) h = h
+still_fits host (event.Exited code) h = h
+
+-- what is told of the machine is so of the run
+tells_after : (L : LinkedSet) (x : Running) (t : SetState) (st : Standing) → StandsAs (set_loading L) x.core t st → waits t.run.status ≡ false → TellsStatus (set_hosts L) (event_of st) t.run.status
+tells_after L x t standing.Moving h goes = subst (TellsStatus (set_hosts L) event.Moved) (sym h.0) tt
+tells_after L x t (standing.Asking entry count) h goes = absurd (let e : true ≡ false = sym (ap waits h.1) ∙ goes in cc)
+tells_after L x t standing.Loading h goes = absurd h
+tells_after L x t standing.Returned h goes = subst (TellsStatus (set_hosts L) event.Returned) (sym h) tt
+tells_after L x t (standing.Trapped why) h goes = subst (TellsStatus (set_hosts L) (event.Trapped why)) (sym h) refl
+tells_after L x t (standing.Exited code) h goes = subst (TellsStatus (set_hosts L) (event.Exited code)) (sym h) refl
+tells_after L x t standing.Lost h goes = absurd h
+
+pub end_asks_nothing : (e : Event) (st : Standing) → e ≡ event_of st → (L : LinkedSet) → ArgumentsFit (set_hosts L) e
+end_asks_nothing e st told L = subst (ArgumentsFit (set_hosts L)) (sym told) (go st)
+  where
+    go : (x : Standing) → ArgumentsFit (set_hosts L) (event_of x)
+    go standing.Moving = tt
+    go (standing.Asking entry count) = tt
+    go standing.Loading = tt
+    go standing.Returned = tt
+    go (standing.Trapped why) = tt
+    go (standing.Exited code) = tt
+    go standing.Lost = tt
+
+-- a run that doesn't wait is told by where its machine stands
+pub told_anew : (L : LinkedSet) (now : Running) (x : Recorded) → RunsAt L now (state_at (set_course L) x) → waits (status_at (set_course L) x) ≡ false → (e : Event) → e ≡ event_of now.core.machine.standing → IsToldOf L e x
+told_anew L now x at goes e is = (
+  subst (λ (f : Event). TellsStatus (set_hosts L) f (status_at (set_course L) x)) (sym is) (tells_after L now (state_at (set_course L) x) now.core.machine.standing at.standing goes),
+  end_asks_nothing e now.core.machine.standing is L,
+)
+
 -- it stands at a state, which is sound
 pub somewhere : SetRunIsSound → (i : Inside) → IsStore i → i.lost ≡ false → IsSomewhere i.running
 somewhere law i h found =
@@ -113,11 +191,23 @@ module _ (e : Event) (v : StoreRun) (i : Inside) (new : Running) (count : ℕ) (
       let from = h.stands found L of in
       stepped_at L new x count from.0 (moving_status L i.running s from.1 moving) e plain counted (steps L of s from.1)
 
-  pub moving_store : IsRunning new → IsStore (with_running i new (i.steps + count) i.answered)
-  moving_store running = record {
+  -- what is kept of what is told
+  told_still : (kept : Event) → kept ≡ stands_told e → AreNumbers e → (L : LinkedSet) → IsLinked L i.running.linked.now → IsToldOf L kept (run_of (with_running i new (i.steps + count) i.answered)).run
+  told_still kept same numbers L of =
+      let C = set_course L in
+      let x = (run_of i).run in
+      let y = (run_of (with_running i new (i.steps + count) i.answered)).run in
+      let fits = arguments_told L e (state_at C x) new (steps L of (state_at C x) (h.stands found L of).1) numbers in (
+        subst (λ (f : Event). TellsStatus (set_hosts L) f (status_at C y)) (sym same) (stepped_tells C e x y (stepped_from L of).1),
+        subst (ArgumentsFit (set_hosts L)) (sym same) (still_fits (set_hosts L) e fits),
+      )
+
+  pub moving_store : (kept : Event) → kept ≡ stands_told e → AreNumbers e → IsRunning new → IsStore (record (with_running i new (i.steps + count) i.answered) { event = kept })
+  moving_store kept same numbers running = record {
     running = λ _. running;
     bytes = h.bytes;
     stands = λ _ L of. (stepped_from L (subst (IsLinked L) (linked_now i new linked) of)).0;
+    told = λ _ L of. told_still kept same numbers L (subst (IsLinked L) (linked_now i new linked) of);
   }
 
   pub moving_stepped : (L : LinkedSet) → IsLinked L v.linked → IsTold L e v.run (run_of (with_running i new (i.steps + count) i.answered)).run
@@ -135,16 +225,6 @@ wants_at v i is h found wants =
 -- a run doesn't wait for an answer
 abbrev pub IsAnswered : StoreRun → Type 0
 IsAnswered v = (L : LinkedSet) × IsLinked L v.linked × (IsAt (set_course L) v.run → is_waiting (set_course L) v.run ≡ false)
-
--- what is told of the machine is so of the run
-tells_after : (L : LinkedSet) (x : Running) (t : SetState) (st : Standing) → StandsAs (set_loading L) x.core t st → waits t.run.status ≡ false → TellsStatus (set_hosts L) (event_of st) t.run.status
-tells_after L x t standing.Moving h goes = subst (TellsStatus (set_hosts L) event.Moved) (sym h.0) tt
-tells_after L x t (standing.Asking entry count) h goes = absurd (let e : true ≡ false = sym (ap waits h.1) ∙ goes in cc)
-tells_after L x t standing.Loading h goes = absurd h
-tells_after L x t standing.Returned h goes = subst (TellsStatus (set_hosts L) event.Returned) (sym h) tt
-tells_after L x t (standing.Trapped why) h goes = subst (TellsStatus (set_hosts L) (event.Trapped why)) (sym h) refl
-tells_after L x t (standing.Exited code) h goes = subst (TellsStatus (set_hosts L) (event.Exited code)) (sym h) refl
-tells_after L x t standing.Lost h goes = absurd h
 
 -- A run of a set waits, and takes the last answer next.
 record TakesNext (L : LinkedSet) (i : Inside) (entry : ℕ) : Type 0 where
@@ -230,8 +310,18 @@ module _ (v : StoreRun) (i : Inside) (entry count : ℕ) (items : List Answer) (
             (w.from.0, subst (λ (g : Event). RunStepped C g x (run_of after).run) same_event made.stepped),
           )
 
-      pub taken_store : IsRunning new → IsStore after
-      taken_store running = record { running = λ _. running; bytes = h.bytes; stands = λ _ L of. (taken_so L (subst (IsLinked L) (linked_now i new linked) of)).0 }
+      pub taken_store : IsRunning new → IsStore (record after { event = e })
+      taken_store running = record {
+        running = λ _. running;
+        bytes = h.bytes;
+        stands = λ _ L of. (taken_so L (subst (IsLinked L) (linked_now i new linked) of)).0;
+        told = λ _ L of.
+            let so = taken_so L (subst (IsLinked L) (linked_now i new linked) of) in
+            let same : stands_told e ≡ e = ap stands_told told ∙ told_same st ∙ sym told in (
+              subst (λ (f : Event). TellsStatus (set_hosts L) f (status_at (set_course L) (run_of after).run)) same (stepped_tells (set_course L) e x (run_of after).run so.1.1),
+              end_asks_nothing e st told L,
+            );
+      }
 
       pub taken_stepped : (L : LinkedSet) → IsLinked L v.linked → IsTold L e v.run (run_of after).run
       taken_stepped L of = told_of L e v i (run_of after).run is (taken_so L (linked_of v i L is of)).1
@@ -269,15 +359,3 @@ ended_stepped e st v i is h found end at told L of =
     let here : StandsAs (set_loading L) i.running.core (state_at (set_course L) x) st = subst (StandsAs (set_loading L) i.running.core (state_at (set_course L) x)) (sym at) from.1.standing in
     let stepped : RunStepped (set_course L) e x x = subst (λ (f : Event). RunStepped (set_course L) f x x) (sym told) (ended_told L i.running x st here end) in
     subst (λ (s : StoreRun). IsTold L e s.run s.run) is (from.0, stepped)
-
-pub end_asks_nothing : (e : Event) (st : Standing) → e ≡ event_of st → (L : LinkedSet) → ArgumentsFit (set_hosts L) e
-end_asks_nothing e st told L = subst (ArgumentsFit (set_hosts L)) (sym told) (go st)
-  where
-    go : (x : Standing) → ArgumentsFit (set_hosts L) (event_of x)
-    go standing.Moving = tt
-    go (standing.Asking entry count) = tt
-    go standing.Loading = tt
-    go standing.Returned = tt
-    go (standing.Trapped why) = tt
-    go (standing.Exited code) = tt
-    go standing.Lost = tt

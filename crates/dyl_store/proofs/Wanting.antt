@@ -1,28 +1,41 @@
--- A step that calls a function of the loader is one of code that begins with a call, so that it may want memory.
-use Rattle.std.proofs.Common.{◌≡◌, ◌⊎◌, ℕ, List, [], ◌∷◌, length, Option, Some, None, Bool, true, false, Result, Ok, Err, refl, subst, inl, inr}
+-- A step that calls a function of the loader or of the host is one of code that begins with a call, or of a frame of the loader, so that it
+-- may want memory.
+use Rattle.std.proofs.Common.{◌≡◌, ◌⊎◌, ℕ, List, [], ◌∷◌, length, Option, Some, None, Bool, true, false, true≢false, Result, Ok, Err, refl, sym, ap, ◌∙◌, subst, inl, inr}
+use Rattle.std.proofs.lemmas.Option.{same_Some}
 use Rattle.std.specs.Prelude.{IfSome, IsTrue, OnErr, nat_eq}
 use Rattle.spec_loading.proofs.of_spec_binary.Options.{each}
+use Rattle.spec_loading.specs.spec_binary.Options.{◌>>=◌}
+use Rattle.spec_loading.specs.spec_runs.Systems.{Status, Moving, Waits, Returned, Exited, Trapped}
+use Rattle.spec_loading.specs.spec_runtime.Names.{HostName}
+use Rattle.spec_loading.specs.spec_runtime.Hosts.{HostCall}
+use Rattle.spec_loading.specs.spec_runtime.Recorded.{waits}
 use Rattle.wasm_form.specs.declared.types.FuncType.{FuncType}
 use Rattle.wasm_form.specs.declared.instr.Instr.{Instr, out-Instr}
 use Rattle.wasm_form.specs.declared.runtime.LoaderCall.{LoaderCall}
+use Rattle.wasm_form.specs.declared.runtime.Trap.{Trap}
+use Rattle.wasm_form.specs.declared.runtime.Asked.{Asked}
 use Rattle.wasm_form.specs.declared.runtime.Value.{Value}
 use Rattle.spec_loading.specs.spec_execution.Activations.{Level, Activation, Move, On, Calls, CallsEntry, Refers, Does, Leaves, Fails, Stuck, end_move, instr_move, code_move, move}
 use Rattle.spec_loading.specs.spec_execution.Views.{Effected, performed}
 use Rattle.spec_loading.specs.spec_execution.Views as effects
-use Rattle.spec_loading.specs.spec_execution.Runs.{Frame, Active, Marked, Next, Loads, left_with, effected_with, carried_out}
-use Rattle.spec_loading.specs.spec_linking.LinkedSets.{LinkedSet}
+use Rattle.spec_loading.specs.spec_execution.Runs.{Frame, Active, Marked, Next, Goes, Asks, Loads, Ends, Traps, stands, left_with, effected_with, carried_out}
+use Rattle.spec_loading.specs.spec_linking.LinkedSets.{LinkedSet, set_hosts}
 use Rattle.spec_loading.specs.Phases.{LoaderFrame}
-use Rattle.spec_loading.specs.Loading.{Loading, LoadedState, Comes, comes_to, loaded_next}
+use Rattle.spec_loading.specs.Loading.{Loading, LoadedState, Comes, comes_to, with_run, came_to, loaded_next, loaded_from}
 use Rattle.spec_loading.specs.LoadedSet.{set_loading}
 use Rattle.wasm_step.specs.Named.{is_call}
 use Rattle.wasm_view.specs.Seen.{Seen}
 use Rattle.spec_loading.specs.spec_execution.Instances.{ModuleParts}
 use Rattle.wasm_machine.specs.Machines.{may_grow_at}
+use Rattle.wasm_machine.specs.declared.machine.Standing.TheVariants as standing
+use Rattle.wasm_machine.specs.declared.event.Event.{Event}
 use Rattle.wasm_machine.specs.declared.event.Event.TheVariants as event
+use Rattle.wasm_machine.specs.Steps.{TellsStatus, is_wait}
 use Rattle.wasm_machine.proofs.Staying.{StaysIn, instr-stays}
 use Rattle.dyl_frames.specs.declared.frames.Core.{Core}
 use Rattle.dyl_frames.specs.Next.{CallsOrGrows}
 use Rattle.dyl_frames.specs.Cores.{stack_of, WantsFrom}
+use Rattle.dyl_frames.proofs.CodeSteps.{state_moving}
 use Rattle.dyl_link.specs.Kept.{IsLinked}
 use Rattle.dyl_store.specs.Worlds.{seen_of}
 use Rattle.dyl_store.specs.declared.running.Running.{Running}
@@ -64,34 +77,35 @@ begins_with_call types (i ∷ is) a = go (is_call (out-Instr i)) refl
 
 -- ---- what they come to
 
--- no function of the loader is called
-abbrev CallsNoLoader : {Units : Type 0} → Next Units LoaderFrame → Type 0
-CallsNoLoader (Loads which args frames) = ⊥
-CallsNoLoader _ = Unit {0}
+-- no function of the loader or of the host is called
+abbrev StaysInside : {Units : Type 0} → Next Units LoaderFrame → Type 0
+StaysInside (Loads which args frames) = ⊥
+StaysInside (Asks entry args frames) = ⊥
+StaysInside _ = Unit {0}
 
-abbrev ComesToNoLoader : {Units : Type 0} → Option (Comes Units) → Type 0
-ComesToNoLoader o = IfSome o (λ x. IfSome x.next CallsNoLoader)
+abbrev ComesToNone : {Units : Type 0} → Option (Comes Units) → Type 0
+ComesToNone o = IfSome o (λ x. IfSome x.next StaysInside)
 
 module _ {Units : Type 0} (D : Loading Units) (s : LoadedState Units) where
-  effected_so : (frames : List (Frame LoaderFrame)) (a : Activation) (e : Effected Units) → CallsNoLoader (effected_with frames a e)
+  effected_so : (frames : List (Frame LoaderFrame)) (a : Activation) (e : Effected Units) → StaysInside (effected_with frames a e)
   effected_so frames a (effects.Gives values us memory) = tt
   effected_so frames a (effects.Traps why) = tt
 
-  left_so : (values : List Value) (frames : List (Frame LoaderFrame)) → CallsNoLoader (left_with s.run.units s.run.memory values frames)
+  left_so : (values : List Value) (frames : List (Frame LoaderFrame)) → StaysInside (left_with s.run.units s.run.memory values frames)
   left_so values [] = tt
   left_so values (f ∷ fs) = tt
 
-  carried_so : (frames : List (Frame LoaderFrame)) (m : Move) → CallsNothing m → IfSome (carried_out D.view s.run.units s.run.memory frames m) CallsNoLoader
+  carried_so : (frames : List (Frame LoaderFrame)) (m : Move) → CallsNothing m → IfSome (carried_out D.view s.run.units s.run.memory frames m) StaysInside
   carried_so frames (On a) h = tt
   carried_so frames (Calls f a) h = absurd h
   carried_so frames (CallsEntry t ty i a) h = absurd h
-  carried_so frames (Refers f a) h = each CallsNoLoader (D.view.target a.unit f) _ (λ r. tt)
-  carried_so frames (Does effect a) h = each CallsNoLoader (performed D.view s.run.units s.run.memory a.unit effect) _ (effected_so frames a)
+  carried_so frames (Refers f a) h = each StaysInside (D.view.target a.unit f) _ (λ r. tt)
+  carried_so frames (Does effect a) h = each StaysInside (performed D.view s.run.units s.run.memory a.unit effect) _ (effected_so frames a)
   carried_so frames (Leaves values) h = left_so values frames
   carried_so frames (Fails why) h = tt
   carried_so frames Stuck h = tt
 
-  comes_so : (next : Option (Next Units LoaderFrame)) → IfSome next CallsNoLoader → ComesToNoLoader (comes_to s next)
+  comes_so : (next : Option (Next Units LoaderFrame)) → IfSome next StaysInside → ComesToNone (comes_to s next)
   comes_so None h = tt
   comes_so (Some next) h = h
 
@@ -105,7 +119,31 @@ module _ {Units : Type 0} (D : Loading Units) (s : LoadedState Units) where
         go (inl grows) = grows
         go (inr none) =
             let next = carried_out D.view s.run.units s.run.memory frames (move (D.view.declared a.unit) a) in
-            absurd (subst ComesToNoLoader e (comes_so next (carried_so frames (move (D.view.declared a.unit) a) none)))
+            absurd (subst ComesToNone e (comes_so next (carried_so frames (move (D.view.declared a.unit) a) none)))
+
+  -- ---- the host
+
+  -- a step that stays inside leads to a state that doesn't wait
+  unasked : (next : Option (Next Units LoaderFrame)) → IfSome next StaysInside → (t : LoadedState Units) → (comes_to s next >>= λ x. came_to D x.state x.next) ≡ Some t → waits t.run.status ≡ false
+  unasked None h t e = absurd cc
+  unasked (Some (Goes us memory frames)) h t e =
+      ap (λ (x : LoadedState Units). waits x.run.status) (sym (same_Some (with_run s (record { units = us; memory = memory; stack = frames; status = Moving })) t e))
+  unasked (Some (Asks entry args frames)) h t e = absurd h
+  unasked (Some (Loads which args frames)) h t e = absurd h
+  unasked (Some Ends) h t e = ap (λ (x : LoadedState Units). waits x.run.status) (sym (same_Some (with_run s (stands s.run [] Returned)) t e))
+  unasked (Some (Traps why)) h t e = ap (λ (x : LoadedState Units). waits x.run.status) (sym (same_Some (with_run s (stands s.run [] (Trapped why))) t e))
+
+  asks_from : (stack : List (Frame LoaderFrame)) (t : LoadedState Units) → loaded_from D s stack ≡ Some t → waits t.run.status ≡ true → CallsOrGrows stack
+  asks_from [] t e asks = absurd cc
+  asks_from (Marked frame ∷ frames) t e asks = tt
+  asks_from (Active a ∷ frames) t e asks = go (begins_with_call (D.view.declared a.unit) a.rest a)
+    where
+      go : IsTrue (may_grow_at a.rest) ⊎ CallsNothing (move (D.view.declared a.unit) a) → CallsOrGrows (Active a ∷ frames)
+      go (inl grows) = grows
+      go (inr none) =
+          let next = carried_out D.view s.run.units s.run.memory frames (move (D.view.declared a.unit) a) in
+          let still = unasked next (carried_so frames (move (D.view.declared a.unit) a) none) t e in
+          absurd (true≢false (sym asks ∙ still))
 
 -- ---- what runs
 
@@ -114,6 +152,27 @@ pub told_wants : (call : LoaderCall) (first second : ℕ) (old mid : Running) �
 told_wants call first second old mid told = λ L of s at.
     let c = (told L of s at).1.call in
     (c.moving, loads_from (set_loading L) s c.which c.args (stack_of mid.core) s.run.stack c.comes)
+
+-- and where the run waits for a host function after the step
+asked_waits : (host : ℕ → Option HostName) (asked : Asked) (status : Status HostCall Trap) → TellsStatus host (event.Waits asked) status → waits status ≡ true
+asked_waits host asked (Waits call) tells = refl
+asked_waits host asked Moving tells = absurd tells
+asked_waits host asked Returned tells = absurd tells
+asked_waits host asked (Exited code) tells = absurd tells
+asked_waits host asked (Trapped why) tells = absurd tells
+
+pub wait_wants : (e : Event) → is_wait e ≡ true → (old new : Running) → old.core.machine.standing ≡ standing.Moving → ((L : LinkedSet) → IsLinked L old.linked.now → StepsTo L e old new) → WantsTo old
+wait_wants (event.Waits asked) is old new moving told = λ L of s at.
+    let made = (told L of s at).1 in
+    let goes = state_moving (set_loading L) old.core old.world.store old.world.memory s at moving in
+    (goes.0, asks_from (set_loading L) s s.run.stack made.0 made.1 (asked_waits (set_hosts L) asked made.0.run.status made.2))
+wait_wants event.Moved is old new moving told = absurd (true≢false (sym is))
+wait_wants (event.Loader which first second) is old new moving told = absurd (true≢false (sym is))
+wait_wants (event.Marked tag) is old new moving told = absurd (true≢false (sym is))
+wait_wants event.Returned is old new moving told = absurd (true≢false (sym is))
+wait_wants (event.Trapped why) is old new moving told = absurd (true≢false (sym is))
+wait_wants (event.Exited code) is old new moving told = absurd (true≢false (sym is))
+wait_wants event.Deep is old new moving told = absurd (true≢false (sym is))
 
 -- what the frames of the loader may want the run may
 abbrev FrameWants : Core → Seen ModuleParts → Type 0

@@ -1,5 +1,5 @@
 -- A loaded set in its run, without what is counted and recorded of it.
-use Rattle.std.specs.Prelude.{◌≡◌, ◌<◌, ℕ, List, length, slice_get, Some}
+use Rattle.std.specs.Prelude.{◌≡◌, ◌<◌, ℕ, List, length, slice_get, Some, Bool}
 use Rattle.spec_loading.specs.spec_validation.Faults.{most_pages}
 use Rattle.spec_loading.specs.spec_linking.LinkedSets.{LinkedSet}
 use Rattle.spec_loading.specs.LoadedSet.{SetState, set_loading}
@@ -7,7 +7,7 @@ use Rattle.spec_loading.specs.SoundSets.{HoldBytes, IsSoundState}
 use Rattle.wasm_step.specs.declared.done.Done.{Done}
 use Rattle.wasm_machine.specs.declared.event.Event.{Event}
 use Rattle.dyl_link.specs.Kept.{Kept, IsLinked}
-use Rattle.dyl_frames.specs.Cores.{IsCore, IsState, StepsFrom, QuickStepsFrom, WantsFrom}
+use Rattle.dyl_frames.specs.Cores.{IsCore, IsState, StepsFrom, QuickStepsFrom, WantsFrom, TellsDeep}
 use Rattle.dyl_addresses.specs.Sets.{IsOfSet}
 use Rattle.dyl_store.specs.Worlds.{set_in, kept_view, seen_of}
 use Rattle.dyl_store.specs.Placements.{IsPlacement}
@@ -32,6 +32,10 @@ QuickStepsTo L d old new = QuickStepsFrom (set_loading L) d old.core (seen_of ol
 -- from wherever the run stands the next step may want memory
 abbrev pub WantsTo : Running → Type 0
 WantsTo x = (L : LinkedSet) → IsLinked L x.linked.now → WantsFrom (set_loading L) x.core (seen_of x.world)
+
+-- from wherever the run stands, this is whether the next step would pass a limit of depth
+abbrev pub IsDeepTo : LinkedSet → Bool → Running → Type 0
+IsDeepTo L deep x = TellsDeep (set_loading L) deep x.core (seen_of x.world)
 
 -- there is a placement of each member
 pub record ArePlacements (k : Kept) (ps : List Placement) : Type 0 where

@@ -1,9 +1,13 @@
 -- The run of a linked set, as contracts see it.
+use Rattle.std.specs.Prelude.{Bool, true, false, ◌&&◌}
+use Rattle.wasm_form.specs.declared.runtime.Trap.{Trap}
+use Rattle.spec_loading.specs.spec_runs.Systems.{Status, Moving}
+use Rattle.spec_loading.specs.spec_runtime.Hosts.{HostCall}
 use Rattle.spec_loading.specs.spec_runtime.Recorded.{Recorded}
 use Rattle.spec_loading.specs.spec_linking.LinkedSets.{LinkedSet, set_hosts}
 use Rattle.spec_loading.specs.Loading.{loaded_too_deep}
 use Rattle.spec_loading.specs.LoadedSet.{SetState, set_loading, set_opening, set_system}
-use Rattle.spec_loading.specs.spec_runtime.Courses.{Course, no_steps, state_at}
+use Rattle.spec_loading.specs.spec_runtime.Courses.{Course, no_steps, state_at, status_at}
 use Rattle.dyl_frames.specs.Next as next
 use Rattle.dyl_link.specs.Kept.{Kept, IsLinked}
 
@@ -23,6 +27,15 @@ new_run k = record { linked = k; run = no_steps }
 -- the next step is one of code
 abbrev pub IsCodeNext : LinkedSet → SetState → Type 0
 IsCodeNext L s = next.IsCodeNext (set_loading L) s
+
+-- the run goes on by itself
+abbrev pub is_moving : Status HostCall Trap → Bool
+is_moving Moving = true
+is_moving _ = false
+
+-- Whether a limit of depth is due where the recorded steps of a run lead: it goes on by itself, and its next step would pass the limit.
+abbrev pub is_deep_at : Course → Recorded → Bool
+is_deep_at C x = is_moving (status_at C x) && C.deep (state_at C x)
 
 -- where the recorded steps of the run lead the next step may want memory
 abbrev pub MayWantAt : Kept → Recorded → Type 0

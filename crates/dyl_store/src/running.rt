@@ -9,13 +9,13 @@ ghost use Rattle.wasm_machine.specs.Machines.{IsMarked};
 ghost use Rattle.dyl_link.specs.Kept.{IsLinked};
 ghost use Rattle.dyl_frames.specs.Cores.{is_mark, first_task, top_frame, FitsHost, TakenFrom};
 ghost use Rattle.dyl_store.specs.Worlds.{kept_view, seen_of};
-ghost use Rattle.dyl_store.specs.Runs.{IsRunning, IsSomewhere, StepsTo, QuickStepsTo, WantsTo};
+ghost use Rattle.dyl_store.specs.Runs.{IsRunning, IsSomewhere, StepsTo, QuickStepsTo, WantsTo, IsDeepTo};
 ghost use Rattle.dyl_store.specs.Calls.{is_loader};
 
 use crate::callees::callee;
 use crate::place_member::Placement;
 use crate::world::World;
-use dyl_frames::{After, Core, Phase, Task};
+use dyl_frames::{After, Core, Task, is_place};
 use dyl_link::Linked;
 use spec_loading::{linked_functions_are_typed, linked_sets_step_soundly};
 use std::alloc::Global;
@@ -36,14 +36,6 @@ fn is_mark(event: &Event) -> bool
     ensures { result ≡ is_mark event.now }
 {
     matches!(event, Event::Marked(_))
-}
-
-// Whether a phase places its member.
-fn is_place(phase: Phase) -> bool
-    ensures places { result ≡ true → phase ≡ phases.Place }
-    ensures calls { result ≡ false → phase ≢ phases.Place }
-{
-    matches!(phase, Phase::Place)
 }
 
 impl<'m> Running<'m> {
@@ -207,5 +199,52 @@ impl<'m> Running<'m> {
         let placement = &self.placements[task.member as usize];
         let outcome = self.world.place(self.linked, task.member, placement);
         self.core.placed(&self.world, task, outcome)
+    }
+}
+
+// ---- the depth of the next step
+
+impl<'m> Running<'m> {
+    // Whether the next step of a run that goes on by itself would pass a limit of depth.
+    pub fn deep(&self) -> bool
+        requires running { IsRunning self.now }
+        requires moving { self.now.core.machine.standing ≡ Standing.Moving }
+        ensures { (L : LinkedSet) → IsLinked L self.now.linked.now → IsDeepTo L result self.now }
+    {
+        if self.core.is_marked() {
+            self.frame_deep()
+        } else {
+            self.core.code_deep(&self.world)
+        }
+    }
+
+    // The same of a step of the loader.
+    fn frame_deep(&self) -> bool
+        requires running { IsRunning self.now }
+        requires marked { IsMarked self.now.core.machine }
+        ensures { (L : LinkedSet) → IsLinked L self.now.linked.now → IsDeepTo L result self.now }
+    {
+        match self.core.next_task(&self.world) {
+            Some(task) => {
+                let called = callee(self.linked, task);
+                self.core.task_deep(&self.world, task, called)
+            }
+            None => self.follow_deep(),
+        }
+    }
+
+    // The same of what follows the last task of the frame on top.
+    fn follow_deep(&self) -> bool
+        requires running { IsRunning self.now }
+        requires marked { IsMarked self.now.core.machine }
+        requires last { (top_frame self.now.core).tasks ≡ [] }
+        ensures { (L : LinkedSet) → IsLinked L self.now.linked.now → IsDeepTo L result self.now }
+    {
+        linked_functions_are_typed();
+        let entry = Ref::Own {
+            unit: 0,
+            func: self.linked.entry(),
+        };
+        self.core.follow_deep(&self.world, entry)
     }
 }

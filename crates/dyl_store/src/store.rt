@@ -5,10 +5,10 @@ ghost use Rattle.spec_loading.specs.spec_runtime.Recorded.{has_ended};
 ghost use Rattle.spec_loading.specs.spec_linking.LinkedSets.{LinkedSet, set_hosts};
 ghost use Rattle.spec_loading.specs.LoadedSet.{SetState};
 ghost use Rattle.spec_loading.specs.spec_runtime.Courses.{state_at, status_at, memory_at, IsAt, is_waiting, with_answer, as_lost};
-ghost use Rattle.wasm_machine.specs.Steps.{RunStepped, ArgumentsFit, Advances, AreOfCode, Awaits};
+ghost use Rattle.wasm_machine.specs.Steps.{RunStepped, TellsStatus, ArgumentsFit, Advances, AreOfCode, Awaits, stands_told, is_wait};
 ghost use Rattle.dyl_link.specs.host_table.Names.{host_name_of};
 ghost use Rattle.dyl_link.specs.Kept.{IsLinked};
-ghost use Rattle.dyl_store.specs.Stores.{set_course, new_run, IsCodeNext, MayWantAt};
+ghost use Rattle.dyl_store.specs.Stores.{set_course, new_run, is_deep_at, IsCodeNext, MayWantAt};
 ghost use Rattle.dyl_store.specs.Runs.{IsRunning, RunsAt};
 ghost use Rattle.dyl_store.specs.Steps.{Counted};
 ghost use Rattle.dyl_store.specs.Worlds.{set_in};
@@ -21,7 +21,8 @@ use std::alloc::Global;
 use std::marker::Model;
 use wasm_form::{List, Memory};
 use wasm_machine::{
-    Answer, Done, Event, Standing, are_numbers, event_of, holds_bytes, is_of_bytes, steps_told,
+    Answer, Done, Event, Standing, are_numbers, event_of, holds_bytes, is_of_bytes, stands_told,
+    steps_told,
 };
 use wasm_space::Space;
 
@@ -33,6 +34,7 @@ pub struct Store<'m> {
     pub(crate) answers: Vec<Answer>,
     pub(crate) answered: bool,
     pub(crate) lost: bool,
+    pub(crate) event: Event,
 }
 
 impl<'m> Model for Store<'m> {
@@ -48,6 +50,22 @@ impl<'m> Model for Store<'m> {
     ghost view = { run_of };
 
     ghost invariant = { IsStore };
+}
+
+// Keeps what is told of a run.
+fn tell(kept: &mut Event, event: Event)
+    ensures { kept.new ≡ event }
+{
+    *kept = event;
+}
+
+// Keeps what is told of a step.
+fn tell_step(kept: &mut Event, alloc: Global, event: &Event) -> Result<(), Memory>
+    ensures told { OnOk result (kept.new ≡ stands_told event.now) }
+    ensures wanting { OnErr result (is_wait event.now ≡ true) }
+{
+    tell(kept, stands_told(alloc, event)?);
+    Ok(())
 }
 
 // Makes one step of code, if the machine can tell it in few bytes, and counts it. Whether code goes on.
@@ -103,7 +121,15 @@ impl<'m> Store<'m> {
             answers: Vec::new(alloc),
             answered: false,
             lost: false,
+            event: Event::Moved,
         })
+    }
+
+    /// The set that is run links. The call does nothing: a proof gets this fact by it.
+    pub fn links(&self)
+        ensures { (L : LinkedSet) × IsLinked L self.now.linked }
+    {
+        self.running.linked.links();
     }
 
     /// Makes one step, which takes the answer that is recorded for a wait, and tells how the run stands then. An end is told again,
@@ -130,6 +156,11 @@ impl<'m> Store<'m> {
                     return Err(Memory);
                 };
                 are_numbers(&event);
+                let Ok(()) = tell_step(&mut self.event, alloc, &event) else {
+                    drop(event);
+                    self.lost = true;
+                    return Err(Memory);
+                };
                 self.steps += steps_told(&event);
                 Ok(event)
             }
@@ -140,7 +171,9 @@ impl<'m> Store<'m> {
                 self.running.take(answer);
                 self.answered = false;
                 self.steps += 1;
-                Ok(event_of(self.running.core.standing()))
+                let standing = self.running.core.standing();
+                tell(&mut self.event, event_of(standing));
+                Ok(event_of(standing))
             }
             end => Ok(event_of(end)),
         }
@@ -156,6 +189,7 @@ impl<'m> Store<'m> {
         ensures wanting { OnErr result ((self.old.run.lost ≡ true) ⊎ MayWantAt self.old.linked self.new.run) }
         ensures lost { OnErr result (self.new.run.lost ≡ true) }
         ensures again { self.old.run.lost ≡ true → result ≡ Err (record {}) }
+        ensures stays { self.old.run.lost ≡ true → self.new.run ≡ self.old.run }
         ensures same { self.new.linked ≡ self.old.linked }
     {
         if self.lost {
@@ -167,6 +201,8 @@ impl<'m> Store<'m> {
         'code: while self.steps < most
             && quick_step(&mut self.running, alloc, &mut self.steps, &mut self.lost)
         {}
+        let standing = self.running.core.standing();
+        tell(&mut self.event, event_of(standing));
         if self.lost { Err(Memory) } else { Ok(()) }
     }
 
@@ -203,6 +239,29 @@ impl<'m> Store<'m> {
         )
     }
 
+    /// How the run stands: `Moved`, `Waits` with the pending call, `Returned`, `Trapped` or `Exited`. It takes no memory. Of a run that
+    /// answered `Memory` nothing is said.
+    pub fn state(&self) -> &Event
+        ensures tells { (L : LinkedSet) → IsLinked L self.now.linked → self.now.run.lost ≡ false → TellsStatus (set_hosts L) result.now (status_at (set_course L) self.now.run) }
+        ensures arguments { (L : LinkedSet) → IsLinked L self.now.linked → self.now.run.lost ≡ false → ArgumentsFit (set_hosts L) result.now }
+    {
+        &self.event
+    }
+
+    /// Whether a limit of depth is due: the run goes on by itself, and its next step would pass one. It takes no memory. Of a run that
+    /// answered `Memory` nothing is said.
+    pub fn deep(&self) -> bool
+        ensures { (L : LinkedSet) → IsLinked L self.now.linked → self.now.run.lost ≡ false → result ≡ is_deep_at (set_course L) self.now.run }
+    {
+        if self.lost {
+            return false;
+        }
+        match self.running.core.standing() {
+            Standing::Moving => self.running.deep(),
+            _ => false,
+        }
+    }
+
     /// How many steps were made. The run stands where these lead.
     pub fn steps(&self) -> u64
         ensures value { result ≡ self.now.run.steps }
@@ -223,6 +282,7 @@ impl<'m> Store<'m> {
         ensures { result ≡ self.entry.run.answers }
     {
         drop(self.running);
+        drop(self.event);
         List::of(self.answers)
     }
 

@@ -46,7 +46,8 @@ goes_on Moving = true
 goes_on (Waits call) = true
 goes_on _ = false
 
--- A run of at most so many steps that made these, and stands at this state after these answers, ends so. The limit of steps goes first.
+-- A run of at most so many steps that made these, and stands at this state after these answers, ends so. The limit of steps goes first. The
+-- limit of turns is one of a board: no single run ends by it.
 abbrev pub EndsAs : (S : System hosts) → (S.State → Bool) → ℕ → ℕ → S.State → List Answer → RunEnd → Type 0
 EndsAs S deep most steps s taken end.Return = S.status s ≡ Returned
 EndsAs S deep most steps s taken (end.Exit code) = S.status s ≡ Exited code
@@ -54,6 +55,7 @@ EndsAs S deep most steps s taken (end.Trap why) = S.status s ≡ Trapped why
 EndsAs S deep most steps s taken end.StepLimit = (steps ≡ most) × (goes_on (S.status s) ≡ true)
 EndsAs S deep most steps s taken end.DepthLimit = (steps < most) × (S.status s ≡ Moving) × (deep s ≡ true)
 EndsAs S deep most steps s taken end.HostCallLimit = (steps < most) × ((call : HostCall) × (S.status s ≡ Waits call)) × (are_many taken ≡ true)
+EndsAs S deep most steps s taken end.TurnLimit = ⊥
 
 -- the answers that so many steps of a run took
 abbrev pub taken_by : (S : System hosts) → ℕ → S.State → List Answer → List Answer

@@ -13,6 +13,8 @@ pub enum RunEnd {
     DepthLimit,
     /// A host call is waiting, and 1,048,576 answers are recorded, or these have written 268,435,456 bytes or more.
     HostCallLimit,
+    /// As many turns of a board were taken as were allowed.
+    TurnLimit,
 }
 
 /// How a run ended, after how many steps, and the answers that its host gave in order.

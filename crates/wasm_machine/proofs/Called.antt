@@ -1,8 +1,7 @@
 -- Calls of code: what they come to in the definitions, and when they pass a limit of depth.
-use Rattle.std.proofs.Common.{arith, ◌≡◌, ℕ, ◌+◌, ◌≤◌, ◌<◌, ◌⊎◌, List, [], ◌∷◌, length, take, drop, map, refl, ap, sym, subst, ◌∙◌, Option, Some, None, IfSome, true, inl, inr}
-use Rattle.std.specs.Prelude.{reverse, is_some, nat_lt, ◌||◌}
-use Rattle.std.proofs.Math.Bool.{or-true}
-use Rattle.std.proofs.lemmas.Bool.{lt-ltb}
+use Rattle.std.proofs.Common.{arith, ◌≡◌, ℕ, ◌+◌, ◌≤◌, ◌<◌, List, [], ◌∷◌, length, take, drop, map, refl, ap, sym, subst, ◌∙◌, ap₂, Bool, Option, Some, None, IfSome, true, false}
+use Rattle.std.specs.Prelude.{reverse, is_some, nat_lt, ◌||◌, min}
+use Rattle.std.proofs.lemmas.Bool.{ltb-true, ltb-false, lt-ltb, le-ltb}
 use Rattle.std.proofs.lemmas.List.{length-map}
 use Rattle.wasm_form.specs.declared.types.FuncType.{FuncType}
 use Rattle.wasm_form.specs.declared.module.Code.{Code}
@@ -17,9 +16,9 @@ use Rattle.spec_safety.specs.spec_execution.Activations.{Activation}
 use Rattle.spec_safety.specs.spec_execution.Views.{View, type_of}
 use Rattle.spec_safety.specs.spec_execution.Runs.{Frame, Active, Next, Goes, Caller, entered, call}
 use Rattle.spec_safety.specs.spec_execution.Ranges.{Exists}
-use Rattle.spec_safety.specs.spec_execution.Limits.{most_activations, most_values, room_of, rooms_of, activations, is_deep}
+use Rattle.spec_safety.specs.spec_execution.Limits.{most_activations, most_values, room_of, rooms_of, activations, is_deep, passes_limit}
 use Rattle.wasm_step.specs.Primitives.{begun}
-use Rattle.wasm_machine.specs.Stacks.{CallStack, total}
+use Rattle.wasm_machine.specs.Stacks.{CallStack, total, passes_over}
 use Rattle.wasm_step.specs.Moves.{Changes}
 use Rattle.wasm_step.specs.Named.{NamesAreThere}
 use Rattle.wasm_machine.specs.Machines.{Led}
@@ -28,23 +27,30 @@ use Rattle.wasm_step.proofs.Arguments.{arguments_are}
 
 -- ---- depth
 
-some_past : (m n k l : ℕ) → (m < n) ⊎ (k < l) → (nat_lt m n || nat_lt k l) ≡ true
-some_past m n k l (inl h) = rw (lt-ltb m n h) refl
-some_past m n k l (inr h) = rw (lt-ltb k l h) (or-true (nat_lt m n))
+same_test : (m a b : ℕ) → (m < a → m < b) → (a ≤ m → b ≤ m) → nat_lt m a ≡ nat_lt m b
+same_test m a b to back = go (nat_lt m a) refl
+  where
+    go : (t : Bool) → nat_lt m a ≡ t → nat_lt m a ≡ nat_lt m b
+    go true e = e ∙ sym (lt-ltb m b (to (ltb-true m a e)))
+    go false e = e ∙ sym (le-ltb m b (back (ltb-false m a e)))
+
+-- a room of 4,294,967,295 and more passes the limit of values by itself
+values_test : (room r taken n : ℕ) → room ≡ min r 4294967295 → taken ≡ n → nat_lt most_values (r + n) ≡ nat_lt most_values (taken + room)
+values_test room r taken n e q = same_test most_values (r + n) (taken + room) (λ h. omega (arith, e)) (λ h. omega (arith, e))
 
 module _ {Units : Type 0} (V : View Units) where
   total_rooms : (bs : List Activation) → total (map (λ (b : Activation). room_of V b.unit b.func) bs) ≡ rooms_of V bs
   total_rooms [] = refl
   total_rooms (b ∷ bs) = ap (λ n. room_of V b.unit b.func + n) (total_rooms bs)
 
-  -- one activation more passes a limit
-  pub deep_with : (a : Activation) (frames : List (Frame ℕ)) (rooms : List ℕ) (room : ℕ) → rooms ≡ map (λ (b : Activation). room_of V b.unit b.func) (activations frames) → room ≤ room_of V a.unit a.func
-      → (most_activations < length rooms + 1) ⊎ (most_values < total rooms + room) → is_deep V (Active a ∷ frames) ≡ true
-  deep_with a frames rooms room e q h =
+  -- whether one activation more passes a limit
+  pub deep_with : (a : Activation) (frames : List (Frame ℕ)) (rooms : List ℕ) (room : ℕ) → rooms ≡ map (λ (b : Activation). room_of V b.unit b.func) (activations frames) → room ≡ min (room_of V a.unit a.func) 4294967295
+      → is_deep V (Active a ∷ frames) ≡ passes_over (length rooms) (total rooms) room
+  deep_with a frames rooms room e q =
       let len : length rooms ≡ length (activations frames) = ap length e ∙ length-map (activations frames) (λ (b : Activation). room_of V b.unit b.func) in
       let sum : total rooms ≡ rooms_of V (activations frames) = ap total e ∙ total_rooms (activations frames) in
-      some_past most_activations (length (a ∷ activations frames)) most_values (room_of V a.unit a.func + rooms_of V (activations frames))
-      (elim h as (λ _. (most_activations < length (a ∷ activations frames)) ⊎ (most_values < room_of V a.unit a.func + rooms_of V (activations frames))) [ inl k ↦ inl (omega arith) | inr k ↦ inr (omega arith) ])
+      let more : length (a ∷ activations frames) ≡ length rooms + 1 = omega arith in
+      ap₂ (λ (x y : Bool). x || y) (ap (nat_lt most_activations) more) (values_test room (room_of V a.unit a.func) (total rooms) (rooms_of V (activations frames)) q sum)
 
 -- ---- code
 
@@ -69,13 +75,21 @@ module _ {Units : Type 0} (V : View Units) (us : Units) (memory : MemoryInstance
   called_with : (x : Function) → V.code unit f ≡ Some x → x.ty ≡ ty → call V us memory caller values (Own unit f) ≡ Some (Goes us memory (Active (entered unit f x (take (length ty.params) values)) ∷ caller (drop (length ty.params) values)))
   called_with x cx tx = rw (cx, tx, arguments_are ty.params values args) refl
 
-  pub called_deep : (rooms : List ℕ) (room : ℕ) (Wanting : Type 0) (s : CallStack) → ((vs : List Value) → rooms ≡ map (λ (b : Activation). room_of V b.unit b.func) (activations (caller vs))) → room ≤ room_of V unit f
-      → (most_activations < length rooms + 1) ⊎ (most_values < total rooms + room) → Led V done.Deep (call V us memory caller values (Own unit f)) Wanting s s (record { old_units = us; old_memory = memory; new_units = us; new_memory = memory })
+  -- whether the call passes a limit
+  pub called_passes : (rooms : List ℕ) (room : ℕ) → ((vs : List Value) → rooms ≡ map (λ (b : Activation). room_of V b.unit b.func) (activations (caller vs))) → room ≡ min (room_of V unit f) 4294967295
+      → passes_limit V (call V us memory caller values (Own unit f)) ≡ passes_over (length rooms) (total rooms) room
+  called_passes rooms room e k =
+      let t = typed (V.code unit f) ty q in
+      let a : Activation = entered unit f t.0 (take (length ty.params) values) in
+      ap (passes_limit V) (called_with t.0 t.1 t.2) ∙ deep_with V a (caller (drop (length ty.params) values)) rooms room (e _) k
+
+  pub called_deep : (rooms : List ℕ) (room : ℕ) (Wanting : Type 0) (s : CallStack) → ((vs : List Value) → rooms ≡ map (λ (b : Activation). room_of V b.unit b.func) (activations (caller vs))) → room ≡ min (room_of V unit f) 4294967295
+      → passes_over (length rooms) (total rooms) room ≡ true → Led V done.Deep (call V us memory caller values (Own unit f)) Wanting s s (record { old_units = us; old_memory = memory; new_units = us; new_memory = memory })
   called_deep rooms room Wanting s e k h =
       let t = typed (V.code unit f) ty q in
       let a : Activation = entered unit f t.0 (take (length ty.params) values) in
       let c : Changes Units = record { old_units = us; old_memory = memory; new_units = us; new_memory = memory } in
-      subst (λ (n : Option (Next Units ℕ)). Led V done.Deep n Wanting s s c) (sym (called_with t.0 t.1 t.2)) (deep_with V a (caller (drop (length ty.params) values)) rooms room (e _) k h, refl, (refl, refl))
+      subst (λ (n : Option (Next Units ℕ)). Led V done.Deep n Wanting s s c) (sym (called_with t.0 t.1 t.2)) (deep_with V a (caller (drop (length ty.params) values)) rooms room (e _) k ∙ h, refl, (refl, refl))
 
   pub called_goes : (c : Code) (Wanting : Type 0) (old new : CallStack) → IfSome (V.code unit f) (λ x. x.locals ≡ declared_locals c.locals) → IfSome (V.code unit f) (λ x. x.body ≡ c.body.list)
       → new.frames ≡ Active (begun unit f (length ty.params) (length ty.results) c values) ∷ caller (drop (length ty.params) values)

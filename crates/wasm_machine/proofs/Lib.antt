@@ -18,3 +18,4 @@ pub mod Marked
 pub mod Under
 pub mod Courses
 pub mod Steps
+pub mod Passing

@@ -68,7 +68,7 @@ module _ {Units Mark : Type 0} (V : View Units) (us : Units) (memory : MemoryIns
 
 -- ---- depths
 
-marked_activations : {Mark : Type 0} (h : ℕ → Mark) (frames : List (Frame ℕ)) → activations (marked_stack h frames) ≡ activations frames
+pub marked_activations : {Mark : Type 0} (h : ℕ → Mark) (frames : List (Frame ℕ)) → activations (marked_stack h frames) ≡ activations frames
 marked_activations h [] = refl
 marked_activations h (Active a ∷ frames) = ap (λ (rest : List Activation). a ∷ rest) (marked_activations h frames)
 marked_activations h (Marked tag ∷ frames) = marked_activations h frames

@@ -24,7 +24,7 @@ use Rattle.spec_safety.specs.spec_execution.Values.{low}
 use Rattle.spec_safety.specs.spec_execution.Activations.{Activation, Move, Calls, CallsEntry, with_values, with_i32, move}
 use Rattle.spec_safety.specs.spec_execution.Views.{View, type_of}
 use Rattle.spec_safety.specs.spec_execution.Runs.{is_running, Frame, Active, Marked, Next, Goes, Asks, Loads, Ends, Traps, call, calling, carried_out, given}
-use Rattle.spec_safety.specs.spec_execution.Limits.{room_of, room_with, activations, is_deep}
+use Rattle.spec_safety.specs.spec_execution.Limits.{room_of, room_with, activations, is_deep, passes_limit}
 use Rattle.spec_safety.specs.ValueTypes.{IsMemory}
 use Rattle.spec_safety.specs.TypedViews.{HoldTypes, IsSoundView}
 use Rattle.spec_safety.specs.TypedFrames.{OnMark, Stand}
@@ -181,6 +181,14 @@ IsReady m = go m.standing
     go standing.Loading = ⊥
     go _ = Unit {0}
 
+-- whether the next step passes a limit of depth: one of code on top of a machine that goes on, and no other
+abbrev pub is_deep_next : {Units : Type 0} → Seen Units → MachineState → Bool
+is_deep_next w m = go m.standing
+  where
+    go : Standing → Bool
+    go standing.Moving = passes_limit w.fixed (next_in w m.stack.frames)
+    go _ = false
+
 -- ---- where memory may be wanting
 
 -- these instructions begin with a call, or with one that grows a memory or a table
@@ -223,6 +231,14 @@ called_over w frames r = call w.fixed w.units w.memory (λ _. frames) [] r
 
 abbrev pub Begins : {Units : Type 0} → Seen Units → Event → Ref → MachineState → MachineState → Type 0
 Begins w e r old new = (old.standing ≡ standing.Moving) × Told w.fixed e (called_over w old.stack.frames r) old new (between w w)
+
+-- whether that call passes a limit of depth, of a machine that goes on
+abbrev pub is_deep_call : {Units : Type 0} → Seen Units → Ref → MachineState → Bool
+is_deep_call w r m = go m.standing
+  where
+    go : Standing → Bool
+    go standing.Moving = passes_limit w.fixed (called_over w m.stack.frames r)
+    go _ = false
 
 -- nothing is on the call stack, or a mark is on top
 abbrev pub IsClear : List (Frame ℕ) → Type 0

@@ -1,5 +1,5 @@
 -- The call stack, over the flat lists: the places of what lies under the topmost activation, the latest last.
-use Rattle.std.specs.Prelude.{◌≡◌, ◌≤◌, ℕ, ◌+◌, List, [], ◌∷◌, length, take, reverse, nat_lt, Option, Some, None, Bool, true, false, if◌then◌else◌}
+use Rattle.std.specs.Prelude.{◌≡◌, ◌≤◌, ◌||◌, ℕ, ◌+◌, List, [], ◌∷◌, length, take, reverse, nat_lt, Option, Some, None, Bool, true, false, if◌then◌else◌}
 use Rattle.wasm_form.specs.declared.runtime.Value.{Value}
 use Rattle.spec_safety.specs.spec_execution.Limits.{most_activations, most_values}
 use Rattle.spec_safety.specs.spec_execution.Runs.{Frame, Active, Marked}
@@ -76,6 +76,10 @@ pub record IsJoined (cs : List Caller) (t : Top) : Type 0 where
   pub lies : LieWell (reverse cs) t.under t.outer t.capacity t.label_capacity
   pub top : IsTopOf t (is_live t) (reverse cs)
   pub bounded : IsBounded (joined cs t)
+
+-- whether an activation of this room passes a limit over so many activations, which took so much room
+abbrev pub passes_over : ℕ → ℕ → ℕ → Bool
+passes_over count taken room = nat_lt most_activations (count + 1) || nat_lt most_values (taken + room)
 
 -- callers are so many activations, which took so much room, and neither limit is passed
 pub record AreCounted (cs : List Caller) (count room : ℕ) : Type 0 where

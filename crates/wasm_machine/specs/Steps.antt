@@ -1,5 +1,5 @@
 -- What is told of the steps of a run, over its course and what is recorded of it.
-use Rattle.std.specs.Prelude.{◌≡◌, ◌≤◌, ◌<◌, ◌⊎◌, ◌^◌, ℕ, Option, Some, true, false, IsTrue, IfSome}
+use Rattle.std.specs.Prelude.{◌≡◌, ◌≤◌, ◌<◌, ◌⊎◌, ◌^◌, ℕ, Option, Some, Bool, true, false, IsTrue, IfSome}
 use Rattle.std.specs.List.{All}
 use Rattle.wasm_form.specs.declared.runtime.Trap.{Trap}
 use Rattle.wasm_form.specs.declared.runtime.Answer.{Answer}
@@ -30,6 +30,16 @@ event_of standing.Returned = event.Returned
 event_of (standing.Trapped why) = event.Trapped why
 event_of (standing.Exited code) = event.Exited code
 event_of _ = event.Moved
+
+-- How a run stands that was asked for a step, by what is told of it: one whose step would be too deep goes on.
+abbrev pub stands_told : Event → Event
+stands_told event.Deep = event.Moved
+stands_told e = e
+
+-- a host function is asked
+abbrev pub is_wait : Event → Bool
+is_wait (event.Waits asked) = true
+is_wait _ = false
 
 -- how many steps were made where this is told of a run that goes on by itself
 abbrev pub steps_told : Event → ℕ

@@ -1,5 +1,6 @@
 // Calls and returns (section 4.4.10), and one step of the code on top.
-ghost use Rattle.std.specs.Prelude.{◌≡◌, ◌≢◌, ◌<◌, ◌≤◌, [], drop, length, true, false, Some};
+ghost use Rattle.std.specs.Prelude.{◌≡◌, ◌≢◌, ◌<◌, ◌≤◌, ◌+◌, [], drop, length, true, false, Some};
+ghost use Rattle.spec_safety.specs.spec_execution.Limits.{most_activations, most_values, passes_limit};
 ghost use Rattle.spec_safety.specs.spec_execution.Ranges.{HoldsAll, AreInRange, Exists};
 ghost use Rattle.spec_safety.specs.spec_execution.Views.{type_of as type_seen};
 ghost use Rattle.wasm_form.specs.declared.instr.Instr.{out-Instr};
@@ -7,7 +8,7 @@ ghost use Rattle.spec_safety.specs.spec_binary.Indices.{nullary};
 ghost use Rattle.spec_safety.specs.spec_binary.SameTypes.{same_function_type};
 ghost use Rattle.wasm_step.specs.Named.{NamesAreThere};
 ghost use Rattle.wasm_machine.specs.Outside.{callee_of, IsOutsideCall};
-ghost use Rattle.wasm_machine.specs.Stacks.{joined, under_of, is_live, IsJoined};
+ghost use Rattle.wasm_machine.specs.Stacks.{joined, under_of, is_live, IsJoined, passes_over};
 ghost use Rattle.wasm_machine.specs.Machines.{Leads, Advances, StaysWithin, next_in, carried_in, called_from, called_over, direct, indirect, Finished, RoomsAre, is_outside, names_outside, entry_is_outside, calls_outside};
 
 use crate::callers::{Caller, Callers};
@@ -20,6 +21,19 @@ use wasm_view::View;
 const MOST_ACTIVATIONS: usize = 10_000;
 
 const MOST_VALUES: usize = 4_194_304;
+
+/// Whether an activation of this room would pass a limit of depth over so many activations, which took so much room.
+#[inline(always)]
+fn passes_over(count: usize, taken: usize, room: usize) -> bool
+    requires count { count ≤ most_activations }
+    requires taken { taken ≤ most_values }
+    requires room { room < 4294967296 }
+    ensures passes { result ≡ passes_over count taken room }
+    ensures few { result ≡ false → count + 1 ≤ most_activations }
+    ensures small { result ≡ false → taken + room ≤ most_values }
+{
+    count + 1 > MOST_ACTIVATIONS || taken + room > MOST_VALUES
+}
 
 /// Leaves the innermost block at its end, or the activation whose body is done.
 fn end<'m, V: View<'m>>(callers: &mut Callers<'m>, top: &mut Current<'m>, view: &V) -> Done
@@ -93,7 +107,7 @@ fn call_own<'m, V: View<'m>>(
         return Done::Stuck;
     }
     let room = view.room(unit, func) as usize;
-    if callers.count() + 2 > MOST_ACTIVATIONS || callers.room() + top.room() + room > MOST_VALUES {
+    if passes_over(callers.count() + 1, callers.room() + top.room(), room) {
         return Done::Deep;
     }
     let results = ty.results.items().len();
@@ -283,7 +297,7 @@ pub(crate) fn begin_own<'m, V: View<'m>>(
     ensures rooms { result ≡ Done.Goes → RoomsAre (V.seen view.now).fixed (joined callers.now top.new) }
 {
     let room = view.room(unit, func) as usize;
-    if callers.count() + 1 > MOST_ACTIVATIONS || callers.room() + room > MOST_VALUES {
+    if passes_over(callers.count(), callers.room(), room) {
         return Done::Deep;
     }
     match top.start(alloc, unit, func, room, 0, view.code(unit, func)) {
@@ -324,4 +338,110 @@ pub(crate) fn outside_call<'m, V: View<'m>>(top: &Current<'m>, view: &V) -> Outs
         },
         None => unreachable!(),
     }
+}
+
+// ---- the depth of the next call
+
+/// Whether a call of a function from the code on top, with the arguments under the topmost `above` values, would pass a limit of depth.
+fn call_passes<'m, V: View<'m>>(
+    callers: &Callers<'m>,
+    top: &Current<'m>,
+    view: &V,
+    above: usize,
+    r: Ref,
+) -> bool
+    requires joined { IsJoined callers.now top.now }
+    requires live { is_live top.now ≡ true }
+    requires rooms { RoomsAre (V.seen view.now).fixed (joined callers.now top.now) }
+    requires above { above ≤ length top.now.act.values }
+    requires exists { Exists (V.seen view.now).fixed r }
+    ensures { result ≡ passes_limit (V.seen view.now).fixed (called_from (V.seen view.now) top.now.act above (under_of callers.now top.now) r) }
+{
+    let Ref::Own { unit, func } = r else {
+        return false;
+    };
+    if !top.has_arguments(above, view.type_of(r).params.items()) {
+        return false;
+    }
+    passes_over(
+        callers.count() + 1,
+        callers.room() + top.room(),
+        view.room(unit, func) as usize,
+    )
+}
+
+/// The same of a call of the function of a table at the index on top, which has to be of a type.
+fn entry_passes<'m, V: View<'m>>(
+    callers: &Callers<'m>,
+    top: &Current<'m>,
+    view: &V,
+    ty: u32,
+    table: u32,
+) -> bool
+    requires joined { IsJoined callers.now top.now }
+    requires live { is_live top.now ≡ true }
+    requires rooms { RoomsAre (V.seen view.now).fixed (joined callers.now top.now) }
+    requires names { NamesAreThere (V.seen view.now).fixed }
+    requires holds { HoldsAll (V.seen view.now).fixed (V.seen view.now).units }
+    requires declared { ty < ((V.seen view.now).fixed.counts top.now.act.unit).types }
+    requires table { table < ((V.seen view.now).fixed.counts top.now.act.unit).tables }
+    ensures { result ≡ passes_limit (V.seen view.now).fixed (carried_in (V.seen view.now) (under_of callers.now top.now) (indirect ty table top.now.act)) }
+{
+    let Some(n) = top.number() else {
+        return false;
+    };
+    let unit = top.unit();
+    match view.table(unit, table).get((n % (1 << 32)) as u32) {
+        Ok(Some(r)) => is_same_type(view.type_of(r), view.declared(unit, ty))
+            && call_passes(callers, top, view, 1, r),
+        _ => false,
+    }
+}
+
+/// Whether the next step of the code on top would pass a limit of depth. Only a call of code can.
+pub(crate) fn next_passes<'m, V: View<'m>>(
+    callers: &Callers<'m>,
+    top: &Current<'m>,
+    view: &V,
+) -> bool
+    requires joined { IsJoined callers.now top.now }
+    requires live { is_live top.now ≡ true }
+    requires rooms { RoomsAre (V.seen view.now).fixed (joined callers.now top.now) }
+    requires names { NamesAreThere (V.seen view.now).fixed }
+    requires holds { HoldsAll (V.seen view.now).fixed (V.seen view.now).units }
+    requires rest { AreInRange ((V.seen view.now).fixed.counts top.now.act.unit) top.now.act.rest }
+    ensures { result ≡ passes_limit (V.seen view.now).fixed (next_in (V.seen view.now) (joined callers.now top.now).frames) }
+{
+    let Some(i) = top.peek() else {
+        return false;
+    };
+    match named_callee(i) {
+        Some(Callee::Function(f)) => {
+            call_passes(callers, top, view, 0, view.target(top.unit(), f))
+        }
+        Some(Callee::Entry { ty, table }) => entry_passes(callers, top, view, ty, table),
+        None => false,
+    }
+}
+
+/// Whether a call of code without parameters and results, over a mark or nothing, would pass a limit of depth.
+pub(crate) fn begin_passes<'m, V: View<'m>>(
+    callers: &Callers<'m>,
+    top: &Current<'m>,
+    view: &V,
+    unit: u32,
+    func: u32,
+) -> bool
+    requires joined { IsJoined callers.now top.now }
+    requires idle { is_live top.now ≡ false }
+    requires rooms { RoomsAre (V.seen view.now).fixed (joined callers.now top.now) }
+    requires nullary { type_seen (V.seen view.now).fixed (Ref.Own unit func) ≡ Some nullary }
+    ensures { result ≡ passes_limit (V.seen view.now).fixed (called_over (V.seen view.now) (under_of callers.now top.now) (Ref.Own unit func)) }
+{
+    let _top = top;
+    passes_over(
+        callers.count(),
+        callers.room(),
+        view.room(unit, func) as usize,
+    )
 }

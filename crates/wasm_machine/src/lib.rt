@@ -9,7 +9,7 @@ mod told;
 
 pub use event::Event;
 pub use machine::{Machine, StackTop, Standing};
-pub use told::{are_numbers, event_of, holds_bytes, is_of_bytes, steps_told};
+pub use told::{are_numbers, event_of, holds_bytes, is_of_bytes, stands_told, steps_told};
 pub use wasm_form::{Answer, Asked, Value, Write};
 pub use wasm_step::Done;
 pub use wasm_view::View;

@@ -11,10 +11,10 @@ ghost use Rattle.wasm_step.specs.Primitives.{HasSpare, IsIdle, Widened, with_res
 ghost use Rattle.wasm_machine.specs.Stacks.{empty_stack};
 ghost use Rattle.wasm_step.specs.Moves.{AreSame, between};
 ghost use Rattle.wasm_machine.specs.Machines.{IsOver, IsReady, IsStart, Stepped, QuickStepped, Told, IsWanting, FitsAnswer, Answered, IsCallingOutside, MayMark, Marks, IsMarked, IsExited, IsAtMark, Unmarks, IsExpecting, Received, IsEnd};
-ghost use Rattle.wasm_machine.specs.Machines.{Begins, next_in, lost_machine, ended, on_top};
+ghost use Rattle.wasm_machine.specs.Machines.{Begins, next_in, is_deep_next, is_deep_call, lost_machine, ended, on_top};
 
 use crate::callers::{Caller, Callers};
-use crate::calls::{advance, begin_own, outside_call};
+use crate::calls::{advance, begin_own, begin_passes, next_passes, outside_call};
 use crate::event::Event;
 use std::alloc::Global;
 use std::marker::Model;
@@ -141,6 +141,39 @@ impl<'m> Machine<'m> {
                     Err(Memory)
                 }
             },
+        }
+    }
+
+    /// Whether `begin` with this function would answer `Deep`: the call would pass a limit of depth. It takes no memory. Of a machine that
+    /// found no memory `false`.
+    pub fn begin_deep<V: View<'m>>(&self, view: &V, r: Ref) -> bool
+        requires over { IsOver (V.seen view.now).fixed (V.seen view.now).units (V.seen view.now).memory self.now }
+        requires start { IsStart self.now }
+        requires nullary { type_seen (V.seen view.now).fixed r ≡ Some nullary }
+        ensures { result ≡ is_deep_call (V.seen view.now) r self.now }
+    {
+        match (self.standing, r) {
+            (Standing::Moving, Ref::Own { unit, func }) => begin_passes(
+                &self.callers,
+                &self.top,
+                view,
+                unit,
+                func,
+            ),
+            _ => false,
+        }
+    }
+
+    /// Whether `step` would answer `Deep`: the next step of the code on top would pass a limit of depth. It takes no memory. Where a mark is
+    /// on top, and of an end, `false`.
+    pub fn deep<V: View<'m>>(&self, view: &V) -> bool
+        requires over { IsOver (V.seen view.now).fixed (V.seen view.now).units (V.seen view.now).memory self.now }
+        requires ready { IsReady self.now }
+        ensures { result ≡ is_deep_next (V.seen view.now) self.now }
+    {
+        match self.standing {
+            Standing::Moving => self.top.is_live() && next_passes(&self.callers, &self.top, view),
+            _ => false,
         }
     }
 

@@ -1,14 +1,15 @@
 // What is told of a run by where its machine stands, and of the values of its types.
-ghost use Rattle.std.specs.Prelude.{◌≡◌, ◌<◌, ◌^◌, All};
+ghost use Rattle.std.specs.Prelude.{◌≡◌, ◌<◌, ◌^◌, All, true, IfOk, OnErr};
 ghost use Rattle.spec_safety.specs.ValueTypes.{AreBytes, IsOfBytes};
 ghost use Rattle.spec_safety.specs.SoundModules.{HoldsBytes};
 ghost use Rattle.wasm_form.specs.declared.runtime.Write.{Write as WriteSeen};
 ghost use Rattle.wasm_form.specs.declared.module.Data.{Data as DataSeen};
-ghost use Rattle.wasm_machine.specs.Steps.{event_of, steps_told, AreNumbers};
+ghost use Rattle.wasm_machine.specs.Steps.{event_of, steps_told, stands_told, is_wait, AreNumbers};
 
 use crate::event::Event;
 use crate::machine::Standing;
-use wasm_form::{Answer, Data, Module, Write};
+use std::alloc::Global;
+use wasm_form::{Answer, Asked, Data, List, Memory, Module, Write};
 
 /// What is told of how a run stands after an answer, and of an end again.
 pub fn event_of(standing: Standing) -> Event
@@ -20,6 +21,37 @@ pub fn event_of(standing: Standing) -> Event
         Standing::Exited(code) => Event::Exited(code),
         Standing::Moving | Standing::Asking(..) | Standing::Loading | Standing::Lost =>
             Event::Moved,
+    }
+}
+
+/// How a run stands that was asked for a step, by what is told of it: a copy, but of `Deep`, which leaves the run going on. `Memory` where no
+/// memory could be had, which is only for the arguments of a call.
+pub fn stands_told(alloc: Global, event: &Event) -> Result<Event, Memory>
+    ensures stands { IfOk result (λ e. e ≡ stands_told event.now) }
+    ensures wanting { OnErr result (is_wait event.now ≡ true) }
+{
+    match event {
+        Event::Waits(asked) => {
+            let args = Vec::from_slice(alloc, asked.args.items())?;
+            Ok(Event::Waits(Asked {
+                entry: asked.entry,
+                args: List::of(args),
+            }))
+        }
+        Event::Loader {
+            call,
+            first,
+            second,
+        } => Ok(Event::Loader {
+            call: *call,
+            first: *first,
+            second: *second,
+        }),
+        Event::Marked(tag) => Ok(Event::Marked(*tag)),
+        Event::Returned => Ok(Event::Returned),
+        Event::Trapped(trap) => Ok(Event::Trapped(*trap)),
+        Event::Exited(code) => Ok(Event::Exited(*code)),
+        Event::Moved | Event::Deep => Ok(Event::Moved),
     }
 }
 

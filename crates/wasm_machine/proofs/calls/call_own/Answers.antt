@@ -1,27 +1,24 @@
-use Rattle.std.proofs.Common.{arith, ◌≡◌, ◌∷◌, ◌⊎◌, ◌+◌, ◌<◌, length, drop, inl, inr, true}
+use Rattle.std.proofs.Common.{arith, sym, ◌≡◌, ◌∙◌, ◌∷◌, length, drop, true}
 use Rattle.std.specs.Prelude.{reverse, is_some}
 use Rattle.spec_safety.specs.spec_execution.Values.{take_values}
 use Rattle.spec_safety.specs.spec_execution.Runs.{calling}
-use Rattle.spec_safety.specs.spec_execution.Limits.{most_activations, most_values}
 use Rattle.wasm_step.specs.Tops.{with_act}
-use Rattle.wasm_machine.specs.Stacks.{joined, under_of, rooms_at, total}
+use Rattle.wasm_machine.specs.Stacks.{joined, under_of, rooms_at, total, passes_over}
 use Rattle.wasm_machine.specs.Machines.{past_call}
 use Rattle.wasm_step.proofs.Arguments.{arguments_count}
 use Rattle.wasm_machine.proofs.Called.{called_deep, called_goes}
+use Rattle.wasm_machine.proofs.Passing.{over_sizes}
 use Rattle.wasm_machine.proofs.Joined.{RoomsAre_live, past_is, frames_opened, joined_opened}
 use Rattle.wasm_machine.proofs.calls.call_own.Goals as goal
-use Rattle.wasm_machine.proofs.calls.call_own.Goals.{then-count-gt-MOST_ACTIVATIONS-via-then-count-gt-MOST_ACTIVATIONS, then-count-gt-MOST_ACTIVATIONS-via-else-count-gt-MOST_ACTIVATIONS+then-room-gt-MOST_VALUES}
 
-pub returns-then-count-gt-MOST_ACTIVATIONS-clause-led : goal.returns-then-count-gt-MOST_ACTIVATIONS-clause-led
-returns-then-count-gt-MOST_ACTIVATIONS-clause-led g c =
+pub returns-then-passes_over-clause-led : goal.returns-then-passes_over-clause-led
+returns-then-passes_over-clause-led g c =
     let args : is_some (take_values (reverse c.type_of-ty.result.now.params) (drop c.args.above c.args.top.now.act.values)) ≡ true = cc in
+    let passes : passes_over (length (c.args.top.now.room ∷ rooms_at (reverse c.args.callers.now))) (total (c.args.top.now.room ∷ rooms_at (reverse c.args.callers.now))) c.room-room.result ≡ true =
+    sym (c.passes_over.ensures.passes ∙ over_sizes _ _ _ _ c.room-room.result (omega arith) (omega arith)) ∙ c.if-passes_over.true in
     called_deep (g.V.View.seen c.args.view.now).fixed _ _ (calling (past_call c.args.top.now.act c.args.above) (under_of c.args.callers.now c.args.top.now)) (drop c.args.above c.args.top.now.act.values) c.args.unit c.args.func
     c.type_of-ty.result.now c.type_of-ty.ensures args (c.args.top.now.room ∷ rooms_at (reverse c.args.callers.now)) c.room-room.result _ _
-    (λ _. RoomsAre_live c.args.callers.now c.args.top.now c.requires.live (g.V.View.seen c.args.view.now).fixed c.requires.rooms) (omega arith)
-    (elim c.then-count-gt-MOST_ACTIVATIONS.branch as (λ _. (most_activations < length (c.args.top.now.room ∷ rooms_at (reverse c.args.callers.now)) + 1) ⊎ (most_values < total (c.args.top.now.room ∷ rooms_at (reverse c.args.callers.now)) + c.room-room.result)) [
-      | then-count-gt-MOST_ACTIVATIONS-via-then-count-gt-MOST_ACTIVATIONS w ↦ inl (omega arith)
-      | then-count-gt-MOST_ACTIVATIONS-via-else-count-gt-MOST_ACTIVATIONS+then-room-gt-MOST_VALUES w ↦ inr (omega arith)
-    ])
+    (λ _. RoomsAre_live c.args.callers.now c.args.top.now c.requires.live (g.V.View.seen c.args.view.now).fixed c.requires.rooms) c.room-room.ensures passes
 
 pub open-requires-clause-arguments : goal.open-requires-clause-arguments
 open-requires-clause-arguments g c =

@@ -1,12 +1,12 @@
-use Rattle.std.proofs.Common.{arith, subst, sym, ◌∙◌, ◌≡◌, ◌⊎◌, inr, OnErr, suc, true, false}
+use Rattle.std.proofs.Common.{arith, ap, subst, sym, ◌∙◌, ◌≡◌, ◌⊎◌, inr, OnErr, suc, true, false}
 use Rattle.std.proofs.lemmas.Bool.{false≢true}
-use Rattle.wasm_machine.specs.Steps.{Advances}
+use Rattle.wasm_machine.specs.Steps.{event_of, Advances}
 use Rattle.dyl_store.specs.declared.store.Store.TheInside.{Inside}
 use Rattle.dyl_store.specs.Stores.{MayWantAt}
 use Rattle.dyl_store.specs.Kept.{run_of, IsStore}
 use Rattle.dyl_store.proofs.Stepping.{linked_of}
 use Rattle.dyl_store.proofs.Stopping.{HasNoneLeft, idle_left, on_either}
-use Rattle.dyl_store.proofs.Advancing.{IsByCode, goes_on, is_nearer, stops}
+use Rattle.dyl_store.proofs.Advancing.{IsByCode, with_event, rests, goes_on, is_nearer, stops}
 use Rattle.dyl_store.proofs.store.Store.advance.Goals as goal
 use Rattle.dyl_store.proofs.store.Store.advance.Goals.{in-Moving, in_default, then-code-test+else-quick_step, else-code-test, then-self-2, else-self-2}
 
@@ -27,10 +27,14 @@ code-preserved c =
     goes_on c.args.most c.args.self.now c.code.self-inside c.quick_step.new.running c.quick_step.new.steps c.quick_step.new.lost c.code.invariant c.code-test.true c.quick_step.ensures.linked c.quick_step.ensures.running c.if-quick_step.ensures.counted
 
 pub invariant_of-self : goal.invariant_of-self
-invariant_of-self c = elim c.code-test.branch [
-  | then-code-test+else-quick_step w ↦ subst IsStore (sym w.self-inside-is) (stops c.args.most c.args.self.now c.code.self-inside w.quick_step.new.running w.quick_step.new.steps w.quick_step.new.lost c.code.invariant w.code-test.true w.quick_step.ensures.linked w.quick_step.ensures.running w.if-quick_step.ensures.counted).store
-  | else-code-test w ↦ subst IsStore (sym w.self-inside-is) c.code.invariant.store
-]
+invariant_of-self c =
+    let e = c.tell.new.kept in
+    let Kept : Inside → Type 0 = λ i. e ≡ event_of i.running.core.machine.standing → IsStore (with_event i e) in
+    let kept : Kept c.code-test.self-inside = elim c.code-test.branch [
+      | then-code-test+else-quick_step w ↦ subst Kept (sym w.self-inside-is) ((stops c.args.most c.args.self.now c.code.self-inside w.quick_step.new.running w.quick_step.new.steps w.quick_step.new.lost c.code.invariant w.code-test.true w.quick_step.ensures.linked w.quick_step.ensures.running w.if-quick_step.ensures.counted).store e)
+      | else-code-test w ↦ subst Kept (sym w.self-inside-is) (rests c.args.most c.args.self.now c.code.self-inside c.code.invariant e)
+    ] in
+    kept (c.tell.ensures ∙ c.event_of.ensures ∙ ap event_of c.standing-standing.ensures)
 
 pub returns-clause-left : goal.returns-clause-left
 returns-clause-left c = λ L of. on_either c.if-self-2.result _ (elim c.code-test.branch [

@@ -1,8 +1,9 @@
-use Rattle.std.proofs.Common.{rules, refl, sym, ◌∙◌, ◌≡◌, inr, true, false}
+use Rattle.std.proofs.Common.{arith, rules, refl, sym, ◌∙◌, ◌≡◌, ◌<◌, ◌≤◌, inr, true, false}
 use Rattle.spec_loading.specs.spec_runtime.Courses.{state_at}
 use Rattle.dyl_store.specs.Stores.{set_course}
 use Rattle.dyl_store.specs.Kept.{run_of}
-use Rattle.dyl_store.proofs.Stepping.{somewhere, moving_store, moving_stepped, wants_at, linked_of, last_found, last_taken, last_bytes, taken_store, taken_stepped, end_so, ended_stepped, end_asks_nothing}
+use Rattle.dyl_store.proofs.Stepping.{one_at_most, somewhere, moving_store, moving_stepped, wants_at, linked_of, last_found, last_taken, last_bytes, taken_store, taken_stepped, end_so, ended_stepped, end_asks_nothing}
+use Rattle.dyl_store.proofs.Wanting.{wait_wants}
 use Rattle.dyl_store.proofs.Arguments.{arguments_told}
 use Rattle.dyl_store.proofs.store.Store.run_step.Goals as goal
 
@@ -14,11 +15,18 @@ step-requires-clause-stands c = somewhere c.linked_sets_never_get_stuck.ensures.
 
 pub invariant_of-self-in-Moving : goal.invariant_of-self-in-Moving
 invariant_of-self-in-Moving c =
-    moving_store c.in-Ok.event c.args.self.now c.self.inside c.step.new.self c.steps_told.result c.self.view_is c.self.invariant c.if-self.false (sym c.standing.ensures ∙ c.in-Moving.is) c.in-Ok.ensures.stepped c.in-Ok.ensures.answered c.step.ensures.linked c.steps_told.ensures c.in-Ok.ensures.running
+    moving_store c.in-Ok.event c.args.self.now c.self.inside c.step.new.self c.steps_told.result c.self.view_is c.self.invariant c.if-self.false (sym c.standing.ensures ∙ c.in-Moving.is) c.in-Ok.ensures.stepped c.in-Ok.ensures.answered c.step.ensures.linked c.steps_told.ensures
+    c.tell_step.new.kept c.in-Ok-tell_step.ensures.told c.are_numbers.ensures c.in-Ok.ensures.running
 
-pub returns-in-Ok-clause-stepped : goal.returns-in-Ok-clause-stepped
-returns-in-Ok-clause-stepped c =
+pub returns-in-Ok-tell_step-clause-stepped : goal.returns-in-Ok-tell_step-clause-stepped
+returns-in-Ok-tell_step-clause-stepped c =
     moving_stepped c.in-Ok.event c.args.self.now c.self.inside c.step.new.self c.steps_told.result c.self.view_is c.self.invariant c.if-self.false (sym c.standing.ensures ∙ c.in-Moving.is) c.in-Ok.ensures.stepped c.in-Ok.ensures.answered c.step.ensures.linked c.steps_told.ensures
+
+pub overflow_add-self : goal.overflow_add-self
+overflow_add-self c =
+    let few : c.self.inside.steps < 18446744073709551615 = rw (← c.self.view_is) at c.requires.few in
+    let one : c.steps_told.result ≤ 1 = rw c.steps_told.ensures (one_at_most c.in-Ok.event) in
+    omega arith
 
 pub unreachable-requires : goal.unreachable-requires
 unreachable-requires c =
@@ -37,17 +45,22 @@ take-requires-clause-bytes c =
 
 pub invariant_of-self-in-Asking : goal.invariant_of-self-in-Asking
 invariant_of-self-in-Asking c =
-    taken_store c.args.self.now c.self.inside c.in-Asking.field-0 c.in-Asking.field-1 c.deref.result.now c.self.view_is c.self.invariant c.if-self.false (sym c.standing.ensures ∙ c.in-Asking.is) c.requires.answered c.deref.ensures.value c.in-Some.answer.now c.in-Some.ensures.value c.event_of.result c.standing-in-Asking.result c.take.new.self c.take.ensures.linked c.take.ensures.taken c.event_of.ensures c.standing-in-Asking.ensures c.take.ensures.running
+    taken_store c.args.self.now c.self.inside c.in-Asking.field-0 c.in-Asking.field-1 c.deref.result.now c.self.view_is c.self.invariant c.if-self.false (sym c.standing.ensures ∙ c.in-Asking.is) c.requires.answered c.deref.ensures.value c.in-Some.answer.now c.in-Some.ensures.value c.tell.new.kept c.standing-standing.result c.take.new.self c.take.ensures.linked c.take.ensures.taken (c.tell.ensures ∙ c.event_of.ensures) c.standing-standing.ensures c.take.ensures.running
 
 pub returns-in-Some-clause-stepped : goal.returns-in-Some-clause-stepped
 returns-in-Some-clause-stepped c =
-    taken_stepped c.args.self.now c.self.inside c.in-Asking.field-0 c.in-Asking.field-1 c.deref.result.now c.self.view_is c.self.invariant c.if-self.false (sym c.standing.ensures ∙ c.in-Asking.is) c.requires.answered c.deref.ensures.value c.in-Some.answer.now c.in-Some.ensures.value c.event_of.result c.standing-in-Asking.result c.take.new.self c.take.ensures.linked c.take.ensures.taken c.event_of.ensures c.standing-in-Asking.ensures
+    taken_stepped c.args.self.now c.self.inside c.in-Asking.field-0 c.in-Asking.field-1 c.deref.result.now c.self.view_is c.self.invariant c.if-self.false (sym c.standing.ensures ∙ c.in-Asking.is) c.requires.answered c.deref.ensures.value c.in-Some.answer.now c.in-Some.ensures.value c.event_of-in-Asking.result c.standing-standing.result c.take.new.self c.take.ensures.linked c.take.ensures.taken c.event_of-in-Asking.ensures c.standing-standing.ensures
 
 pub returns-in_default-step-clause-wanting : goal.returns-in_default-step-clause-wanting
 returns-in_default-step-clause-wanting c = inr (wants_at c.args.self.now c.self.inside c.self.view_is c.self.invariant c.if-self.false c.in_default-step.ensures.wanting)
 
-pub returns-in-Ok-clause-arguments : goal.returns-in-Ok-clause-arguments
-returns-in-Ok-clause-arguments c = λ L linked.
+pub returns-in_default-tell_step-clause-wanting : goal.returns-in_default-tell_step-clause-wanting
+returns-in_default-tell_step-clause-wanting c =
+    inr (wants_at c.args.self.now c.self.inside c.self.view_is c.self.invariant c.if-self.false
+    (wait_wants c.in-Ok.event c.in_default-tell_step.ensures.wanting c.self.inside.running c.step.new.self (sym c.standing.ensures ∙ c.in-Moving.is) c.in-Ok.ensures.stepped))
+
+pub returns-in-Ok-tell_step-clause-arguments : goal.returns-in-Ok-tell_step-clause-arguments
+returns-in-Ok-tell_step-clause-arguments c = λ L linked.
     let before = linked_of c.args.self.now c.self.inside L c.self.view_is linked in
     let s = state_at (set_course L) (run_of c.self.inside).run in
     arguments_told L c.in-Ok.event s c.step.new.self (c.in-Ok.ensures.stepped L before s (c.self.invariant.stands c.if-self.false L before).1) c.are_numbers.ensures
