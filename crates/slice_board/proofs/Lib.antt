@@ -1,0 +1,5 @@
+pub mod Lefts
+pub mod Going
+pub mod Taking
+pub mod Seating
+pub mod Stuckless

@@ -1,0 +1,41 @@
+-- What is so of turns of linked sets, and of the calls that are answered between them.
+use Rattle.std.specs.Prelude.{◌≡◌, ◌≢◌, ℕ, List, slice_get, Some}
+use Rattle.std.specs.List.{All}
+use Rattle.spec_loading.specs.wasm_form.declared.runtime.Answer.{Answer}
+use Rattle.spec_loading.specs.spec_linking.Gathering.{IsSet}
+use Rattle.spec_loading.specs.spec_linking.LinkedSets.{LinkedSet}
+use Rattle.spec_loading.specs.spec_linking.Links.{Links}
+use Rattle.spec_loading.specs.spec_safety.ValueTypes.{IsOfBytes}
+use Rattle.spec_loading.specs.SoundSets.{HoldBytes, HasFewPages}
+use Rattle.spec_boards.specs.Turns.{Place, turn_of}
+use Rattle.spec_boards.specs.Boards.{Board, turn, board}
+use Rattle.spec_boards.specs.Laws.{IsTurn, IsRealPlace, IsFurther, CallsGrow, AllServed}
+use Rattle.dyl_store.specs.Stores.{set_course}
+
+-- a set that links, may have fewer pages than a memory can have, and whose data segments are of bytes
+pub record MayRun (L : LinkedSet) : Type 0 where
+  pub shape : IsSet L.set
+  pub links : Links L
+  pub pages : HasFewPages L
+  pub bytes : HoldBytes L
+
+-- A turn is as it should be; and where its steps were real before it, over answers of bytes, they are after it.
+abbrev pub TurnsAreSteps : Type 0
+TurnsAreSteps = (L : LinkedSet) (most slice : ℕ) (p : Place) → IsTurn (set_course L) most slice p (turn_of (set_course L) most slice p)
+    × (MayRun L → All IsOfBytes p.given → IsRealPlace (set_course L) p → IsRealPlace (set_course L) (turn_of (set_course L) most slice p).place)
+
+-- a turn changes no program but the one that was picked
+abbrev pub TurnsLeaveTheOthers : Type 0
+TurnsLeaveTheOthers = (slice : ℕ) (b : Board LinkedSet) (i j : ℕ) → i ≢ j → slice_get (turn set_course slice b i).seats j ≡ slice_get b.seats j
+
+-- the calls of a program on a board are the first ones of its own run, however far that goes, and over whatever further answers
+abbrev pub CallsAreFirst : Type 0
+CallsAreFirst = (L : LinkedSet) (p q : Place) → IsFurther (set_course L) p q → CallsGrow (set_course L) p q
+
+-- each is a program that may run, over answers of bytes
+abbrev pub AllMayRun : List (LinkedSet × (ℕ × List Answer)) → Type 0
+AllMayRun programs = (i : ℕ) (x : LinkedSet × (ℕ × List Answer)) → slice_get programs i ≡ Some x → MayRun x.0 × All IsOfBytes x.1.1
+
+-- After any picks the steps of each program are real ones of its own run, and its calls are those of that run.
+abbrev pub CallsAreTheirs : Type 0
+CallsAreTheirs = (programs : List (LinkedSet × (ℕ × List Answer))) (slice : ℕ) (picks : List ℕ) → AllMayRun programs → AllServed set_course (board set_course programs slice picks)

@@ -1,0 +1,12 @@
+pub mod Kept
+pub mod Calling
+pub mod Rounds
+pub mod Beginning
+pub mod Finishing
+pub mod HostsBound
+pub mod Seen
+pub mod Serving
+pub mod TakenRounds
+pub mod Plays
+pub mod Ended
+pub mod Whole

@@ -1,0 +1,12 @@
+pub mod Turning
+pub mod Calling
+pub mod Seats
+pub mod Serving
+pub mod Growing
+pub mod Hosting
+pub mod Stops
+pub mod Standing
+pub mod Extending
+pub mod Playing
+pub mod Ending
+pub mod BoardFronts
