@@ -46,6 +46,7 @@ fn same(alloc: Global, name: &[u8], code: Vec<Instr>) -> Result<Instr, Memory>
 {
     let mut code = code;
     let mut list = Vec::new(alloc);
+    list.reserve_exact((5 * name.len()).saturating_add(code.len()))?;
     put_bytes(&mut list, name)?;
     list.append(&mut code)?;
     let body = Expr {

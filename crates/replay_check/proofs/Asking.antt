@@ -1,5 +1,5 @@
 -- Whether a run waits for a call of a trace, and how many answers there may be.
-use Rattle.std.proofs.Common.{◌≡◌, ◌<◌, ℕ, Bool, true, false, true≢false, List, length, map, sum, Option, Some, None, IsTrue, refl, sym, ap, ◌∙◌, subst, arith}
+use Rattle.std.proofs.Common.{◌≡◌, ◌<◌, ℕ, Bool, true, false, true≢false, List, length, map, sum, Option, Some, None, sym, ◌∙◌, subst}
 use Rattle.std.specs.Prelude.{Decides, nat_le, ◌||◌}
 use Rattle.std.proofs.lemmas.Bool.{leb-false}
 use Rattle.std.proofs.lemmas.Option.{same_Some}
@@ -19,22 +19,7 @@ use Rattle.wasm_machine.specs.declared.event.Event.TheVariants as event
 use Rattle.wasm_machine.specs.Steps.{TellsStatus}
 use Rattle.replay_check.specs.Following.{IsAskedOf, is_full}
 use Rattle.replay_check.proofs.Following.{wait_due}
-
--- ---- what is asked
-
--- the call that a run waits for
-pub record IsWait (host : ℕ → Option HostName) (asked : Asked) (status : Status HostCall Trap) : Type 0 where
-  pub call : HostCall
-  pub waits : status ≡ Waits call
-  pub there : host asked.entry ≡ Some call.host
-  pub args : asked.args ≡ call.args
-
-pub wait_of : (host : ℕ → Option HostName) (asked : Asked) (status : Status HostCall Trap) → TellsStatus host (event.Waits asked) status → IsWait host asked status
-wait_of host asked (Waits call) tells = record { call = call; waits = refl; there = tells.0; args = tells.1 }
-wait_of host asked Moving tells = absurd tells
-wait_of host asked Returned tells = absurd tells
-wait_of host asked (Exited code) tells = absurd tells
-wait_of host asked (Trapped why) tells = absurd tells
+use Rattle.replay_check.proofs.Telling.{waits_for}
 
 -- ---- a call of the trace
 
@@ -49,7 +34,7 @@ module _ (host : ℕ → Option HostName) (status : Status HostCall Trap) (memor
 
   waits_so : status ≡ Waits call_of
   waits_so =
-      let wait = wait_of host asked status tells in
+      let wait = waits_for host asked status tells in
       wait.waits ∙ (λ i. Waits (record { host = same_Some wait.call.host h (sym wait.there ∙ there) i; args = sym wait.args i }))
 
   -- it isn't waited for, where it has another function or other arguments
@@ -88,7 +73,7 @@ module _ (C : Course) (x : Recorded) (asked : Option Asked) (asks : IsAskedOf C.
     where
       by : (asked : Option Asked) → IsAskedOf C.host (status_at C x) asked → is_full asked x ≡ true → is_due C.system C.deep (state_at C x) x.answers ≡ true
       by None asks full = absurd (true≢false (sym full))
-      by (Some a) asks full = (let wait = wait_of C.host a (status_at C x) asks in wait_due C (state_at C x) x.answers wait.call wait.waits ∙ full)
+      by (Some a) asks full = (let wait = waits_for C.host a (status_at C x) asks in wait_due C (state_at C x) x.answers wait.call wait.waits ∙ full)
 
   -- where the run waits, none is due but that
   pub room_free : waits (status_at C x) ≡ true → is_full asked x ≡ false → is_due C.system C.deep (state_at C x) x.answers ≡ false
@@ -96,4 +81,4 @@ module _ (C : Course) (x : Recorded) (asked : Option Asked) (asks : IsAskedOf C.
     where
       by : (asked : Option Asked) → IsAskedOf C.host (status_at C x) asked → is_full asked x ≡ false → is_due C.system C.deep (state_at C x) x.answers ≡ false
       by None still room = absurd (true≢false (sym waiting ∙ still))
-      by (Some a) asks room = (let wait = wait_of C.host a (status_at C x) asks in wait_due C (state_at C x) x.answers wait.call wait.waits ∙ room)
+      by (Some a) asks room = (let wait = waits_for C.host a (status_at C x) asks in wait_due C (state_at C x) x.answers wait.call wait.waits ∙ room)

@@ -1,5 +1,5 @@
 -- A run that has made no step.
-use Rattle.std.proofs.Common.{◌≡◌, ℕ, map, sum, Option, None, refl, sym, ap, subst, arith}
+use Rattle.std.proofs.Common.{◌≡◌, map, sum, Option, None, refl, sym, ap, subst, arith}
 use Rattle.spec_traces.specs.spec_hosts.wasm_form.declared.runtime.Asked.{Asked}
 use Rattle.spec_traces.specs.spec_hosts.spec_runs.Systems.{Moving}
 use Rattle.spec_traces.specs.spec_hosts.spec_runtime.Recorded.{Recorded, waits}

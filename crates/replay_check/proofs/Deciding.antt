@@ -1,12 +1,11 @@
 -- What a run that follows a trace tells of it: with which calls it agrees, and whether it is that of the trace.
-use Rattle.std.proofs.Common.{◌≡◌, ◌≤◌, ◌<◌, ℕ, suc, ◌-◌, Bool, true, false, true≢false, List, [], ◌∷◌, length, drop, slice_get, Option, Some, None, IsTrue, ◌⊎◌, inl, inr, refl, sym, ap, ◌∙◌, subst, le_refl, arith}
+use Rattle.std.proofs.Common.{◌≡◌, ◌≤◌, ◌<◌, ℕ, suc, Bool, true, false, true≢false, List, [], ◌∷◌, length, drop, slice_get, Some, None, ◌⊎◌, inl, inr, refl, sym, ap, ◌∙◌, subst, le_refl, arith}
 use Rattle.std.proofs.lemmas.Bool.{cases_lt}
 use Rattle.std.proofs.lemmas.List.{length-drop, length-map, drop_all}
 use Rattle.std.proofs.lemmas.Option.{same_Some, slice_get_within}
 use Rattle.spec_traces.specs.spec_hosts.wasm_form.declared.runtime.Trap.{Trap}
 use Rattle.spec_traces.specs.spec_hosts.wasm_form.declared.runtime.Answer.{Answer}
 use Rattle.spec_traces.specs.spec_hosts.spec_runs.Systems.{Status, Moving, Waits, Returned, Exited, Trapped, System, next_at, next, IsReal}
-use Rattle.spec_traces.specs.spec_hosts.spec_runtime.Memories.{MemoryInstance}
 use Rattle.spec_traces.specs.spec_hosts.spec_runtime.Hosts.{HostCall, hosts}
 use Rattle.spec_traces.specs.spec_hosts.spec_runtime.Recorded.{Recorded, AreLeft}
 use Rattle.spec_traces.specs.spec_hosts.spec_runtime.Courses.{Course, state_at, status_at, memory_at}
@@ -16,7 +15,7 @@ use Rattle.spec_traces.specs.declared.trace.TraceCall.{TraceCall}
 use Rattle.spec_traces.specs.declared.trace.TraceEnd.{TraceEnd}
 use Rattle.spec_traces.specs.declared.trace.TraceEnd.TheVariants as told
 use Rattle.spec_traces.specs.Texts.{run_end}
-use Rattle.spec_traces.specs.Traces.{answers_of, after, IsAsked, most_for, Traces, Agrees, IsAgreeing}
+use Rattle.spec_traces.specs.Traces.{answers_of, after, most_for, Traces, Agrees, IsAgreeing}
 use Rattle.run_loaded.proofs.of_spec_runs.Runs.{real_split}
 use Rattle.run_loaded.proofs.Growth.{real_front}
 use Rattle.replay_check.specs.Following.{HasFollowed, is_held}

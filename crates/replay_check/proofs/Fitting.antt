@@ -1,5 +1,5 @@
 -- Numbers and types of other counts.
-use Rattle.std.proofs.Common.{◌≡◌, ℕ, suc, false, List, [], ◌∷◌, length, refl, arith}
+use Rattle.std.proofs.Common.{◌≡◌, ℕ, false, List, [], ◌∷◌, length, refl, arith}
 use Rattle.std.proofs.lemmas.Bool.{and_right}
 use Rattle.spec_traces.specs.spec_hosts.wasm_form.declared.types.ValType.{ValType}
 use Rattle.spec_traces.specs.spec_hosts.spec_runtime.Hosts.{number_fits, numbers_fit}

@@ -1,30 +1,27 @@
 -- A run that has followed a trace: where it stands over all answers, and how it comes further.
-use Rattle.std.proofs.Common.{◌≡◌, ◌≤◌, ◌<◌, ℕ, zero, suc, ◌+◌, ◌-◌, Bool, true, false, true≢false, List, [], ◌∷◌, ◌++◌, length, map, take, drop, slice_get, Option, Some, None, IsTrue, inl, inr, refl, sym, ap, ◌∙◌, subst, le_refl, arith}
-use Rattle.std.specs.Prelude.{◌&&◌, not}
+use Rattle.std.proofs.Common.{◌≡◌, ◌≤◌, ◌<◌, ℕ, zero, suc, ◌-◌, true, false, List, [], ◌∷◌, ◌++◌, length, take, drop, slice_get, Option, Some, None, inl, inr, refl, sym, ap, ◌∙◌, subst, le_refl, arith}
 use Rattle.std.proofs.lemmas.Bool.{cases_lt}
 use Rattle.std.proofs.lemmas.List.{length-drop, take-append-drop, take_all}
 use Rattle.std.proofs.lemmas.Option.{same_Some, slice_get_within}
 use Rattle.spec_traces.specs.spec_hosts.wasm_form.declared.runtime.Trap.{Trap}
 use Rattle.spec_traces.specs.spec_hosts.wasm_form.declared.runtime.Answer.{Answer}
 use Rattle.spec_traces.specs.spec_hosts.wasm_form.declared.runtime.Asked.{Asked}
-use Rattle.spec_traces.specs.spec_hosts.spec_runs.Systems.{Status, Moving, Waits, Returned, Exited, Trapped, System, Ran, run, next, IsReal}
-use Rattle.spec_traces.specs.spec_hosts.spec_runtime.Names.{HostName}
+use Rattle.spec_traces.specs.spec_hosts.spec_runs.Systems.{Status, Moving, Waits, Returned, Exited, Trapped, System, Ran, run, IsReal}
 use Rattle.spec_traces.specs.spec_hosts.spec_runtime.Hosts.{HostCall, hosts}
-use Rattle.spec_traces.specs.spec_hosts.spec_runtime.Recorded.{Recorded, AreLeft, has_ended, waits, FitsWait}
+use Rattle.spec_traces.specs.spec_hosts.spec_runtime.Recorded.{Recorded, waits}
 use Rattle.spec_traces.specs.spec_hosts.spec_runtime.Courses as courses
-use Rattle.spec_traces.specs.spec_hosts.spec_runtime.Courses.{Course, reached, state_at, status_at, memory_at, IsAt, is_waiting, with_answer, with_step}
-use Rattle.spec_traces.specs.spec_hosts.Ends.{are_many, taken_of, taken_by, is_due, Makes}
+use Rattle.spec_traces.specs.spec_hosts.spec_runtime.Courses.{Course, reached, state_at, status_at, memory_at, IsAt, with_answer, with_step}
+use Rattle.spec_traces.specs.spec_hosts.Ends.{are_many, taken_of, taken_by, is_due}
 use Rattle.spec_traces.specs.declared.trace.Trace.{Trace}
 use Rattle.spec_traces.specs.declared.trace.TraceCall.{TraceCall}
 use Rattle.spec_traces.specs.Traces.{answers_of, after, IsAsked, Agrees}
-use Rattle.wasm_machine.specs.declared.event.Event.{Event}
-use Rattle.wasm_machine.specs.declared.event.Event.TheVariants as event
-use Rattle.wasm_machine.specs.Steps.{TellsStatus, StepMade, RunStepped, Advances, AreOfCode, Awaits}
-use Rattle.run_loaded.specs.Events.{asked_by}
+use Rattle.wasm_machine.specs.Steps.{Advances, AreOfCode, Awaits}
+use Rattle.spec_loading.proofs.of_spec_runtime.Recorded.{unanswered_left}
+use Rattle.wasm_machine.proofs.Courses.{at_recorded}
 use Rattle.run_loaded.proofs.of_spec_runs.Runs.{run_append, real_append}
 use Rattle.run_loaded.proofs.Growth.{real_front}
 use Rattle.replay_check.specs.Following.{IsAskedOf, HasFollowed, is_held}
-use Rattle.replay_check.proofs.Agreeing.{drop_at, answer_at, asked_call}
+use Rattle.replay_check.proofs.Agreeing.{answer_at, asked_call}
 
 -- ---- lists
 
@@ -64,10 +61,6 @@ module _ (C : Course) where
       by (Exited code) e = rw (e, is_held) refl
       by (Trapped why) e = rw (e, is_held) refl
 
-  -- nor where the step would be too deep
-  pub held_moving : (s : C.system.State) → C.system.status s ≡ Moving → C.deep s ≡ true → is_held C s ≡ true
-  held_moving s moving deep = rw (moving, is_held) deep
-
   -- before a wait, what is due is the limit of answers
   pub wait_due : (s : C.system.State) (given : List Answer) (call : HostCall) → C.system.status s ≡ Waits call → is_due C.system C.deep s given ≡ are_many given
   wait_due s given call waits = rw (waits, is_due) refl
@@ -99,7 +92,7 @@ module _ (C : Course) (t : Trace) where
     real_all = subst (IsReal S x.steps C.opening) (take-append-drop k given) (real_append S x.steps C.opening (take k given) (drop k given) real_first)
 
     pub none_left : (reached C x).left ≡ []
-    none_left = subst (λ b. AreLeft b (status_at C x) (memory_at C x) (reached C x).left) f.taken f.stands.left
+    none_left = unanswered_left x.answered (status_at C x) (memory_at C x) (reached C x).left f.stands.left f.taken
 
     pub state_here : (after C t x.steps).state ≡ state_at C x
     state_here = same_state k x.steps real_first ∙ ap (λ given. (courses.after C x.steps given).state) (sym f.answers)
@@ -162,25 +155,17 @@ module _ (C : Course) (t : Trace) where
       abbrev answered : Recorded
       answered = with_answer x c.answer
 
-      appended : reached C answered ≡ (let r = reached C x in record r { left = r.left ++ c.answer ∷ [] })
-      appended = run_append S x.steps C.opening x.answers (c.answer ∷ []) f.stands.real
-
-      one_left : reached C answered ≡ (let r = reached C x in record r { left = c.answer ∷ [] })
-      one_left = appended ∙ ap (λ l. let q : Ran hosts S.State = record (reached C x) { left = l ++ c.answer ∷ [] } in q) none_left
-
-      pub state_answered : state_at C answered ≡ state_at C x
-      state_answered = ap (λ (r : Ran hosts S.State). r.state) one_left
-
-      -- the run stands there with its answer
-      pub stands_answered : Agrees C t k c → IsAt C answered
-      stands_answered agrees =
+      -- the run stands there with its answer too
+      recorded : Agrees C t k c → IsAt C answered × (state_at C answered ≡ state_at C x)
+      recorded agrees =
           let call = asked_call c (status_at C x) (memory_at C x) (asked_here agrees) in
-          record {
-            found = f.stands.found;
-            run = refl;
-            real = real_append S x.steps C.opening x.answers (c.answer ∷ []) f.stands.real;
-            left = subst (λ (q : Ran hosts S.State). AreLeft true (S.status q.state) (S.memory q.state) q.left) (sym one_left) (rw call.waits call.fits);
-          }
+          at_recorded C x f.stands call.call c.answer f.taken call.waits call.fits
+
+      pub stands_answered : Agrees C t k c → IsAt C answered
+      stands_answered agrees = (recorded agrees).0
+
+      pub state_answered : Agrees C t k c → state_at C answered ≡ state_at C x
+      state_answered agrees = (recorded agrees).1
 
       -- and goes on from there by a step that takes it
       pub has_taken : Agrees C t k c → is_due S C.deep (state_at C x) x.answers ≡ false → IsAt C (with_step answered) → HasFollowed C t (suc k) (with_step answered)
@@ -262,33 +247,3 @@ module _ (C : Course) (t : Trace) where
         let code' = subst (AreOfCode C x) same code in
         subst (λ y. HasFollowed C t k y × ((asked : Option Asked) → IsAskedOf C.host (status_at C x) asked → IsAskedOf C.host (status_at C y) asked)) (sym same)
         (has_gone new.steps stands' code', asked_on new.steps stands' code' advances.more)
-
--- ---- what is told of a step
-
--- nothing is asked by what is told of a state that doesn't wait
-quiet : (host : ℕ → Option HostName) (e : Event) (call : HostCall) → asked_by e ≡ None → TellsStatus host e (Waits call) → ⊥
-quiet host event.Moved call none tells = tells
-quiet host (event.Waits asked) call none tells = cc
-quiet host (event.Loader loader first second) call none tells = tells
-quiet host (event.Marked tag) call none tells = tells
-quiet host event.Returned call none tells = tells
-quiet host (event.Trapped why) call none tells = tells
-quiet host (event.Exited code) call none tells = tells
-quiet host event.Deep call none tells = tells
-
-still : (host : ℕ → Option HostName) (e : Event) (status : Status HostCall Trap) → asked_by e ≡ None → TellsStatus host e status → waits status ≡ false
-still host e (Waits call) none tells = absurd (quiet host e call none tells)
-still host e Moving none tells = refl
-still host e Returned none tells = refl
-still host e (Exited code) none tells = refl
-still host e (Trapped why) none tells = refl
-
-pub asked_so : (host : ℕ → Option HostName) (e : Event) (status : Status HostCall Trap) → TellsStatus host e status → IsAskedOf host status (asked_by e)
-asked_so host (event.Waits asked) status tells = tells
-asked_so host event.Moved status tells = still host event.Moved status refl tells
-asked_so host (event.Loader loader first second) status tells = still host (event.Loader loader first second) status refl tells
-asked_so host (event.Marked tag) status tells = still host (event.Marked tag) status refl tells
-asked_so host event.Returned status tells = still host event.Returned status refl tells
-asked_so host (event.Trapped why) status tells = still host (event.Trapped why) status refl tells
-asked_so host (event.Exited code) status tells = still host (event.Exited code) status refl tells
-asked_so host event.Deep status tells = still host event.Deep status refl tells

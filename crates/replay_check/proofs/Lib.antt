@@ -10,3 +10,4 @@ pub mod Left
 pub mod Loading
 pub mod Recording
 pub mod Replaying
+pub mod Telling

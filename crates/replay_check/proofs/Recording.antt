@@ -1,5 +1,5 @@
 -- A run that is made again follows the one that was told.
-use Rattle.std.proofs.Common.{◌≡◌, ℕ, zero, suc, ◌<◌, ◌≤◌, ◌^◌, Bool, true, false, true≢false, List, [], ◌∷◌, ◌++◌, length, map, drop, slice_get, append-nil, append_assoc, Option, Some, None, ◌⊎◌, inl, inr, IsTrue, refl, sym, ap, ◌∙◌, subst, arith, length-append}
+use Rattle.std.proofs.Common.{◌≡◌, ◌≢◌, ℕ, zero, suc, ◌<◌, ◌≤◌, ◌^◌, Bool, true, false, true≢false, List, [], ◌∷◌, ◌++◌, length, map, drop, slice_get, append-nil, append_assoc, Option, Some, None, ◌⊎◌, inl, inr, IsTrue, refl, sym, ap, ◌∙◌, subst, arith, length-append}
 use Rattle.std.proofs.lemmas.Bool.{cases_lt}
 use Rattle.std.proofs.lemmas.Option.{same_Some}
 use Rattle.std.proofs.lemmas.List.{map-append, length-map}
@@ -15,6 +15,7 @@ use Rattle.spec_traces.specs.spec_hosts.spec_runtime.Recorded.{Recorded, has_end
 use Rattle.spec_traces.specs.spec_hosts.spec_runtime.Courses.{Course, no_steps, with_step, with_answer, after, reached, state_at, status_at, memory_at, IsAt, is_waiting}
 use Rattle.spec_traces.specs.spec_hosts.Ends.{is_due, EndsAs, Makes, taken_by}
 use Rattle.spec_traces.specs.spec_hosts.declared.ran.Ran as ran
+use Rattle.spec_traces.specs.spec_hosts.declared.ran.RunEnd.TheVariants as ended
 use Rattle.spec_traces.specs.declared.trace.Trace.{Trace}
 use Rattle.spec_traces.specs.declared.trace.TraceCall.{TraceCall}
 use Rattle.spec_traces.specs.declared.trace.TraceEnd.{TraceEnd}
@@ -27,15 +28,16 @@ use Rattle.dyl_link.specs.host_table.Names.{host_name_of}
 use Rattle.dyl_link.specs.host_table.declared.host.HostName as code
 use Rattle.wasm_machine.specs.declared.event.Event.{Event}
 use Rattle.wasm_machine.specs.declared.event.Event.TheVariants as event
-use Rattle.wasm_machine.specs.Steps.{TellsStatus, StepMade, RunStepped, Advances, AreOfCode, Awaits}
+use Rattle.wasm_machine.specs.Steps.{TellsStatus, RunStepped, Advances, AreOfCode, Awaits}
 use Rattle.wasm_machine.proofs.Courses.{at_recorded}
-use Rattle.wasm_machine.proofs.Steps as steps
 use Rattle.run_loaded.specs.Events.{asked_by}
 use Rattle.run_loaded.proofs.of_spec_runs.Runs.{run_append, real_split}
 use Rattle.run_loaded.proofs.Growth.{real_front}
 use Rattle.run_loaded.proofs.Waiting.{not_waiting}
 use Rattle.replay_check.specs.Checks.{HasRun}
 use Rattle.replay_check.specs.Recording.{call_noted, IsCalled, Follows, GoesOn, Stops}
+use Rattle.replay_check.specs.Following.{is_deep}
+use Rattle.replay_check.proofs.Telling.{told_still, waits_for, step_told, deep_told}
 
 -- ---- lists
 
@@ -61,27 +63,9 @@ none_behind (x ∷ xs) ys e = absurd cc
 -- ---- what is told of a step
 
 module _ (host : ℕ → Option HostName) where
-  -- a run doesn't wait where no host call is told
-  told_still : (e : Event) (status : Status HostCall Trap) → asked_by e ≡ None → TellsStatus host e status → waits status ≡ false
-  told_still (event.Waits asked) status none tells = absurd cc
-  told_still event.Moved status none tells = steps.not_waiting host event.Moved status (λ call t. t) tells
-  told_still (event.Loader which first second) status none tells = steps.not_waiting host (event.Loader which first second) status (λ call t. t) tells
-  told_still (event.Marked tag) status none tells = steps.not_waiting host (event.Marked tag) status (λ call t. t) tells
-  told_still event.Returned status none tells = steps.not_waiting host event.Returned status (λ call t. t) tells
-  told_still (event.Trapped why) status none tells = steps.not_waiting host (event.Trapped why) status (λ call t. t) tells
-  told_still (event.Exited code) status none tells = steps.not_waiting host (event.Exited code) status (λ call t. t) tells
-  told_still event.Deep status none tells = steps.not_waiting host event.Deep status (λ call t. t) tells
-
-  waits_for : (asked : Asked) (status : Status HostCall Trap) → TellsStatus host (event.Waits asked) status → IsCalled host status asked
-  waits_for asked (Waits call) tells = record { call = call; waits = refl; there = tells.0; args = tells.1 }
-  waits_for asked Moving tells = absurd tells
-  waits_for asked Returned tells = absurd tells
-  waits_for asked (Exited code) tells = absurd tells
-  waits_for asked (Trapped why) tells = absurd tells
-
-  -- and where one is told it waits for that
+  -- where a host call is told the run waits for that
   told_call : (e : Event) (status : Status HostCall Trap) (asked : Asked) → asked_by e ≡ Some asked → TellsStatus host e status → IsCalled host status asked
-  told_call (event.Waits a) status asked some tells = subst (IsCalled host status) (same_Some a asked some) (waits_for a status tells)
+  told_call (event.Waits a) status asked some tells = subst (IsCalled host status) (same_Some a asked some) (waits_for host a status tells)
   told_call event.Moved status asked some tells = absurd cc
   told_call (event.Loader which first second) status asked some tells = absurd cc
   told_call (event.Marked tag) status asked some tells = absurd cc
@@ -196,19 +180,12 @@ module _ (C : Course) (r : ran.Ran) where
       abbrev IsMade : Event → Recorded → Type 0
       IsMade e y = (y ≡ with_step x) × IsAt C y × TellsStatus C.host e (status_at C y)
 
-      made : (e : Event) (y : Recorded) → StepMade C e x y × (status_at C x ≡ Moving → C.deep (state_at C x) ≡ false) ⊎ (has_ended (status_at C x) ≡ true) × TellsStatus C.host e (status_at C x) × (y ≡ x) → IsMade e y
-      made e y (inl step) = (step.0.1, step.0.2, step.0.3)
-      made e y (inr again) = absurd (true≢false (sym again.0 ∙ unended))
-
       is_made : (e : Event) (y : Recorded) → RunStepped C e x y → IsMade e y
-      is_made event.Deep y h = absurd (true≢false (sym h.1 ∙ flat h.0))
-      is_made event.Moved y h = made event.Moved y h
-      is_made (event.Waits asked) y h = made (event.Waits asked) y h
-      is_made (event.Loader which first second) y h = made (event.Loader which first second) y h
-      is_made (event.Marked tag) y h = made (event.Marked tag) y h
-      is_made event.Returned y h = made event.Returned y h
-      is_made (event.Trapped why) y h = made (event.Trapped why) y h
-      is_made (event.Exited code) y h = made (event.Exited code) y h
+      is_made e y h = by (is_deep e) refl
+        where
+          by : (deep : Bool) → is_deep e ≡ deep → IsMade e y
+          by true deep = (let told = deep_told C x y e deep h in absurd (true≢false (sym told.1 ∙ flat told.0)))
+          by false shallow = (let told = step_told C x y e unended shallow h in (told.0.1, told.0.2, told.0.3))
 
       stepped : (y : Recorded) → y ≡ with_step x → IsAt C y → Follows C r calls y
       stepped y same stands =
@@ -321,6 +298,10 @@ module _ (C : Course) (r : ran.Ran) where
                 rw (cs_so, y_so) (notes (subst (λ d. x.steps < 2 ^ 63 → IsCallInRange d) is_c range))
 
     -- ---- the whole run
+
+    -- it hasn't ended by the turns of a board
+    pub ends_alone : r.end ≢ ended.TurnLimit
+    ends_alone is = subst (EndsAs C.system C.deep has.most r.steps (run C.system r.steps C.opening r.answers).state (taken_by C.system r.steps C.opening r.answers)) is has.runs.ends
 
     module _ (calls : List TraceCall) (x : Recorded) (f : Follows C r calls x) (all : x.steps ≡ r.steps) where
       none_more : f.rest ≡ []

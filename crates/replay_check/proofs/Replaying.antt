@@ -1,34 +1,31 @@
 -- A run that follows a trace, whatever it is that is run, after a step.
-use Rattle.std.proofs.Common.{◌≡◌, ◌≤◌, ◌<◌, ℕ, suc, ◌+◌, Bool, true, false, true≢false, List, [], ◌∷◌, ◌++◌, map, sum, slice_get, Option, Some, None, is_some, refl, sym, ap, ◌∙◌, subst, arith}
+use Rattle.std.proofs.Common.{◌≡◌, ◌≤◌, ◌<◌, ℕ, suc, ◌+◌, Bool, true, false, true≢false, map, sum, slice_get, Option, Some, None, is_some, refl, sym, ap, ◌∙◌, subst, arith}
 use Rattle.std.specs.Prelude.{Decides, MatchBool}
-use Rattle.std.proofs.lemmas.List.Sums.{sum-map, sum_by_push}
 use Rattle.spec_traces.specs.spec_hosts.wasm_form.declared.runtime.Trap.{Trap}
-use Rattle.spec_traces.specs.spec_hosts.wasm_form.declared.runtime.Answer.{Answer}
 use Rattle.spec_traces.specs.spec_hosts.wasm_form.declared.runtime.Asked.{Asked}
 use Rattle.spec_traces.specs.spec_hosts.spec_runs.Systems.{Status, Moving, Waits, Returned, Exited, Trapped}
 use Rattle.spec_traces.specs.spec_hosts.spec_runtime.Names.{HostName}
 use Rattle.spec_traces.specs.spec_hosts.spec_runtime.Hosts.{HostCall, fits_results}
 use Rattle.spec_traces.specs.spec_hosts.spec_runtime.Recorded.{Recorded, has_ended, waits}
-use Rattle.spec_traces.specs.spec_hosts.spec_runtime.Courses.{Course, state_at, status_at, memory_at, IsAt, with_answer, with_step}
+use Rattle.spec_traces.specs.spec_hosts.spec_runtime.Courses.{Course, state_at, status_at, memory_at, IsAt, with_answer}
 use Rattle.spec_traces.specs.spec_hosts.Ends.{bytes_written, are_many}
 use Rattle.spec_traces.specs.declared.trace.Trace.{Trace}
 use Rattle.spec_traces.specs.declared.trace.TraceCall.{TraceCall}
 use Rattle.spec_traces.specs.Traces.{Agrees}
 use Rattle.wasm_machine.specs.declared.event.Event.{Event}
 use Rattle.wasm_machine.specs.Steps.{RunStepped}
+use Rattle.run_limits.proofs.Answered.{written_more}
 use Rattle.run_loaded.specs.declared.loaded.Loaded.{Loaded}
 use Rattle.run_loaded.specs.Courses.{Origin, course_of}
 use Rattle.run_loaded.specs.Programs.{recorded_of, IsOf}
-use Rattle.run_loaded.specs.Events.{asked_by, end_by}
+use Rattle.run_loaded.specs.Events.{asked_by}
 use Rattle.replay_check.specs.declared.replay.Replay.{Replay}
 use Rattle.replay_check.specs.Following.{IsAskedOf, HasFollowed, is_held, is_deep, own_end, is_full, run_of, Follows, GoesAlong, Stops, Asks, AtCall}
 use Rattle.replay_check.proofs.Agreeing.{asked_call}
-use Rattle.replay_check.proofs.Following.{agrees_here, asked_here, has_stepped, has_taken, state_answered, held_still, held_moving, asked_so}
-use Rattle.replay_check.proofs.Asking.{Names, wait_of, other_call, same_call, room_free}
-use Rattle.replay_check.proofs.Ending.{moving_so, step_told, deep_told, end_told, own_told, deep_own, none_own, wait_own}
-
-written_more : (given : List Answer) (a : Answer) → sum (map bytes_written (given ++ a ∷ [])) ≡ sum (map bytes_written given) + bytes_written a
-written_more given a = sum-map bytes_written (given ++ a ∷ []) ∙ sum_by_push bytes_written given a ∙ ap (λ n. n + bytes_written a) (sym (sum-map bytes_written given))
+use Rattle.replay_check.proofs.Following.{agrees_here, asked_here, has_stepped, has_taken, state_answered, held_still}
+use Rattle.replay_check.proofs.Asking.{Names, other_call, same_call, room_free}
+use Rattle.replay_check.proofs.Ending.{none_own}
+use Rattle.replay_check.proofs.Telling.{waits_for, asked_so, moving_so, step_told, deep_told}
 
 -- ---- what is asked
 
@@ -40,7 +37,7 @@ unasked_still host status (Some asked) asks none = absurd (true≢false none)
 -- and waits where something is
 pub asked_waits : (host : ℕ → Option HostName) (status : Status HostCall Trap) (asked : Option Asked) → IsAskedOf host status asked → is_some asked ≡ true → waits status ≡ true
 asked_waits host status None asks some = absurd (true≢false (sym some))
-asked_waits host status (Some asked) asks some = ap waits (wait_of host asked status asks).waits
+asked_waits host status (Some asked) asks some = ap waits (waits_for host asked status asks).waits
 
 module _ (o : Origin) (t : Trace) (k : ℕ) (r : Replay) where
   abbrev C : Course
@@ -85,22 +82,7 @@ module _ (o : Origin) (t : Trace) (k : ℕ) (r : Replay) where
     moves none live = moving_so (status_at C x) live (unasked_still C.host (status_at C x) r.asked f.asks none)
 
     module _ (p : Loaded) (of : IsOf p o) (e : Event) where
-      -- a step that is too deep
-      pub stays_deep : is_deep e ≡ true → RunStepped C e x (recorded_of p) → Follows o t k (record r { program = p }) × (is_held C (state_at C (recorded_of p)) ≡ true) × (recorded_of p ≡ x)
-      stays_deep deep h =
-          let told = deep_told C x (recorded_of p) e deep h in
-          let same = told.2 in (
-            record {
-              of = of;
-              followed = subst (HasFollowed C t k) (sym same) f.followed;
-              asks = subst (λ x. IsAskedOf C.host (status_at C x) r.asked) (sym same) f.asks;
-              written = f.written ∙ ap (λ (x : Recorded). sum (map bytes_written x.answers)) (sym same);
-            },
-            subst (λ x. is_held C (state_at C x) ≡ true) (sym same) (held_moving C (state_at C x) told.0 told.1),
-            same,
-          )
-
-      -- one that is made
+      -- a step of its own
       pub goes_on : (a : Option Asked) → a ≡ asked_by e → status_at C x ≡ Moving → is_deep e ≡ false → RunStepped C e x (recorded_of p)
           → Follows o t k (record r { program = p; asked = a }) × ((recorded_of p).steps ≡ suc x.steps)
       goes_on a by moving flat h =
@@ -123,24 +105,6 @@ module _ (o : Origin) (t : Trace) (k : ℕ) (r : Replay) where
           let moving = moves none live in
           none_own (status_at C x) (C.deep (state_at C x)) moving ((step_told C x (recorded_of p) e live flat h).1 moving)
 
-      -- that of depth, where it is too deep
-      pub deep_stands : is_deep e ≡ true → RunStepped C e x (recorded_of p) → end_by e ≡ own_end (status_at C x) (C.deep (state_at C x))
-      deep_stands deep h =
-          let told = deep_told C x (recorded_of p) e deep h in
-          deep_own e (status_at C x) (C.deep (state_at C x)) deep told.0 told.1
-
-      -- or that which is told again
-      pub end_stands : has_ended (status_at C x) ≡ true → RunStepped C e x (recorded_of p) → end_by e ≡ own_end (status_at C x) (C.deep (state_at C x))
-      end_stands ended h = own_told C.host e (status_at C x) (C.deep (state_at C x)) ended (end_told C x (recorded_of p) e ended h)
-
-    -- nor where it waits
-    pub wait_stands : is_some r.asked ≡ true → None ≡ own_end (status_at C x) (C.deep (state_at C x))
-    wait_stands = by r.asked f.asks
-      where
-        by : (asked : Option Asked) → IsAskedOf C.host (status_at C x) asked → is_some asked ≡ true → None ≡ own_end (status_at C x) (C.deep (state_at C x))
-        by None asks some = absurd (true≢false (sym some))
-        by (Some a) asks some = wait_own C.host a (status_at C x) (C.deep (state_at C x)) asks
-
   -- ---- an answer
 
   module _ (c : TraceCall) (at : AtCall o t k c r) where
@@ -151,7 +115,7 @@ module _ (o : Origin) (t : Trace) (k : ℕ) (r : Replay) where
     waiting = ap waits (asked_call c (status_at C x) _ (asked_here C t k x at.follows.followed c at.at at.steps at.agrees)).waits
 
     status_answered : status_at C y ≡ status_at C x
-    status_answered = ap C.system.status (state_answered C t k x at.follows.followed c at.at at.steps)
+    status_answered = ap C.system.status (state_answered C t k x at.follows.followed c at.at at.steps at.agrees)
 
     waits_answered : waits (status_at C y) ≡ true
     waits_answered = ap waits status_answered ∙ waiting

@@ -6,7 +6,6 @@ use Rattle.spec_traces.specs.spec_hosts.spec_runs.Systems.{Status, Moving, Waits
 use Rattle.spec_traces.specs.spec_hosts.spec_runtime.Names.{HostName}
 use Rattle.spec_traces.specs.spec_hosts.spec_runtime.Hosts.{HostCall}
 use Rattle.spec_traces.specs.spec_hosts.spec_runtime.Recorded.{Recorded, AreLeft, waits}
-use Rattle.spec_traces.specs.spec_hosts.spec_runtime.Courses as courses
 use Rattle.spec_traces.specs.spec_hosts.spec_runtime.Courses.{Course, state_at, status_at, memory_at, IsAt}
 use Rattle.spec_traces.specs.spec_hosts.Ends.{bytes_written, are_many, is_due, taken_by, EndsAs}
 use Rattle.spec_traces.specs.spec_hosts.declared.ran.RunEnd.{RunEnd}

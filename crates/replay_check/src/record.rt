@@ -1,5 +1,5 @@
 // Making the trace of a run: it is made again over its answers, and each host call is noted.
-ghost use Rattle.std.specs.Prelude.{◌≡◌, ◌<◌, ◌≤◌, ◌^◌, length, slice_get, Some, IfOk, OnOk};
+ghost use Rattle.std.specs.Prelude.{◌≡◌, ◌≢◌, ◌<◌, ◌≤◌, ◌^◌, length, slice_get, Some, IfOk, OnOk};
 ghost use Rattle.spec_traces.specs.spec_hosts.spec_runtime.Courses.{no_steps};
 ghost use Rattle.spec_traces.specs.Texts.{run_end, IsCallInRange, IsEndInRange, IsInRange};
 ghost use Rattle.spec_traces.specs.Traces.{IsTraceOf};
@@ -18,8 +18,9 @@ use spec_traces::spec_hosts::{Ran, RunEnd};
 use spec_traces::{Trace, TraceCall, TraceEnd};
 use std::alloc::Global;
 
-/// The end of a run, as a trace tells it.
+/// The end of a single run, as a trace tells it.
 fn end_of(end: RunEnd) -> TraceEnd
+    requires { end ≢ RunEnd.TurnLimit }
     ensures same { run_end result ≡ end }
     ensures range { IsEndInRange result }
 {
@@ -30,6 +31,7 @@ fn end_of(end: RunEnd) -> TraceEnd
         RunEnd::StepLimit => TraceEnd::StepLimit,
         RunEnd::DepthLimit => TraceEnd::DepthLimit,
         RunEnd::HostCallLimit => TraceEnd::HostCallLimit,
+        RunEnd::TurnLimit => unreachable!(),
     }
 }
 

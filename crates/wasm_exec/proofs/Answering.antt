@@ -1,8 +1,7 @@
 -- A run whose host call is answered.
-use Rattle.std.proofs.Common.{◌≡◌, ℕ, ◌<◌, ◌+◌, true, false, List, [], ◌∷◌, ◌++◌, length, map, sum, take, slice_get, Option, Some, IsTrue, refl, sym, ap, ◌∙◌, subst}
+use Rattle.std.proofs.Common.{◌≡◌, ℕ, ◌<◌, ◌+◌, true, false, List, [], ◌∷◌, ◌++◌, length, map, take, slice_get, Option, Some, IsTrue, refl, sym, ap, ◌∙◌, subst}
 use Rattle.std.proofs.Math.Nat.{sub-zero}
 use Rattle.std.proofs.Math.Seq.{take-length}
-use Rattle.std.proofs.lemmas.List.Sums.{sum-map, sum_by_push}
 use Rattle.std.proofs.lemmas.Option.{same_Some}
 use Rattle.spec_hosts.specs.wasm_form.declared.runtime.Trap.{Trap}
 use Rattle.spec_hosts.specs.wasm_form.declared.runtime.Answer.{Answer}
@@ -20,6 +19,7 @@ use Rattle.dyl_link.specs.host_table.Names.{host_name_of}
 use Rattle.dyl_link.specs.host_table.declared.host.HostName as code
 use Rattle.spec_hosts.specs.spec_runtime.Courses.{Course, reached, status_at, memory_at, IsAt, with_answer}
 use Rattle.wasm_machine.specs.Steps.{Awaits}
+use Rattle.run_limits.proofs.Answered.{written_more}
 use Rattle.run_loaded.proofs.Hosts.{entry_within}
 use Rattle.wasm_exec.specs.Driving.{Progress, IsAskedOf, event_reached, IsRunning, IsReady, IsDriven, IsPrepared}
 use Rattle.wasm_exec.proofs.Hosting.{hosted_last}
@@ -42,9 +42,6 @@ asked_call_of host (Trapped why) asked asks = absurd asks
 
 pub taken_all : (given : List Answer) → taken_of given [] ≡ given
 taken_all given = ap (λ n. take n given) (sub-zero (length given)) ∙ take-length given
-
-written_more : (given : List Answer) (a : Answer) → sum (map bytes_written (given ++ a ∷ [])) ≡ sum (map bytes_written given) + bytes_written a
-written_more given a = sum-map bytes_written (given ++ a ∷ []) ∙ sum_by_push bytes_written given a ∙ ap (λ n. n + bytes_written a) (sym (sum-map bytes_written given))
 
 module _ (C : Course) (names : HostNames) (p : Progress) (running : IsRunning C names p) where
   abbrev old : Recorded

@@ -7,7 +7,7 @@ use Rattle.spec_traces.specs.Texts.{IsCallInRange}
 use Rattle.run_loaded.specs.Courses.{course_of}
 use Rattle.run_loaded.specs.Programs.{recorded_of}
 use Rattle.run_loaded.proofs.Openings.{opening_moves}
-use Rattle.replay_check.proofs.Recording.{begins_so, is_trace}
+use Rattle.replay_check.proofs.Recording.{begins_so, ends_alone, is_trace}
 use Rattle.replay_check.proofs.record.traced.Goals as goal
 
 pub make_steps-made-requires : goal.make_steps-made-requires
@@ -15,6 +15,9 @@ make_steps-made-requires c =
     let begun = c.requires.run in
     let o = begun.0 in
     (o, (begun.1, begun.2, begins_so (course_of o) c.args.ran.now c.new.result.items (recorded_of c.args.loaded) (opening_moves c.args.loaded o begun.1) c.new.ensures.items c.requires.fresh))
+
+pub end_of-requires : goal.end_of-requires
+end_of-requires c = let begun = c.requires.run in ends_alone (course_of begun.0) c.args.ran.now begun.2
 
 pub returns-in-Ok-clause-traces : goal.returns-in-Ok-clause-traces
 returns-in-Ok-clause-traces c = λ o of has.

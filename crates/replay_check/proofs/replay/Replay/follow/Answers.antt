@@ -1,5 +1,5 @@
 -- Up to the call that doesn't agree, or with all.
-use Rattle.std.proofs.Common.{◌≡◌, ◌≤◌, ◌+◌, suc, length, inl, inr, refl, ap, sym, ◌∙◌, subst, arith}
+use Rattle.std.proofs.Common.{◌≡◌, ◌+◌, suc, length, inl, inr, refl, ap, sym, ◌∙◌, subst, arith}
 use Rattle.run_loaded.specs.Courses.{course_of}
 use Rattle.replay_check.specs.Following.{run_of, Follows, HasAgreed}
 use Rattle.replay_check.proofs.Asking.{full_due}

@@ -1,5 +1,5 @@
 -- The next call of the trace agrees, or why it doesn't.
-use Rattle.std.proofs.Common.{◌≡◌, ◌<◌, ◌≤◌, sym, ◌∙◌, arith}
+use Rattle.std.proofs.Common.{arith}
 use Rattle.run_loaded.specs.Courses.{course_of}
 use Rattle.replay_check.specs.Following.{run_of}
 use Rattle.replay_check.proofs.Deciding.{not_above, not_behind, not_held}

@@ -1,4 +1,4 @@
-use Rattle.std.proofs.Common.{◌≤◌, arith}
+use Rattle.std.proofs.Common.{arith}
 use Rattle.replay_check.proofs.replay.Replay.reach.Goals as goal
 
 pub returns-then-not-branch-clause-along : goal.returns-then-not-branch-clause-along

@@ -1,9 +1,8 @@
 -- The limits, and the ends of its own.
-use Rattle.std.proofs.Common.{◌∙◌, sym, refl, subst}
-use Rattle.std.specs.Prelude.{Decides}
+use Rattle.std.proofs.Common.{refl}
 use Rattle.run_loaded.specs.Courses.{course_of}
 use Rattle.spec_traces.specs.spec_hosts.spec_runtime.Courses.{state_at}
-use Rattle.replay_check.specs.Following.{run_of, StandsAt}
+use Rattle.replay_check.specs.Following.{run_of}
 use Rattle.replay_check.proofs.Ending.{own_ends, limit_ends, full_ends}
 use Rattle.replay_check.proofs.replay.Replay.stands_at.Goals as goal
 

@@ -1,8 +1,8 @@
 -- The answer of the call that the run waits for is taken.
-use Rattle.std.proofs.Common.{◌≡◌, ◌<◌, ◌+◌, false, ap, refl, subst, sym, ◌∙◌, arith}
+use Rattle.std.proofs.Common.{◌≡◌, ◌+◌, false, ap, refl, subst, sym, ◌∙◌, arith}
 use Rattle.spec_traces.specs.spec_hosts.Ends.{bytes_written}
 use Rattle.spec_traces.specs.spec_hosts.spec_runtime.Courses.{IsAt, with_answer, is_waiting}
-use Rattle.wasm_machine.specs.Steps.{Awaits, RunStepped}
+use Rattle.wasm_machine.specs.Steps.{RunStepped}
 use Rattle.run_loaded.specs.Courses.{course_of}
 use Rattle.run_loaded.specs.Programs.{recorded_of}
 use Rattle.replay_check.specs.Following.{run_of}
