@@ -1,23 +1,23 @@
 // The call that does all that the program does.
-ghost use Rattle.std.specs.Prelude.{◌≡◌, ◌≤◌, ℕ, [], true, false, Ok};
+ghost use Rattle.std.specs.Prelude.{◌≡◌, ◌<◌, ◌≤◌, ℕ, [], length, true, false, Ok};
 ghost use Rattle.std.specs.Option.{ForSome};
 ghost use Rattle.std.specs.FinMap.{get};
 ghost use Rattle.spec_hosts.specs.dyl_outside.Files.{FilesState};
 ghost use Rattle.host_calls.specs.Embedders.{names_of, embedder_of};
 ghost use Rattle.dyl_link.specs.dyl_search.Gathers.{options_of};
 ghost use Rattle.dyl_link.specs.Kept as links;
+ghost use Rattle.slice_board.specs.Taken.{picks_of};
 ghost use Rattle.dyl_front.specs.Orders.{order_of, IsLinkInRange, IsInRange};
 ghost use Rattle.dyl_commands.specs.Due.{DueFor, TellsFor, is_done, Yields, IsComplete};
 ghost use Rattle.dyl_commands.specs.Files.{LeavesFor};
 ghost use Rattle.dyl_commands.specs.Causes.{Caused, has_inner_memory};
+ghost use Rattle.dyl_commands.specs.Counts.{Counts};
 ghost use Rattle.dyl_commands.specs.Told.{TellsErrors};
 ghost use Rattle.dyl_commands.specs.Served.{Serves};
 ghost use Rattle.dyl_commands.specs.Runs.{guest_arguments, PlanWorks, GenWorks};
-ghost use Rattle.dyl_commands.specs.Clauses.{DoesBy, RunDoes, ExecDoes, TraceDoes};
+ghost use Rattle.dyl_commands.specs.Clauses.{DoesBy, RunDoes, ExecDoes, TraceDoes, BoardDoes};
 
-use dyl_commands::{
-    exec_file, gen_main, merge_main, plan_main, replay_main, run_main, tell, trace_main,
-};
+use dyl_commands::{board_main, exec_file, gen_main, merge_main, plan_main, run_main, tell};
 use dyl_front::{Order, Outcome, WordFault, read_words};
 use dyl_gen::generated_set_links;
 use dyl_link::LinkOptions;
@@ -25,6 +25,8 @@ use dyl_link::dyl_search::SetOptions;
 use dyl_link::dyl_section::one_record_answer;
 use dyl_link::host_table::HostTable;
 use replay_check::runs_agree_up_to_one_call;
+use replay_commands::{replay_main, trace_main};
+use slice_exec::Picker;
 use spec_hosts::dyl_outside::{Ambient, Files, Sink, Source};
 use spec_linking::one_gathered;
 use spec_merging::wasm_form::Text;
@@ -44,6 +46,7 @@ fn perform_merge<F: Files, E: Sink>(
 ) -> Outcome
     requires { IsLinkInRange link.now }
     ensures serves { (before now : ℕ) → Serves (names_of host.now) (Ok (Order.Merge set.now link.now out.now)) result (F.seen files.old) (F.seen files.new) before now }
+    ensures counts { Counts (Ok (Order.Merge set.now link.now out.now)) result (F.seen files.old) (F.seen files.new) }
     ensures told { TellsErrors result (E.seen errors.old) (E.seen errors.new) }
     ensures quiet { is_done result ≡ true → errors.new ≡ errors.old }
 {
@@ -63,6 +66,7 @@ fn perform_plan<F: Files, O: Sink, E: Sink>(
 ) -> Outcome
     requires { IsLinkInRange link.now }
     ensures serves { Serves (names_of host.now) (Ok (Order.Plan set.now link.now)) result (F.seen files.old) (F.seen files.new) (O.seen output.old).faults (O.seen output.new).faults }
+    ensures counts { Counts (Ok (Order.Plan set.now link.now)) result (F.seen files.old) (F.seen files.new) }
     ensures works { PlanWorks (F.seen files.old).told (names_of host.now) (options_of set.now) (links.options_of link.now) result (O.seen output.old) (O.seen output.new) }
     ensures told { TellsErrors result (E.seen errors.old) (E.seen errors.new) }
     ensures quiet { is_done result ≡ true → errors.new ≡ errors.old }
@@ -88,6 +92,7 @@ fn perform_run<F: Files, I: Source, O: Sink, E: Sink, A: Ambient>(
     requires link { IsLinkInRange link.now }
     requires steps { steps ≤ 9223372036854775807 }
     ensures serves { Serves (names_of host.now) (Ok (Order.Run set.now link.now steps args.now)) result (F.seen files.old) (F.seen files.new) (O.seen output.old).faults (O.seen output.new).faults }
+    ensures counts { Counts (Ok (Order.Run set.now link.now steps args.now)) result (F.seen files.old) (F.seen files.new) }
     ensures does { RunDoes host.now (F.seen files.old) set.now link.now steps args.now result (I.seen input.old) (O.seen output.old) (E.seen errors.old) (A.seen ambient.old) (I.seen input.new) (O.seen output.new) (E.seen errors.new) (A.seen ambient.new) }
     ensures quiet { is_done result ≡ true → errors.new ≡ errors.old }
 {
@@ -112,6 +117,7 @@ fn perform_exec<F: Files, I: Source, O: Sink, E: Sink, A: Ambient>(
 ) -> Outcome
     requires { steps ≤ 9223372036854775807 }
     ensures serves { Serves (names_of host.now) (Ok (Order.Exec file.now steps args.now)) result (F.seen files.old) (F.seen files.new) (O.seen output.old).faults (O.seen output.new).faults }
+    ensures counts { Counts (Ok (Order.Exec file.now steps args.now)) result (F.seen files.old) (F.seen files.new) }
     ensures does { ExecDoes host.now (F.seen files.old) file.now steps args.now result (I.seen input.old) (O.seen output.old) (E.seen errors.old) (A.seen ambient.old) (I.seen input.new) (O.seen output.new) (E.seen errors.new) (A.seen ambient.new) }
     ensures quiet { is_done result ≡ true → errors.new ≡ errors.old }
 {
@@ -162,6 +168,7 @@ fn perform_trace<F: Files, I: Source, O: Sink, E: Sink, A: Ambient>(
     requires link { IsLinkInRange link.now }
     requires steps { steps ≤ 9223372036854775807 }
     ensures serves { Serves (names_of host.now) (Ok (Order.Trace one set.now link.now steps out.now args.now)) result (F.seen files.old) (F.seen files.new) (O.seen output.old).faults (O.seen output.new).faults }
+    ensures counts { Counts (Ok (Order.Trace one set.now link.now steps out.now args.now)) result (F.seen files.old) (F.seen files.new) }
     ensures does { TraceDoes host.now (F.seen files.old) one set.now link.now steps out.now args.now result (I.seen input.old) (O.seen output.old) (E.seen errors.old) (A.seen ambient.old) (I.seen input.new) (O.seen output.new) (E.seen errors.new) (A.seen ambient.new) }
     ensures quiet { is_done result ≡ true → errors.new ≡ errors.old }
 {
@@ -185,11 +192,44 @@ fn perform_replay<F: Files, E: Sink>(
 ) -> Outcome
     requires { IsLinkInRange link.now }
     ensures serves { (before now : ℕ) → Serves (names_of host.now) (Ok (Order.Replay one trace.now set.now link.now steps)) result (F.seen files.old) (F.seen files.new) before now }
+    ensures counts { Counts (Ok (Order.Replay one trace.now set.now link.now steps)) result (F.seen files.old) (F.seen files.new) }
     ensures told { TellsErrors result (E.seen errors.old) (E.seen errors.new) }
     ensures quiet { is_done result ≡ true → errors.new ≡ errors.old }
 {
     let replayed = replay_main(alloc, one, trace, set, link, steps, files, host);
     tell(alloc, replayed, errors)
+}
+
+/// Runs several sets in turns, and tells what came of them.
+fn perform_board<F: Files, I: Source, O: Sink, E: Sink, A: Ambient>(
+    alloc: Global,
+    mains: &[Text],
+    link: &LinkOptions,
+    steps: u64,
+    slice: u32,
+    turns: u32,
+    files: &mut F,
+    input: &mut I,
+    output: &mut O,
+    errors: &mut E,
+    ambient: &mut A,
+    host: &HostTable,
+    picker: &Picker,
+) -> Outcome
+    requires link { IsLinkInRange link.now }
+    requires steps { steps ≤ 9223372036854775807 }
+    requires some { 0 < length mains.now }
+    requires few { length mains.now ≤ 64 }
+    ensures serves { Serves (names_of host.now) (Ok (Order.Board mains.now link.now steps slice turns)) result (F.seen files.old) (F.seen files.new) (O.seen output.old).faults (O.seen output.new).faults }
+    ensures counts { Counts (Ok (Order.Board mains.now link.now steps slice turns)) result (F.seen files.old) (F.seen files.new) }
+    ensures does { BoardDoes host.now (picks_of picker.now) (F.seen files.old) mains.now link.now steps slice turns result (I.seen input.old) (O.seen output.old) (E.seen errors.old) (A.seen ambient.old) (I.seen input.new) (O.seen output.new) (E.seen errors.new) (A.seen ambient.new) }
+    ensures quiet { is_done result ≡ true → errors.new ≡ errors.old }
+{
+    let board = board_main(
+        alloc, mains, link, steps, slice, turns, files, input, output, errors, ambient, host,
+        picker,
+    );
+    tell(alloc, board, errors)
 }
 
 /// Does what an order asks for, and answers what came of it, as `serve` does for words.
@@ -202,6 +242,7 @@ pub fn perform<F: Files, I: Source, O: Sink, E: Sink, A: Ambient>(
     errors: &mut E,
     ambient: &mut A,
     host: &HostTable,
+    picker: &Picker,
 ) -> Outcome
     requires { IsInRange order.now }
     ensures due { ForSome (F.seen files.old).told (λ told. (due : Outcome) → DueFor (names_of host.now) (get told) (Ok order.now) due → Yields (Ok order.now) due result) }
@@ -210,7 +251,8 @@ pub fn perform<F: Files, I: Source, O: Sink, E: Sink, A: Ambient>(
     ensures complete { ForSome (F.seen files.old).told (λ told. IsComplete (names_of host.now) (get told) (Ok order.now) result (F.seen files.old) (F.seen files.new) (O.seen output.old).faults (O.seen output.new).faults) }
     ensures caused { Caused (names_of host.now) (Ok order.now) result (F.seen files.old) (F.seen files.new) (O.seen output.old).faults (O.seen output.new).faults }
     ensures inner { has_inner_memory result ≡ false }
-    ensures does { DoesBy host.now (F.seen files.old) (Ok order.now) result (I.seen input.old) (O.seen output.old) (E.seen errors.old) (A.seen ambient.old) (I.seen input.new) (O.seen output.new) (E.seen errors.new) (A.seen ambient.new) }
+    ensures counts { Counts (Ok order.now) result (F.seen files.old) (F.seen files.new) }
+    ensures does { DoesBy host.now (picks_of picker.now) (F.seen files.old) (Ok order.now) result (I.seen input.old) (O.seen output.old) (E.seen errors.old) (A.seen ambient.old) (I.seen input.new) (O.seen output.new) (E.seen errors.new) (A.seen ambient.new) }
     ensures quiet { is_done result ≡ true → errors.new ≡ errors.old }
 {
     reading_answers();
@@ -296,6 +338,27 @@ pub fn perform<F: Files, I: Source, O: Sink, E: Sink, A: Ambient>(
             errors,
             host,
         ),
+        Order::Board {
+            mains,
+            link,
+            steps,
+            slice,
+            turns,
+        } => perform_board(
+            alloc,
+            mains.items(),
+            link,
+            *steps,
+            *slice,
+            *turns,
+            files,
+            input,
+            output,
+            errors,
+            ambient,
+            host,
+            picker,
+        ),
     }
 }
 
@@ -315,12 +378,18 @@ pub fn perform<F: Files, I: Source, O: Sink, E: Sink, A: Ambient>(
 ///   at OUT: its host calls with their answers, its steps and its end. A trace of more than 67,108,864 bytes is not written.
 /// - `replay TRACE MAIN` checks that the file at TRACE is the trace of a run of the set, or with `--one` of the module at the path MAIN: it is
 ///   done exactly where the steps of that program over the answers of the trace come to its host calls and to its end.
+/// - `board MAIN` gathers and links the set of each of 1 to 64 main modules, and runs them in turns. A turn is of the program that the picker
+///   answers for the turn's number, from 0, and the number of programs. It stops where the program has ended, where its steps are used up, where
+///   it waits at a host call, after 1,000 steps, or as many as `--slice` says, or where a limit of depth is due; a call is answered before the
+///   next turn. There are turns until each program has ended or has a limit due, and at most 1,048,576, or as many as `--turns` says.
 ///
-/// A run of `run`, `exec` and `trace` makes at most 1,000,000,000 steps, or as many as `--steps` says, and so does one that is replayed. Calls
-/// of `wasi_snapshot_preview1` are answered over the input, the output, the errors, the clock and the random words, and others by the
-/// callbacks of the table. The options of a set are `--dl`, `--path`, `--pages`, `--stack` and `--no-duplicates`.
+/// A run of `run`, `exec` and `trace` makes at most 1,000,000,000 steps, or as many as `--steps` says, and so does one that is replayed, and
+/// each program of a board. Calls of `wasi_snapshot_preview1` are answered over the input, the output, the errors, the clock and the random
+/// words, and others by the callbacks of the table. The options of a set are `--dl`, `--path`, `--pages`, `--stack` and `--no-duplicates`, those
+/// of the sets of a board `--pages` and `--stack`.
 ///
-/// What is not done, and the end of a run that neither returned nor exited, is told by one line, which is put to the errors at the end.
+/// What is not done, and the end of a run that neither returned nor exited, is told by one line, which is put to the errors at the end; a board
+/// has one for each program that ended so, all in one put.
 pub fn serve<F: Files, I: Source, O: Sink, E: Sink, A: Ambient>(
     alloc: Global,
     words: &[String],
@@ -330,6 +399,7 @@ pub fn serve<F: Files, I: Source, O: Sink, E: Sink, A: Ambient>(
     errors: &mut E,
     ambient: &mut A,
     host: &HostTable,
+    picker: &Picker,
 ) -> Outcome
     // The answer is the outcome that is due over the files that are told, and what it tells of them holds.
     ensures due { ForSome (F.seen files.old).told (λ told. (due : Outcome) → DueFor (names_of host.now) (get told) (order_of words.now) due → Yields (order_of words.now) due result) }
@@ -339,17 +409,20 @@ pub fn serve<F: Files, I: Source, O: Sink, E: Sink, A: Ambient>(
     // Where the files are what the order needs and nothing of them fails, it is done.
     ensures complete { ForSome (F.seen files.old).told (λ told. IsComplete (names_of host.now) (get told) (order_of words.now) result (F.seen files.old) (F.seen files.new) (O.seen output.old).faults (O.seen output.new).faults) }
 
-    // Whatever is told: when each answer may come. Want of memory is an answer of its own.
+    // Whatever is told: when each answer may come, and which calls on files failed or found none. Want of memory is an answer of its own.
     ensures caused { Caused (names_of host.now) (order_of words.now) result (F.seen files.old) (F.seen files.new) (O.seen output.old).faults (O.seen output.new).faults }
     ensures inner { has_inner_memory result ≡ false }
+    ensures counts { Counts (order_of words.now) result (F.seen files.old) (F.seen files.new) }
 
     // What a run does to the outside; and the line of the answer, which is put last.
-    ensures does { DoesBy host.now (F.seen files.old) (order_of words.now) result (I.seen input.old) (O.seen output.old) (E.seen errors.old) (A.seen ambient.old) (I.seen input.new) (O.seen output.new) (E.seen errors.new) (A.seen ambient.new) }
+    ensures does { DoesBy host.now (picks_of picker.now) (F.seen files.old) (order_of words.now) result (I.seen input.old) (O.seen output.old) (E.seen errors.old) (A.seen ambient.old) (I.seen input.new) (O.seen output.new) (E.seen errors.new) (A.seen ambient.new) }
     ensures quiet { is_done result ≡ true → errors.new ≡ errors.old }
 {
     match read_words(alloc, words) {
         Ok(order) => {
-            let outcome = perform(alloc, &order, files, input, output, errors, ambient, host);
+            let outcome = perform(
+                alloc, &order, files, input, output, errors, ambient, host, picker,
+            );
             drop(order);
             outcome
         }

@@ -1,5 +1,5 @@
 -- Outcomes that are the same but for what came of runs. At most one is due of a set, and of the one file that is run.
-use Rattle.std.proofs.Common.{◌≡◌, ℕ, List, [], Option, Some, None, Result, Ok, Err, refl, sym, ap, ◌∙◌, subst}
+use Rattle.std.proofs.Common.{◌≡◌, ◌⊎◌, ℕ, List, [], ◌∷◌, Option, Some, None, Result, Ok, Err, refl, sym, ap, ◌∙◌, subst, inl, inr}
 use Rattle.wasm_form.specs.declared.module.Module.{Module}
 use Rattle.spec_hosts.specs.spec_runtime.Names.{HostNames}
 use Rattle.spec_loading.specs.spec_execution.declared.fault.SingleFault.{SingleFault}
@@ -7,7 +7,7 @@ use Rattle.spec_loading.specs.spec_execution.OneModule.{ModuleState, module_open
 use Rattle.spec_hosts.specs.declared.ran.RunEnd.TheVariants as end
 use Rattle.spec_loading.specs.spec_linking.declared.fault.LinkFault.{LinkFault}
 use Rattle.spec_loading.specs.spec_linking.declared.fault.SetFault.{SetFault}
-use Rattle.spec_loading.specs.spec_linking.Sets.{Files, ClosedSet, SetOptions}
+use Rattle.spec_loading.specs.spec_linking.Sets.{Files, ClosedSet, SetOptions, default_options}
 use Rattle.spec_loading.specs.spec_linking.Gathering.{IsGathered}
 use Rattle.spec_loading.specs.spec_linking.Plans.{LinkOptions}
 use Rattle.spec_loading.specs.spec_linking.Links.{link_fault}
@@ -16,10 +16,11 @@ use Rattle.dyl_gen.specs.Laws.{NeedsThreePages}
 use Rattle.spec_traces.specs.Laws.{OneTrace}
 use Rattle.replay_check.specs.Laws.{OneAgreeing}
 use Rattle.dyl_front.specs.declared.outcome.Outcome.{Outcome}
-use Rattle.dyl_front.specs.declared.outcome.Outcome.TheVariants.{Done, Ran, Set, Link, Single}
+use Rattle.dyl_front.specs.declared.outcome.Outcome.TheVariants.{Done, Ran, Board, Set, Link, Single}
 use Rattle.dyl_commands.specs.OneFile.{OfFile}
-use Rattle.dyl_commands.specs.Linking.{linked, FaultDue}
-use Rattle.dyl_commands.specs.Due.{MergeDue, RunDue, PlanDue, ExecDue}
+use Rattle.dyl_commands.specs.Linking.{linked, LinksAt, FaultDue}
+use Rattle.dyl_commands.specs.Sets.{AllLink, FirstFault}
+use Rattle.dyl_commands.specs.Due.{MergeDue, RunDue, PlanDue, ExecDue, BoardDue}
 use Rattle.dyl_commands.proofs.OneFile.{one_of_file}
 
 -- what is so of definitions
@@ -35,8 +36,13 @@ pub record Laws : Type 0 where
 abbrev pub any_run : Outcome
 any_run = Ran (record { end = end.Return; steps = 0; answers = [] })
 
+-- and some run of a board
+abbrev pub any_board : Outcome
+any_board = Board (record { runs = []; picks = [] })
+
 abbrev pub canon : Outcome → Outcome
 canon (Ran ran) = any_run
+canon (Board ran) = any_board
 canon (Done runs) = Done []
 canon outcome = outcome
 
@@ -98,6 +104,48 @@ module _ (laws : Laws) (names : HostNames) (files : Files) (o : SetOptions) (l :
 
   pub one_plan_due : (a b : Outcome) → PlanDue names files o l a → PlanDue names files o l b → Alike a b
   one_plan_due a b h k = one_set_due laws names files o l (Done []) a b (plan_by a h) (plan_by b k)
+
+-- ---- several sets
+
+module _ (laws : Laws) (names : HostNames) (files : Files) (l : LinkOptions) where
+  -- the first of them that has a fault has this one, or there is none
+  abbrev AllBy : List (List ℕ) → Outcome → Type 0
+  AllBy [] due = canon due ≡ any_board
+  AllBy (main ∷ mains) due = FaultDue names files (default_options main) l due ⊎ (LinksAt names files (default_options main) l × AllBy mains due)
+
+  all_linked : (mains : List (List ℕ)) (due : Outcome) → canon due ≡ any_board → AllLink names files mains l → AllBy mains due
+  all_linked [] due same d = same
+  all_linked (main ∷ mains) due same d = inr (d.0, all_linked mains due same d.1)
+
+  first_fault : (mains : List (List ℕ)) (due : Outcome) → FirstFault names files mains l due → AllBy mains due
+  first_fault [] due d = absurd d
+  first_fault (main ∷ mains) due (inl d) = inl d
+  first_fault (main ∷ mains) due (inr d) = inr (d.0, first_fault mains due d.1)
+
+  all_by : (mains : List (List ℕ)) (due : Outcome) → BoardDue names files mains l due → AllBy mains due
+  all_by mains (Board ran) d = all_linked mains (Board ran) refl d
+  all_by mains due d = first_fault mains due d
+
+  -- a set that links has no fault
+  no_fault : (o : SetOptions) (due : Outcome) → FaultDue names files o l due → LinksAt names files o l → ⊥
+  no_fault o due d links =
+      not_done due d (one_set_due laws names files o l (Done []) due (Done []) (fault_by laws names files o l (Done []) due d) (links_by laws names files o l (Done []) (Done []) links.set links.gathered links.links refl))
+    where
+      not_done : (due : Outcome) → FaultDue names files o l due → canon due ≡ Done [] → ⊥
+      not_done (Set fault) d same = absurd cc
+      not_done (Link fault) d same = absurd cc
+      not_done _ d same = absurd d
+
+  one_all : (mains : List (List ℕ)) (a b : Outcome) → AllBy mains a → AllBy mains b → Alike a b
+  one_all [] a b h k = h ∙ sym k
+  one_all (main ∷ mains) a b (inl h) (inl k) =
+      one_set_due laws names files (default_options main) l (Done []) a b (fault_by laws names files (default_options main) l (Done []) a h) (fault_by laws names files (default_options main) l (Done []) b k)
+  one_all (main ∷ mains) a b (inl h) (inr k) = absurd (no_fault (default_options main) a h k.0)
+  one_all (main ∷ mains) a b (inr h) (inl k) = absurd (no_fault (default_options main) b k h.0)
+  one_all (main ∷ mains) a b (inr h) (inr k) = one_all mains a b h.1 k.1
+
+  pub one_board_due : (mains : List (List ℕ)) (a b : Outcome) → BoardDue names files mains l a → BoardDue names files mains l b → Alike a b
+  one_board_due mains a b h k = one_all mains a b (all_by mains a h) (all_by mains b k)
 
 -- ---- one module
 

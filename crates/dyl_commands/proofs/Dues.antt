@@ -1,5 +1,5 @@
 -- At most one outcome is due; so what an answer tells says what it is where one is due.
-use Rattle.std.proofs.Common.{◌≡◌, ◌⊎◌, ◌<◌, ◌≤◌, ◌^◌, arith, ℕ, nat_le, List, [], Bool, true, false, cond, Some, None, Result, Ok, Err, refl, sym, ap, ◌∙◌, subst, inl, inr}
+use Rattle.std.proofs.Common.{◌≡◌, ◌⊎◌, ◌<◌, ◌≤◌, ◌^◌, arith, ℕ, nat_le, List, [], ◌∷◌, Bool, true, false, cond, Some, None, Result, Ok, Err, refl, sym, ap, ◌∙◌, subst, inl, inr}
 use Rattle.std.proofs.lemmas.Bool.Decides.{nat_tests}
 use Rattle.std.specs.Option.{ForSome}
 use Rattle.std.specs.FinMap.{get}
@@ -7,6 +7,7 @@ use Rattle.spec_hosts.specs.dyl_outside.Files.{FilesState}
 use Rattle.spec_hosts.specs.dyl_outside.Faults.{Rose}
 use Rattle.spec_hosts.specs.spec_runtime.Names.{HostNames}
 use Rattle.spec_hosts.specs.declared.ran.Ran as ran
+use Rattle.spec_boards.specs.declared.ran.BoardRan as boards
 use Rattle.spec_loading.specs.spec_linking.declared.fault.LinkFault.{LinkFault}
 use Rattle.spec_loading.specs.spec_linking.declared.fault.LinkFault.TheVariants.{MemoryLimit}
 use Rattle.spec_loading.specs.spec_linking.declared.fault.SetFault.{SetFault}
@@ -30,16 +31,17 @@ use Rattle.dyl_link.specs.declared.options.LinkOptions as linking
 use Rattle.dyl_link.specs.Kept as links
 use Rattle.dyl_front.specs.declared.outcome.UsageKind.{UsageKind}
 use Rattle.dyl_front.specs.declared.outcome.Outcome.{Outcome}
-use Rattle.dyl_front.specs.declared.outcome.Outcome.TheVariants.{Done, Ran, Usage, Set, Link, Merge, Single, Gen, Trace, TooLong, WriteFault, Memory}
+use Rattle.dyl_front.specs.declared.outcome.Outcome.TheVariants.{Done, Ran, Board, Usage, Set, Link, Merge, Single, Gen, Trace, TooLong, WriteFault, Memory}
 use Rattle.dyl_front.specs.declared.order.Order.{Order}
 use Rattle.dyl_front.specs.declared.order.Order.TheVariants as order
 use Rattle.dyl_commands.specs.Linking.{linked, LinksAt}
 use Rattle.dyl_commands.specs.Traced.{LoadFault, ReplayDue}
 use Rattle.dyl_commands.specs.Generated.{GenDue}
-use Rattle.dyl_commands.specs.Due.{MergeDue, RunDue, PlanDue, ExecDue, TraceDue, DueFor, TellsFor, MergeFaultTells, TooLongTells, WriteFaultTells, is_run, is_done, is_written, is_traced, Yields, IsComplete}
+use Rattle.dyl_commands.specs.Sets.{FirstFault}
+use Rattle.dyl_commands.specs.Due.{MergeDue, RunDue, PlanDue, ExecDue, TraceDue, BoardDue, DueFor, TellsFor, MergeFaultTells, TooLongTells, WriteFaultTells, is_run, is_board, is_done, is_written, is_traced, Yields, IsComplete}
 use Rattle.dyl_commands.specs.Causes.{ProgramCause, FaultCause, WriteCause, IsTraceOrder, Caused}
 use Rattle.dyl_commands.specs.Served.{Serves}
-use Rattle.dyl_commands.proofs.Alike.{Laws, any_run, canon, Alike, verdict, one_merge_due, one_run_due, one_plan_due, one_exec_due}
+use Rattle.dyl_commands.proofs.Alike.{Laws, any_run, any_board, canon, Alike, verdict, one_merge_due, one_run_due, one_plan_due, one_exec_due, one_board_due}
 use Rattle.dyl_commands.proofs.Programs.{run_due}
 use Rattle.dyl_commands.proofs.OneReplay.{one_replay_due}
 
@@ -85,12 +87,14 @@ read_rose old new true path at h = h.1.rose
 -- an outcome carries what came of runs
 abbrev carries_runs : Outcome → Bool
 carries_runs (Ran ran) = true
+carries_runs (Board ran) = true
 carries_runs (Done runs) = true
 carries_runs _ = false
 
 -- one that doesn't is itself
 canon_is : (outcome : Outcome) → carries_runs outcome ≡ false → canon outcome ≡ outcome
 canon_is (Ran ran) none = absurd cc
+canon_is (Board ran) none = absurd cc
 canon_is (Done runs) none = absurd cc
 canon_is (Usage kind) none = refl
 canon_is (Set fault) none = refl
@@ -104,9 +108,11 @@ canon_is WriteFault none = refl
 canon_is Memory none = refl
 
 -- what is the same of an outcome, whatever its runs are
-module _ (test : Outcome → Bool) (of_runs : (r : ran.Ran) → test any_run ≡ test (Ran r)) (of_done : (rs : List ran.Ran) → test (Done []) ≡ test (Done rs)) where
+module _ (test : Outcome → Bool) (of_runs : (r : ran.Ran) → test any_run ≡ test (Ran r)) (of_boards : (r : boards.BoardRan) → test any_board ≡ test (Board r))
+    (of_done : (rs : List ran.Ran) → test (Done []) ≡ test (Done rs)) where
   canon_tests : (outcome : Outcome) → test (canon outcome) ≡ test outcome
   canon_tests (Ran r) = of_runs r
+  canon_tests (Board r) = of_boards r
   canon_tests (Done rs) = of_done rs
   canon_tests (Usage kind) = refl
   canon_tests (Set fault) = refl
@@ -123,13 +129,16 @@ module _ (test : Outcome → Bool) (of_runs : (r : ran.Ran) → test any_run ≡
   alike_tests due answer alike = sym (canon_tests due) ∙ ap test alike ∙ canon_tests answer
 
 a_run : (due answer : Outcome) → Alike due answer → is_run due ≡ is_run answer
-a_run = alike_tests is_run (λ r. refl) (λ rs. refl)
+a_run = alike_tests is_run (λ r. refl) (λ r. refl) (λ rs. refl)
 
 a_done : (due answer : Outcome) → Alike due answer → is_done due ≡ is_done answer
-a_done = alike_tests is_done (λ r. refl) (λ rs. refl)
+a_done = alike_tests is_done (λ r. refl) (λ r. refl) (λ rs. refl)
+
+a_board : (due answer : Outcome) → Alike due answer → is_board due ≡ is_board answer
+a_board = alike_tests is_board (λ r. refl) (λ r. refl) (λ rs. refl)
 
 no_runs : (due answer : Outcome) → carries_runs answer ≡ false → Alike due answer → due ≡ answer
-no_runs due answer none alike = sym (canon_is due (alike_tests carries_runs (λ r. refl) (λ rs. refl) due answer alike ∙ none)) ∙ alike ∙ canon_is answer none
+no_runs due answer none alike = sym (canon_is due (alike_tests carries_runs (λ r. refl) (λ r. refl) (λ rs. refl) due answer alike ∙ none)) ∙ alike ∙ canon_is answer none
 
 -- ---- what is asked
 
@@ -150,6 +159,12 @@ module _ (laws : Laws) (names : HostNames) (files : Files) (o : SetOptions) (l :
   no_replay_usage one path most kind (inl h) = h
   no_replay_usage one path most kind (inr h) = no_load_usage one kind h.2
 
+-- no words are at fault where sets are
+no_board_usage : (names : HostNames) (files : Files) (mains : List (List ℕ)) (l : LinkOptions) (kind : UsageKind) → FirstFault names files mains l (Usage kind) → ⊥
+no_board_usage names files [] l kind h = h
+no_board_usage names files (main ∷ mains) l kind (inl h) = h
+no_board_usage names files (main ∷ mains) l kind (inr h) = no_board_usage names files mains l kind h.1
+
 module _ (laws : Laws) (names : HostNames) (can : CanWrite names) (files : Files) where
   one_due : (asked : Result Order UsageKind) (a b : Outcome) → DueFor names files asked a → DueFor names files asked b → Alike a b
   one_due (Err kind) a b h k = ap canon (h ∙ sym k)
@@ -160,6 +175,7 @@ module _ (laws : Laws) (names : HostNames) (can : CanWrite names) (files : Files
   one_due (Ok (order.Gen n pages steps)) a b h k = one_gen_due laws names can n pages a b h k
   one_due (Ok (order.Trace one o l steps out args)) a b h k = one_trace_due laws names files (options_of o) (links.options_of l) one a b h k
   one_due (Ok (order.Replay one path o l steps)) a b h k = one_replay_due laws names files one path (options_of o) (links.options_of l) steps a b h k
+  one_due (Ok (order.Board mains l steps slice turns)) a b h k = one_board_due laws names files (links.options_of l) mains a b h k
 
   no_usage : (asked : Result Order UsageKind) (at : List ℕ) (due : Outcome) → TellsFor names files asked (Set (ReadFault at)) → DueFor names files asked due → (kind : UsageKind) → due ≡ Usage kind → ⊥
   no_usage (Err other) at due tells d kind is = tells
@@ -172,6 +188,7 @@ module _ (laws : Laws) (names : HostNames) (can : CanWrite names) (files : Files
       no_trace_usage laws names files (options_of o) (links.options_of l) one kind (subst (TraceDue names files one (options_of o) (links.options_of l)) is d)
   no_usage (Ok (order.Replay one path o l steps)) at due tells d kind is =
       no_replay_usage laws names files (options_of o) (links.options_of l) one path steps kind (subst (ReplayDue names files one path (options_of o) (links.options_of l) steps) is d)
+  no_usage (Ok (order.Board mains l steps slice turns)) at due tells d kind is = no_board_usage names files mains (links.options_of l) kind (subst (BoardDue names files mains (links.options_of l)) is d)
 
   -- where a section is too long, Done is due
   done_due : (asked : Result Order UsageKind) (fault : MergeFault) → MergeFaultTells names files asked fault → DueFor names files asked (Done [])
@@ -197,6 +214,7 @@ module _ (laws : Laws) (names : HostNames) (can : CanWrite names) (files : Files
       go WriteFault t = written_due asked t due d
       go (Merge fault) t = a_done due (Done []) (one_due asked due (Done []) d (done_due asked fault t))
       go (Ran run) t = a_run due (Ran run) (one_due asked due (Ran run) d t)
+      go (Board run) t = a_board due (Board run) (one_due asked due (Board run) d t)
       go (TooLong run) t = a_run due (Ran run) (one_due asked due (Ran run) d (long_due asked run t))
       go (Done runs) t = a_done due (Done runs) (one_due asked due (Done runs) d t)
       go (Usage kind) t = no_runs due (Usage kind) refl (one_due asked due (Usage kind) d t)
@@ -238,6 +256,7 @@ module _ (laws : Laws) (names : HostNames) (can : CanWrite names) (files : Files
     merged_whole o l out (Merge fault) m tells y caused few reads writes = absurd (not_long o l out fault m tells few)
     merged_whole o l out WriteFault m tells y caused few reads writes = absurd (writes caused.rose)
     merged_whole o l out (Ran run) m tells y caused few reads writes = absurd cc
+    merged_whole o l out (Board run) m tells y caused few reads writes = absurd cc
     merged_whole o l out (TooLong run) m tells y caused few reads writes = absurd cc
     merged_whole o l out (Trace fault) m tells y caused few reads writes = absurd cc
     merged_whole o l out (Usage kind) m tells y caused few reads writes = absurd cc
@@ -257,6 +276,7 @@ module _ (laws : Laws) (names : HostNames) (can : CanWrite names) (files : Files
     listed_whole o l (Merge fault) y caused reads puts = absurd caused
     listed_whole o l WriteFault y caused reads puts = absurd (puts caused.rose)
     listed_whole o l (Ran run) y caused reads puts = absurd cc
+    listed_whole o l (Board run) y caused reads puts = absurd cc
     listed_whole o l (TooLong run) y caused reads puts = absurd cc
     listed_whole o l (Trace fault) y caused reads puts = absurd cc
     listed_whole o l (Usage kind) y caused reads puts = absurd cc
@@ -276,6 +296,7 @@ module _ (laws : Laws) (names : HostNames) (can : CanWrite names) (files : Files
     replayed_whole one path o l steps (Merge fault) y caused reads = absurd caused
     replayed_whole one path o l steps WriteFault y caused reads = absurd caused
     replayed_whole one path o l steps (Ran run) y caused reads = absurd cc
+    replayed_whole one path o l steps (Board run) y caused reads = absurd cc
     replayed_whole one path o l steps (TooLong run) y caused reads = absurd cc
     replayed_whole one path o l steps (Trace fault) y caused reads = absurd cc
     replayed_whole one path o l steps (Usage kind) y caused reads = absurd cc
@@ -297,6 +318,7 @@ module _ (laws : Laws) (names : HostNames) (can : CanWrite names) (files : Files
     run_whole asked Memory y read write = inr refl
     run_whole asked WriteFault y read write = absurd (write refl)
     run_whole asked (Merge fault) y read write = absurd cc
+    run_whole asked (Board run) y read write = absurd cc
     run_whole asked (Done runs) y read write = absurd cc
     run_whole asked (Usage kind) y read write = absurd cc
     run_whole asked (Link fault) y read write = absurd cc
@@ -321,6 +343,28 @@ module _ (laws : Laws) (names : HostNames) (can : CanWrite names) (files : Files
         plain_run answer (λ run is. traces (subst (λ a. Caused names (Ok what) a old new before now) is caused))
         (run_whole (Ok what) answer y (λ at is. reads at (subst (λ a. Caused names (Ok what) a old new before now) is caused)) (λ is. writes (subst (λ a. Caused names (Ok what) a old new before now) is caused)))
 
+    -- several sets, each of which links
+    board_whole : (mains : List (List ℕ)) (l : linking.LinkOptions) (steps slice turns : ℕ) (answer : Outcome) → Yields (Ok (order.Board mains l steps slice turns)) any_board answer
+        → Caused names (Ok (order.Board mains l steps slice turns)) answer old new before now → ¬ Rose old.read_faults new.read_faults → (is_board answer ≡ true) ⊎ (answer ≡ Memory)
+    board_whole mains l steps slice turns (Board run) y caused reads = inl refl
+    board_whole mains l steps slice turns Memory y caused reads = inr refl
+    board_whole mains l steps slice turns (Merge fault) y caused reads = absurd caused
+    board_whole mains l steps slice turns WriteFault y caused reads = absurd caused
+    board_whole mains l steps slice turns (Done runs) y caused reads = absurd caused
+    board_whole mains l steps slice turns (Ran run) y caused reads = absurd caused
+    board_whole mains l steps slice turns (TooLong run) y caused reads = absurd caused
+    board_whole mains l steps slice turns (Trace fault) y caused reads = absurd caused
+    board_whole mains l steps slice turns (Usage kind) y caused reads = absurd caused
+    board_whole mains l steps slice turns (Single fault) y caused reads = absurd caused
+    board_whole mains l steps slice turns (Gen fault) y caused reads = absurd caused
+    board_whole mains l steps slice turns (Link fault) y caused reads = absurd cc
+    board_whole mains l steps slice turns (Set fault) y caused reads = of_set fault y caused
+      where
+        of_set : (fault : SetFault) → Yields (Ok (order.Board mains l steps slice turns)) any_board (Set fault) → FaultCause (order.Board mains l steps slice turns) fault old new
+            → (is_board (Set fault) ≡ true) ⊎ (Set fault ≡ Memory)
+        of_set (ReadFault at) y caused = absurd (reads caused.rose)
+        of_set other y caused = absurd cc
+
     -- the runs of a generated set, which may have three pages
     module _ (n pages steps : ℕ) (some : 0 < n) (few : n ≤ 255) (enough : 3 ≤ pages) where
       linked_then : (fault : LinkFault) → GenDue names n pages (Link fault) → ⊥
@@ -343,6 +387,7 @@ module _ (laws : Laws) (names : HostNames) (can : CanWrite names) (files : Files
       gen_whole (Gen fault) caused puts = absurd (in_range fault caused)
       gen_whole (Merge fault) caused puts = absurd caused
       gen_whole (Ran run) caused puts = absurd caused
+      gen_whole (Board run) caused puts = absurd caused
       gen_whole (TooLong run) caused puts = absurd caused
       gen_whole (Trace fault) caused puts = absurd caused
       gen_whole (Usage kind) caused puts = absurd caused
@@ -367,6 +412,8 @@ module _ (laws : Laws) (names : HostNames) (can : CanWrite names) (files : Files
         (λ is. writes (subst (λ a. Caused names (Ok (order.Trace one o l steps out args)) a old new before now) is caused).rose)
     told_complete (Ok (order.Replay one path o l steps)) answer tells caused = λ due reads.
         replayed_whole one path o l steps answer (told_yields (Ok (order.Replay one path o l steps)) answer tells (Done []) due) caused reads
+    told_complete (Ok (order.Board mains l steps slice turns)) answer tells caused = λ links reads.
+        board_whole mains l steps slice turns answer (told_yields (Ok (order.Board mains l steps slice turns)) answer tells any_board links) caused reads
 
 -- of what serves: that the answer is due, and that it is complete
 module _ (laws : Laws) (names : HostNames) (can : CanWrite names) (asked : Result Order UsageKind) (answer : Outcome) (old new : FilesState) (before now : ℕ) (serves : Serves names asked answer old new before now) where

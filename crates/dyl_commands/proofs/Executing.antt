@@ -1,14 +1,17 @@
 -- What comes of a module that was read and is run.
-use Rattle.std.proofs.Common.{◌≡◌, ℕ, List, false, None, Result, Ok, Err, refl, ap, ◌∙◌, subst, inl, inr}
+use Rattle.std.proofs.Common.{◌≡◌, ℕ, List, false, None, Result, Ok, Err, refl, ap, ◌∙◌, subst, inl, inr, sym}
 use Rattle.wasm_form.specs.declared.module.Module.{Module}
 use Rattle.spec_hosts.specs.dyl_outside.Files.{FilesState}
 use Rattle.spec_loading.specs.spec_validation.Faults as validation
 use Rattle.spec_loading.specs.spec_execution.declared.fault.SingleFault.{SingleFault}
 use Rattle.spec_loading.specs.spec_execution.declared.fault.SingleFault.TheVariants as single
+use Rattle.spec_loading.specs.spec_execution.OneModule.{ModuleState, module_opening}
 use Rattle.spec_hosts.specs.declared.ran.Ran as ran
+use Rattle.spec_hosts.specs.spec_runtime.Names.{HostNames}
 use Rattle.spec_hosts.specs.Devices.{Devices}
 use Rattle.spec_hosts.specs.Hosted.{Embedder}
 use Rattle.wasm_exec.specs.Executed as run
+use Rattle.run_loaded.specs.Courses.{Origin, OfModule, OfSet, course_of, TakesAll}
 use Rattle.dyl_front.specs.declared.outcome.Outcome.{Outcome}
 use Rattle.dyl_front.specs.declared.outcome.Outcome.TheVariants.{Ran, Single, Memory}
 use Rattle.dyl_front.specs.declared.order.Order.TheVariants as order
@@ -17,7 +20,7 @@ use Rattle.dyl_commands.specs.Fetched.{ReadsFile}
 use Rattle.dyl_commands.specs.Runs.{guest_arguments, ExecWorks}
 use Rattle.spec_loading.specs.spec_linking.declared.fault.SetFault.{SetFault}
 use Rattle.spec_loading.specs.spec_linking.declared.fault.SetFault.TheVariants as set
-use Rattle.dyl_commands.specs.Served.{Serves, ExecutesModule, set_outcome}
+use Rattle.dyl_commands.specs.Served.{Serves, ExecutesModule, set_outcome, BeginsAsModule}
 
 module _ (embedder : List (List ℕ) → Embedder) (path : List ℕ) (steps : ℕ) (args : List (List ℕ)) (wasm : Module) (old mid : FilesState) (read : ReadsFile path (Ok wasm) old mid) (begun now : Devices) where
   -- the arguments that the guest sees make no difference to the names
@@ -73,3 +76,9 @@ set_not_done fault = refl
 
 pub memory_is : (wasm : Module) (embedder : Embedder) (steps : ℕ) (fault : SingleFault) (old new : Devices) → fault ≡ single.Memory → run.Executes wasm embedder steps (Err fault) old new → ExecutesModule wasm embedder steps Memory old new
 memory_is wasm embedder steps fault old new is h = subst (λ f. run.IsRefused wasm embedder steps f old new) is h
+
+-- a run took all its answers
+pub module_takes : (wasm : Module) (names : HostNames) (r : ran.Ran) → ((opening : ModuleState) → module_opening wasm names ≡ Ok opening → TakesAll (course_of (OfModule wasm opening)) r) → (x : Origin) → BeginsAsModule wasm names x
+    → TakesAll (course_of x) r
+module_takes wasm names r taken (OfSet L) is = absurd is
+module_takes wasm names r taken (OfModule m opening) is = subst (λ w. TakesAll (course_of (OfModule w opening)) r) (sym is.0) (taken opening is.1)

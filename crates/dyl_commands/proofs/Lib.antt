@@ -14,9 +14,9 @@ pub mod Merging
 pub mod Listing
 pub mod Running
 pub mod Executing
-pub mod Tracing
-pub mod Opened
-pub mod Replaying
+pub mod Several
+pub mod InTurns
 pub mod ToldLines
 pub mod Telling
+pub mod Counting
 pub mod Performing

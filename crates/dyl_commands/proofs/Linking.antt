@@ -1,5 +1,5 @@
 -- What comes of gathering and linking.
-use Rattle.std.proofs.Common.{◌≡◌, ℕ, List, [], ◌∷◌, true, Result, Ok, Err, refl, sym, subst}
+use Rattle.std.proofs.Common.{◌≡◌, ◌≤◌, ℕ, List, [], ◌∷◌, true, Result, Ok, Err, refl, sym, subst}
 use Rattle.std.specs.List.{All, list_all}
 use Rattle.std.proofs.lemmas.Bool.{true≢false, and_from, and_parts}
 use Rattle.std.proofs.lemmas.List.Elements.{All-weaker}
@@ -24,6 +24,7 @@ use Rattle.spec_loading.specs.spec_linking.Gathering.{IsGathered}
 use Rattle.spec_loading.specs.spec_linking.Plans.{LinkOptions}
 use Rattle.spec_loading.specs.spec_linking.LinkedSets.{LinkedSet, hosts_of}
 use Rattle.spec_loading.specs.spec_linking.Links.{link_fault}
+use Rattle.dyl_link.specs.dyl_search.Absents.{CountsFor}
 use Rattle.dyl_link.specs.dyl_search.Found.{ReadsOf}
 use Rattle.dyl_link.specs.dyl_search.Gathers.{Stops, IsWhole}
 use Rattle.dyl_link.specs.Answers.{IsFirst}
@@ -34,7 +35,9 @@ use Rattle.merge_whole.specs.Merges.{IsSupported}
 use Rattle.dyl_front.specs.declared.outcome.Outcome.{Outcome}
 use Rattle.dyl_front.specs.declared.outcome.Outcome.TheVariants.{Set, Link, Memory}
 use Rattle.dyl_commands.specs.Linking.{linked}
+use Rattle.dyl_commands.specs.Counts.{ReadsFor, TriedForSet}
 use Rattle.dyl_commands.specs.Served.{IsNotGot, Gets, LinksTo, set_outcome, link_outcome}
+use Rattle.dyl_commands.proofs.Counting.{at_least, tried_wanting}
 
 -- a set that links, by the names that were declared
 pub links_to : (l : LinkOptions) (S : ClosedSet) (names also : HostNames) (k : Kept) → names ≡ also → IsLinked (linked names l S) k → HaveIntegers also → LinksTo (linked also l S) (Ok k)
@@ -75,30 +78,40 @@ hosts_supported l S names k h integers =
 pub links_not : (l : LinkOptions) (S : ClosedSet) (names also : HostNames) (fault : LinkFault) → names ≡ also → IsFirst fault (link_fault (linked names l S)) → LinksTo (linked also l S) (Err (link_outcome fault))
 links_not l S names also fault same h = first_fault_to (linked also l S) fault (subst (λ n. IsFirst fault (link_fault (linked n l S))) same h)
 
-module _ (names : HostNames) (o : SetOptions) (l : LinkOptions) (old new : FilesState) (files : new.told ≡ old.told) (writes : new.write_faults ≡ old.write_faults) where
+module _ (names : HostNames) (o : SetOptions) (l : LinkOptions) (old new : FilesState) (files : new.told ≡ old.told) (writes : new.write_faults ≡ old.write_faults) (absents : old.absents ≤ new.absents) where
   abbrev Found : Outcome → Type 0
   Found answer = IsNotGot names o l answer old new
 
   -- no set is linked
-  none : (answer : Outcome) → Found answer → Gets names o l (Err answer) old new
-  none answer h = record { got = tt; fault = h; files = files; writes = writes }
+  none : (answer : Outcome) → Found answer → ReadsFor answer old.read_faults new.read_faults → TriedForSet old.told o answer old.absents new.absents → Gets names o l (Err answer) old new
+  none answer h reads tried = record { got = tt; fault = h; files = files; reads = reads; writes = writes; absents = absents; tried = tried }
 
   -- a set was gathered
-  pub got : (S : ClosedSet) (r : Result Kept Outcome) → ForSome old.told (λ m. IsGathered (get m) o (Ok S)) → LinksTo (linked names l S) r → Gets names o l r old new
-  got S (Ok k) gathered links = record { got = record { set = S; gathered = gathered; linked = links.0; integers = links.1 }; fault = tt; files = files; writes = writes }
-  got S (Err Memory) gathered links = none Memory (record { tells = λ m told. tt; caused = tt; inner = refl })
-  got S (Err (Link link.Memory)) gathered links = absurd links
-  got S (Err (Link fault)) gathered links =
-      none (Link fault) (record { tells = λ m told. record { set = S; gathered = gathered m told; found = links }; caused = tt; inner = refl })
-  got S (Err _) gathered links = absurd links
+  pub got : (S : ClosedSet) (r : Result Kept Outcome) → ForSome old.told (λ m. IsGathered (get m) o (Ok S)) → new.read_faults ≡ old.read_faults → CountsFor old.told o (Ok S) old.absents new.absents
+      → LinksTo (linked names l S) r → Gets names o l r old new
+  got S (Ok k) gathered reads tried links = record {
+    got = record { set = S; gathered = gathered; linked = links.0; integers = links.1 };
+    fault = tt;
+    files = files;
+    reads = reads;
+    writes = writes;
+    absents = absents;
+    tried = (S, tried);
+  }
+  got S (Err Memory) gathered reads tried links =
+      none Memory (record { tells = λ m told. tt; caused = tt; inner = refl }) (at_least old.read_faults new.read_faults reads) (tried_wanting old.told o (Ok S) old.absents new.absents tried)
+  got S (Err (Link link.Memory)) gathered reads tried links = absurd links
+  got S (Err (Link fault)) gathered reads tried links =
+      none (Link fault) (record { tells = λ m told. record { set = S; gathered = gathered m told; found = links }; caused = tt; inner = refl }) reads (S, tried)
+  got S (Err _) gathered reads tried links = absurd links
 
   -- none was
   pub not_got : (fault : SetFault) → ForSome old.told (λ m. Stops (get m) o fault) → IsWhole fault → ReadsOf {A = ClosedSet} (Err fault) old.read_faults new.read_faults
-      → ((name : List ℕ) → fault ≡ set.Missing name → Rises old.absents new.absents) → Gets names o l (Err (set_outcome fault)) old new
-  not_got set.Memory stops whole reads absent = none Memory (record { tells = λ m told. tt; caused = tt; inner = refl })
-  not_got (set.ReadFault path) stops whole reads absent = none (Set (set.ReadFault path)) (record { tells = stops; caused = reads; inner = refl })
-  not_got (set.Missing name) stops whole reads absent = none (Set (set.Missing name)) (record { tells = stops; caused = absent name refl; inner = refl })
-  not_got (set.Decode n decode.Memory) stops whole reads absent = absurd whole
-  not_got (set.Record n records.Memory) stops whole reads absent = absurd whole
-  not_got (set.Check n check.Memory) stops whole reads absent = absurd whole
-  not_got fault stops whole reads absent = none (Set fault) (record { tells = stops; caused = tt; inner = refl })
+      → ((name : List ℕ) → fault ≡ set.Missing name → Rises old.absents new.absents) → CountsFor old.told o (Err fault) old.absents new.absents → Gets names o l (Err (set_outcome fault)) old new
+  not_got set.Memory stops whole reads absent tried = none Memory (record { tells = λ m told. tt; caused = tt; inner = refl }) (at_least old.read_faults new.read_faults reads) tried
+  not_got (set.ReadFault path) stops whole reads absent tried = none (Set (set.ReadFault path)) (record { tells = stops; caused = reads; inner = refl }) reads tried
+  not_got (set.Missing name) stops whole reads absent tried = none (Set (set.Missing name)) (record { tells = stops; caused = absent name refl; inner = refl }) reads tried
+  not_got (set.Decode n decode.Memory) stops whole reads absent tried = absurd whole
+  not_got (set.Record n records.Memory) stops whole reads absent tried = absurd whole
+  not_got (set.Check n check.Memory) stops whole reads absent tried = absurd whole
+  not_got fault stops whole reads absent tried = none (Set fault) (record { tells = stops; caused = tt; inner = refl }) reads tried

@@ -1,11 +1,11 @@
 -- At most one outcome is due for a trace that is replayed.
-use Rattle.std.proofs.Common.{◌≡◌, ◌⊎◌, ◌<◌, ◌≤◌, ℕ, suc, List, [], length, Bool, true, false, Result, Ok, Err, refl, sym, ap, ◌∙◌, subst, inl, inr, arith, take}
+use Rattle.std.proofs.Common.{◌≡◌, ◌⊎◌, ◌<◌, ◌≤◌, ℕ, List, [], Bool, true, false, Result, Ok, Err, refl, sym, ap, ◌∙◌, subst, inl, inr, arith, take}
 use Rattle.std.proofs.lemmas.Bool.{cases_order}
 use Rattle.std.proofs.lemmas.List.{take-take}
 use Rattle.wasm_form.specs.declared.module.Module.{Module}
 use Rattle.spec_hosts.specs.spec_runtime.Names.{HostNames}
 use Rattle.spec_loading.specs.spec_execution.declared.fault.SingleFault.{SingleFault}
-use Rattle.spec_loading.specs.spec_execution.OneModule.{ModuleState, module_opening}
+use Rattle.spec_loading.specs.spec_execution.OneModule.{module_opening}
 use Rattle.spec_loading.specs.spec_linking.declared.fault.SetFault.TheVariants.{Missing, SetSize}
 use Rattle.spec_loading.specs.spec_linking.Sets.{Files, SetOptions, main_name}
 use Rattle.spec_loading.specs.spec_linking.Plans.{LinkOptions}

@@ -1,5 +1,5 @@
 -- What files give to run: a set that links, or a module that opens.
-use Rattle.std.proofs.Common.{◌≡◌, Bool, true, false, sym, ap, ◌∙◌, subst}
+use Rattle.std.proofs.Common.{◌≡◌, Bool, true, false, ap, ◌∙◌, subst}
 use Rattle.spec_hosts.specs.spec_runtime.Names.{HostNames}
 use Rattle.spec_hosts.specs.declared.ran.Ran as ran
 use Rattle.spec_loading.specs.spec_linking.Sets.{Files, SetOptions}

@@ -19,7 +19,8 @@ use Rattle.wasm_decode.specs.Decoded.{Decodes}
 use Rattle.dyl_link.specs.wasm_check.Answers.{IsFirst}
 use Rattle.dyl_commands.specs.OneFile.{most_run, OfModule, OfBytes, TellsFile}
 use Rattle.dyl_commands.specs.Causes.{FileCause, wants_inside}
-use Rattle.dyl_commands.specs.Fetched.{decode_fault, check_fault, OrMemory, IsMissing, IsUnread, IsOfSome, FetchesFile, ReadsFile}
+use Rattle.dyl_commands.specs.Fetched.{decode_fault, check_fault, OrMemory, IsMissing, IsUnread, IsOfSome, FileReads, FileAbsents, FetchesFile, ReadsFile}
+use Rattle.dyl_commands.proofs.Counting.{at_least}
 
 -- no fault of a module carries want of memory
 pub decode_inside : (fault : DecodeFault) → wants_inside (decode_fault fault) ≡ false
@@ -70,25 +71,27 @@ module _ (path : List ℕ) (old new : FilesState) where
     few = h.size;
     caused = tt;
     files = h.files;
+    reads = h.reads;
     writes = h.writes;
+    absents = h.absents;
     same = same_files old new h.files h.reads h.writes h.absents;
   }
 
   pub absent : (fault : SetFault) → IsMissing path fault → Fetches path most_run (Err fetch.Absent) old new → FetchesFile path (Err fault) old new
-  absent (Missing name) named h = record { tells = λ files told. (h.answer files told, named); few = tt; caused = (named, h.absents); files = h.files; writes = h.writes; same = tt }
-  absent Memory named h = record { tells = λ files told. tt; few = tt; caused = tt; files = h.files; writes = h.writes; same = tt }
+  absent (Missing name) named h = record { tells = λ files told. (h.answer files told, named); few = tt; caused = (named, h.absents); files = h.files; reads = h.reads; writes = h.writes; absents = h.absents; same = tt }
+  absent Memory named h = record { tells = λ files told. tt; few = tt; caused = tt; files = h.files; reads = at_least _ _ h.reads; writes = h.writes; absents = h.absents.later; same = tt }
   absent _ named h = absurd named
 
   pub unread : (fault : SetFault) → IsUnread path fault → Fetches path most_run (Err fetch.Failed) old new → FetchesFile path (Err fault) old new
-  unread (ReadFault at) named h = record { tells = λ files told. named; few = tt; caused = (named, h.reads); files = h.files; writes = h.writes; same = tt }
-  unread Memory named h = record { tells = λ files told. tt; few = tt; caused = tt; files = h.files; writes = h.writes; same = tt }
+  unread (ReadFault at) named h = record { tells = λ files told. named; few = tt; caused = (named, h.reads); files = h.files; reads = h.reads; writes = h.writes; absents = h.absents; same = tt }
+  unread Memory named h = record { tells = λ files told. tt; few = tt; caused = tt; files = h.files; reads = h.reads.later; writes = h.writes; absents = at_least _ _ h.absents; same = tt }
   unread _ named h = absurd named
 
   pub too_long : Fetches path most_run (Err fetch.TooLong) old new → FetchesFile path (Err SetSize) old new
-  too_long h = record { tells = h.answer; few = tt; caused = tt; files = h.files; writes = h.writes; same = tt }
+  too_long h = record { tells = h.answer; few = tt; caused = tt; files = h.files; reads = h.reads; absents = h.absents; writes = h.writes; same = tt }
 
   pub unfetched : Fetches path most_run (Err fetch.Memory) old new → FetchesFile path (Err Memory) old new
-  unfetched h = record { tells = λ files told. tt; few = tt; caused = tt; files = h.files; writes = h.writes; same = tt }
+  unfetched h = record { tells = λ files told. tt; few = tt; caused = tt; files = h.files; reads = at_least _ _ h.reads; writes = h.writes; absents = at_least _ _ h.absents; same = tt }
 
   -- ---- its module
 
@@ -111,6 +114,17 @@ module _ (path : List ℕ) (old new : FilesState) where
   file_caused bytes (Ok wasm) h = tt
   file_caused bytes (Err fault) h = file_cause bytes fault h
 
+  -- it was read, and was there
+  file_reads : (bytes : List ℕ) (said : Result Module SetFault) → new.read_faults ≡ old.read_faults → OrMemory (OfBytes bytes) said → FileReads said old.read_faults new.read_faults
+  file_reads bytes (Err Memory) same h = at_least old.read_faults new.read_faults same
+  file_reads bytes (Err (ReadFault at)) same h = absurd h.2
+  file_reads bytes said same h = same
+
+  file_absents : (bytes : List ℕ) (said : Result Module SetFault) → new.absents ≡ old.absents → OrMemory (OfBytes bytes) said → FileAbsents said old.absents new.absents
+  file_absents bytes (Err Memory) same h = at_least old.absents new.absents same
+  file_absents bytes (Err (Missing name)) same h = absurd h.2
+  file_absents bytes said same h = same
+
   pub fetched_reads : (bytes : Vec ℕ Global) (said : Result Module SetFault) → FetchesFile path (Ok bytes) old new → OrMemory (OfBytes bytes.items) said → IfErr said (λ fault. wants_inside fault ≡ false) → ReadsFile path said old new
   fetched_reads bytes said h told inner = record {
     tells = λ files is. tells_file bytes.items said (get files) (h.tells files is) h.few told;
@@ -118,12 +132,14 @@ module _ (path : List ℕ) (old new : FilesState) where
     caused = file_caused bytes.items said told;
     inner = inner;
     files = h.files;
+    reads = file_reads bytes.items said h.reads told;
     writes = h.writes;
+    absents = file_absents bytes.items said h.absents told;
   }
 
   pub unfetched_reads : (fault : SetFault) → FetchesFile path (Err fault) old new → ReadsFile path (Err fault) old new
-  unfetched_reads Memory h = record { tells = λ files told. tt; spelled = tt; caused = tt; inner = refl; files = h.files; writes = h.writes }
-  unfetched_reads (ReadFault at) h = record { tells = h.tells; spelled = tt; caused = h.caused; inner = refl; files = h.files; writes = h.writes }
-  unfetched_reads (Missing name) h = record { tells = h.tells; spelled = tt; caused = h.caused; inner = refl; files = h.files; writes = h.writes }
-  unfetched_reads SetSize h = record { tells = h.tells; spelled = tt; caused = tt; inner = refl; files = h.files; writes = h.writes }
+  unfetched_reads Memory h = record { tells = λ files told. tt; spelled = tt; caused = tt; inner = refl; files = h.files; reads = h.reads; writes = h.writes; absents = h.absents }
+  unfetched_reads (ReadFault at) h = record { tells = h.tells; spelled = tt; caused = h.caused; inner = refl; files = h.files; reads = h.reads; writes = h.writes; absents = h.absents }
+  unfetched_reads (Missing name) h = record { tells = h.tells; spelled = tt; caused = h.caused; inner = refl; files = h.files; reads = h.reads; writes = h.writes; absents = h.absents }
+  unfetched_reads SetSize h = record { tells = h.tells; spelled = tt; caused = tt; inner = refl; files = h.files; reads = h.reads; writes = h.writes; absents = h.absents }
   unfetched_reads _ h = absurd h.caused

@@ -20,7 +20,7 @@ use Rattle.dyl_front.specs.declared.outcome.Outcome.TheVariants.{Set, Link, Memo
 use Rattle.std.specs.Prelude.{Option}
 use Rattle.dyl_commands.specs.Due.{is_done}
 use Rattle.dyl_commands.specs.Fetched.{ReadsFile}
-use Rattle.dyl_commands.specs.Runs.{PlanWorks, RunWorks, Works}
+use Rattle.dyl_commands.specs.Runs.{no_picks, PlanWorks, RunWorks, Works}
 use Rattle.dyl_commands.specs.Served.{Serves, IsNotGot, set_outcome}
 
 module _ (names : HostNames) (o : SetOptions) (l : LinkOptions) (old new : FilesState) (before now : ℕ) (same : new.told ≡ old.told) where
@@ -78,7 +78,7 @@ exec_refused names path steps args (set.ReadFault at) old new before now h = rec
 exec_refused names path steps args fault old new before now h = record { tells = h.tells; leaves = λ files told. h.files ∙ told; caused = h.caused; inner = h.inner }
 
 pub refused_works : (told : Option FileMap) (embedder : List (List ℕ) → Embedder) (file : List ℕ) (steps : ℕ) (args : List (List ℕ)) (fault : SetFault) (old : Devices)
-    → Works told embedder (Ok (order.Exec file steps args)) (set_outcome fault) old old
+    → Works told embedder no_picks (Ok (order.Exec file steps args)) (set_outcome fault) old old
 refused_works told embedder file steps args set.Memory old = inl refl
 refused_works told embedder file steps args fault old = refl
 

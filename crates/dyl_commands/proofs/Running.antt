@@ -3,6 +3,7 @@ use Rattle.std.proofs.Common.{◌≡◌, ℕ, List, false, Some, Ok, refl, ◌�
 use Rattle.std.specs.FinMap.{get}
 use Rattle.spec_hosts.specs.dyl_outside.FileMap.{FileMap}
 use Rattle.spec_hosts.specs.dyl_outside.Files.{FilesState}
+use Rattle.spec_hosts.specs.declared.ran.Ran as ran
 use Rattle.spec_hosts.specs.Devices.{Devices}
 use Rattle.spec_hosts.specs.Hosted.{Embedder}
 use Rattle.spec_loading.specs.spec_linking.LinkedSets.{LinkedSet}
@@ -10,14 +11,15 @@ use Rattle.dyl_link.specs.dyl_search.declared.set.SetOptions.{SetOptions}
 use Rattle.dyl_link.specs.dyl_search.Gathers.{options_of}
 use Rattle.dyl_link.specs.declared.options.LinkOptions.{LinkOptions}
 use Rattle.dyl_link.specs.Kept as links
-use Rattle.dyl_link.specs.Kept.{Kept}
+use Rattle.dyl_link.specs.Kept.{Kept, IsLinked}
+use Rattle.run_loaded.specs.Courses.{Origin, OfModule, OfSet, course_of, TakesAll}
 use Rattle.dyl_front.specs.declared.order.Order.TheVariants as order
 use Rattle.dyl_front.specs.declared.outcome.Outcome.{Outcome}
 use Rattle.dyl_front.specs.declared.outcome.Outcome.TheVariants.{Ran, Memory}
 use Rattle.dyl_commands.specs.Linking.{linked, LinksAt}
 use Rattle.dyl_commands.specs.Due.{is_done}
 use Rattle.dyl_commands.specs.Runs.{IsThere, RunWorks}
-use Rattle.dyl_commands.specs.Served.{Serves, Gets, ExecutesSet}
+use Rattle.dyl_commands.specs.Served.{Serves, Gets, ExecutesSet, BeginsAsSet}
 
 module _ (embedder : Embedder) (o : SetOptions) (l : LinkOptions) (steps : ℕ) (k : Kept) (old new : FilesState) (gets : Gets embedder.names (options_of o) (links.options_of l) (Ok k) old new) (begun now : Devices) where
   abbrev L : LinkedSet
@@ -45,3 +47,8 @@ pub runs_not_done : (k : Kept) (embedder : Embedder) (steps : ℕ) (answer : Out
 runs_not_done k embedder steps (Ran r) old new h = refl
 runs_not_done k embedder steps Memory old new h = refl
 runs_not_done k embedder steps _ old new h = absurd h
+
+-- it took all its answers
+pub set_takes : (k : Kept) (r : ran.Ran) → ((L : LinkedSet) → IsLinked L k → TakesAll (course_of (OfSet L)) r) → (x : Origin) → BeginsAsSet k x → TakesAll (course_of x) r
+set_takes k r taken (OfSet L) is = taken L is
+set_takes k r taken (OfModule m opening) is = absurd is

@@ -1,6 +1,7 @@
 -- What telling of an outcome leaves of what is known of it.
-use Rattle.std.proofs.Common.{◌≡◌, ℕ, List, [], ◌∷◌, Bool, true, false, Option, Some, None, Result, Ok, Err, refl, sym, ap, ◌∙◌, subst, inl, inr}
+use Rattle.std.proofs.Common.{◌≡◌, ℕ, List, [], ◌∷◌, map, Bool, true, false, Option, Some, None, Result, Ok, Err, refl, sym, ap, ◌∙◌, subst, inl, inr}
 use Rattle.std.specs.Prelude.{IsSome, IsSomeAnd}
+use Rattle.std.proofs.lemmas.List.{length-map}
 use Rattle.spec_hosts.specs.dyl_outside.Faults.{Rose}
 use Rattle.spec_hosts.specs.dyl_outside.FileMap.{FileMap}
 use Rattle.spec_hosts.specs.dyl_outside.Files.{FilesState}
@@ -23,7 +24,7 @@ use Rattle.dyl_link.specs.declared.options.LinkOptions.{LinkOptions}
 use Rattle.dyl_link.specs.Kept as links
 use Rattle.dyl_front.specs.declared.outcome.UsageKind.{UsageKind}
 use Rattle.dyl_front.specs.declared.outcome.Outcome.{Outcome}
-use Rattle.dyl_front.specs.declared.outcome.Outcome.TheVariants.{Done, Ran, Usage, Set, Link, Merge, Single, Gen, Trace, TooLong, WriteFault, Memory}
+use Rattle.dyl_front.specs.declared.outcome.Outcome.TheVariants.{Done, Ran, Board, Usage, Set, Link, Merge, Single, Gen, Trace, TooLong, WriteFault, Memory}
 use Rattle.dyl_front.specs.declared.order.Order.{Order}
 use Rattle.dyl_front.specs.declared.order.Order.TheVariants as order
 use Rattle.dyl_front.specs.Lines.{line_of}
@@ -34,7 +35,7 @@ use Rattle.dyl_commands.specs.Causes.{Caused}
 use Rattle.dyl_commands.specs.Due.{is_done}
 use Rattle.dyl_commands.specs.Told.{IsTold}
 use Rattle.dyl_commands.specs.Linking.{linked}
-use Rattle.dyl_commands.specs.Runs.{guest_arguments, IsFileRun, IsFileCut, ExecWorks, IsLoadedRun, IsLoadedCut, RunWorks, ProgramWorks, IsTracedRun, TraceWorks, PlanWorks, GenWorks, Works}
+use Rattle.dyl_commands.specs.Runs.{guest_arguments, IsFileRun, IsFileCut, ExecWorks, IsLoadedRun, IsLoadedCut, RunWorks, ProgramWorks, IsTracedRun, TraceWorks, BoardWorks, PlanWorks, GenWorks, Picks, Works}
 use Rattle.dyl_commands.specs.Served.{Serves}
 
 -- what is so of the outcome, and of want of memory, is so of the answer
@@ -49,6 +50,7 @@ not_told_done outcome answer (inr none) other = ap is_done none.0
 pub done_silent : (answer : Outcome) → is_done answer ≡ true → line_of answer ≡ None
 done_silent (Done runs) is = refl
 done_silent (Ran ran) is = absurd cc
+done_silent (Board ran) is = absurd cc
 done_silent (Usage kind) is = absurd cc
 done_silent (Set fault) is = absurd cc
 done_silent (Link fault) is = absurd cc
@@ -96,6 +98,7 @@ leaves_memory names (Ok (order.Trace one o l steps out args)) files outcome old 
     trace_memory names one (options_of o) (links.options_of l) out files outcome old new
     (λ is. (subst (λ a. Caused names (Ok (order.Trace one o l steps out args)) a old new before now) is caused).rose) leaves
 leaves_memory names (Ok (order.Replay one path o l steps)) files outcome old new before now line caused leaves = leaves
+leaves_memory names (Ok (order.Board mains l steps slice turns)) files outcome old new before now line caused leaves = leaves
 
 memory_caused : (names : HostNames) (asked : Result Order UsageKind) (old new : FilesState) (before now : ℕ) → Caused names asked Memory old new before now
 memory_caused names (Err kind) old new before now = inr refl
@@ -125,6 +128,7 @@ memory_serves names asked old before now = record { tells = λ files is. tt; lea
     same (Ok (order.Gen n pages steps)) files is = is
     same (Ok (order.Trace one o l steps out args)) files is = inl is
     same (Ok (order.Replay one path o l steps)) files is = is
+    same (Ok (order.Board mains l steps slice turns)) files is = is
 
 pub usage_serves : (names : HostNames) (asked : Result Order UsageKind) (kind : UsageKind) → asked ≡ Err kind → (old : FilesState) (before now : ℕ) → Serves names asked (Usage kind) old old before now
 usage_serves names asked kind is old before now =
@@ -228,20 +232,40 @@ pub told_gens : (embedder : Embedder) (n pages steps : ℕ) (outcome answer : Ou
 told_gens embedder n pages steps outcome answer old new is h =
     told_keeps (λ a. GenWorks embedder n pages steps a old new) outcome answer is (λ line. gen_memory embedder n pages steps outcome old new line h) h
 
-works_memory : (told : Option FileMap) (embedder : List (List ℕ) → Embedder) (asked : Result Order UsageKind) (outcome : Outcome) (old new : Devices) → IsSome (line_of outcome)
-    → Works told embedder asked outcome old new → Works told embedder asked Memory old new
-works_memory told embedder (Err kind) outcome old new line h = h
-works_memory told embedder (Ok (order.Merge o l out)) outcome old new line h = h
-works_memory told embedder (Ok (order.Run o l steps args)) outcome old new line h = run_memory told (options_of o) (links.options_of l) steps (embedder (guest_arguments args)) outcome old new h
-works_memory told embedder (Ok (order.Exec file steps args)) outcome old new line h = exec_memory told file steps (embedder (guest_arguments args)) outcome old new h
-works_memory told embedder (Ok (order.Plan o l)) outcome old new line h =
-    (plan_memory told (embedder []).names (options_of o) (links.options_of l) outcome old.output new.output line h.0, h.1)
-works_memory told embedder (Ok (order.Gen n pages steps)) outcome old new line h =
-    (gen_memory (embedder (guest_arguments [])) n pages steps outcome old.output new.output line h.0, h.1)
-works_memory told embedder (Ok (order.Trace one o l steps out args)) outcome old new line h = cut_trace told one (options_of o) (links.options_of l) steps (embedder (guest_arguments args)) outcome old new h
-works_memory told embedder (Ok (order.Replay one path o l steps)) outcome old new line h = h
+-- a whole run of a board is one that may be cut short
+board_memory : (told : Option FileMap) (mains : List (List ℕ)) (l : plans.LinkOptions) (steps slice turns : ℕ) (pick : Picks) (embedder : Embedder) (outcome : Outcome) (old new : Devices)
+    → BoardWorks told mains l steps slice turns pick embedder outcome old new → BoardWorks told mains l steps slice turns pick embedder Memory old new
+board_memory told mains l steps slice turns pick embedder (Board r) old new h = inr (record {
+  sets = h.sets;
+  there = h.there;
+  cut = record {
+    given = map (λ (x : ran.Ran). x.answers) r.runs;
+    count = length-map r.runs (λ (x : ran.Ran). x.answers) ∙ h.run.count;
+    picks = r.picks;
+    middle = new;
+    turns = h.run.turns;
+    broken = inl refl;
+  };
+})
+board_memory told mains l steps slice turns pick embedder Memory old new h = h
+board_memory told mains l steps slice turns pick embedder _ old new h = inl h
 
-pub told_works : (told : Option FileMap) (embedder : List (List ℕ) → Embedder) (asked : Result Order UsageKind) (outcome answer : Outcome) (old new : Devices) → IsTold outcome answer → Works told embedder asked outcome old new
-    → Works told embedder asked answer old new
-told_works told embedder asked outcome answer old new is h =
-    told_keeps (λ o. Works told embedder asked o old new) outcome answer is (λ line. works_memory told embedder asked outcome old new line h) h
+works_memory : (told : Option FileMap) (embedder : List (List ℕ) → Embedder) (pick : Picks) (asked : Result Order UsageKind) (outcome : Outcome) (old new : Devices) → IsSome (line_of outcome)
+    → Works told embedder pick asked outcome old new → Works told embedder pick asked Memory old new
+works_memory told embedder pick (Err kind) outcome old new line h = h
+works_memory told embedder pick (Ok (order.Merge o l out)) outcome old new line h = h
+works_memory told embedder pick (Ok (order.Run o l steps args)) outcome old new line h = run_memory told (options_of o) (links.options_of l) steps (embedder (guest_arguments args)) outcome old new h
+works_memory told embedder pick (Ok (order.Exec file steps args)) outcome old new line h = exec_memory told file steps (embedder (guest_arguments args)) outcome old new h
+works_memory told embedder pick (Ok (order.Plan o l)) outcome old new line h =
+    (plan_memory told (embedder []).names (options_of o) (links.options_of l) outcome old.output new.output line h.0, h.1)
+works_memory told embedder pick (Ok (order.Gen n pages steps)) outcome old new line h =
+    (gen_memory (embedder (guest_arguments [])) n pages steps outcome old.output new.output line h.0, h.1)
+works_memory told embedder pick (Ok (order.Trace one o l steps out args)) outcome old new line h = cut_trace told one (options_of o) (links.options_of l) steps (embedder (guest_arguments args)) outcome old new h
+works_memory told embedder pick (Ok (order.Replay one path o l steps)) outcome old new line h = h
+works_memory told embedder pick (Ok (order.Board mains l steps slice turns)) outcome old new line h =
+    board_memory told mains (links.options_of l) steps slice turns pick (embedder (guest_arguments [])) outcome old new h
+
+pub told_works : (told : Option FileMap) (embedder : List (List ℕ) → Embedder) (pick : Picks) (asked : Result Order UsageKind) (outcome answer : Outcome) (old new : Devices) → IsTold outcome answer → Works told embedder pick asked outcome old new
+    → Works told embedder pick asked answer old new
+told_works told embedder pick asked outcome answer old new is h =
+    told_keeps (λ o. Works told embedder pick asked o old new) outcome answer is (λ line. works_memory told embedder pick asked outcome old new line h) h

@@ -21,7 +21,7 @@ use Rattle.spec_hosts.specs.dyl_outside.Faults.{Rises}
 use Rattle.spec_hosts.specs.dyl_outside.Files.{FilesState}
 use Rattle.dyl_front.specs.declared.outcome.UsageKind.{UsageKind}
 use Rattle.dyl_front.specs.declared.outcome.Outcome.{Outcome}
-use Rattle.dyl_front.specs.declared.outcome.Outcome.TheVariants.{Done, Ran, Usage, Set, Link, Merge, Single, Gen, Trace, TooLong, WriteFault, Memory}
+use Rattle.dyl_front.specs.declared.outcome.Outcome.TheVariants.{Done, Ran, Board, Usage, Set, Link, Merge, Single, Gen, Trace, TooLong, WriteFault, Memory}
 use Rattle.dyl_front.specs.declared.order.Order.{Order}
 use Rattle.dyl_front.specs.declared.order.Order.TheVariants as order
 use Rattle.dyl_commands.specs.Generated.{GenDue}
@@ -76,6 +76,7 @@ DoneCause (order.Gen n pages steps) runs = Unit {0}
 DoneCause (order.Run o l steps args) runs = ⊥
 DoneCause (order.Exec file steps args) runs = ⊥
 DoneCause (order.Trace one o l steps out args) runs = ⊥
+DoneCause (order.Board mains l steps slice turns) runs = ⊥
 DoneCause _ runs = runs ≡ []
 
 -- a generated set has at most too few pages, whatever files there are, and nothing is linked for the one file that is run
@@ -103,6 +104,11 @@ IsRunOrder (order.Exec file steps args) = Unit {0}
 IsRunOrder (order.Trace one o l steps out args) = Unit {0}
 IsRunOrder _ = ⊥
 
+-- only several sets are run in turns
+abbrev pub IsBoardOrder : Order → Type 0
+IsBoardOrder (order.Board mains l steps slice turns) = Unit {0}
+IsBoardOrder _ = ⊥
+
 -- only such a file may be refused as it is opened
 abbrev pub IsOneOrder : Order → Type 0
 IsOneOrder (order.Exec file steps args) = Unit {0}
@@ -129,6 +135,7 @@ Caused names (Err kind) answer old new before now = (answer ≡ Usage kind) ⊎ 
 Caused names (Ok order) (Usage kind) old new before now = ⊥
 Caused names (Ok order) (Done runs) old new before now = DoneCause order runs
 Caused names (Ok order) (Ran ran) old new before now = IsRunOrder order
+Caused names (Ok order) (Board ran) old new before now = IsBoardOrder order
 Caused names (Ok order) (Set fault) old new before now = FaultCause order fault old new
 Caused names (Ok order) (Link fault) old new before now = LinkCause names order fault
 Caused names (Ok order) (Merge fault) old new before now = IsMergeOrder order

@@ -18,13 +18,14 @@ use Rattle.dyl_link.specs.Kept as links
 use Rattle.run_loaded.specs.Courses.{Origin}
 use Rattle.dyl_front.specs.declared.outcome.UsageKind.{UsageKind}
 use Rattle.dyl_front.specs.declared.outcome.Outcome.{Outcome}
-use Rattle.dyl_front.specs.declared.outcome.Outcome.TheVariants.{Done, Ran, Usage, Set, Merge, Single, TooLong, WriteFault, Memory}
+use Rattle.dyl_front.specs.declared.outcome.Outcome.TheVariants.{Done, Ran, Board, Usage, Set, Merge, Single, TooLong, WriteFault, Memory}
 use Rattle.dyl_front.specs.declared.order.Order.{Order}
 use Rattle.dyl_front.specs.declared.order.Order.TheVariants as order
 use Rattle.dyl_commands.specs.OneFile.{OfFile, OpensAt, IsRefusedAt}
 use Rattle.dyl_commands.specs.Linking.{linked, LinksAt, FaultDue}
 use Rattle.dyl_commands.specs.Generated.{GenDue}
 use Rattle.dyl_commands.specs.Traced.{IsProgram, ProgramTries, ReplayDue}
+use Rattle.dyl_commands.specs.Sets.{AllLink, FirstFault, SetsTry}
 
 -- ---- merging, running and listing a set
 
@@ -57,6 +58,13 @@ abbrev pub TraceDue : HostNames → Files → Bool → SetOptions → LinkOption
 TraceDue names files false o link due = RunDue names files o link due
 TraceDue names files true o link due = ExecDue names files o.main due
 
+-- ---- sets that run in turns
+
+-- a run is due, whatever comes of it, where each set links, and else the first fault that one of them has
+abbrev pub BoardDue : HostNames → Files → List (List ℕ) → LinkOptions → Outcome → Type 0
+BoardDue names files mains link (Board ran) = AllLink names files mains link
+BoardDue names files mains link due = FirstFault names files mains link due
+
 -- ---- what is asked: an order, or words that are none
 
 abbrev pub DueFor : HostNames → Files → Result Order UsageKind → Outcome → Type 0
@@ -68,17 +76,19 @@ DueFor names files (Ok (order.Plan o link)) due = PlanDue names files (options_o
 DueFor names files (Ok (order.Gen n pages steps)) due = GenDue names n pages due
 DueFor names files (Ok (order.Trace one o link steps out args)) due = TraceDue names files one (options_of o) (links.options_of link) due
 DueFor names files (Ok (order.Replay one trace o link steps)) due = ReplayDue names files one trace (options_of o) (links.options_of link) steps due
+DueFor names files (Ok (order.Board mains link steps slice turns)) due = BoardDue names files mains (links.options_of link) due
 
 -- a path at which a file is sought
-abbrev pub Tries : Files → Result Order UsageKind → List ℕ → Type 0
-Tries files (Err kind) path = ⊥
-Tries files (Ok (order.Merge o link out)) path = gathering.Tries files (options_of o) path
-Tries files (Ok (order.Run o link steps args)) path = gathering.Tries files (options_of o) path
-Tries files (Ok (order.Exec file steps args)) path = path ≡ file
-Tries files (Ok (order.Plan o link)) path = gathering.Tries files (options_of o) path
-Tries files (Ok (order.Gen n pages steps)) path = ⊥
-Tries files (Ok (order.Trace one o link steps out args)) path = ProgramTries files one (options_of o) path
-Tries files (Ok (order.Replay one trace o link steps)) path = (path ≡ trace) ⊎ ProgramTries files one (options_of o) path
+abbrev pub Tries : HostNames → Files → Result Order UsageKind → List ℕ → Type 0
+Tries names files (Err kind) path = ⊥
+Tries names files (Ok (order.Merge o link out)) path = gathering.Tries files (options_of o) path
+Tries names files (Ok (order.Run o link steps args)) path = gathering.Tries files (options_of o) path
+Tries names files (Ok (order.Exec file steps args)) path = path ≡ file
+Tries names files (Ok (order.Plan o link)) path = gathering.Tries files (options_of o) path
+Tries names files (Ok (order.Gen n pages steps)) path = ⊥
+Tries names files (Ok (order.Trace one o link steps out args)) path = ProgramTries files one (options_of o) path
+Tries names files (Ok (order.Replay one trace o link steps)) path = (path ≡ trace) ⊎ ProgramTries files one (options_of o) path
+Tries names files (Ok (order.Board mains link steps slice turns)) path = SetsTry names files mains (links.options_of link) path
 
 -- a set that is merged has a section that is too long
 pub record HasLongSection (names : HostNames) (files : Files) (o : SetOptions) (link : LinkOptions) (id : ℕ) : Type 0 where
@@ -103,7 +113,7 @@ WriteFaultTells names files asked = DueFor names files asked (Done [])
 -- section is too long where it is told.
 abbrev pub TellsFor : HostNames → Files → Result Order UsageKind → Outcome → Type 0
 TellsFor names files asked Memory = Unit {0}
-TellsFor names files asked (Set (ReadFault at)) = Tries files asked at
+TellsFor names files asked (Set (ReadFault at)) = Tries names files asked at
 TellsFor names files asked WriteFault = WriteFaultTells names files asked
 TellsFor names files asked (Merge fault) = MergeFaultTells names files asked fault
 TellsFor names files asked (TooLong run) = TooLongTells names files asked run
@@ -112,6 +122,10 @@ TellsFor names files asked answer = DueFor names files asked answer
 abbrev pub is_run : Outcome → Bool
 is_run (Ran run) = true
 is_run _ = false
+
+abbrev pub is_board : Outcome → Bool
+is_board (Board ran) = true
+is_board _ = false
 
 abbrev pub is_done : Outcome → Bool
 is_done (Done runs) = true
@@ -131,6 +145,7 @@ Yields asked due (Set (ReadFault at)) = (kind : UsageKind) → due ≢ Usage kin
 Yields asked due WriteFault = is_written asked due ≡ true
 Yields asked due (Merge fault) = is_done due ≡ true
 Yields asked due (Ran run) = is_run due ≡ true
+Yields asked due (Board ran) = is_board due ≡ true
 Yields asked due (TooLong run) = is_run due ≡ true
 Yields asked due (Done runs) = is_done due ≡ true
 Yields asked due answer = due ≡ answer
@@ -143,8 +158,8 @@ is_traced (TooLong run) = true
 is_traced answer = is_run answer
 
 -- Where the command can be done over these files, and no read and nothing that it writes has failed, it is: merged where there isn't too much
--- of the set, listed, run whatever the devices did, generated and run: a generated set needs three pages; or replayed where the trace is that
--- of a run. The numbers are the counts of the puts to the output that failed.
+-- of the set, listed, run whatever the devices did, generated and run: a generated set needs three pages; replayed where the trace is that of
+-- a run; or run in turns, where each of the sets links. The numbers are the counts of the puts to the output that failed.
 abbrev pub IsComplete : HostNames → Files → Result Order UsageKind → Outcome → FilesState → FilesState → ℕ → ℕ → Type 0
 IsComplete names files (Err kind) answer old new before now = Unit {0}
 IsComplete names files (Ok (order.Merge o link out)) answer old new before now =
@@ -162,3 +177,5 @@ IsComplete names files (Ok (order.Trace one o link steps out args)) answer old n
     → ¬ Rose old.read_faults new.read_faults → ¬ Rose old.write_faults new.write_faults → (is_traced answer ≡ true) ⊎ (answer ≡ Memory)
 IsComplete names files (Ok (order.Replay one trace o link steps)) answer old new before now =
     ReplayDue names files one trace (options_of o) (links.options_of link) steps (Done []) → ¬ Rose old.read_faults new.read_faults → (answer ≡ Done []) ⊎ (answer ≡ Memory)
+IsComplete names files (Ok (order.Board mains link steps slice turns)) answer old new before now =
+    AllLink names files mains (links.options_of link) → ¬ Rose old.read_faults new.read_faults → (is_board answer ≡ true) ⊎ (answer ≡ Memory)

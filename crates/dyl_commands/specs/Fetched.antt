@@ -5,6 +5,7 @@ use Rattle.std.specs.declared.alloc.Global.{Global}
 use Rattle.std.specs.Option.{ForSome}
 use Rattle.std.specs.FinMap.{get}
 use Rattle.wasm_form.specs.declared.module.Module.{Module}
+use Rattle.spec_hosts.specs.dyl_outside.Faults.{Rises}
 use Rattle.spec_hosts.specs.dyl_outside.Files.{FilesState}
 use Rattle.spec_reading.specs.spec_binary.declared.fault.DecodeFault.{DecodeFault}
 use Rattle.spec_reading.specs.spec_binary.declared.fault.DecodeFault.TheVariants as decode
@@ -47,6 +48,17 @@ pub record IsOfSome (wasm : Module) : Type 0 where
   pub few : length bytes ≤ most_run
   pub said : OfBytes bytes (Ok wasm)
 
+-- a fetch failed, or found no file, exactly where that is answered
+abbrev pub FileReads : {A : Type 0} → Result A SetFault → ℕ → ℕ → Type 0
+FileReads (Err (ReadFault at)) before now = Rises before now
+FileReads (Err Memory) before now = before ≤ now
+FileReads _ before now = now ≡ before
+
+abbrev pub FileAbsents : {A : Type 0} → Result A SetFault → ℕ → ℕ → Type 0
+FileAbsents (Err (Missing name)) before now = Rises before now
+FileAbsents (Err Memory) before now = before ≤ now
+FileAbsents _ before now = now ≡ before
+
 -- what there is to say of the bytes at a path, or what is answered in their place
 abbrev pub TellsBytes : Files → List ℕ → Result (Vec ℕ Global) SetFault → Type 0
 TellsBytes files path (Ok bytes) = files path ≡ Some bytes.items
@@ -67,7 +79,9 @@ pub record FetchesFile (path : List ℕ) (result : Result (Vec ℕ Global) SetFa
   pub few : IfOk result (λ bytes. length bytes.items ≤ most_run)
   pub caused : IfErr result (λ fault. NoBytesCause path fault old new)
   pub files : new.told ≡ old.told
+  pub reads : FileReads result old.read_faults new.read_faults
   pub writes : new.write_faults ≡ old.write_faults
+  pub absents : FileAbsents result old.absents new.absents
   pub same : OnOk result (new ≡ old)
 
 -- What comes of reading the file: what there is to say of it where the files are told; and, whatever they tell, a module that some bytes
@@ -78,4 +92,6 @@ pub record ReadsFile (path : List ℕ) (result : Result Module SetFault) (old ne
   pub caused : IfErr result (λ fault. FileCause path fault old new)
   pub inner : IfErr result (λ fault. wants_inside fault ≡ false)
   pub files : new.told ≡ old.told
+  pub reads : FileReads result old.read_faults new.read_faults
   pub writes : new.write_faults ≡ old.write_faults
+  pub absents : FileAbsents result old.absents new.absents

@@ -1,13 +1,13 @@
 -- What a call does to the input, the output, the errors, the clock and the random words.
 -- Cited by the clause `does` of `serve`, through Clauses.
-use Rattle.std.specs.Prelude.{◌≡◌, ◌⊎◌, ℕ, List, [], ◌∷◌, Bool, true, false, Option, None, Some, Result, Ok, Err, codes}
+use Rattle.std.specs.Prelude.{◌≡◌, ◌⊎◌, ℕ, List, [], ◌∷◌, map, Bool, true, false, Option, None, Some, Result, Ok, Err, codes}
 use Rattle.std.specs.Option.{ForSome}
 use Rattle.std.specs.FinMap.{get}
 use Rattle.wasm_form.specs.declared.module.Module.{Module}
 use Rattle.spec_loading.specs.spec_validation.Faults as validation
 use Rattle.spec_hosts.specs.spec_runtime.Names.{HostNames}
 use Rattle.spec_loading.specs.spec_execution.OneModule.{ModuleState, module_opening}
-use Rattle.spec_loading.specs.spec_linking.Sets.{ClosedSet, SetOptions}
+use Rattle.spec_loading.specs.spec_linking.Sets.{ClosedSet, SetOptions, default_options}
 use Rattle.spec_loading.specs.spec_linking.Gathering.{IsGathered, IsSet}
 use Rattle.spec_loading.specs.spec_linking.Plans.{LinkOptions}
 use Rattle.spec_loading.specs.spec_linking.LinkedSets.{LinkedSet}
@@ -34,7 +34,10 @@ use Rattle.dyl_front.specs.declared.order.Order.{Order}
 use Rattle.dyl_front.specs.declared.order.Order.TheVariants as order
 use Rattle.dyl_front.specs.declared.outcome.UsageKind.{UsageKind}
 use Rattle.dyl_front.specs.declared.outcome.Outcome.{Outcome}
-use Rattle.dyl_front.specs.declared.outcome.Outcome.TheVariants.{Done, Ran, TooLong, WriteFault, Memory}
+use Rattle.dyl_front.specs.declared.outcome.Outcome.TheVariants.{Done, Ran, Board, TooLong, WriteFault, Memory}
+use Rattle.spec_boards.specs.declared.ran.BoardRan as boards
+use Rattle.spec_boards.specs.BoardRuns.{IsBoardRun, IsBoardCut}
+use Rattle.dyl_store.specs.Stores.{set_course}
 use Rattle.run_loaded.specs.Courses.{OfModule, OfSet, course_of}
 use Rattle.dyl_commands.specs.OneFile.{OfFile}
 use Rattle.dyl_commands.specs.Linking.{linked}
@@ -122,6 +125,35 @@ TraceWorks told one o link steps embedder (TooLong r) old new = IsTracedRun IsLo
 TraceWorks told one o link steps embedder WriteFault old new = (r : ran.Ran) × IsTracedRun IsShort told one o link steps embedder r old new
 TraceWorks told one o link steps embedder answer old new = ProgramWorks told one o link steps embedder answer old new
 
+-- ---- sets that run in turns
+
+-- what a picker may answer for the turn of a number and so many programs
+abbrev pub Picks : Type 1
+Picks = ℕ → ℕ → ℕ → Type 0
+
+-- sets with their shapes are gathered, that of each main module in order, and link
+abbrev pub AreThere : Option FileMap → HostNames → List (List ℕ) → LinkOptions → List ClosedSet → Type 0
+AreThere told names [] link [] = Unit {0}
+AreThere told names (main ∷ mains) link (set ∷ sets) = IsThere told names (default_options main) link set × AreThere told names mains link sets
+AreThere told names _ link _ = ⊥
+
+-- the loaded sets were run from their opening states in turns, as is told, by what the picker may answer
+pub record IsRunInTurns (told : Option FileMap) (mains : List (List ℕ)) (link : LinkOptions) (steps slice turns : ℕ) (pick : Picks) (embedder : Embedder) (r : boards.BoardRan) (old new : Devices) : Type 0 where
+  pub sets : List ClosedSet
+  pub there : AreThere told embedder.names mains link sets
+  pub run : IsBoardRun set_course (map (linked embedder.names link) sets) steps slice turns pick embedder r old new
+
+-- they were, and memory was wanting
+pub record IsCutInTurns (told : Option FileMap) (mains : List (List ℕ)) (link : LinkOptions) (steps slice turns : ℕ) (pick : Picks) (embedder : Embedder) (old new : Devices) : Type 0 where
+  pub sets : List ClosedSet
+  pub there : AreThere told embedder.names mains link sets
+  pub cut : IsBoardCut set_course (map (linked embedder.names link) sets) steps slice turns pick embedder old new
+
+abbrev pub BoardWorks : Option FileMap → List (List ℕ) → LinkOptions → ℕ → ℕ → ℕ → Picks → Embedder → Outcome → Devices → Devices → Type 0
+BoardWorks told mains link steps slice turns pick embedder (Board r) old new = IsRunInTurns told mains link steps slice turns pick embedder r old new
+BoardWorks told mains link steps slice turns pick embedder Memory old new = (new ≡ old) ⊎ IsCutInTurns told mains link steps slice turns pick embedder old new
+BoardWorks told mains link steps slice turns pick embedder answer old new = new ≡ old
+
 -- ---- a listing
 
 -- its listing was put to the output in one put, with this result
@@ -184,21 +216,28 @@ GenWorks embedder n pages steps answer old new = new ≡ old
 -- ---- what is asked
 
 -- What is done to the devices before the answer is told. Only a run, a listing and a summary do anything; so does a run in which memory was
--- wanting. The names that are declared are the same whatever the arguments are.
-abbrev pub Works : Option FileMap → (List (List ℕ) → Embedder) → Result Order UsageKind → Outcome → Devices → Devices → Type 0
-Works told embedder (Ok (order.Run o link steps args)) answer old new =
+-- wanting. `pick` is what a picker may answer for the turn of a number and so many programs. The names that are declared are the same whatever
+-- the arguments are.
+abbrev pub Works : Option FileMap → (List (List ℕ) → Embedder) → Picks → Result Order UsageKind → Outcome → Devices → Devices → Type 0
+Works told embedder pick (Ok (order.Run o link steps args)) answer old new =
     RunWorks told (options_of o) (links.options_of link) steps (embedder (guest_arguments args)) answer old new
-Works told embedder (Ok (order.Exec file steps args)) answer old new = ExecWorks told file steps (embedder (guest_arguments args)) answer old new
-Works told embedder (Ok (order.Plan o link)) answer old new =
+Works told embedder pick (Ok (order.Exec file steps args)) answer old new = ExecWorks told file steps (embedder (guest_arguments args)) answer old new
+Works told embedder pick (Ok (order.Plan o link)) answer old new =
     PlanWorks told (embedder []).names (options_of o) (links.options_of link) answer old.output new.output × (new ≡ record old { output = new.output })
-Works told embedder (Ok (order.Gen n pages steps)) answer old new =
+Works told embedder pick (Ok (order.Gen n pages steps)) answer old new =
     GenWorks (embedder (guest_arguments [])) n pages steps answer old.output new.output × (new ≡ record old { output = new.output })
-Works told embedder (Ok (order.Trace one o link steps out args)) answer old new =
+Works told embedder pick (Ok (order.Trace one o link steps out args)) answer old new =
     TraceWorks told one (options_of o) (links.options_of link) steps (embedder (guest_arguments args)) answer old new
-Works told embedder asked answer old new = new ≡ old
+Works told embedder pick (Ok (order.Board mains link steps slice turns)) answer old new =
+    BoardWorks told mains (links.options_of link) steps slice turns pick (embedder (guest_arguments [])) answer old new
+Works told embedder pick asked answer old new = new ≡ old
+
+-- nothing is picked, where no turns are taken
+abbrev pub no_picks : Picks
+no_picks turn count program = ⊥
 
 -- What is done to the devices: that, and then what is told of the answer is put to the errors.
-pub record Does (told : Option FileMap) (embedder : List (List ℕ) → Embedder) (asked : Result Order UsageKind) (answer : Outcome) (old new : Devices) : Type 0 where
+pub record Does (told : Option FileMap) (embedder : List (List ℕ) → Embedder) (pick : Picks) (asked : Result Order UsageKind) (answer : Outcome) (old new : Devices) : Type 0 where
   pub errors : SinkState
-  pub works : Works told embedder asked answer old (record new { errors = errors })
+  pub works : Works told embedder pick asked answer old (record new { errors = errors })
   pub line : TellsErrors answer errors new.errors

@@ -1,6 +1,6 @@
 -- What is so of an answer and of the files, for each command.
 -- Cited by no clause of `serve`: what its parts promise.
-use Rattle.std.specs.Prelude.{◌≡◌, ◌⊎◌, ℕ, List, [], false, Some, IsSomeAnd, IfOk, IfErr, Result, Ok, Err}
+use Rattle.std.specs.Prelude.{◌≡◌, ◌⊎◌, ◌≤◌, ◌++◌, ℕ, List, [], ◌∷◌, false, Option, Some, IsSomeAnd, IfOk, IfErr, Result, Ok, Err}
 use Rattle.std.specs.Option.{ForSome}
 use Rattle.std.specs.FinMap.{get, insert}
 use Rattle.wasm_form.specs.declared.module.Module.{Module}
@@ -19,27 +19,34 @@ use Rattle.spec_loading.specs.spec_linking.declared.fault.SetFault.{SetFault}
 use Rattle.spec_loading.specs.spec_linking.declared.fault.SetFault.TheVariants as set
 use Rattle.spec_loading.specs.spec_linking.declared.fault.LinkFault.{LinkFault}
 use Rattle.spec_loading.specs.spec_linking.declared.fault.LinkFault.TheVariants as link
-use Rattle.spec_loading.specs.spec_linking.Sets.{ClosedSet, SetOptions}
+use Rattle.spec_loading.specs.spec_linking.Sets.{ClosedSet, SetOptions, default_options}
 use Rattle.spec_loading.specs.spec_linking.Gathering.{IsGathered}
 use Rattle.spec_loading.specs.spec_linking.Plans.{LinkOptions}
 use Rattle.spec_loading.specs.spec_linking.LinkedSets.{LinkedSet}
 use Rattle.spec_loading.specs.spec_linking.Links.{link_fault}
 use Rattle.spec_merging.specs.declared.fault.MergeFault.{MergeFault}
 use Rattle.spec_merging.specs.declared.fault.MergeFault.TheVariants as merge
+use Rattle.spec_boards.specs.BoardRuns.{IsBoardRun, IsBoardCut}
+use Rattle.dyl_store.specs.Stores.{set_course}
+use Rattle.slice_exec.specs.Executed.{AreKept}
 use Rattle.wasm_exec.specs.Executed as executed
 use Rattle.wasm_exec.specs.Executed.{HaveIntegers, IsModuleRun, IsModuleCut}
 use Rattle.merge_whole.specs.Merges.{IsTooLongFor}
 use Rattle.merge_whole.specs.Merges as whole
+use Rattle.dyl_link.specs.dyl_search.Absents.{CountsFor}
 use Rattle.dyl_link.specs.Kept.{Kept, IsLinked}
+use Rattle.run_loaded.specs.Courses.{Origin, OfModule, OfSet, course_of, TakesAll}
 use Rattle.dyl_front.specs.Listing.{listing_of}
 use Rattle.dyl_front.specs.declared.order.Order.{Order}
 use Rattle.dyl_front.specs.declared.outcome.UsageKind.{UsageKind}
 use Rattle.dyl_front.specs.declared.outcome.Outcome.{Outcome}
-use Rattle.dyl_front.specs.declared.outcome.Outcome.TheVariants.{Done, Ran, Set, Link, Merge, Single, WriteFault, Memory}
+use Rattle.dyl_front.specs.declared.outcome.Outcome.TheVariants.{Done, Ran, Board, Set, Link, Merge, Single, WriteFault, Memory}
 use Rattle.dyl_commands.specs.Linking.{linked, FaultTells}
+use Rattle.dyl_commands.specs.Sets.{FirstTells}
 use Rattle.dyl_commands.specs.Due.{TellsFor}
 use Rattle.dyl_commands.specs.Files.{LeavesFor}
 use Rattle.dyl_commands.specs.Causes.{SetCause, Caused, has_inner_memory}
+use Rattle.dyl_commands.specs.Counts.{ReadsFor, StoresFor, TriedForSet, BoardCounts}
 
 -- the answer to what is asked, the files before and after, and the counts of the puts to the output that failed
 pub record Serves (names : HostNames) (asked : Result Order UsageKind) (answer : Outcome) (old new : FilesState) (before now : ℕ) : Type 0 where
@@ -69,12 +76,69 @@ pub record IsNotGot (names : HostNames) (o : SetOptions) (l : LinkOptions) (answ
   pub caused : GotCause answer old new
   pub inner : has_inner_memory answer ≡ false
 
+-- a fetch failed exactly where that is answered
+abbrev pub GotReads : Result Kept Outcome → ℕ → ℕ → Type 0
+GotReads (Ok k) before now = now ≡ before
+GotReads (Err answer) before now = ReadsFor answer before now
+
+-- and these paths were tried, where the files are told
+abbrev pub GotTried : Option FileMap → SetOptions → Result Kept Outcome → ℕ → ℕ → Type 0
+GotTried told o (Ok k) before now = (S : ClosedSet) × CountsFor told o (Ok S) before now
+GotTried told o (Err answer) before now = TriedForSet told o answer before now
+
 -- What comes of gathering and linking: no file changes.
 pub record Gets (names : HostNames) (o : SetOptions) (l : LinkOptions) (result : Result Kept Outcome) (old new : FilesState) : Type 0 where
   pub got : IfOk result (λ k. IsGot names o l k old)
   pub fault : IfErr result (λ answer. IsNotGot names o l answer old new)
   pub files : new.told ≡ old.told
+  pub reads : GotReads result old.read_faults new.read_faults
   pub writes : new.write_faults ≡ old.write_faults
+  pub absents : old.absents ≤ new.absents
+  pub tried : GotTried old.told o result old.absents new.absents
+
+-- ---- several sets, each of a main module alone, one after the other
+
+-- what is kept of them, which the files give where they are told
+abbrev pub AreGot : HostNames → List (List ℕ) → LinkOptions → List Kept → FilesState → Type 0
+AreGot names [] l [] old = Unit {0}
+AreGot names (main ∷ mains) l (k ∷ ks) old = IsGot names (default_options main) l k old × AreGot names mains l ks old
+AreGot names _ l _ old = ⊥
+
+-- an outcome where the first of them that isn't linked isn't
+pub record AreNotGot (names : HostNames) (mains : List (List ℕ)) (l : LinkOptions) (answer : Outcome) (old new : FilesState) : Type 0 where
+  pub tells : ForSome old.told (λ files. FirstTells names (get files) mains l answer)
+  pub caused : GotCause answer old new
+  pub inner : has_inner_memory answer ≡ false
+
+-- what may be answered where all are: that they were run, or want of memory
+abbrev pub MayFollowAll : Outcome → Type 0
+MayFollowAll (Board ran) = Unit {0}
+MayFollowAll Memory = Unit {0}
+MayFollowAll _ = ⊥
+
+-- and where one isn't: the outcome
+abbrev pub MayFollow : Result (List Kept) Outcome → Outcome → Type 0
+MayFollow (Ok ks) answer = MayFollowAll answer
+MayFollow (Err outcome) answer = answer ≡ outcome
+
+-- What comes of gathering and linking them: no file changes.
+pub record GetsAll (names : HostNames) (mains : List (List ℕ)) (l : LinkOptions) (result : Result (List Kept) Outcome) (old new : FilesState) : Type 0 where
+  pub got : IfOk result (λ ks. AreGot names mains l ks old)
+  pub fault : IfErr result (λ answer. AreNotGot names mains l answer old new)
+  pub files : new.told ≡ old.told
+  pub counts : (answer : Outcome) → MayFollow result answer → BoardCounts mains answer old new
+
+-- of one more, behind those that are linked
+abbrev pub GetsNext : HostNames → List ℕ → LinkOptions → Result (Unit {0}) Outcome → List Kept → List Kept → FilesState → FilesState → Type 0
+GetsNext names main l (Ok done) olds news old new = (k : Kept) × (news ≡ olds ++ k ∷ []) × Gets names (default_options main) l (Ok k) old new
+GetsNext names main l (Err answer) olds news old new = Gets names (default_options main) l (Err answer) old new
+
+-- these, where all are
+abbrev pub all_linked : Result (Unit {0}) Outcome → List Kept → Result (List Kept) Outcome
+all_linked (Ok done) ks = Ok ks
+all_linked (Err outcome) ks = Err outcome
+
+-- ---- one set that was gathered
 
 -- what linking a set comes to
 abbrev pub LinksTo : LinkedSet → Result Kept Outcome → Type 0
@@ -92,6 +156,16 @@ StoresOutput out bytes (Ok done) old new = ForSome old.told (λ files. new.told 
 StoresOutput out bytes (Err WriteFault) old new = ForSome old.told (λ files. IsSomeAnd new.told (SameBut out files)) × Rises old.write_faults new.write_faults
 StoresOutput out bytes (Err Memory) old new = ForSome old.told (λ files. new.told ≡ Some files)
 StoresOutput out bytes (Err _) old new = ⊥
+
+-- and of the counts
+abbrev pub StoredBy : Result (Unit {0}) Outcome → ℕ → ℕ → Type 0
+StoredBy (Ok done) before now = now ≡ before
+StoredBy (Err answer) before now = StoresFor answer before now
+
+pub record StoreCounts (Stores : ℕ → ℕ → Type 0) (old new : FilesState) : Type 0 where
+  pub reads : new.read_faults ≡ old.read_faults
+  pub stores : Stores old.write_faults new.write_faults
+  pub absents : new.absents ≡ old.absents
 
 -- ---- merging a linked set
 
@@ -132,6 +206,14 @@ ExecutesSet k embedder steps (Ran r) old new = (L : LinkedSet) → IsLinked L k 
 ExecutesSet k embedder steps Memory old new = (new ≡ old) ⊎ ((L : LinkedSet) → IsLinked L k → executed.IsSetCut L embedder steps old new)
 ExecutesSet k embedder steps _ old new = ⊥
 
+-- ---- running linked sets in turns
+
+-- what each outcome does to the devices, for the sets of which these are kept
+abbrev pub RunsInTurns : List Kept → Embedder → ℕ → ℕ → ℕ → (ℕ → ℕ → ℕ → Type 0) → Outcome → Devices → Devices → Type 0
+RunsInTurns ks embedder steps slice turns pick (Board r) old new = (Ls : List LinkedSet) → AreKept Ls ks → IsBoardRun set_course Ls steps slice turns pick embedder r old new
+RunsInTurns ks embedder steps slice turns pick Memory old new = (Ls : List LinkedSet) → AreKept Ls ks → IsBoardCut set_course Ls steps slice turns pick embedder old new
+RunsInTurns ks embedder steps slice turns pick _ old new = ⊥
+
 -- ---- running a module that was read
 
 -- what each outcome says of the module, and does to the devices
@@ -155,3 +237,18 @@ link_outcome fault = Link fault
 abbrev pub merge_outcome : MergeFault → Outcome
 merge_outcome merge.Memory = Memory
 merge_outcome fault = Merge fault
+
+-- ---- the runs of a program: it may be said to have each that begins so
+
+abbrev pub BeginsAsSet : Kept → Origin → Type 0
+BeginsAsSet k (OfSet L) = IsLinked L k
+BeginsAsSet k (OfModule m opening) = ⊥
+
+abbrev pub BeginsAsModule : Module → HostNames → Origin → Type 0
+BeginsAsModule wasm names (OfSet L) = ⊥
+BeginsAsModule wasm names (OfModule m opening) = (m ≡ wasm) × (module_opening wasm names ≡ Ok opening)
+
+-- the run that is told, if one is, took all its answers
+abbrev pub TakesAnswers : (Origin → Type 0) → Outcome → Type 0
+TakesAnswers Is (Ran r) = (x : Origin) → Is x → TakesAll (course_of x) r
+TakesAnswers Is _ = Unit {0}

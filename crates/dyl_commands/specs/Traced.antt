@@ -7,7 +7,7 @@ use Rattle.spec_hosts.specs.spec_runtime.Names.{HostNames}
 use Rattle.spec_hosts.specs.spec_runtime.Courses.{Course}
 use Rattle.spec_loading.specs.spec_execution.declared.fault.SingleFault.{SingleFault}
 use Rattle.spec_loading.specs.spec_execution.OneModule.{module_opening}
-use Rattle.spec_loading.specs.spec_linking.declared.fault.SetFault.TheVariants.{Missing, SetSize}
+use Rattle.spec_loading.specs.spec_linking.declared.fault.SetFault.TheVariants.{Missing, ReadFault, SetSize}
 use Rattle.spec_loading.specs.spec_linking.Sets.{Files, SetOptions, main_name}
 use Rattle.spec_loading.specs.spec_linking.Gathering as gathering
 use Rattle.spec_loading.specs.spec_linking.Gathering.{IsGathered}
@@ -74,6 +74,12 @@ OfTrace files path (Err (outcome.Set (Missing name))) = (files path ≡ None) ×
 OfTrace files path (Err (outcome.Set SetSize)) = IsSomeAnd (files path) (λ bytes. most_run < length bytes)
 OfTrace files path (Err (outcome.Trace (Line line))) = IsSomeAnd (files path) (λ bytes. (length bytes ≤ most_run) × BreaksAt bytes line)
 OfTrace files path (Err _) = ⊥
+
+-- What may be answered in place of it: a read fault, which names the path, or want of memory.
+abbrev pub TellsTrace : Files → List ℕ → Result Trace Outcome → Type 0
+TellsTrace files path (Err (outcome.Set (ReadFault at))) = at ≡ path
+TellsTrace files path (Err outcome.Memory) = Unit {0}
+TellsTrace files path said = OfTrace files path said
 
 -- What is due for a trace, in this order: what keeps the program from being loaded, more steps than these, why it doesn't open, and whether its
 -- run is that of the trace, or with how many of the calls it agrees.

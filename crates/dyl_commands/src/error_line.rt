@@ -1,10 +1,9 @@
 // The line on the standard error that tells what came of an order.
-ghost use Rattle.std.specs.Prelude.{◌≡◌, true, false, Some, None, IsSome};
-ghost use Rattle.dyl_front.specs.Lines.{line_of, outcome_text};
+ghost use Rattle.std.specs.Prelude.{◌≡◌, Some, None, IsSome};
+ghost use Rattle.dyl_front.specs.Lines.{line_of};
 ghost use Rattle.dyl_commands.specs.Told.{IsTold, TellsErrors};
 
-use dyl_front::{Outcome, line};
-use spec_hosts::RunEnd;
+use dyl_front::{Outcome, is_silent, line};
 use spec_hosts::dyl_outside::{IoFault, Sink};
 use std::alloc::Global;
 use wasm_form::Memory;
@@ -37,7 +36,7 @@ fn tell_line<E: Sink>(alloc: Global, outcome: Outcome, line: &[u8], errors: &mut
 
 /// Makes the line of an outcome, and puts it.
 fn tell_other<E: Sink>(alloc: Global, outcome: Outcome, errors: &mut E) -> Outcome
-    requires { IsSome (outcome_text outcome) }
+    requires { IsSome (line_of outcome) }
     ensures answer { IsTold outcome result }
     ensures told { TellsErrors result (E.seen errors.old) (E.seen errors.new) }
 {
@@ -47,18 +46,6 @@ fn tell_other<E: Sink>(alloc: Global, outcome: Outcome, errors: &mut E) -> Outco
             drop(outcome);
             tell_memory(alloc, errors)
         }
-    }
-}
-
-/// Whether nothing is told of an outcome: the command is done, or the run returned or exited.
-fn is_silent(outcome: &Outcome) -> bool
-    ensures silent { result ≡ true → outcome_text outcome.now ≡ None }
-    ensures told { result ≡ false → IsSome (outcome_text outcome.now) }
-{
-    match outcome {
-        Outcome::Done(_) => true,
-        Outcome::Ran(ran) => matches!(ran.end, RunEnd::Return | RunEnd::Exit(_)),
-        _ => false,
     }
 }
 

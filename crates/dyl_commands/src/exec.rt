@@ -4,8 +4,8 @@ ghost use Rattle.host_calls.specs.Embedders.{names_of};
 ghost use Rattle.spec_loading.specs.spec_safety.SoundModules.{HoldsNumbers};
 ghost use Rattle.dyl_commands.specs.Runs.{guest_arguments};
 ghost use Rattle.dyl_commands.specs.Due.{is_done};
-ghost use Rattle.dyl_commands.specs.Served.{Serves};
-ghost use Rattle.dyl_commands.specs.Tracing.{BeginsAsModule, TakesAnswers};
+ghost use Rattle.dyl_commands.specs.Counts.{Counts};
+ghost use Rattle.dyl_commands.specs.Served.{Serves, BeginsAsModule, TakesAnswers};
 ghost use Rattle.dyl_commands.specs.Clauses.{ModuleDoes, ExecWorksBy};
 
 use crate::one_file::read_module;
@@ -32,7 +32,7 @@ pub(crate) fn guest_arguments(alloc: Global, args: &[Text]) -> Result<List<Text>
 }
 
 /// Runs a module that was read.
-pub(crate) fn exec_module<I: Source, O: Sink, E: Sink, A: Ambient>(
+pub fn exec_module<I: Source, O: Sink, E: Sink, A: Ambient>(
     alloc: Global,
     checked: &Checked,
     steps: u64,
@@ -75,6 +75,7 @@ pub fn exec_file<F: Files, I: Source, O: Sink, E: Sink, A: Ambient>(
 ) -> Outcome
     requires { steps ≤ 9223372036854775807 }
     ensures serves { Serves (names_of host.now) (Ok (Order.Exec file.now steps args.now)) result (F.seen files.old) (F.seen files.new) (O.seen output.old).faults (O.seen output.new).faults }
+    ensures counts { Counts (Ok (Order.Exec file.now steps args.now)) result (F.seen files.old) (F.seen files.new) }
     ensures done { is_done result ≡ false }
     ensures works { ExecWorksBy host.now (F.seen files.old) file.now steps args.now result (I.seen input.old) (O.seen output.old) (E.seen errors.old) (A.seen ambient.old) (I.seen input.new) (O.seen output.new) (E.seen errors.new) (A.seen ambient.new) }
 {

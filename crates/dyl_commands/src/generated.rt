@@ -20,7 +20,7 @@ ghost use Rattle.dyl_commands.specs.Runs.{guest_arguments, GenWorks};
 ghost use Rattle.dyl_commands.specs.GeneratedRuns.{MakesFiles, MakesSet, IsLittle, RunsLoaded, MergesTo, RunsModule, SumsUp, RunsKept};
 
 use crate::exec::guest_arguments;
-use crate::sets::linked_set;
+use crate::sets::{linked_set, main_alone};
 use dyl_front::{Order, Outcome, Report, summary};
 use dyl_gen::{GenFault, generated_set_links, make};
 use dyl_link::dyl_search::SetOptions;
@@ -41,17 +41,6 @@ use wasm_form::{List, Memory, Module, Text};
 
 /// The bytes of the stack of a set that is made.
 const STACK: u32 = 65_536;
-
-/// How the set is gathered: of its main module alone.
-fn main_alone(alloc: Global) -> Result<SetOptions, Memory>
-    ensures { IfOk result (λ o. options_of o ≡ set_options) }
-{
-    Ok(SetOptions {
-        main: Text::copied(alloc, "m0.wasm")?,
-        dl: List::of(Vec::new(alloc)),
-        paths: List::of(Vec::new(alloc)),
-    })
-}
 
 /// How it is linked.
 fn with_pages(pages: u32) -> LinkOptions
@@ -82,7 +71,7 @@ fn made_set(alloc: Global, n: u32, pages: u32, host: &HostTable) -> Result<Linke
     ensures { MakesSet (names_of host.now) n pages result }
 {
     generated_set_links();
-    let Ok(set) = main_alone(alloc) else {
+    let Ok(set) = main_alone(alloc, "m0.wasm") else {
         return Err(Outcome::Memory);
     };
     match made_files(alloc, n) {

@@ -5,7 +5,8 @@ ghost use Rattle.spec_loading.specs.spec_linking.LinkedSets.{LinkedSet};
 ghost use Rattle.dyl_link.specs.Kept.{IsLinked};
 ghost use Rattle.merge_whole.specs.Merges.{IsSupported};
 ghost use Rattle.dyl_front.specs.Orders.{IsLinkInRange};
-ghost use Rattle.dyl_commands.specs.Served.{Serves, WritesMerged, merge_outcome};
+ghost use Rattle.dyl_commands.specs.Counts.{StoresFor, Counts};
+ghost use Rattle.dyl_commands.specs.Served.{Serves, StoreCounts, WritesMerged, merge_outcome};
 
 use crate::sets::linked_set;
 use crate::store::store_output;
@@ -32,7 +33,8 @@ fn unmerged(fault: MergeFault) -> Outcome
 fn write_merged<F: Files>(alloc: Global, linked: &Linked, out: &str, files: &mut F) -> Outcome
     requires set { (L : LinkedSet) × IsLinked L linked.now }
     requires hosts { All IsSupported linked.now.hosts }
-    ensures { WritesMerged linked.now out.now result (F.seen files.old) (F.seen files.new) }
+    ensures written { WritesMerged linked.now out.now result (F.seen files.old) (F.seen files.new) }
+    ensures counts { StoreCounts (StoresFor result) (F.seen files.old) (F.seen files.new) }
 {
     match merge(alloc, linked) {
         Ok(bytes) => match store_output(alloc, out, &bytes, files) {
@@ -53,7 +55,8 @@ pub fn merge_main<F: Files>(
     host: &HostTable,
 ) -> Outcome
     requires { IsLinkInRange link.now }
-    ensures { (before now : ℕ) → Serves (names_of host.now) (Ok (Order.Merge set.now link.now out.now)) result (F.seen files.old) (F.seen files.new) before now }
+    ensures serves { (before now : ℕ) → Serves (names_of host.now) (Ok (Order.Merge set.now link.now out.now)) result (F.seen files.old) (F.seen files.new) before now }
+    ensures counts { Counts (Ok (Order.Merge set.now link.now out.now)) result (F.seen files.old) (F.seen files.new) }
 {
     match linked_set(alloc, set, link, files, host) {
         Ok(linked) => {

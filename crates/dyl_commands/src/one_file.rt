@@ -16,7 +16,7 @@ use wasm_decode::decode;
 use wasm_form::{Module, Text};
 
 /// The most bytes of a module that is run, and of the text of a trace.
-pub(crate) const MOST_RUN: usize = 67_108_864;
+pub const MOST_RUN: usize = 67_108_864;
 
 /// That there is no file at a path.
 fn missing(alloc: Global, path: &str) -> SetFault
@@ -86,11 +86,7 @@ fn module_of(alloc: Global, bytes: &[u8]) -> Result<Checked, SetFault>
 }
 
 /// The bytes of the file at a path, of which there may be so many, or why they aren't had.
-pub(crate) fn fetch_file<F: Files>(
-    alloc: Global,
-    path: &str,
-    files: &mut F,
-) -> Result<Vec<u8>, SetFault>
+pub fn fetch_file<F: Files>(alloc: Global, path: &str, files: &mut F) -> Result<Vec<u8>, SetFault>
     ensures { FetchesFile path.now result (F.seen files.old) (F.seen files.new) }
 {
     match files.fetch(alloc, path, MOST_RUN) {

@@ -7,6 +7,7 @@ ghost use Rattle.dyl_link.specs.Kept as links;
 ghost use Rattle.dyl_link.specs.Kept.{IsLinked};
 ghost use Rattle.dyl_front.specs.Orders.{IsLinkInRange};
 ghost use Rattle.dyl_commands.specs.Runs.{PlanWorks};
+ghost use Rattle.dyl_commands.specs.Counts.{Counts};
 ghost use Rattle.dyl_commands.specs.Served.{Serves, Lists};
 
 use crate::sets::linked_set;
@@ -43,6 +44,7 @@ pub fn plan_main<F: Files, O: Sink>(
 ) -> Outcome
     requires { IsLinkInRange link.now }
     ensures serves { Serves (names_of host.now) (Ok (Order.Plan set.now link.now)) result (F.seen files.old) (F.seen files.new) (O.seen output.old).faults (O.seen output.new).faults }
+    ensures counts { Counts (Ok (Order.Plan set.now link.now)) result (F.seen files.old) (F.seen files.new) }
     ensures works { PlanWorks (F.seen files.old).told (names_of host.now) (options_of set.now) (links.options_of link.now) result (O.seen output.old) (O.seen output.new) }
 {
     match linked_set(alloc, set, link, files, host) {

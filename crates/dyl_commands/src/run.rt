@@ -4,8 +4,8 @@ ghost use Rattle.host_calls.specs.Embedders.{names_of};
 ghost use Rattle.dyl_front.specs.Orders.{IsLinkInRange};
 ghost use Rattle.wasm_exec.specs.Executed.{HaveIntegers, IsLinkedOver};
 ghost use Rattle.dyl_commands.specs.Due.{is_done};
-ghost use Rattle.dyl_commands.specs.Served.{Serves};
-ghost use Rattle.dyl_commands.specs.Tracing.{BeginsAsSet, TakesAnswers};
+ghost use Rattle.dyl_commands.specs.Counts.{Counts};
+ghost use Rattle.dyl_commands.specs.Served.{Serves, BeginsAsSet, TakesAnswers};
 ghost use Rattle.dyl_commands.specs.Clauses.{SetRuns, RunWorksBy};
 
 use crate::exec::guest_arguments;
@@ -20,7 +20,7 @@ use wasm_exec::execute_set;
 use wasm_form::{Memory, Text};
 
 /// Runs a linked set.
-pub(crate) fn run_linked<I: Source, O: Sink, E: Sink, A: Ambient>(
+pub fn run_linked<I: Source, O: Sink, E: Sink, A: Ambient>(
     alloc: Global,
     linked: &Linked,
     steps: u64,
@@ -65,6 +65,7 @@ pub fn run_main<F: Files, I: Source, O: Sink, E: Sink, A: Ambient>(
     requires link { IsLinkInRange link.now }
     requires steps { steps ≤ 9223372036854775807 }
     ensures serves { Serves (names_of host.now) (Ok (Order.Run set.now link.now steps args.now)) result (F.seen files.old) (F.seen files.new) (O.seen output.old).faults (O.seen output.new).faults }
+    ensures counts { Counts (Ok (Order.Run set.now link.now steps args.now)) result (F.seen files.old) (F.seen files.new) }
     ensures done { is_done result ≡ false }
     ensures works { RunWorksBy host.now (F.seen files.old) set.now link.now steps args.now result (I.seen input.old) (O.seen output.old) (E.seen errors.old) (A.seen ambient.old) (I.seen input.new) (O.seen output.new) (E.seen errors.new) (A.seen ambient.new) }
 {

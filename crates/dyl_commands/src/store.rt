@@ -1,5 +1,5 @@
 // Storing what a command writes.
-ghost use Rattle.dyl_commands.specs.Served.{StoresOutput};
+ghost use Rattle.dyl_commands.specs.Served.{StoresOutput, StoredBy, StoreCounts};
 
 use dyl_front::Outcome;
 use spec_hosts::dyl_outside::{Files, IoFault};
@@ -12,7 +12,8 @@ pub fn store_output<F: Files>(
     bytes: &[u8],
     files: &mut F,
 ) -> Result<(), Outcome>
-    ensures { StoresOutput out.now bytes.now result (F.seen files.old) (F.seen files.new) }
+    ensures stored { StoresOutput out.now bytes.now result (F.seen files.old) (F.seen files.new) }
+    ensures counts { StoreCounts (StoredBy result) (F.seen files.old) (F.seen files.new) }
 {
     match files.store(alloc, out, bytes) {
         Ok(()) => Ok(()),

@@ -1,4 +1,5 @@
 pub mod Numbers
+pub mod BoardLines
 pub mod Items
 pub mod Ranges
 pub mod Listings

@@ -4,18 +4,18 @@ use Rattle.std.proofs.lemmas.Bool.{leb-true}
 use Rattle.std.specs.declared.alloc.Global.{Global}
 use Rattle.std.specs.List.{list_any, list_all, slice_split, onto_first}
 use Rattle.std.specs.Str.Parse.{digits_value}
-use Rattle.dyl_words.specs.Words.{Asked, asked, command_named, has_zero, some_has_zero, IsZeroFree}
+use Rattle.dyl_words.specs.Words.{Asked, asked, command_named, takes_plain, has_zero, some_has_zero, IsZeroFree}
 use Rattle.dyl_words.specs.declared.names.CommandName.{CommandName}
 use Rattle.dyl_words.specs.declared.names.CommandName.TheVariants as command
-use Rattle.dyl_words.proofs.ZeroFree.{asked_free}
+use Rattle.dyl_words.proofs.ZeroFree.{IsTaken, asked_taken}
 use Rattle.dyl_link.specs.declared.options.LinkOptions.{LinkOptions}
 use Rattle.dyl_link.specs.dyl_search.declared.set.SetOptions.{SetOptions}
 use Rattle.dyl_front.specs.declared.outcome.Opt.{Opt}
-use Rattle.dyl_front.specs.declared.outcome.Opt.TheVariants.{Dl, Path, Pages, Stack, Steps, N}
+use Rattle.dyl_front.specs.declared.outcome.Opt.TheVariants.{Dl, Path, Pages, Stack, Steps, Slice, Turns, N}
 use Rattle.dyl_front.specs.declared.outcome.UsageKind.{UsageKind}
 use Rattle.dyl_front.specs.declared.order.Order.{Order}
-use Rattle.dyl_front.specs.declared.order.Order.TheVariants.{Merge, Run, Exec, Plan, Gen, Trace, Replay}
-use Rattle.dyl_front.specs.Orders.{Text, on_ok, is_number, is_between, number_of, number_in, is_empty, items_of, items_in, set_in, pages_in, link_in, steps_in, over_set, order_by, order_asked, order_for, order_of, has_no_zero, is_item, IsSetInRange, IsLinkInRange, IsInRange}
+use Rattle.dyl_front.specs.declared.order.Order.TheVariants.{Merge, Run, Exec, Plan, Gen, Trace, Replay, Board}
+use Rattle.dyl_front.specs.Orders.{Text, on_ok, is_number, is_between, number_of, number_in, is_empty, items_of, items_in, set_in, pages_in, link_in, steps_in, slice_in, turns_in, over_set, order_by, order_asked, order_for, order_of, has_no_zero, is_item, IsSetInRange, IsLinkInRange, AreMainsInRange, IsInRange}
 
 parts_false : (a b : Bool) → (a || b) ≡ false → (a ≡ false) × (b ≡ false)
 parts_false true b h = absurd (true≢false h)
@@ -110,57 +110,67 @@ module _ (a : Asked) (free : IsZeroFree a) where
   args_free [] h = refl
   args_free (x ∷ xs) h = let both = parts_false (has_zero x) (list_any has_zero xs) h in both_true (has_no_zero x) (list_all has_no_zero xs) (ap not both.0) (args_free xs both.1)
 
-  orders : (c : CommandName) (words : List Text) → list_any has_zero words ≡ false → IfOk (order_by c words a) IsInRange
-  orders command.Merge [] h = tt
-  orders command.Merge (main ∷ []) h = tt
-  orders command.Merge (main ∷ out ∷ []) h =
+  orders : (c : CommandName) (words : List Text) → list_any has_zero words ≡ false → takes_plain c (length words) ≡ true → IfOk (order_by c words a) IsInRange
+  orders command.Merge [] h t = tt
+  orders command.Merge (main ∷ []) h t = tt
+  orders command.Merge (main ∷ out ∷ []) h t =
       let both = parts_false (has_zero main) (list_any has_zero (out ∷ [])) h in
       over main (λ set link. Ok (Merge set link out)) both.0 (λ set link s l. (s, l, ap not (parts_false (has_zero out) false both.1).0))
-  orders command.Merge (main ∷ out ∷ word ∷ words) h = tt
-  orders command.Run [] h = tt
-  orders command.Run (main ∷ args) h =
+  orders command.Merge (main ∷ out ∷ word ∷ words) h t = tt
+  orders command.Run [] h t = tt
+  orders command.Run (main ∷ args) h t =
       let both = parts_false (has_zero main) (list_any has_zero args) h in
       over main (λ set link. on_ok (steps_in a) (λ n. Ok (Run set link n args))) both.0
       (λ set link s l. ok_then (λ n. n ≤ 9223372036854775807) IsInRange (steps_in a) (λ n. Ok (Run set link n args)) steps (λ n m. (s, l, (m, args_free args both.1))))
-  orders command.Exec [] h = tt
-  orders command.Exec (file ∷ args) h =
+  orders command.Exec [] h t = tt
+  orders command.Exec (file ∷ args) h t =
       let both = parts_false (has_zero file) (list_any has_zero args) h in
       ok_then (λ n. n ≤ 9223372036854775807) IsInRange (steps_in a) (λ n. Ok (Exec file n args)) steps (λ n m. (ap not both.0, (m, args_free args both.1)))
-  orders command.Plan [] h = tt
-  orders command.Plan (main ∷ []) h = over main (λ set link. Ok (Plan set link)) (parts_false (has_zero main) false h).0 (λ set link s l. (s, l))
-  orders command.Plan (main ∷ word ∷ words) h = tt
-  orders command.Gen [] h = tt
-  orders command.Gen (number ∷ []) h =
+  orders command.Plan [] h t = tt
+  orders command.Plan (main ∷ []) h t = over main (λ set link. Ok (Plan set link)) (parts_false (has_zero main) false h).0 (λ set link s l. (s, l))
+  orders command.Plan (main ∷ word ∷ words) h t = tt
+  orders command.Gen [] h t = tt
+  orders command.Gen (number ∷ []) h t =
       let members = λ (pages steps : ℕ). on_ok (number_of N 0 4294967295 number) (λ n. Ok (Gen n pages steps)) in
       ok_then (λ n. (1 ≤ n) × (n ≤ 16384)) IsInRange (pages_in a) (λ most. on_ok (steps_in a) (λ n. members most n)) pages
       (λ most p. ok_then (λ n. n ≤ 9223372036854775807) IsInRange (steps_in a) (λ n. members most n) steps
       (λ n m. ok_then (λ k. (0 ≤ k) × (k ≤ 4294967295)) IsInRange (number_of N 0 4294967295 number) (λ k. Ok (Gen k most n))
       (numbers N 0 4294967295 0 (Some number) (omega arith) (omega arith)) (λ k q. (p.0, p.1, m))))
-  orders command.Gen (number ∷ word ∷ words) h = tt
-  orders command.Trace [] h = tt
-  orders command.Trace (main ∷ []) h = tt
-  orders command.Trace (main ∷ out ∷ args) h =
+  orders command.Gen (number ∷ word ∷ words) h t = tt
+  orders command.Trace [] h t = tt
+  orders command.Trace (main ∷ []) h t = tt
+  orders command.Trace (main ∷ out ∷ args) h t =
       let first = parts_false (has_zero main) (list_any has_zero (out ∷ args)) h in
       let second = parts_false (has_zero out) (list_any has_zero args) first.1 in
       over main (λ set link. on_ok (steps_in a) (λ n. Ok (Trace a.one set link n out args))) first.0
       (λ set link s l. ok_then (λ n. n ≤ 9223372036854775807) IsInRange (steps_in a) (λ n. Ok (Trace a.one set link n out args)) steps
       (λ n m. (s, l, ap not second.0, (m, args_free args second.1))))
-  orders command.Replay [] h = tt
-  orders command.Replay (trace ∷ []) h = tt
-  orders command.Replay (trace ∷ main ∷ []) h =
+  orders command.Replay [] h t = tt
+  orders command.Replay (trace ∷ []) h t = tt
+  orders command.Replay (trace ∷ main ∷ []) h t =
       let first = parts_false (has_zero trace) (list_any has_zero (main ∷ [])) h in
       over main (λ set link. on_ok (steps_in a) (λ n. Ok (Replay a.one trace set link n))) (parts_false (has_zero main) false first.1).0
       (λ set link s l. ok_then (λ n. n ≤ 9223372036854775807) IsInRange (steps_in a) (λ n. Ok (Replay a.one trace set link n)) steps
       (λ n m. (ap not first.0, s, l, m)))
-  orders command.Replay (trace ∷ main ∷ word ∷ words) h = tt
+  orders command.Replay (trace ∷ main ∷ word ∷ words) h t = tt
+  orders command.Board mains h t =
+      let few = parts_true (nat_le 1 (length mains)) (nat_le (length mains) 64) t in
+      let all : AreMainsInRange mains = (leb-true 1 (length mains) few.0, leb-true (length mains) 64 few.1, args_free mains h) in
+      let last = λ (link : LinkOptions) (n k : ℕ). on_ok (turns_in a) (λ turns. Ok (Board mains link n k turns)) in
+      let more = λ (link : LinkOptions) (n : ℕ). on_ok (slice_in a) (λ k. last link n k) in
+      ok_then IsLinkInRange IsInRange (link_in a) (λ link. on_ok (steps_in a) (λ n. more link n)) links
+      (λ link l. ok_then (λ n. n ≤ 9223372036854775807) IsInRange (steps_in a) (λ n. more link n) steps
+      (λ n m. ok_then (λ k. (1 ≤ k) × (k ≤ 1000000)) IsInRange (slice_in a) (λ k. last link n k) (numbers Slice 1 1000000 1000 a.slice (omega arith) (omega arith))
+      (λ k q. ok_then (λ j. (0 ≤ j) × (j ≤ 1048576)) IsInRange (turns_in a) (λ turns. Ok (Board mains link n k turns))
+      (numbers Turns 0 1048576 1048576 a.turns (omega arith) (omega arith)) (λ j r. (all, l, m, (q.0, q.1, r.1))))))
 
-asked_in_range : (c : CommandName) (r : Option Asked) → ((a : Asked) → r ≡ Some a → IsZeroFree a) → IfOk (order_asked c r) IsInRange
+asked_in_range : (c : CommandName) (r : Option Asked) → ((a : Asked) → r ≡ Some a → IsTaken c a) → IfOk (order_asked c r) IsInRange
 asked_in_range c None h = tt
-asked_in_range c (Some a) h = let free = h a refl in orders a free c a.plain free.0
+asked_in_range c (Some a) h = let taken = h a refl in orders a taken.0 c a.plain taken.0.0 taken.1
 
 found_in_range : (c : Option CommandName) (words : List Text) → IfOk (order_for c words) IsInRange
 found_in_range None words = tt
-found_in_range (Some c) words = asked_in_range c (asked c words) (asked_free c words)
+found_in_range (Some c) words = asked_in_range c (asked c words) (asked_taken c words)
 
 -- words are orders in range
 pub in_range : (words : List (String Global)) → IfOk (order_of words) IsInRange

@@ -1,6 +1,6 @@
 -- The line that is put to the errors for each outcome.
 use Rattle.std.specs.Option.{option_map}
-use Rattle.std.specs.Prelude.{ℕ, ◌/◌, List, [], ◌∷◌, ◌++◌, codes, decimal, nat_lt, if◌then◌else◌, Option, Some, None}
+use Rattle.std.specs.Prelude.{ℕ, ◌+◌, ◌/◌, List, [], ◌∷◌, ◌++◌, codes, decimal, nat_lt, if◌then◌else◌, Option, Some, None}
 use Rattle.spec_traces.specs.spec_hosts.spec_binary.declared.fault.DecodeFault.{DecodeFault}
 use Rattle.spec_traces.specs.spec_hosts.spec_binary.declared.fault.DecodeFault.TheVariants as decode
 use Rattle.spec_linking.specs.declared.fault.RecordFault.{RecordFault}
@@ -18,6 +18,7 @@ use Rattle.spec_linking.specs.spec_validation.declared.fault.CheckFault.TheVaria
 use Rattle.spec_linking.specs.spec_execution.declared.fault.SingleFault.{SingleFault}
 use Rattle.spec_linking.specs.spec_execution.declared.fault.SingleFault.TheVariants as single
 use Rattle.spec_traces.specs.dyl_print.Printed.{hex_byte, escaped, trap_text}
+use Rattle.spec_traces.specs.spec_hosts.declared.ran.Ran.{Ran as OneRun}
 use Rattle.spec_traces.specs.spec_hosts.declared.ran.RunEnd.{RunEnd}
 use Rattle.spec_traces.specs.spec_hosts.declared.ran.RunEnd.TheVariants as end
 use Rattle.spec_merging.specs.declared.fault.MergeFault.{MergeFault}
@@ -27,14 +28,14 @@ use Rattle.dyl_gen.specs.declared.fault.GenFault.TheVariants as gen
 use Rattle.spec_traces.specs.declared.trace.TraceFault.{TraceFault}
 use Rattle.spec_traces.specs.declared.trace.TraceFault.TheVariants as trace
 use Rattle.dyl_front.specs.declared.outcome.Opt.{Opt}
-use Rattle.dyl_front.specs.declared.outcome.Opt.TheVariants.{Dl, Path, Pages, Stack, Steps, N}
+use Rattle.dyl_front.specs.declared.outcome.Opt.TheVariants.{Dl, Path, Pages, Stack, Steps, Slice, Turns, N}
 use Rattle.dyl_front.specs.declared.outcome.UsageKind.{UsageKind}
 use Rattle.dyl_front.specs.declared.outcome.UsageKind.TheVariants.{NoCommand, UnknownCommand, Words, Number, Name}
 use Rattle.spec_linking.specs.declared.fault.SetFault.{SetFault}
 use Rattle.spec_linking.specs.declared.fault.SetFault.TheVariants as set
 use Rattle.spec_linking.specs.declared.fault.SetFault.TheVariants.{Missing, ReadFault, Decode, Record, Check, ModuleCount, SetSize}
 use Rattle.dyl_front.specs.declared.outcome.Outcome.{Outcome}
-use Rattle.dyl_front.specs.declared.outcome.Outcome.TheVariants.{Done, Ran, Usage, Set, Link, Merge, Single, Gen, Trace, TooLong, WriteFault, Memory}
+use Rattle.dyl_front.specs.declared.outcome.Outcome.TheVariants.{Done, Ran, Board, Usage, Set, Link, Merge, Single, Gen, Trace, TooLong, WriteFault, Memory}
 
 abbrev pub option_text : Opt → List ℕ
 option_text Dl = codes "--dl"
@@ -42,6 +43,8 @@ option_text Path = codes "--path"
 option_text Pages = codes "--pages"
 option_text Stack = codes "--stack"
 option_text Steps = codes "--steps"
+option_text Slice = codes "--slice"
+option_text Turns = codes "--turns"
 option_text N = codes "N"
 
 abbrev pub usage_text : UsageKind → List ℕ
@@ -132,6 +135,7 @@ end_text (end.Trap why) = Some (codes "trap " ++ trap_text why)
 end_text end.StepLimit = Some (codes "step limit")
 end_text end.DepthLimit = Some (codes "depth limit")
 end_text end.HostCallLimit = Some (codes "host call limit")
+end_text end.TurnLimit = Some (codes "turn limit")
 
 abbrev pub single_text : SingleFault → List ℕ
 single_text single.NoEntry = codes "no entry"
@@ -155,10 +159,11 @@ trace_fault_text trace.Memory = codes "out of memory"
 abbrev pub memory_text : List ℕ
 memory_text = codes "out of memory"
 
--- what is told of an outcome; none where the command is done, and of a run that returned or exited
+-- what is told of an outcome; none where the command is done, and of a run that returned or exited; a board has a line for each program, below
 abbrev pub outcome_text : Outcome → Option (List ℕ)
 outcome_text (Done runs) = None
 outcome_text (Ran ran) = end_text ran.end
+outcome_text (Board board) = None
 outcome_text (Usage kind) = Some (usage_text kind)
 outcome_text (Set fault) = Some (set_text fault)
 outcome_text (Link fault) = Some (link_text fault)
@@ -174,6 +179,26 @@ outcome_text Memory = Some memory_text
 abbrev pub line_with : List ℕ → List ℕ
 line_with text = codes "wdyl: " ++ (text ++ 0x0A ∷ [])
 
--- the line of an outcome, if anything is told of it
+-- that the program of a number of a board ended so
+abbrev pub program_text : ℕ → List ℕ → List ℕ
+program_text p text = codes "program " ++ decimal p ++ codes ": " ++ text
+
+-- the line of the program of a number, if anything is told of its end
+abbrev pub program_line : ℕ → RunEnd → Option (List ℕ)
+program_line p end = option_map (λ text. line_with (program_text p text)) (end_text end)
+
+-- two lines, if there are both
+abbrev pub both_lines : Option (List ℕ) → Option (List ℕ) → Option (List ℕ)
+both_lines None second = second
+both_lines (Some first) None = Some first
+both_lines (Some first) (Some second) = Some (first ++ second)
+
+-- the lines of programs, of which the first has this number; none where nothing is told of any
+abbrev pub board_lines : ℕ → List OneRun → Option (List ℕ)
+board_lines p [] = None
+board_lines p (run ∷ runs) = both_lines (program_line p run.end) (board_lines (p + 1) runs)
+
+-- The line of an outcome, if anything is told of it. For a board these are the lines of its programs, in order.
 abbrev pub line_of : Outcome → Option (List ℕ)
+line_of (Board board) = board_lines 0 board.runs
 line_of outcome = option_map line_with (outcome_text outcome)

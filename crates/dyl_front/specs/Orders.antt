@@ -13,13 +13,13 @@ use Rattle.dyl_words.specs.declared.asked.AskFault.TheVariants as ask
 use Rattle.dyl_words.specs.declared.names.CommandName.{CommandName}
 use Rattle.dyl_words.specs.declared.names.CommandName.TheVariants as command
 use Rattle.dyl_front.specs.declared.outcome.Opt.{Opt}
-use Rattle.dyl_front.specs.declared.outcome.Opt.TheVariants.{Dl, Path, Pages, Stack, Steps, N}
+use Rattle.dyl_front.specs.declared.outcome.Opt.TheVariants.{Dl, Path, Pages, Stack, Steps, Slice, Turns, N}
 use Rattle.dyl_front.specs.declared.outcome.UsageKind.{UsageKind}
 use Rattle.dyl_front.specs.declared.outcome.UsageKind.TheVariants.{NoCommand, UnknownCommand, Words, Number, Name}
 use Rattle.dyl_front.specs.declared.outcome.Outcome.{Outcome}
 use Rattle.dyl_front.specs.declared.outcome.Outcome.TheVariants as outcome
 use Rattle.dyl_front.specs.declared.order.Order.{Order}
-use Rattle.dyl_front.specs.declared.order.Order.TheVariants.{Merge, Run, Exec, Plan, Gen, Trace, Replay}
+use Rattle.dyl_front.specs.declared.order.Order.TheVariants.{Merge, Run, Exec, Plan, Gen, Trace, Replay, Board}
 use Rattle.dyl_front.specs.declared.words.WordFault.{WordFault}
 use Rattle.dyl_front.specs.declared.words.WordFault.TheVariants as word
 
@@ -74,6 +74,12 @@ link_in a = on_ok (pages_in a) (λ pages. on_ok (number_in Stack 16 16777216 655
 abbrev pub steps_in : Asked → Result ℕ UsageKind
 steps_in a = number_in Steps 0 9223372036854775807 1000000000 a.steps
 
+abbrev pub slice_in : Asked → Result ℕ UsageKind
+slice_in a = number_in Slice 1 1000000 1000 a.slice
+
+abbrev pub turns_in : Asked → Result ℕ UsageKind
+turns_in a = number_in Turns 0 1048576 1048576 a.turns
+
 -- ---- orders
 
 abbrev pub over_set : Text → Asked → (SetOptions → LinkOptions → Result Order UsageKind) → Result Order UsageKind
@@ -102,6 +108,11 @@ trace_order main out args a = over_set main a (λ set link. on_ok (steps_in a) (
 abbrev pub replay_order : Text → Text → Asked → Result Order UsageKind
 replay_order trace main a = over_set main a (λ set link. on_ok (steps_in a) (λ steps. Ok (Replay a.one trace set link steps)))
 
+-- all plain words are main modules
+abbrev pub board_order : List Text → Asked → Result Order UsageKind
+board_order mains a =
+    on_ok (link_in a) (λ link. on_ok (steps_in a) (λ steps. on_ok (slice_in a) (λ slice. on_ok (turns_in a) (λ turns. Ok (Board mains link steps slice turns)))))
+
 -- by the plain words, of which `asked` leaves neither too few nor too many
 abbrev pub order_by : CommandName → List Text → Asked → Result Order UsageKind
 order_by command.Merge (main ∷ out ∷ []) a = merge_order main out a
@@ -111,6 +122,7 @@ order_by command.Plan (main ∷ []) a = plan_order main a
 order_by command.Gen (number ∷ []) a = gen_order number a
 order_by command.Trace (main ∷ out ∷ args) a = trace_order main out args a
 order_by command.Replay (trace ∷ main ∷ []) a = replay_order trace main a
+order_by command.Board mains a = board_order mains a
 order_by _ _ a = Err Words
 
 abbrev pub order_asked : CommandName → Option Asked → Result Order UsageKind
@@ -159,6 +171,13 @@ IsLinkInRange link = (1 ≤ link.pages) × (link.pages ≤ 16384) × (16 ≤ lin
 abbrev pub AreArgumentsInRange : ℕ → List (List ℕ) → Type 0
 AreArgumentsInRange steps args = (steps ≤ 9223372036854775807) × (list_all has_no_zero args ≡ true)
 
+-- there are 1 to 64 main modules
+abbrev pub AreMainsInRange : List (List ℕ) → Type 0
+AreMainsInRange mains = (1 ≤ length mains) × (length mains ≤ 64) × (list_all has_no_zero mains ≡ true)
+
+abbrev pub AreTurnsInRange : ℕ → ℕ → Type 0
+AreTurnsInRange slice turns = (1 ≤ slice) × (slice ≤ 1000000) × (turns ≤ 1048576)
+
 -- an order whose numbers are in their ranges, whose lists have no empty item, and whose texts have no zero character
 abbrev pub IsInRange : Order → Type 0
 IsInRange (Merge set link out) = IsSetInRange set × IsLinkInRange link × (has_no_zero out ≡ true)
@@ -168,3 +187,4 @@ IsInRange (Plan set link) = IsSetInRange set × IsLinkInRange link
 IsInRange (Gen n pages steps) = (1 ≤ pages) × (pages ≤ 16384) × (steps ≤ 9223372036854775807)
 IsInRange (Trace one set link steps out args) = IsSetInRange set × IsLinkInRange link × (has_no_zero out ≡ true) × AreArgumentsInRange steps args
 IsInRange (Replay one trace set link steps) = (has_no_zero trace ≡ true) × IsSetInRange set × IsLinkInRange link × (steps ≤ 9223372036854775807)
+IsInRange (Board mains link steps slice turns) = AreMainsInRange mains × IsLinkInRange link × (steps ≤ 9223372036854775807) × AreTurnsInRange slice turns

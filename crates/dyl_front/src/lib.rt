@@ -2,6 +2,7 @@
 #![tactic(auto)]
 
 mod binds;
+mod boards;
 mod faults;
 mod lines;
 mod list;
@@ -15,7 +16,7 @@ mod words;
 
 pub use dyl_link::LinkOptions;
 pub use dyl_link::dyl_search::SetOptions;
-pub use lines::{line, link_line, set_line, usage_line};
+pub use lines::{is_silent, line, link_line, set_line, usage_line};
 pub use list::listing;
 pub use order::Order;
 pub use outcome::{Opt, Outcome, UsageKind, status};

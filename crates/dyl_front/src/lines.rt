@@ -1,9 +1,11 @@
 // The line that is put to the errors for an outcome.
-ghost use Rattle.std.specs.Prelude.{◌≡◌, ◌++◌, [], codes, decimal, unwrap_or, Some, IsSome, IfOk, OnOk, string_bytes};
+ghost use Rattle.std.specs.Prelude.{◌≡◌, ◌++◌, [], codes, decimal, unwrap_or, true, false, Some, None, IsSome, IfOk, OnOk, string_bytes};
 ghost use Rattle.spec_linking.specs.declared.fault.LinkFault.TheVariants as link;
 ghost use Rattle.spec_traces.specs.dyl_print.Printed.{escaped};
 ghost use Rattle.dyl_front.specs.Lines.{option_text, usage_text, set_text, kind_text, link_text, merge_text, end_text, single_text, gen_text, trace_fault_text, outcome_text, line_with, line_of};
+ghost use Rattle.std.specs.Option.{option_map};
 
+use crate::boards::{board_text, is_any_told, is_end_told};
 use crate::faults::put_set;
 use crate::outcome::{Opt, Outcome, UsageKind};
 use dyl_gen::GenFault;
@@ -26,6 +28,8 @@ fn opt_text(of: Opt) -> &'static str
         Opt::Pages => "--pages",
         Opt::Stack => "--stack",
         Opt::Steps => "--steps",
+        Opt::Slice => "--slice",
+        Opt::Turns => "--turns",
         Opt::N => "N",
     }
 }
@@ -198,7 +202,7 @@ fn merging_text(alloc: Global, fault: MergeFault) -> Result<String, Memory>
 }
 
 /// Puts how a run ended that neither returned nor exited.
-fn put_end(end: RunEnd, to: &mut Vec<u8>) -> Result<(), Memory>
+pub(crate) fn put_end(end: RunEnd, to: &mut Vec<u8>) -> Result<(), Memory>
     ensures { OnOk result (to.new.items ≡ to.old.items ++ unwrap_or (end_text end) []) }
 {
     match end {
@@ -207,6 +211,7 @@ fn put_end(end: RunEnd, to: &mut Vec<u8>) -> Result<(), Memory>
         RunEnd::StepLimit => put_text("step limit", to),
         RunEnd::DepthLimit => put_text("depth limit", to),
         RunEnd::HostCallLimit => put_text("host call limit", to),
+        RunEnd::TurnLimit => put_text("turn limit", to),
     }
 }
 
@@ -269,13 +274,14 @@ fn put_trace(alloc: Global, fault: &TraceFault, to: &mut Vec<u8>) -> Result<(), 
     }
 }
 
-/// Puts the text of an outcome, if there is one.
+/// Puts the text of an outcome, if there is one. A board has lines of its own.
 fn put_outcome(alloc: Global, outcome: &Outcome, to: &mut Vec<u8>) -> Result<(), Memory>
     ensures { OnOk result (to.new.items ≡ to.old.items ++ unwrap_or (outcome_text outcome.now) []) }
 {
     match outcome {
         Outcome::Done(_) => Ok(()),
         Outcome::Ran(ran) => put_end(ran.end, to),
+        Outcome::Board(_) => Ok(()),
         Outcome::Usage(kind) => put_usage(*kind, to),
         Outcome::Set(fault) => put_set(alloc, fault, to),
         Outcome::Link(fault) => put_link(alloc, fault, to),
@@ -322,14 +328,38 @@ pub fn link_line(alloc: Global, fault: &LinkFault) -> Result<Vec<u8>, Memory>
     Ok(line)
 }
 
-/// The line of an outcome of which something is told, its line feed included.
-pub fn line(alloc: Global, outcome: &Outcome) -> Result<Vec<u8>, Memory>
+/// The line of an outcome that has a text, its line feed included.
+fn text_line(alloc: Global, outcome: &Outcome) -> Result<Vec<u8>, Memory>
     requires { IsSome (outcome_text outcome.now) }
-    ensures { IfOk result (λ line. line_of outcome.now ≡ Some line.items) }
+    ensures { IfOk result (λ line. option_map line_with (outcome_text outcome.now) ≡ Some line.items) }
 {
     let mut line = Vec::new(alloc);
     put_text("wdyl: ", &mut line)?;
     put_outcome(alloc, outcome, &mut line)?;
     line.push(b'\n')?;
     Ok(line)
+}
+
+/// The line of an outcome of which something is told, its line feed included. For a board these are the lines of its programs, in order.
+pub fn line(alloc: Global, outcome: &Outcome) -> Result<Vec<u8>, Memory>
+    requires { IsSome (line_of outcome.now) }
+    ensures { IfOk result (λ line. line_of outcome.now ≡ Some line.items) }
+{
+    match outcome {
+        Outcome::Board(board) => board_text(alloc, board.runs.items()),
+        other => text_line(alloc, other),
+    }
+}
+
+/// Whether nothing is told of an outcome: the command is done, or the run, or each one of a board, returned or exited.
+pub fn is_silent(outcome: &Outcome) -> bool
+    ensures silent { result ≡ true → line_of outcome.now ≡ None }
+    ensures told { result ≡ false → IsSome (line_of outcome.now) }
+{
+    match outcome {
+        Outcome::Done(_) => true,
+        Outcome::Ran(ran) => !is_end_told(ran.end),
+        Outcome::Board(board) => !is_any_told(board.runs.items()),
+        _ => false,
+    }
 }

@@ -3,10 +3,13 @@ ghost use Rattle.std.specs.Prelude.{◌≡◌, ◌==◌, ◌≤◌, ◌<◌, ◌
 ghost use Rattle.std.specs.List.{list_any, list_all, slice_split};
 ghost use Rattle.std.specs.Str.Parse.{digits_value};
 ghost use Rattle.dyl_words.specs.Shown.{shown, text_in};
-ghost use Rattle.dyl_front.specs.Orders.{Reads, is_digit, is_number, is_empty, number_of, number_in, items_in, set_in, pages_in, link_in, steps_in};
+ghost use Rattle.dyl_front.specs.Orders.{Reads, is_digit, is_number, is_empty, number_of, number_in, items_in, set_in, pages_in, link_in, steps_in, slice_in, turns_in};
 ghost use Rattle.dyl_front.specs.declared.outcome.Opt.TheVariants.{N};
 
-use crate::order::{LEAST_PAGES, LEAST_STACK, MOST_PAGES, MOST_STACK, MOST_STEPS};
+use crate::order::{
+    LEAST_PAGES, LEAST_SLICE, LEAST_STACK, MOST_PAGES, MOST_SLICE, MOST_STACK, MOST_STEPS,
+    MOST_TURNS,
+};
 use crate::outcome::{Opt, UsageKind};
 use crate::words::WordFault;
 use dyl_link::LinkOptions;
@@ -15,12 +18,14 @@ use dyl_words::Asked;
 use spec_merging::wasm_form::{List, Memory, Text};
 use std::alloc::{AllocError, Global};
 
-// The most pages, the bytes of the stack and the most steps where no number is given.
+// The most pages, the bytes of the stack, the most steps and the most steps of a turn where no number is given.
 const DEFAULT_PAGES: u64 = 1_024;
 
 const DEFAULT_STACK: u64 = 65_536;
 
 const DEFAULT_STEPS: u64 = 1_000_000_000;
+
+const DEFAULT_SLICE: u64 = 1_000;
 
 // The greatest number of members that words can ask for.
 const MOST_MEMBERS: u64 = 4_294_967_295;
@@ -124,6 +129,29 @@ pub(crate) fn steps_in(asked: &Asked<'_>) -> Result<u64, UsageKind>
     ensures { result ≡ steps_in (shown asked.now) }
 {
     number_in(Opt::Steps, 0, MOST_STEPS, DEFAULT_STEPS, asked.steps)
+}
+
+// The most steps of a turn.
+pub(crate) fn slice_in(asked: &Asked<'_>) -> Result<u32, UsageKind>
+    ensures { result ≡ slice_in (shown asked.now) }
+{
+    let slice = number_in(
+        Opt::Slice,
+        u64::from(LEAST_SLICE),
+        u64::from(MOST_SLICE),
+        DEFAULT_SLICE,
+        asked.slice,
+    )?;
+    Ok(slice as u32)
+}
+
+// The most turns of a board.
+pub(crate) fn turns_in(asked: &Asked<'_>) -> Result<u32, UsageKind>
+    ensures { result ≡ turns_in (shown asked.now) }
+{
+    let most = u64::from(MOST_TURNS);
+    let turns = number_in(Opt::Turns, 0, most, most, asked.turns)?;
+    Ok(turns as u32)
 }
 
 // The number of members of a generated set.

@@ -1,8 +1,8 @@
 // What a call of the program is asked for.
-ghost use Rattle.std.specs.Prelude.{◌≡◌, ◌≤◌, true};
+ghost use Rattle.std.specs.Prelude.{◌≡◌, ◌≤◌, length, true};
 ghost use Rattle.std.specs.List.{list_all};
 ghost use Rattle.dyl_words.specs.Words.{has_zero};
-ghost use Rattle.dyl_front.specs.Orders.{has_no_zero, is_item, IsSetInRange, IsLinkInRange, AreArgumentsInRange, IsInRange};
+ghost use Rattle.dyl_front.specs.Orders.{has_no_zero, is_item, IsSetInRange, IsLinkInRange, AreArgumentsInRange, AreMainsInRange, AreTurnsInRange, IsInRange};
 
 use dyl_link::LinkOptions;
 use dyl_link::dyl_search::SetOptions;
@@ -20,6 +20,17 @@ pub(crate) const MOST_PAGES: u32 = 16_384;
 pub(crate) const LEAST_STACK: u32 = 16;
 
 pub(crate) const MOST_STACK: u32 = 16_777_216;
+
+/// The most main modules of a board.
+const MOST_MAINS: usize = 64;
+
+/// The fewest and the most steps of a turn of a board.
+pub(crate) const LEAST_SLICE: u32 = 1;
+
+pub(crate) const MOST_SLICE: u32 = 1_000_000;
+
+/// The most turns of a board.
+pub(crate) const MOST_TURNS: u32 = 1_048_576;
 
 /// Whether a text holds a zero character, which no word and no path can.
 fn holds_zero(text: &str) -> bool
@@ -84,6 +95,22 @@ fn are_arguments_in_range(steps: u64, args: &List<Text>) -> bool
     steps <= MOST_STEPS && are_whole(args.items())
 }
 
+/// Whether there are as many main modules as a board may have, each a text that words can give.
+fn are_mains_in_range(mains: &[Text]) -> bool
+    ensures range { result ≡ true → AreMainsInRange mains.now }
+    ensures only { AreMainsInRange mains.now → result ≡ true }
+{
+    !mains.is_empty() && mains.len() <= MOST_MAINS && are_whole(mains)
+}
+
+/// Whether a turn may have so many steps, and a board so many turns.
+fn are_turns_in_range(slice: u32, turns: u32) -> bool
+    ensures range { result ≡ true → AreTurnsInRange slice turns }
+    ensures only { AreTurnsInRange slice turns → result ≡ true }
+{
+    slice >= LEAST_SLICE && slice <= MOST_SLICE && turns <= MOST_TURNS
+}
+
 /// What a call of the program is asked for.
 #[derive(Drop)]
 pub enum Order {
@@ -138,10 +165,20 @@ pub enum Order {
         link: LinkOptions,
         steps: u64,
     },
+    /// Runs the sets of 1 to 64 main modules in turns, each set for at most so many steps, each turn for at most `slice` steps, and at most
+    /// `turns` turns.
+    Board {
+        mains: List<Text>,
+        link: LinkOptions,
+        steps: u64,
+        slice: u32,
+        turns: u32,
+    },
 }
 
 impl Order {
-    /// Whether its numbers are in their ranges, no name and no directory of a list is empty, and no text has a zero character.
+    /// Whether its numbers are in their ranges, that of the main modules of a board among them, no name and no directory of a list is empty, and
+    /// no text has a zero character.
     pub fn is_in_range(&self) -> bool
         ensures range { result ≡ true → IsInRange self.now }
         ensures only { IsInRange self.now → result ≡ true }
@@ -189,6 +226,18 @@ impl Order {
                     && is_set_in_range(set)
                     && is_link_in_range(link)
                     && *steps <= MOST_STEPS
+            }
+            Order::Board {
+                mains,
+                link,
+                steps,
+                slice,
+                turns,
+            } => {
+                are_mains_in_range(mains.items())
+                    && is_link_in_range(link)
+                    && *steps <= MOST_STEPS
+                    && are_turns_in_range(*slice, *turns)
             }
         }
     }

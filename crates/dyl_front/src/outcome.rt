@@ -1,8 +1,9 @@
 // What a call of the program comes to.
 ghost use Rattle.std.specs.Prelude.{◌≡◌, []};
-ghost use Rattle.dyl_front.specs.Status.{end_status, status_of};
+ghost use Rattle.dyl_front.specs.Status.{end_status, board_status, status_of};
 
 use dyl_gen::GenFault;
+use spec_boards::BoardRan;
 use spec_linking::spec_execution::SingleFault;
 use spec_linking::{LinkFault, SetFault};
 use spec_merging::MergeFault;
@@ -24,6 +25,10 @@ pub enum Opt {
     Stack,
     /// The most steps of a run.
     Steps,
+    /// The most steps of a turn.
+    Slice,
+    /// The most turns of a board.
+    Turns,
     /// The number of a generated set.
     N,
 }
@@ -50,6 +55,8 @@ pub enum Outcome {
     Done(List<Ran>),
     /// The module was run.
     Ran(Ran),
+    /// The sets were run in turns.
+    Board(BoardRan),
     /// The words are no order.
     Usage(UsageKind),
     /// The order's files are no closed set. The fault is never `Memory`, nor is the fault of a member that it carries.
@@ -89,11 +96,24 @@ fn end_status(end: RunEnd) -> u8
     match end {
         RunEnd::Return => 0,
         RunEnd::Exit(code) => (code % 256) as u8,
-        RunEnd::StepLimit => 124,
+        RunEnd::StepLimit | RunEnd::TurnLimit => 124,
         RunEnd::DepthLimit => 125,
         RunEnd::HostCallLimit => 126,
         RunEnd::Trap(_) => 134,
     }
+}
+
+/// The exit status of a board: that of the first program whose own isn't 0.
+fn board_status(runs: &[Ran]) -> u8
+    ensures { result ≡ board_status runs.now }
+{
+    for run in runs {
+        let status = end_status(run.end);
+        if status != 0 {
+            return status;
+        }
+    }
+    0
 }
 
 /// The exit status of an outcome, by sysexits.h where that has one.
@@ -103,6 +123,7 @@ pub fn status(outcome: &Outcome) -> u8
     match outcome {
         Outcome::Done(_) => 0,
         Outcome::Ran(ran) => end_status(ran.end),
+        Outcome::Board(board) => board_status(board.runs.items()),
         Outcome::Usage(_) => 64,
         Outcome::Set(SetFault::ReadFault { .. }) => 66,
         Outcome::Set(_)

@@ -5,10 +5,12 @@ ghost use Rattle.std.specs.Vec.Iter.{into_iter_items};
 ghost use Rattle.dyl_words.specs.Words.{asked};
 ghost use Rattle.dyl_words.specs.declared.names.CommandName.TheVariants as command;
 ghost use Rattle.dyl_words.specs.Shown.{shown};
-ghost use Rattle.dyl_front.specs.Orders.{Reads, word_fault, merge_order, run_order, exec_order, plan_order, gen_order, trace_order, replay_order, order_by, order_asked, order_of, refused_words, IsInRange};
+ghost use Rattle.dyl_front.specs.Orders.{Reads, word_fault, merge_order, run_order, exec_order, plan_order, gen_order, trace_order, replay_order, board_order, order_by, order_asked, order_of, refused_words, IsInRange};
 ghost use Rattle.dyl_front.specs.declared.words.WordFault.TheVariants as word;
 
-use crate::options::{link_in, members_in, owned_all, pages_in, set_in, steps_in};
+use crate::options::{
+    link_in, members_in, owned_all, pages_in, set_in, slice_in, steps_in, turns_in,
+};
 use crate::order::Order;
 use crate::outcome::{Outcome, UsageKind};
 use dyl_words::{AskFault, Asked, CommandName, ask};
@@ -235,6 +237,24 @@ fn replay_order(
     })
 }
 
+/// The order of `board`.
+fn board_order(alloc: Global, mains: &[&str], asked: &Asked<'_>) -> Result<Order, WordFault>
+    ensures { Reads result (board_order (map (λ x. x.now) mains.now) (shown asked.now)) }
+{
+    let link = link_in(asked)?;
+    let steps = steps_in(asked)?;
+    let slice = slice_in(asked)?;
+    let turns = turns_in(asked)?;
+    let mains = owned_all(alloc, mains)?;
+    Ok(Order::Board {
+        mains,
+        link,
+        steps,
+        slice,
+        turns,
+    })
+}
+
 /// The order that a command is, by what is asked for.
 fn order_by(alloc: Global, command: CommandName, asked: &Asked<'_>) -> Result<Order, WordFault>
     ensures { Reads result (order_by command (shown asked.now).plain (shown asked.now)) }
@@ -247,6 +267,7 @@ fn order_by(alloc: Global, command: CommandName, asked: &Asked<'_>) -> Result<Or
         (CommandName::Gen, [number]) => gen_order(number, asked),
         (CommandName::Trace, words) => trace_words(alloc, words, asked),
         (CommandName::Replay, [trace, main]) => replay_order(alloc, trace, main, asked),
+        (CommandName::Board, mains) => board_order(alloc, mains, asked),
         _ => Err(WordFault::Usage {
             kind: UsageKind::Words,
         }),

@@ -5,9 +5,9 @@ use Rattle.std.specs.Borrow.{Bor}
 use Rattle.std.specs.Str.{bytes_eq}
 use Rattle.dyl_words.specs.Forms.{Form, ends, option, stray, plain, form_of, after_hyphen}
 use Rattle.dyl_words.specs.declared.names.CommandName.{CommandName}
-use Rattle.dyl_words.specs.declared.names.CommandName.TheVariants.{Merge, Run, Exec, Plan, Gen, Trace, Replay}
+use Rattle.dyl_words.specs.declared.names.CommandName.TheVariants.{Merge, Run, Exec, Plan, Gen, Trace, Replay, Board}
 use Rattle.dyl_words.specs.declared.names.OptionName.{OptionName}
-use Rattle.dyl_words.specs.declared.names.OptionName.TheVariants.{Dl, Path, Pages, Stack, NoDuplicates, Steps, One}
+use Rattle.dyl_words.specs.declared.names.OptionName.TheVariants.{Dl, Path, Pages, Stack, NoDuplicates, Steps, Slice, Turns, One}
 use Rattle.dyl_words.specs.Words.{Given, options_of, option_named, is_flag, yes, with_plain, with_use, at_option, at_form, given, has_zero, values_of, takes_plain, asked_by, asked_in, asked}
 use Rattle.dyl_words.specs.Clap.{app, no_kinds, vals, texts_in, is_stray_first, has_stray, words_in, values_in, asked_in_rows}
 use Rattle.dyl_words.proofs.Runs.{Agrees, begins_form, first_begins}
@@ -44,6 +44,7 @@ none_taken Plan = refl
 none_taken Gen = refl
 none_taken Trace = refl
 none_taken Replay = refl
+none_taken Board = refl
 
 -- ---- stray hyphens
 
@@ -82,7 +83,7 @@ stray_none known (t ∷ ts) h (Some o) = ap (λ b. cond b None (option_map (with
 -- ---- what is asked for
 
 asked_same : (c : CommandName) (ws xs : List Text) (f g : OptionName → List Text) → ws ≡ xs → ((p : OptionName) → f p ≡ g p) → asked_by c ws f ≡ asked_by c xs g
-asked_same c ws xs f g e h = rw (e, h Dl, h Path, h Pages, h Stack, h NoDuplicates, h Steps, h One) refl
+asked_same c ws xs f g e h = rw (e, h Dl, h Path, h Pages, h Stack, h NoDuplicates, h Steps, h Slice, h Turns, h One) refl
 
 agreed : (c : CommandName) (k : Kinds) (rows : List Row) (r : Option Given) → Agrees k rows [] (λ p. []) r → k ≡ [] → option_and_then (asked_in c) r ≡ asked_in_rows c rows
 agreed c k rows None h e = absurd (true≢false (sym (ap no_kinds e) ∙ h))

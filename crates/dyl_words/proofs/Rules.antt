@@ -3,9 +3,9 @@ use Rattle.std.proofs.Common.{◌≡◌, Bool, true, false, not, List, [], ◌�
 use lib.Pointwise.{bytes_decides}
 use Rattle.std.specs.Str.{bytes_eq}
 use Rattle.dyl_words.specs.declared.names.CommandName.{CommandName}
-use Rattle.dyl_words.specs.declared.names.CommandName.TheVariants.{Merge, Run, Exec, Plan, Gen, Trace, Replay}
+use Rattle.dyl_words.specs.declared.names.CommandName.TheVariants.{Merge, Run, Exec, Plan, Gen, Trace, Replay, Board}
 use Rattle.dyl_words.specs.declared.names.OptionName.{OptionName}
-use Rattle.dyl_words.specs.declared.names.OptionName.TheVariants.{Dl, Path, Pages, Stack, NoDuplicates, Steps, One}
+use Rattle.dyl_words.specs.declared.names.OptionName.TheVariants.{Dl, Path, Pages, Stack, NoDuplicates, Steps, Slice, Turns, One}
 use Rattle.dyl_words.specs.Words.{option_word, option_named, is_flag}
 use Rattle.dyl_words.specs.Clap.{app, words_arg, value_arg, flag_arg}
 use Rattle.clap.specs.Words.{Rule, Text}
@@ -40,6 +40,7 @@ simple Plan = refl
 simple Gen = refl
 simple Trace = refl
 simple Replay = refl
+simple Board = refl
 
 pub simple_is : (c : CommandName) → is_simple (app c) ≡ true
 simple_is Merge = refl
@@ -49,6 +50,7 @@ simple_is Plan = refl
 simple_is Gen = refl
 simple_is Trace = refl
 simple_is Replay = refl
+simple_is Board = refl
 
 -- ---- the rule of an option
 
@@ -59,6 +61,8 @@ id_is Pages id = refl
 id_is Stack id = refl
 id_is NoDuplicates id = refl
 id_is Steps id = refl
+id_is Slice id = refl
+id_is Turns id = refl
 id_is One id = refl
 
 or_false : (b : Bool) → (b || false) ≡ b
@@ -72,6 +76,8 @@ long_is Pages name = or_false _
 long_is Stack name = or_false _
 long_is NoDuplicates name = or_false _
 long_is Steps name = or_false _
+long_is Slice name = or_false _
+long_is Turns name = or_false _
 long_is One name = or_false _
 
 pub words_differ : (o : OptionName) → bytes_eq (codes "words") (option_word o) ≡ false
@@ -81,6 +87,8 @@ words_differ Pages = refl
 words_differ Stack = refl
 words_differ NoDuplicates = refl
 words_differ Steps = refl
+words_differ Slice = refl
+words_differ Turns = refl
 words_differ One = refl
 
 -- the first rule that passes a test which holds of the option of a name
@@ -120,4 +128,6 @@ option_differs Pages = refl
 option_differs Stack = refl
 option_differs NoDuplicates = refl
 option_differs Steps = refl
+option_differs Slice = refl
+option_differs Turns = refl
 option_differs One = refl

@@ -1,4 +1,4 @@
--- No text that is asked for has a zero character.
+-- No text that is asked for has a zero character, and there are as many plain words as the command takes.
 use Rattle.std.proofs.Common.{◌≡◌, ℕ, Bool, true, false, List, [], ◌∷◌, Option, Some, None, is_some, refl, sym, ap, ◌∙◌, ◌||◌, ◌&&◌, ◌==◌, subst, option_and_then, option_map, unwrap_or, cond, length, drop, zero, suc, ◌+◌, true≢false}
 use Rattle.std.specs.List.{list_any, list_all, after_first, position_or_len}
 use Rattle.std.specs.Str.{bytes_eq}
@@ -107,22 +107,27 @@ first_value_free : (vs : List Text) → list_any has_zero vs ≡ false → some_
 first_value_free [] h = refl
 first_value_free (v ∷ vs) h = (parts_false (has_zero v) (list_any has_zero vs) h).0
 
-unmixed_free : (b : Bool) (x a : Asked) → IsZeroFree x → cond b None (Some x) ≡ Some a → IsZeroFree a
-unmixed_free true x a h e = absurd (true≢false (sym (ap is_some e)))
-unmixed_free false x a h e = subst IsZeroFree (ap (λ y. unwrap_or y a) e) h
+abbrev pub IsTaken : CommandName → Asked → Type 0
+IsTaken c a = IsZeroFree a × (takes_plain c (length a.plain) ≡ true)
 
-by_free : (c : Bool) (ws : List Text) (f : OptionName → List Text) (a : Asked) → list_any has_zero ws ≡ false → ((p : OptionName) → list_any has_zero (f p) ≡ false)
-    → cond c (unmixed (asked_of ws f)) None ≡ Some a → IsZeroFree a
-by_free true ws f a h k e = unmixed_free (mixes (asked_of ws f)) (asked_of ws f) a (h, first_value_free (f Dl) (k Dl), first_value_free (f Path) (k Path)) e
-by_free false ws f a h k e = absurd (true≢false (sym (ap is_some e)))
+unmixed_taken : (c : CommandName) (b : Bool) (x a : Asked) → IsTaken c x → cond b None (Some x) ≡ Some a → IsTaken c a
+unmixed_taken c true x a h e = absurd (true≢false (sym (ap is_some e)))
+unmixed_taken c false x a h e = subst (IsTaken c) (ap (λ y. unwrap_or y a) e) h
 
-in_free : (c : CommandName) (r : Option Given) (a : Asked) → Free r → option_and_then (asked_in c) r ≡ Some a → IsZeroFree a
-in_free c None a h e = absurd (true≢false (sym (ap is_some e)))
-in_free c (Some g) a h e = by_free (takes_plain c (length g.plain) && list_all (λ o. is_right (values_of o g.uses)) options) g.plain (λ o. values_of o g.uses) a h.0 h.1 e
+by_taken : (c : CommandName) (b d : Bool) (ws : List Text) (f : OptionName → List Text) (a : Asked) → takes_plain c (length ws) ≡ b → list_any has_zero ws ≡ false
+    → ((p : OptionName) → list_any has_zero (f p) ≡ false) → cond (b && d) (unmixed (asked_of ws f)) None ≡ Some a → IsTaken c a
+by_taken c true true ws f a t h k e =
+    unmixed_taken c (mixes (asked_of ws f)) (asked_of ws f) a ((h, first_value_free (f Dl) (k Dl), first_value_free (f Path) (k Path)), t) e
+by_taken c true false ws f a t h k e = absurd (true≢false (sym (ap is_some e)))
+by_taken c false d ws f a t h k e = absurd (true≢false (sym (ap is_some e)))
 
-pub asked_free : (c : CommandName) (ts : List Text) (a : Asked) → asked c ts ≡ Some a → IsZeroFree a
-asked_free c ts a e = by (list_any has_zero ts) refl
+in_taken : (c : CommandName) (r : Option Given) (a : Asked) → Free r → option_and_then (asked_in c) r ≡ Some a → IsTaken c a
+in_taken c None a h e = absurd (true≢false (sym (ap is_some e)))
+in_taken c (Some g) a h e = by_taken c (takes_plain c (length g.plain)) (list_all (λ o. is_right (values_of o g.uses)) options) g.plain (λ o. values_of o g.uses) a refl h.0 h.1 e
+
+pub asked_taken : (c : CommandName) (ts : List Text) (a : Asked) → asked c ts ≡ Some a → IsTaken c a
+asked_taken c ts a e = by (list_any has_zero ts) refl
   where
-    by : (b : Bool) → list_any has_zero ts ≡ b → IsZeroFree a
+    by : (b : Bool) → list_any has_zero ts ≡ b → IsTaken c a
     by true h = absurd (true≢false (sym (ap is_some (ap (λ x. cond x None (option_and_then (asked_in c) (given (options_of c) None ts))) (sym h) ∙ e))))
-    by false h = in_free c (given (options_of c) None ts) a (given_free (options_of c) ts h None) (ap (λ x. cond x None (option_and_then (asked_in c) (given (options_of c) None ts))) (sym h) ∙ e)
+    by false h = in_taken c (given (options_of c) None ts) a (given_free (options_of c) ts h None) (ap (λ x. cond x None (option_and_then (asked_in c) (given (options_of c) None ts))) (sym h) ∙ e)

@@ -4,9 +4,9 @@ use Rattle.std.specs.List.{list_any, list_all, filter}
 use Rattle.std.specs.Str.{bytes_eq}
 use Rattle.dyl_words.specs.Forms.{Text, Form, ends, option, plain, stray, form_of, begins_with_hyphen}
 use Rattle.dyl_words.specs.declared.names.CommandName.{CommandName}
-use Rattle.dyl_words.specs.declared.names.CommandName.TheVariants.{Merge, Run, Exec, Plan, Gen, Trace, Replay}
+use Rattle.dyl_words.specs.declared.names.CommandName.TheVariants.{Merge, Run, Exec, Plan, Gen, Trace, Replay, Board}
 use Rattle.dyl_words.specs.declared.names.OptionName.{OptionName}
-use Rattle.dyl_words.specs.declared.names.OptionName.TheVariants.{Dl, Path, Pages, Stack, NoDuplicates, Steps, One}
+use Rattle.dyl_words.specs.declared.names.OptionName.TheVariants.{Dl, Path, Pages, Stack, NoDuplicates, Steps, Slice, Turns, One}
 
 -- ---- commands and their options
 
@@ -18,9 +18,10 @@ command_word Plan = codes "plan"
 command_word Gen = codes "gen"
 command_word Trace = codes "trace"
 command_word Replay = codes "replay"
+command_word Board = codes "board"
 
 abbrev pub commands : List CommandName
-commands = Merge ∷ Run ∷ Exec ∷ Plan ∷ Gen ∷ Trace ∷ Replay ∷ []
+commands = Merge ∷ Run ∷ Exec ∷ Plan ∷ Gen ∷ Trace ∷ Replay ∷ Board ∷ []
 
 abbrev pub command_named : Text → Option CommandName
 command_named word = find (λ c. bytes_eq word (command_word c)) commands
@@ -33,10 +34,12 @@ option_word Pages = codes "pages"
 option_word Stack = codes "stack"
 option_word NoDuplicates = codes "no-duplicates"
 option_word Steps = codes "steps"
+option_word Slice = codes "slice"
+option_word Turns = codes "turns"
 option_word One = codes "one"
 
 abbrev pub options : List OptionName
-options = Dl ∷ Path ∷ Pages ∷ Stack ∷ NoDuplicates ∷ Steps ∷ One ∷ []
+options = Dl ∷ Path ∷ Pages ∷ Stack ∷ NoDuplicates ∷ Steps ∷ Slice ∷ Turns ∷ One ∷ []
 
 -- the option has no value
 abbrev pub is_flag : OptionName → Bool
@@ -50,19 +53,24 @@ set_options = Dl ∷ Path ∷ Pages ∷ Stack ∷ NoDuplicates ∷ []
 abbrev pub run_options : List OptionName
 run_options = Dl ∷ Path ∷ Pages ∷ Stack ∷ NoDuplicates ∷ Steps ∷ []
 
+abbrev pub trace_options : List OptionName
+trace_options = Dl ∷ Path ∷ Pages ∷ Stack ∷ NoDuplicates ∷ Steps ∷ One ∷ []
+
 abbrev pub options_of : CommandName → List OptionName
 options_of Merge = set_options
 options_of Run = run_options
 options_of Exec = Steps ∷ []
 options_of Plan = set_options
 options_of Gen = Pages ∷ Steps ∷ []
-options_of Trace = options
-options_of Replay = options
+options_of Trace = trace_options
+options_of Replay = trace_options
+options_of Board = Pages ∷ Stack ∷ Steps ∷ Slice ∷ Turns ∷ []
 
 abbrev pub option_named : List OptionName → Text → Option OptionName
 option_named known word = find (λ o. bytes_eq (option_word o) word) known
 
--- so many plain words are taken: MAIN and OUT, MAIN alone, a path and arguments, a number, MAIN and OUT and arguments, or TRACE and MAIN
+-- so many plain words are taken: MAIN and OUT, MAIN alone, a path and arguments, a number, MAIN and OUT and arguments, TRACE and MAIN, or up to 64
+-- MAINs
 abbrev pub takes_plain : CommandName → ℕ → Bool
 takes_plain Merge n = n == 2
 takes_plain Run n = nat_le 1 n
@@ -71,6 +79,7 @@ takes_plain Plan n = n == 1
 takes_plain Gen n = n == 1
 takes_plain Trace n = nat_le 2 n
 takes_plain Replay n = n == 2
+takes_plain Board n = nat_le 1 n && nat_le n 64
 
 -- ---- what words give
 
@@ -149,6 +158,8 @@ pub record Asked : Type 0 where
   pub stack : Option Text
   pub no_duplicates : Bool
   pub steps : Option Text
+  pub slice : Option Text
+  pub turns : Option Text
   pub one : Bool
 
 -- by the plain words, and the values of each option
@@ -161,6 +172,8 @@ asked_of words values = record {
   stack = first_of (values Stack);
   no_duplicates = is_some (first_of (values NoDuplicates));
   steps = first_of (values Steps);
+  slice = first_of (values Slice);
+  turns = first_of (values Turns);
   one = is_some (first_of (values One));
 }
 

@@ -23,6 +23,8 @@ pub struct Asked<'a> {
     pub stack: Option<&'a str>,
     pub no_duplicates: bool,
     pub steps: Option<&'a str>,
+    pub slice: Option<&'a str>,
+    pub turns: Option<&'a str>,
     pub one: bool,
 }
 
@@ -182,6 +184,8 @@ fn values_in<'a>(
     let stack = value_in(matches, OptionName::Stack)?;
     let no_duplicates = value_in(matches, OptionName::NoDuplicates)?.is_some();
     let steps = value_in(matches, OptionName::Steps)?;
+    let slice = value_in(matches, OptionName::Slice)?;
+    let turns = value_in(matches, OptionName::Turns)?;
     let one = value_in(matches, OptionName::One)?.is_some();
     Ok(Asked {
         plain,
@@ -191,6 +195,8 @@ fn values_in<'a>(
         stack,
         no_duplicates,
         steps,
+        slice,
+        turns,
         one,
     })
 }

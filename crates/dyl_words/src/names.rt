@@ -19,6 +19,8 @@ pub enum CommandName {
     Trace,
     /// Checks that a trace is that of a run.
     Replay,
+    /// Runs several sets in turns.
+    Board,
 }
 
 /// An option of a command.
@@ -36,6 +38,10 @@ pub enum OptionName {
     NoDuplicates,
     /// The most steps of a run.
     Steps,
+    /// The most steps of a turn.
+    Slice,
+    /// The most turns of a board.
+    Turns,
     /// Whether the main module is run alone, without its set. It has no value.
     One,
 }
@@ -76,6 +82,18 @@ const EXEC_OPTIONS: [OptionName; 1] = [OptionName::Steps];
 /// The options of a command that makes a set.
 const GEN_OPTIONS: [OptionName; 2] = [OptionName::Pages, OptionName::Steps];
 
+/// The options of a command that runs several sets in turns.
+const BOARD_OPTIONS: [OptionName; 5] = [
+    OptionName::Pages,
+    OptionName::Stack,
+    OptionName::Steps,
+    OptionName::Slice,
+    OptionName::Turns,
+];
+
+/// The most main modules of a board.
+const MOST_MAINS: usize = 64;
+
 impl CommandName {
     // The options that the command takes.
     pub(crate) fn options(self) -> &'static [OptionName]
@@ -87,6 +105,7 @@ impl CommandName {
             CommandName::Exec => &EXEC_OPTIONS,
             CommandName::Gen => &GEN_OPTIONS,
             CommandName::Trace | CommandName::Replay => &TRACE_OPTIONS,
+            CommandName::Board => &BOARD_OPTIONS,
         }
     }
 
@@ -99,6 +118,7 @@ impl CommandName {
             CommandName::Run | CommandName::Exec => count >= 1,
             CommandName::Plan | CommandName::Gen => count == 1,
             CommandName::Trace => count >= 2,
+            CommandName::Board => count >= 1 && count <= MOST_MAINS,
         }
     }
 
@@ -114,6 +134,7 @@ impl CommandName {
             CommandName::Gen => "gen",
             CommandName::Trace => "trace",
             CommandName::Replay => "replay",
+            CommandName::Board => "board",
         }
     }
 
@@ -129,6 +150,7 @@ impl CommandName {
             "gen" => Some(CommandName::Gen),
             "trace" => Some(CommandName::Trace),
             "replay" => Some(CommandName::Replay),
+            "board" => Some(CommandName::Board),
             _ => None,
         }
     }
@@ -146,6 +168,8 @@ impl OptionName {
             OptionName::Stack => "stack",
             OptionName::NoDuplicates => "no-duplicates",
             OptionName::Steps => "steps",
+            OptionName::Slice => "slice",
+            OptionName::Turns => "turns",
             OptionName::One => "one",
         }
     }

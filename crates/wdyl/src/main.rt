@@ -1,14 +1,25 @@
 //! `wdyl run MAIN` runs a main WebAssembly module with the libraries that it needs, `wdyl merge MAIN OUT` makes one module of them,
-//! `wdyl plan MAIN` lists how they are placed and linked, `wdyl exec FILE` runs one module, and `wdyl gen N` makes a set and runs it as
-//! loaded and as merged.
+//! `wdyl plan MAIN` lists how they are placed and linked, `wdyl exec FILE` runs one module, `wdyl gen N` makes a set and runs it as
+//! loaded and as merged, `wdyl trace MAIN OUT` writes what a run was, `wdyl replay TRACE MAIN` checks that, and `wdyl board MAIN ..`
+//! runs the sets of several main modules in turns.
 #![tactic(auto)]
 
-use dyl_app::{serve, tell};
+ghost use Rattle.std.specs.Prelude.{◌<◌};
+
+use dyl_app::{Outcome, Picker, serve, tell};
 use dyl_front::{collected, status};
 use dyl_outside::{DiskFiles, HostAmbient, StreamSink, StreamSource};
 use host_table::HostTable;
 use std::env;
 use std::process::ExitCode;
+
+/// Each program of a board in its turn.
+fn in_turns(turn: u64, count: u64) -> u64
+    requires { 0 < count }
+    ensures { result < count }
+{
+    turn % count
+}
 
 fn main(rt: HostRuntime) -> ExitCode {
     let alloc = rt.alloc();
@@ -18,18 +29,25 @@ fn main(rt: HostRuntime) -> ExitCode {
     let mut errors = StreamSink::new(rt.stderr());
     let mut ambient = HostAmbient::new(&rt);
     let host = HostTable::new(alloc);
-    let outcome = match collected(alloc, env::args(&rt)) {
-        Ok(words) => serve(
-            alloc,
-            &words,
-            &mut files,
-            &mut input,
-            &mut output,
-            &mut errors,
-            &mut ambient,
-            &host,
-        ),
-        Err(outcome) => tell(alloc, outcome, &mut errors),
+    let outcome = match Box::new(alloc, in_turns) {
+        Ok(pick) => {
+            let picker = Picker::new(pick);
+            match collected(alloc, env::args(&rt)) {
+                Ok(words) => serve(
+                    alloc,
+                    &words,
+                    &mut files,
+                    &mut input,
+                    &mut output,
+                    &mut errors,
+                    &mut ambient,
+                    &host,
+                    &picker,
+                ),
+                Err(outcome) => tell(alloc, outcome, &mut errors),
+            }
+        }
+        Err(_) => tell(alloc, Outcome::Memory, &mut errors),
     };
     ExitCode::from(status(&outcome))
 }

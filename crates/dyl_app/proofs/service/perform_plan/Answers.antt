@@ -4,6 +4,7 @@ use Rattle.dyl_link.specs.dyl_search.Gathers.{options_of}
 use Rattle.dyl_link.specs.Kept as links
 use Rattle.dyl_front.specs.declared.order.Order.TheVariants.{Plan}
 use Rattle.dyl_commands.proofs.Telling.{done_silent, told_serves, told_plans}
+use Rattle.dyl_commands.proofs.Counting.{told_counts}
 use Rattle.dyl_app.proofs.service.perform_plan.Goals as goal
 
 pub returns-clause-serves : goal.returns-clause-serves
@@ -16,3 +17,6 @@ returns-clause-works g c =
 
 pub returns-clause-quiet : goal.returns-clause-quiet
 returns-clause-quiet g c = λ is. c.tell.ensures.quiet (done_silent c.tell.result is)
+
+pub returns-clause-counts : goal.returns-clause-counts
+returns-clause-counts g c = told_counts (Ok (Plan c.args.set.now c.args.link.now)) c.plan_main-listed.result c.tell.result _ _ c.tell.ensures.answer c.plan_main-listed.ensures.counts

@@ -2,7 +2,9 @@ use Rattle.std.proofs.Common.{Ok, sym, ◌∙◌, true≢false}
 use Rattle.spec_hosts.specs.Devices.{devices}
 use Rattle.host_calls.specs.Embedders.{names_of, embedder_of}
 use Rattle.dyl_front.specs.declared.order.Order.TheVariants.{Run}
+use Rattle.dyl_commands.specs.Runs.{no_picks}
 use Rattle.dyl_commands.proofs.Telling.{not_told_done, told_serves, told_works}
+use Rattle.dyl_commands.proofs.Counting.{told_counts}
 use Rattle.dyl_app.proofs.service.perform_run.Goals as goal
 
 pub returns-clause-serves : goal.returns-clause-serves
@@ -14,7 +16,7 @@ pub returns-clause-does : goal.returns-clause-does
 returns-clause-does g c =
     record {
       errors = g.E.Sink.seen c.run_main-ran.new.errors;
-      works = told_works (g.F.Files.seen c.args.files.now).told (λ texts. embedder_of texts c.args.host.now) (Ok (Run c.args.set.now c.args.link.now c.args.steps c.args.args.now)) c.run_main-ran.result c.tell.result
+      works = told_works (g.F.Files.seen c.args.files.now).told (λ texts. embedder_of texts c.args.host.now) no_picks (Ok (Run c.args.set.now c.args.link.now c.args.steps c.args.args.now)) c.run_main-ran.result c.tell.result
           (devices (g.I.Source.seen c.args.input.now) (g.O.Sink.seen c.args.output.now) (g.E.Sink.seen c.args.errors.now) (g.A.Ambient.seen c.args.ambient.now))
           (devices (g.I.Source.seen c.run_main-ran.new.input) (g.O.Sink.seen c.run_main-ran.new.output) (g.E.Sink.seen c.run_main-ran.new.errors) (g.A.Ambient.seen c.run_main-ran.new.ambient))
           c.tell.ensures.answer c.run_main-ran.ensures.works;
@@ -23,3 +25,6 @@ returns-clause-does g c =
 
 pub returns-clause-quiet : goal.returns-clause-quiet
 returns-clause-quiet g c = λ is. absurd (true≢false (sym is ∙ not_told_done c.run_main-ran.result c.tell.result c.tell.ensures.answer c.run_main-ran.ensures.done))
+
+pub returns-clause-counts : goal.returns-clause-counts
+returns-clause-counts g c = told_counts (Ok (Run c.args.set.now c.args.link.now c.args.steps c.args.args.now)) c.run_main-ran.result c.tell.result _ _ c.tell.ensures.answer c.run_main-ran.ensures.counts

@@ -1,10 +1,12 @@
 use Rattle.std.proofs.Common.{◌≡◌, Err}
 use Rattle.spec_hosts.specs.Devices.{devices}
 use Rattle.host_calls.specs.Embedders.{names_of, embedder_of}
+use Rattle.slice_board.specs.Taken.{picks_of}
 use Rattle.dyl_front.specs.Orders.{order_of}
 use Rattle.dyl_front.specs.declared.outcome.Outcome.TheVariants.{Usage, Memory}
 use Rattle.dyl_commands.proofs.Telling.{done_silent, told_serves, memory_serves, usage_serves}
 use Rattle.dyl_commands.proofs.Performing.{usage_due, memory_due, usage_complete, memory_complete, usage_does, memory_does}
+use Rattle.dyl_commands.proofs.Counting.{told_counts, nothing_counted, usage_counts}
 use Rattle.dyl_app.proofs.service.serve.Goals as goal
 
 pub returns-in-Ok-clause-due : goal.returns-in-Ok-clause-due
@@ -22,6 +24,9 @@ returns-in-Ok-clause-complete g c = rw c.in-Ok.ensures.reads c.perform-outcome.e
 pub returns-in-Ok-clause-caused : goal.returns-in-Ok-clause-caused
 returns-in-Ok-clause-caused g c = rw c.in-Ok.ensures.reads c.perform-outcome.ensures.caused
 
+pub returns-in-Ok-clause-counts : goal.returns-in-Ok-clause-counts
+returns-in-Ok-clause-counts g c = rw c.in-Ok.ensures.reads c.perform-outcome.ensures.counts
+
 pub returns-in-Ok-clause-does : goal.returns-in-Ok-clause-does
 returns-in-Ok-clause-does g c = rw c.in-Ok.ensures.reads c.perform-outcome.ensures.does
 
@@ -38,7 +43,8 @@ returns-in-Err-Usage g c =
       complete = usage_complete (names_of c.args.host.now) (order_of c.args.words.now) c.tell.result (g.F.Files.seen c.args.files.now) (g.F.Files.seen c.args.files.now) _ _ c.in-Err-Usage.kind is;
       caused = serves.caused;
       inner = serves.inner;
-      does = usage_does (g.F.Files.seen c.args.files.now).told (λ texts. embedder_of texts c.args.host.now) (order_of c.args.words.now) c.in-Err-Usage.kind is c.tell.result
+      counts = usage_counts (order_of c.args.words.now) c.in-Err-Usage.kind c.tell.result (g.F.Files.seen c.args.files.now) is;
+      does = usage_does (g.F.Files.seen c.args.files.now).told (λ texts. embedder_of texts c.args.host.now) (picks_of c.args.picker.now) (order_of c.args.words.now) c.in-Err-Usage.kind is c.tell.result
           (devices (g.I.Source.seen c.args.input.now) (g.O.Sink.seen c.args.output.now) (g.E.Sink.seen c.args.errors.now) (g.A.Ambient.seen c.args.ambient.now))
           (g.E.Sink.seen c.tell.new.errors) c.tell.ensures.told;
       quiet = λ done. c.tell.ensures.quiet (done_silent c.tell.result done);
@@ -56,7 +62,9 @@ returns-in-Err-Memory g c =
       complete = memory_complete (names_of c.args.host.now) (order_of c.args.words.now) c.tell-in-Err-Memory.result (g.F.Files.seen c.args.files.now) (g.F.Files.seen c.args.files.now) _ _ c.tell-in-Err-Memory.ensures.answer;
       caused = serves.caused;
       inner = serves.inner;
-      does = memory_does (g.F.Files.seen c.args.files.now).told (λ texts. embedder_of texts c.args.host.now) (order_of c.args.words.now) c.tell-in-Err-Memory.result
+      counts = told_counts (order_of c.args.words.now) Memory c.tell-in-Err-Memory.result (g.F.Files.seen c.args.files.now) (g.F.Files.seen c.args.files.now) c.tell-in-Err-Memory.ensures.answer
+          (nothing_counted (g.F.Files.seen c.args.files.now) (order_of c.args.words.now));
+      does = memory_does (g.F.Files.seen c.args.files.now).told (λ texts. embedder_of texts c.args.host.now) (picks_of c.args.picker.now) (order_of c.args.words.now) c.tell-in-Err-Memory.result
           (devices (g.I.Source.seen c.args.input.now) (g.O.Sink.seen c.args.output.now) (g.E.Sink.seen c.args.errors.now) (g.A.Ambient.seen c.args.ambient.now))
           (g.E.Sink.seen c.tell-in-Err-Memory.new.errors) c.tell-in-Err-Memory.ensures.answer c.tell-in-Err-Memory.ensures.told;
       quiet = λ done. c.tell-in-Err-Memory.ensures.quiet (done_silent c.tell-in-Err-Memory.result done);

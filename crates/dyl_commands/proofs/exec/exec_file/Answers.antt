@@ -3,6 +3,7 @@ use Rattle.dyl_commands.specs.Runs.{guest_arguments}
 use Rattle.dyl_commands.proofs.Executing.{executed_serves, executed_works, never_done, set_not_done}
 use Rattle.dyl_commands.proofs.Refusing.{exec_refused, refused_works}
 use Rattle.dyl_commands.proofs.HeldNumbers.{read_numbers}
+use Rattle.dyl_commands.proofs.Counting.{read_counts, unread_counts, executed_no_fault}
 use Rattle.dyl_commands.proofs.exec.exec_file.Goals as goal
 
 pub exec_module-outcome-requires-clause-numbers : goal.exec_module-outcome-requires-clause-numbers
@@ -27,3 +28,11 @@ returns-in-Ok-clause-done g c = never_done c.in-Ok.checked (embedder_of (guest_a
 
 pub returns-in-Err-clause-done : goal.returns-in-Err-clause-done
 returns-in-Err-clause-done g c = rw c.refused.ensures (set_not_done c.in-Err.fault)
+
+pub returns-in-Ok-clause-counts : goal.returns-in-Ok-clause-counts
+returns-in-Ok-clause-counts g c =
+    read_counts c.args.file.now _ _ c.in-Ok.checked c.in-Ok.ensures c.exec_module-outcome.result
+    (executed_no_fault c.in-Ok.checked (embedder_of (guest_arguments c.args.args.now) c.args.host.now) c.args.steps c.exec_module-outcome.result _ _ c.exec_module-outcome.ensures.runs)
+
+pub returns-in-Err-clause-counts : goal.returns-in-Err-clause-counts
+returns-in-Err-clause-counts g c = rw c.refused.ensures (unread_counts c.args.file.now _ _ c.in-Err.fault c.in-Err.ensures)

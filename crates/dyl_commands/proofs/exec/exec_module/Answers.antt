@@ -1,8 +1,7 @@
 use Rattle.std.proofs.Common.{Ok, Err}
 use Rattle.spec_loading.specs.spec_execution.declared.fault.SingleFault.TheVariants as single
 use Rattle.host_calls.specs.Embedders.{names_of, embedder_of}
-use Rattle.dyl_commands.proofs.Executing.{with_arguments}
-use Rattle.dyl_commands.proofs.Tracing.{module_takes}
+use Rattle.dyl_commands.proofs.Executing.{with_arguments, module_takes}
 use Rattle.dyl_commands.proofs.exec.exec_module.Goals as goal
 
 pub returns-in-Ok-execute-clause-taken : goal.returns-in-Ok-execute-clause-taken

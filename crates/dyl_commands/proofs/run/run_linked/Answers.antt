@@ -2,7 +2,7 @@ use Rattle.std.proofs.Common.{Ok, Err, subst, inr}
 use Rattle.spec_hosts.specs.Devices.{devices}
 use Rattle.host_calls.specs.Embedders.{embedder_of}
 use Rattle.wasm_exec.specs.Executed.{ExecutesSet}
-use Rattle.dyl_commands.proofs.Tracing.{set_takes}
+use Rattle.dyl_commands.proofs.Running.{set_takes}
 use Rattle.dyl_commands.proofs.run.run_linked.Goals as goal
 
 pub returns-in-Ok-execute_set-clause-taken : goal.returns-in-Ok-execute_set-clause-taken

@@ -1,0 +1,30 @@
+use Rattle.std.proofs.Common.{Ok, sym, ◌∙◌, true≢false}
+use Rattle.spec_hosts.specs.Devices.{devices}
+use Rattle.host_calls.specs.Embedders.{names_of, embedder_of}
+use Rattle.slice_board.specs.Taken.{picks_of}
+use Rattle.dyl_front.specs.declared.order.Order.TheVariants.{Board}
+use Rattle.dyl_commands.proofs.Telling.{not_told_done, told_serves, told_works}
+use Rattle.dyl_commands.proofs.Counting.{told_counts}
+use Rattle.dyl_app.proofs.service.perform_board.Goals as goal
+
+pub returns-clause-serves : goal.returns-clause-serves
+returns-clause-serves g c =
+    told_serves (names_of c.args.host.now) (Ok (Board c.args.mains.now c.args.link.now c.args.steps c.args.slice c.args.turns)) c.board_main-board.result c.tell.result
+    (g.F.Files.seen c.args.files.now) (g.F.Files.seen c.board_main-board.new.files) _ _ c.tell.ensures.answer c.board_main-board.ensures.serves
+
+pub returns-clause-does : goal.returns-clause-does
+returns-clause-does g c =
+    record {
+      errors = g.E.Sink.seen c.board_main-board.new.errors;
+      works = told_works (g.F.Files.seen c.args.files.now).told (λ texts. embedder_of texts c.args.host.now) (picks_of c.args.picker.now) (Ok (Board c.args.mains.now c.args.link.now c.args.steps c.args.slice c.args.turns)) c.board_main-board.result c.tell.result
+          (devices (g.I.Source.seen c.args.input.now) (g.O.Sink.seen c.args.output.now) (g.E.Sink.seen c.args.errors.now) (g.A.Ambient.seen c.args.ambient.now))
+          (devices (g.I.Source.seen c.board_main-board.new.input) (g.O.Sink.seen c.board_main-board.new.output) (g.E.Sink.seen c.board_main-board.new.errors) (g.A.Ambient.seen c.board_main-board.new.ambient))
+          c.tell.ensures.answer c.board_main-board.ensures.works;
+      line = c.tell.ensures.told;
+    }
+
+pub returns-clause-quiet : goal.returns-clause-quiet
+returns-clause-quiet g c = λ is. absurd (true≢false (sym is ∙ not_told_done c.board_main-board.result c.tell.result c.tell.ensures.answer c.board_main-board.ensures.done))
+
+pub returns-clause-counts : goal.returns-clause-counts
+returns-clause-counts g c = told_counts (Ok (Board c.args.mains.now c.args.link.now c.args.steps c.args.slice c.args.turns)) c.board_main-board.result c.tell.result _ _ c.tell.ensures.answer c.board_main-board.ensures.counts

@@ -1,0 +1,8 @@
+use Rattle.host_calls.specs.Embedders.{names_of}
+use Rattle.spec_loading.specs.spec_linking.Sets.{default_options}
+use Rattle.dyl_link.specs.Kept as links
+use Rattle.dyl_commands.proofs.Several.{unlinked}
+use Rattle.dyl_commands.proofs.sets.link_next.Goals as goal
+
+pub returns-in_default : goal.returns-in_default
+returns-in_default g c = unlinked (names_of c.args.host.now) (default_options c.args.main.now) (links.options_of c.args.o.now) (g.F.Files.seen c.args.files.now)

@@ -1,5 +1,0 @@
-use Rattle.std.proofs.Common.{inr}
-use Rattle.dyl_commands.proofs.trace.store_trace.Goals as goal
-
-pub returns-in-Ok : goal.returns-in-Ok
-returns-in-Ok g c = inr (c.deref.result.now, rw c.deref.ensures.value c.in-Ok.ensures, c.store_text.ensures)

@@ -1,0 +1,4 @@
+pub mod Tracing
+pub mod Opened
+pub mod Counting
+pub mod Replaying
