@@ -21,6 +21,7 @@ const KEYS: &[(&str, &str)] = &[
     ("end", "*"),
     ("steps", "*"),
     ("answers", "*"),
+    ("picks", "*"),
     ("calls", "*"),
 ];
 

@@ -1,10 +1,13 @@
 // Commands over host functions.
 ghost use Rattle.std.specs.Prelude.{◌≡◌, ◌<◌, ◌≤◌, ◌+◌, ◌∷◌, [], IfOk, IfSome, None};
+ghost use Rattle.host_table.specs.Answers.{Keeps};
+ghost use Rattle.host_table.specs.Table.{entry_count};
 
 use crate::facts::Facts;
 use crate::row::Row;
 use crate::world::perform_with;
-use host_table::{Callback, HostTable, Put, Reply};
+use dyl_app::Picker;
+use host_table::{AddFault, Callback, HostTable, Put, Reply};
 use spec_binary::wasm_form::{FuncType, List, Memory, ValType};
 use std::alloc::Global;
 
@@ -32,23 +35,62 @@ fn doubled(args: &[u64], _size: u64) -> Reply
     }
 }
 
-/// Performs a command of a row over a host function of the module `env`, which answers the double.
+/// Answers 0.
+fn nothing(_args: &[u64], _size: u64) -> Reply
+    ensures result { result.result ≡ 0 }
+    ensures put { result.put ≡ None }
+{
+    Reply {
+        result: 0,
+        put: None,
+    }
+}
+
+/// Adds a host function from an i32 to an i32, unless there is one of this module and name.
+fn adds(
+    alloc: Global,
+    host: &mut HostTable,
+    from: &str,
+    name: &str,
+    call: Callback,
+) -> Result<bool, Memory>
+    requires room { entry_count host.old < 4294967295 }
+    requires keeps { Keeps (Callback.pre call) (Callback.post call) (record { params = ValType.I32 ∷ []; results = ValType.I32 ∷ [] }) }
+    ensures { entry_count host.new ≤ entry_count host.old + 1 }
+{
+    let ty = i32_to_i32(alloc)?;
+    match host.add(alloc, from, name, ty, call) {
+        Ok(()) => Ok(true),
+        Err(refused) => {
+            let is_there = refused.fault == AddFault::SameName;
+            drop(refused);
+            if is_there { Ok(false) } else { Err(Memory) }
+        }
+    }
+}
+
+/// Performs a command of a row over a host function that answers the double: of the module `env`, or of another that
+/// is named before it. It stands behind one of another module and before one of the same module and name, which isn't
+/// added. These would answer 0.
 pub fn perform_doubling(
     alloc: Global,
     words: &[String],
-    name: &str,
+    table: &str,
+    picker: &Picker,
     row: &mut Row,
     came: &mut Facts,
 ) -> Result<(), Memory> {
-    let ty = i32_to_i32(alloc)?;
+    let (from, name) = table.split_once(' ').unwrap_or(("env", table));
+    let other: Callback = Box::new(alloc, nothing)?;
     let call: Callback = Box::new(alloc, doubled)?;
+    let again: Callback = Box::new(alloc, nothing)?;
     let mut host = HostTable::new(alloc);
-    let performed = match host.add(alloc, "env", name, ty, call) {
-        Ok(()) => perform_with(alloc, words, &host, row, came),
-        Err(refused) => {
-            drop(refused);
-            Err(Memory)
-        }
+    let is_apart = adds(alloc, &mut host, "other", name, other);
+    let is_added = adds(alloc, &mut host, from, name, call);
+    let is_again = adds(alloc, &mut host, from, name, again);
+    let performed = match (is_apart, is_added, is_again) {
+        (Ok(true), Ok(true), Ok(false)) => perform_with(alloc, words, &host, picker, row, came),
+        _ => Err(Memory),
     };
     drop(host);
     performed
@@ -58,19 +100,21 @@ pub fn perform_doubling(
 pub fn perform_knocking(
     alloc: Global,
     words: &[String],
+    picker: &Picker,
     row: &mut Row,
     came: &mut Facts,
 ) -> Result<(), Memory> {
+    let letter = 107;
     let call: Callback = Box::new(
         alloc,
-        |_args: &[u64], size: u64| -> Reply
+        move |_args: &[u64], size: u64| -> Reply
             ensures result { result.result ≡ 0 }
             ensures put { IfSome result.put (λ p. (p.len ≡ 1) × (p.at + 1 ≤ size)) }
         {
             let put = if size > 1040 {
                 Some(Put {
                     at: 1040,
-                    bytes: 107,
+                    bytes: letter,
                     len: 1,
                 })
             } else {
@@ -85,7 +129,7 @@ pub fn perform_knocking(
     };
     let mut host = HostTable::new(alloc);
     let performed = match host.add(alloc, "env", "knock", ty, call) {
-        Ok(()) => perform_with(alloc, words, &host, row, came),
+        Ok(()) => perform_with(alloc, words, &host, picker, row, came),
         Err(refused) => {
             drop(refused);
             Err(Memory)

@@ -7,6 +7,7 @@ mod hosts;
 mod lines;
 mod modules;
 mod orders;
+mod pickers;
 mod row;
 mod script;
 mod texts;

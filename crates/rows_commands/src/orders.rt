@@ -16,14 +16,22 @@ fn joined(alloc: Global, texts: &List<Text>, between: &str) -> Result<String, Al
     Ok(all)
 }
 
+/// The words of how a set is linked.
+fn link_shown(alloc: Global, link: &LinkOptions) -> Result<String, AllocError> {
+    let once = if link.no_duplicates { "yes" } else { "no" };
+    format!(in alloc;
+        "pages={} stack={} no-duplicates={once}",
+        link.pages, link.stack
+    )
+}
+
 /// The words of a set and of how it is linked.
 fn set_shown(alloc: Global, set: &SetOptions, link: &LinkOptions) -> Result<String, AllocError> {
     let dl = joined(alloc, &set.dl, ",")?;
     let path = joined(alloc, &set.paths, ":")?;
-    let pages = format!(in alloc; "pages={} stack={}", link.pages, link.stack)?;
-    let once = if link.no_duplicates { "yes" } else { "no" };
+    let link = link_shown(alloc, link)?;
     let main = set.main.as_str();
-    format!(in alloc; "main={main} dl={dl} path={path} {pages} no-duplicates={once}")
+    format!(in alloc; "main={main} dl={dl} path={path} {link}")
 }
 
 /// The words of a run.
@@ -83,6 +91,20 @@ fn set_order_shown(alloc: Global, order: &Order, set: &str) -> Result<String, Al
     }
 }
 
+/// The words of an order about a board.
+fn board_shown(
+    alloc: Global,
+    mains: &List<Text>,
+    link: &LinkOptions,
+    steps: u64,
+    slice: u32,
+    turns: u32,
+) -> Result<String, AllocError> {
+    let mains = joined(alloc, mains, ",")?;
+    let link = link_shown(alloc, link)?;
+    format!(in alloc; "board mains={mains} {link} steps={steps} slice={slice} turns={turns}")
+}
+
 /// An order in a line.
 fn order_shown(alloc: Global, order: &Order) -> Result<String, AllocError> {
     match order {
@@ -105,6 +127,13 @@ fn order_shown(alloc: Global, order: &Order) -> Result<String, AllocError> {
         Order::Gen { n, pages, steps } => format!(in alloc;
             "gen n={n} pages={pages} steps={steps}"
         ),
+        Order::Board {
+            mains,
+            link,
+            steps,
+            slice,
+            turns,
+        } => board_shown(alloc, mains, link, *steps, *slice, *turns),
     }
 }
 

@@ -3,10 +3,11 @@ use crate::facts::{Facts, is_told};
 use crate::lines::note_line;
 use crate::modules::Module;
 use crate::orders::note_words;
+use crate::pickers::perform;
 use crate::row::{Cut, Row};
 use crate::texts::{bytes_of, names_of, words_of};
 use crate::words::Words;
-use crate::world::{add_generated, perform};
+use crate::world::add_generated;
 use spec_binary::wasm_form::Memory;
 use std::alloc::{AllocError, Global};
 
@@ -226,6 +227,7 @@ impl<'a> Script<'a> {
             "clock" => self.row.clock = text,
             "random" => self.row.random = text,
             "table" => self.row.table = text,
+            "picker" => self.row.picker = text,
             _ => self.put_part(key, text)?,
         }
         Ok(())

@@ -67,13 +67,27 @@ pub fn words_of(alloc: Global, line: &str) -> Result<Vec<String>, Memory> {
     Ok(words)
 }
 
-/// The names that a word stands for: `f*3` for `f1`, `f2`, `f3`, each other word for itself.
+/// A name with a number behind it, and in front as many further copies of the name as there are bytes to that size.
+fn numbered(alloc: Global, name: &str, number: u32, size: usize) -> Result<String, Memory> {
+    let digits = format!(in alloc; "{number}")?;
+    let mut text = String::from_str(alloc, name)?;
+    for _ in name.len().saturating_add(digits.len())..size {
+        text.push_str(name)?;
+    }
+    text.push_str(&digits)?;
+    Ok(text)
+}
+
+/// The names that a word stands for: `f*3` for `f1`, `f2`, `f3`, and `f*3*4` for `fff1`, `fff2`, `fff3`, of 4 bytes each; each other word for
+/// itself.
 pub fn names_of(alloc: Global, word: &str) -> Result<Vec<String>, Memory> {
     let mut names = Vec::new(alloc);
     match word.split_once('*') {
-        Some((name, count)) => {
+        Some((name, numbers)) => {
+            let (count, size) = numbers.split_once('*').unwrap_or((numbers, "0"));
+            let size = size.parse::<usize>().unwrap_or(0);
             for number in 1..=count.parse::<u32>().unwrap_or(0) {
-                names.push(format!(in alloc; "{name}{number}")?)?;
+                names.push(numbered(alloc, name, number, size)?)?;
             }
         }
         None => names.push(word_of(alloc, word)?)?,

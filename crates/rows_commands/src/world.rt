@@ -3,7 +3,7 @@ use crate::facts::Facts;
 use crate::hosts::{perform_doubling, perform_knocking};
 use crate::row::Row;
 use crate::texts::words_of;
-use dyl_app::{Outcome, Ran, RunEnd, serve, status};
+use dyl_app::{Outcome, Picker, Ran, RunEnd, serve, status};
 use dyl_gen::make;
 use dyl_outside::{
     Ambient, FileFault, Files, IoFault, MemAmbient, MemFiles, MemSink, MemSource, Sink, Source,
@@ -108,6 +108,7 @@ fn end_shown(alloc: Global, end: RunEnd) -> Result<String, AllocError> {
         RunEnd::StepLimit => String::from_str(alloc, "step limit"),
         RunEnd::DepthLimit => String::from_str(alloc, "depth limit"),
         RunEnd::HostCallLimit => String::from_str(alloc, "host call limit"),
+        RunEnd::TurnLimit => String::from_str(alloc, "turn limit"),
     }
 }
 
@@ -126,19 +127,39 @@ fn note_run(alloc: Global, ran: &Ran, space: &str, came: &mut Facts) -> Result<(
     )
 }
 
+/// What came of runs, one after the other.
+fn note_runs(alloc: Global, runs: &[Ran], came: &mut Facts) -> Result<(), Memory> {
+    let mut space = "";
+    for ran in runs {
+        note_run(alloc, ran, space, came)?;
+        space = " ";
+    }
+    Ok(())
+}
+
+/// Which programs were picked, or that none was.
+fn note_picks(alloc: Global, picks: &[u32], came: &mut Facts) -> Result<(), Memory> {
+    let mut text = String::new(alloc);
+    for pick in picks {
+        text.push_str(if text.is_empty() { "" } else { " " })?;
+        text.push_str(&format!(in alloc; "{pick}")?)?;
+    }
+    if text.is_empty() {
+        text.push_str("none")?;
+    }
+    came.add("picks", text.into_bytes())
+}
+
 /// What came of a command but what it put.
 fn note_outcome(alloc: Global, outcome: &Outcome, came: &mut Facts) -> Result<(), Memory> {
     let code = status(outcome);
     came.add("status", format!(in alloc; "{code}")?.into_bytes())?;
     match outcome {
         Outcome::Ran(ran) => note_run(alloc, ran, "", came),
-        Outcome::Done(runs) => {
-            let mut space = "";
-            for ran in runs.items() {
-                note_run(alloc, ran, space, came)?;
-                space = " ";
-            }
-            Ok(())
+        Outcome::Done(runs) => note_runs(alloc, runs.items(), came),
+        Outcome::Board(board) => {
+            note_picks(alloc, board.picks.items(), came)?;
+            note_runs(alloc, board.runs.items(), came)
         }
         _ => Ok(()),
     }
@@ -208,6 +229,7 @@ fn perform_in(
     alloc: Global,
     words: &[String],
     host: &HostTable,
+    picker: &Picker,
     world: &mut World,
     row: &mut Row,
     came: &mut Facts,
@@ -225,6 +247,7 @@ fn perform_in(
         &mut world.errors,
         &mut world.ambient,
         host,
+        picker,
     );
     let noted = note_outcome(alloc, &outcome, came);
     drop(outcome);
@@ -243,30 +266,32 @@ pub fn perform_with(
     alloc: Global,
     words: &[String],
     host: &HostTable,
+    picker: &Picker,
     row: &mut Row,
     came: &mut Facts,
 ) -> Result<(), Memory> {
     let mut world = world_of(alloc, row)?;
-    let performed = perform_in(alloc, words, host, &mut world, row, came);
+    let performed = perform_in(alloc, words, host, picker, &mut world, row, came);
     drop(world);
     performed
 }
 
-/// Performs a command of a row, and notes what came of it.
-pub fn perform(
+/// Performs a command of a row with this picker, over the row's host functions, and notes what came of it.
+pub fn perform_over(
     alloc: Global,
     words: &[String],
+    picker: &Picker,
     row: &mut Row,
     came: &mut Facts,
 ) -> Result<(), Memory> {
     match row.table {
-        "knock" => perform_knocking(alloc, words, row, came),
+        "knock" => perform_knocking(alloc, words, picker, row, came),
         "" => {
             let host = HostTable::new(alloc);
-            let performed = perform_with(alloc, words, &host, row, came);
+            let performed = perform_with(alloc, words, &host, picker, row, came);
             drop(host);
             performed
         }
-        name => perform_doubling(alloc, words, name, row, came),
+        table => perform_doubling(alloc, words, table, picker, row, came),
     }
 }

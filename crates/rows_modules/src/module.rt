@@ -3,9 +3,10 @@ ghost use Rattle.spec_binary.specs.WellFormed.{IsWellFormed};
 
 use crate::code::hex;
 use crate::record;
+use dyl_section::RecordFault;
 use std::alloc::{AllocError, Global};
-use wasm_check::{Checked, check};
-use wasm_decode::decode;
+use wasm_check::{Checked, Known, check, evaluate};
+use wasm_decode::{DecodeFault, decode};
 use wasm_encode::{EncodeFault, encode, round_trip};
 use wasm_form::Module;
 
@@ -88,6 +89,20 @@ fn kept(alloc: Global, m: &Module) -> Result<String, AllocError>
     }
 }
 
+// The values of the constant expressions of the globals, where the one that is imported is 1024.
+fn values(alloc: Global, m: &Module) -> Result<String, AllocError> {
+    let imported = [1024];
+    let mut told = String::from_str(alloc, "values")?;
+    for global in m.globals.items() {
+        match evaluate(alloc, &global.init, &Known::Numbers(&imported)) {
+            Ok(Some(value)) => write!(told, " {value:?}")?,
+            Ok(None) => told.push_str(" none")?,
+            Err(_) => told.push_str(" out of memory")?,
+        }
+    }
+    Ok(told)
+}
+
 // What is said of a module that is kept.
 fn of_lent(alloc: Global, verb: &str, m: &Module) -> Result<String, AllocError>
     requires { IsWellFormed m.now }
@@ -95,6 +110,7 @@ fn of_lent(alloc: Global, verb: &str, m: &Module) -> Result<String, AllocError>
     match verb {
         "encode" => written(alloc, m),
         "record" => record::answer(alloc, m),
+        "values" => values(alloc, m),
         _ => kept(alloc, m),
     }
 }
@@ -109,6 +125,15 @@ fn of_module(alloc: Global, verb: &str, m: Module) -> Result<String, AllocError>
         let told = of_lent(alloc, verb, &m);
         drop(m);
         told
+    }
+}
+
+/// What is told of want of memory: where bytes are decoded, or a record is read.
+pub fn want(alloc: Global, part: &str) -> Result<String, AllocError> {
+    match part {
+        "decode" => format!(in alloc; "{}", DecodeFault::Memory),
+        "record" => format!(in alloc; "{}", RecordFault::Memory),
+        _ => String::from_str(alloc, "no fault"),
     }
 }
 

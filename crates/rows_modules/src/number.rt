@@ -1,8 +1,13 @@
-// Numbers: what operators give, and what bytes spell at their start.
+// Numbers: what operators give, what bytes spell at a place, and how numbers and names are spelled.
+ghost use Rattle.std.specs.Prelude.{◌≤◌, ◌<◌, length};
+
+use crate::code::hex;
 use std::alloc::{AllocError, Global};
 use std::fmt::Display;
-use wasm_form::Trap;
-use wasm_leb::{read_name, read_s32, read_s33, read_s64, read_u32};
+use wasm_form::{Memory, Trap};
+use wasm_leb::{
+    put_name, put_s32, put_s33, put_s64, put_u32, read_name, read_s32, read_s33, read_s64, read_u32,
+};
 use wasm_num::{binary, compare, convert, unary};
 
 // What an operator gives, a comparison 0 or 1. None where it isn't one, or an operand doesn't fit it.
@@ -42,7 +47,7 @@ pub fn computed(alloc: Global, opcode: &[u8], operands: &str) -> Result<String, 
     }
 }
 
-// What was read at the start of bytes, and the place behind it.
+// What was read, and the place behind it.
 fn spelled<T: Display + Drop>(
     alloc: Global,
     read: Option<(T, usize)>,
@@ -53,13 +58,49 @@ fn spelled<T: Display + Drop>(
     }
 }
 
-/// The number that bytes spell at their start, or where the bytes of a name begin, and the place behind it.
-pub fn answer(alloc: Global, verb: &str, bytes: &[u8]) -> Result<String, AllocError> {
+// The number that bytes spell at a place, or where the bytes of a name begin, and the place behind it.
+fn read_at(alloc: Global, verb: &str, bytes: &[u8], at: usize) -> Result<String, AllocError>
+    requires { at ≤ length bytes.now }
+{
     match verb {
-        "read_u32" => spelled(alloc, read_u32(bytes, 0)),
-        "read_s32" => spelled(alloc, read_s32(bytes, 0)),
-        "read_s33" => spelled(alloc, read_s33(bytes, 0)),
-        "read_s64" => spelled(alloc, read_s64(bytes, 0)),
-        _ => spelled(alloc, read_name(bytes, 0)),
+        "read_u32" => spelled(alloc, read_u32(bytes, at)),
+        "read_s32" => spelled(alloc, read_s32(bytes, at)),
+        "read_s33" => spelled(alloc, read_s33(bytes, at)),
+        "read_s64" => spelled(alloc, read_s64(bytes, at)),
+        _ => spelled(alloc, read_name(bytes, at)),
+    }
+}
+
+/// What bytes spell at their start; of a verb that ends in `_from`, at the place that the first byte says of those behind it.
+pub fn answer(alloc: Global, verb: &str, bytes: &[u8]) -> Result<String, AllocError> {
+    match (verb.strip_suffix("_from"), bytes.split_first()) {
+        (Some(verb), Some((at, rest))) if usize::from(*at) <= rest.len() => {
+            read_at(alloc, verb, rest, usize::from(*at))
+        }
+        _ => read_at(alloc, verb, bytes, 0),
+    }
+}
+
+// Appends a number or a name.
+fn put(alloc: Global, verb: &str, part: &str, to: &mut Vec<u8>) -> Result<(), Memory> {
+    let number = part.parse::<i64>().unwrap_or(0);
+    match verb {
+        "put_u32" => put_u32(alloc, to, part.parse::<u32>().unwrap_or(0)),
+        "put_s32" => put_s32(alloc, to, part.parse::<i32>().unwrap_or(0)),
+        "put_s33" if number >= -4_294_967_296 && number < 4_294_967_296 => {
+            put_s33(alloc, to, number)
+        }
+        "put_s64" => put_s64(alloc, to, number),
+        "put_name" if part.len() < 4_294_967_296 => put_name(alloc, to, part),
+        _ => Ok(()),
+    }
+}
+
+/// The bytes that spell a number or a name.
+pub fn written(alloc: Global, verb: &str, part: &str) -> Result<String, AllocError> {
+    let mut bytes = Vec::new(alloc);
+    match put(alloc, verb, part, &mut bytes) {
+        Ok(()) => hex(alloc, &bytes),
+        Err(Memory) => String::from_str(alloc, "out of memory"),
     }
 }

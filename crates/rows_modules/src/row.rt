@@ -41,10 +41,10 @@ pub fn row_of(text: &str) -> Row<'_> {
 // What comes of bytes.
 fn of_bytes(alloc: Global, verb: &str, bytes: &[u8]) -> Result<String, AllocError> {
     match verb {
-        "decode" | "encode" | "check" | "heights" | "record" => module::answer(alloc, verb, bytes),
-        "read_u32" | "read_s32" | "read_s33" | "read_s64" | "read_name" => {
-            number::answer(alloc, verb, bytes)
+        "decode" | "encode" | "check" | "heights" | "record" | "values" => {
+            module::answer(alloc, verb, bytes)
         }
+        _ if verb.starts_with("read_") => number::answer(alloc, verb, bytes),
         _ => value::answer(alloc, verb, bytes),
     }
 }
@@ -62,6 +62,8 @@ fn of_part(alloc: Global, words: &[Word], verb: &str, part: &str) -> Result<Stri
     match bytes_of(alloc, words, verb) {
         Some(opcode) => number::computed(alloc, &opcode, part),
         None if verb == "file" => file::answer(alloc, part),
+        None if verb == "want" => module::want(alloc, part),
+        None if verb.starts_with("put_") => number::written(alloc, verb, part),
         None => of_code(alloc, words, verb, part),
     }
 }

@@ -1,4 +1,4 @@
-//! Parts through their public doors: what rows of text can't say of devices, of host functions, of modules and of gathered sets.
+//! Parts through their public doors: what rows of text can't say of devices, of declared host functions and of records.
 #![tactic(auto)]
 
 #[cfg(test)]

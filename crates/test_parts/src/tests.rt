@@ -1,14 +1,8 @@
-// What no clause says and no row of commands or of modules shows, by what is looked into: that calls on devices succeed, what adapters do to
-// the real outside, and sets that are gathered from files of the system; the names and numbers of a table's host functions; inner parts of
-// modules, constants, numbers, and records that are made in code.
+// What no clause says and no row of commands or of modules shows, by what is looked into: what adapters do to the real outside; declarations
+// that no command meets, and a record that is made in code.
 mod adapters;
 mod answers;
-mod constants;
-mod disk;
-mod in_memory;
-mod numbers;
+mod declared;
 mod one_file;
-mod parts;
 mod readers;
 mod records;
-mod table;

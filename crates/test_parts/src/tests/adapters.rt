@@ -3,7 +3,8 @@ use super::answers::{fetches, takes};
 use super::one_file::OneFile;
 use super::readers::{BrokenReader, SlowReader, SlowWriter};
 use dyl_outside::{
-    Ambient, DiskFiles, FileFault, Files, HostAmbient, IoFault, Sink, StreamSink, StreamSource,
+    Ambient, DiskFiles, FileFault, Files, HostAmbient, IoFault, Sink, Source, StreamSink,
+    StreamSource,
 };
 use std::alloc::{AllocError, Global};
 use std::fs::{self, Permissions};
@@ -11,7 +12,6 @@ use std::io::{self, ErrorKind, Write};
 use std::os::unix::fs::PermissionsExt;
 use std::rt::Files as FileSystem;
 use std::test::Fail;
-use std::time::Duration;
 
 const FOLDER: &str = "test_adapters_folder";
 
@@ -115,38 +115,29 @@ fn files_on_disk(rt: HostRuntime) -> Result<(), Fail> {
     Ok(())
 }
 
-#[test]
-fn source_over_a_slow_reader(rt: HostRuntime) {
-    let alloc = rt.alloc();
+/// Whether a source over a reader that fails so fails too, and with this fault.
+fn breaks(alloc: Global, kind: ErrorKind, fault: IoFault) -> bool {
+    let mut source = StreamSource::new(BrokenReader(kind));
+    takes(alloc, &mut source, 5, Err(fault))
+}
+
+/// Whether a source over a reader that is interrupted and gives a byte a call gives these.
+fn goes_on(alloc: Global) -> bool {
     let mut source = StreamSource::new(SlowReader {
         bytes: b"ab",
         is_interrupted: false,
     });
-    for want in ["a", "b", ""] {
-        assert!(rt; takes(alloc, &mut source, 5, Ok(want.as_bytes())), "{want}");
-    }
+    takes(alloc, &mut source, 5, Ok(b"a"))
+        && takes(alloc, &mut source, 5, Ok(b"b"))
+        && takes(alloc, &mut source, 5, Ok(b""))
 }
 
 #[test]
-fn source_over_bytes(rt: HostRuntime) {
+fn sources_over_readers(rt: HostRuntime) {
     let alloc = rt.alloc();
-    let bytes: &[u8] = b"abcdef";
-    let mut source = StreamSource::new(bytes);
-    for want in ["abcd", "ef"] {
-        assert!(rt; takes(alloc, &mut source, 4, Ok(want.as_bytes())), "{want}");
-    }
-}
-
-#[test]
-fn source_over_a_broken_reader(rt: HostRuntime) {
-    let alloc = rt.alloc();
-    for (kind, fault) in [
-        (ErrorKind::BrokenPipe, IoFault::Failed),
-        (ErrorKind::OutOfMemory, IoFault::Memory),
-    ] {
-        let mut source = StreamSource::new(BrokenReader(kind));
-        assert!(rt; takes(alloc, &mut source, 5, Err(fault)), "{fault:?}");
-    }
+    assert!(rt; goes_on(alloc));
+    assert!(rt; breaks(alloc, ErrorKind::BrokenPipe, IoFault::Failed));
+    assert!(rt; breaks(alloc, ErrorKind::OutOfMemory, IoFault::Memory));
 }
 
 /// The room of a writer and its error past it, the pieces that it takes, a piece that it doesn't take whole, the fault then, and
@@ -215,18 +206,21 @@ fn sink_over_a_writer(rt: HostRuntime) {
     }
 }
 
-/// What is put into a pipe is taken from it, as much as there is, and then none where it is closed.
+/// Whether what is put is taken, first as much as is asked for, and then what is left.
+fn passes<I: Source, O: Sink>(alloc: Global, source: &mut I, sink: &mut O) -> bool {
+    sink.put(alloc, b"abc").is_ok()
+        && takes(alloc, source, 2, Ok(b"ab"))
+        && takes(alloc, source, 5, Ok(b"c"))
+}
+
 #[test]
 fn streams_over_a_pipe(rt: HostRuntime) -> Result<(), Fail> {
-    let alloc = rt.alloc();
     let (reader, writer) = io::pipe(&rt)?;
     let mut source = StreamSource::new(reader);
     let mut sink = StreamSink::new(writer);
-    assert!(rt; sink.put(alloc, b"abc").is_ok());
-    assert!(rt; takes(alloc, &mut source, 2, Ok(b"ab")));
-    assert!(rt; takes(alloc, &mut source, 5, Ok(b"c")));
+    let passes = passes(rt.alloc(), &mut source, &mut sink);
     drop(sink);
-    assert!(rt; takes(alloc, &mut source, 5, Ok(b"")));
+    assert!(rt; passes && takes(rt.alloc(), &mut source, 5, Ok(b"")));
     Ok(())
 }
 
@@ -269,56 +263,37 @@ fn real_clock_and_random_words(rt: HostRuntime) {
     assert!(rt; draws_words(alloc, &mut ambient) == Ok(true));
 }
 
-/// A file in place of the random source, how many bytes it is made of, if it is made, and how many words it gives before it fails.
-const RANDOM_FILES: &[(&str, Option<usize>, u32)] = &[
-    ("test_adapters_missing", None, 0),
-    ("/dev/null", None, 0),
-    ("test_adapters_short", Some(4095), 0),
-    ("test_adapters_zeros", Some(4096), 512),
-];
+const ZEROS: &str = "test_adapters_zeros";
 
-/// Makes a file of so many zeros.
-fn make_zeros<R: FileSystem>(rt: &R, alloc: Global, path: &str, size: usize) -> io::Result<()> {
-    let zeros = vec![in alloc; 0u8; size]?;
-    fs::write(rt, path, zeros.as_slice())
+/// Makes a file of 4,100 zeros: a block and a half word.
+fn make_zeros<R: FileSystem>(rt: &R, alloc: Global) -> io::Result<()> {
+    let zeros = vec![in alloc; 0u8; 4100]?;
+    fs::write(rt, ZEROS, zeros.as_slice())
 }
 
-/// Whether so many random words are 0, and the next one fails.
-fn gives_zeros<A: Ambient>(alloc: Global, ambient: &mut A, count: u32) -> bool {
+/// Whether so many random words are 0, and then neither a word nor a time is had.
+fn ends_behind<A: Ambient>(alloc: Global, ambient: &mut A, count: u32) -> bool {
     for _ in 0..count {
         if ambient.word(alloc) != Ok(0) {
             return false;
         }
     }
-    ambient.word(alloc) == Err(IoFault::Failed)
+    ambient.word(alloc) == Err(IoFault::Failed) && ambient.now(alloc) == Err(IoFault::Failed)
 }
 
-#[test]
-fn random_sources_that_end(rt: HostRuntime) -> Result<(), Fail> {
-    for (path, size, count) in RANDOM_FILES {
-        if let Some(size) = size {
-            make_zeros(&rt, rt.alloc(), path, *size)?;
-        }
-        let one_file = OneFile::new(&rt, path, Duration::ZERO);
-        let mut ambient = HostAmbient::new(&one_file);
-        assert!(rt; gives_zeros(rt.alloc(), &mut ambient, *count), "{path}");
-    }
-    fs::remove_file(&rt, "test_adapters_short")?;
-    fs::remove_file(&rt, "test_adapters_zeros")?;
-    Ok(())
-}
-
-/// What a clock tells that stands at a time since the start of 1970.
-fn told_at(rt: &HostRuntime, time: Duration) -> Result<u64, IoFault> {
-    let one_file = OneFile::new(rt, "", time);
+/// Whether a file in place of the random source gives so many words.
+fn gives_words(rt: &HostRuntime, path: &'static str, count: u32) -> bool {
+    let one_file = OneFile { rt, path };
     let mut ambient = HostAmbient::new(&one_file);
-    ambient.now(rt.alloc())
+    ends_behind(rt.alloc(), &mut ambient, count)
 }
 
-/// The last time that is told is 2^64 - 1 nanoseconds after the start of 1970.
 #[test]
-fn clocks_that_end(rt: HostRuntime) {
-    assert!(rt; told_at(&rt, Duration::from_nanos(1)) == Ok(1));
-    assert!(rt; told_at(&rt, Duration::from_nanos(u64::MAX)) == Ok(u64::MAX));
-    assert!(rt; told_at(&rt, Duration::from_secs(18_446_744_074)) == Err(IoFault::Failed));
+fn a_clock_and_random_sources_that_fail(rt: HostRuntime) -> Result<(), Fail> {
+    make_zeros(&rt, rt.alloc())?;
+    assert!(rt; gives_words(&rt, "test_adapters_missing", 0));
+    assert!(rt; gives_words(&rt, "/dev/null", 0));
+    assert!(rt; gives_words(&rt, ZEROS, 512));
+    fs::remove_file(&rt, ZEROS)?;
+    Ok(())
 }

@@ -1,23 +1,15 @@
-// A runtime of which each path leads to one file, and whose clock stands still.
+// A runtime of which each path leads to one file, and whose clock fails.
 use std::alloc::Allocator;
 use std::fs::{Metadata, OpenOptions};
 use std::io::{self, ErrorKind};
 use std::rt::{Clock, Files};
 use std::time::Duration;
 
-/// The files of another runtime, of which there is one, and a time since the start of 1970.
+/// The files of another runtime, of which there is one.
 #[derive(Drop)]
-pub(crate) struct OneFile<'a, R> {
-    rt: &'a R,
-    path: &'static str,
-    time: Duration,
-}
-
-impl<'a, R: Files> OneFile<'a, R> {
-    /// This file, and this time.
-    pub(crate) fn new(rt: &'a R, path: &'static str, time: Duration) -> OneFile<'a, R> {
-        OneFile { rt, path, time }
-    }
+pub(crate) struct OneFile<'a> {
+    pub rt: &'a HostRuntime,
+    pub path: &'static str,
 }
 
 /// What isn't done here.
@@ -25,16 +17,20 @@ fn unsupported<T>() -> io::Result<T> {
     Err(ErrorKind::Unsupported.into())
 }
 
-impl<R: Files> Files for OneFile<'_, R> {
-    type File = R::File;
+impl Files for OneFile<'_> {
+    type File = <HostRuntime as Files>::File;
 
-    type Dir = R::Dir;
+    type Dir = <HostRuntime as Files>::Dir;
 
-    fn open_file(&self, how: &OpenOptions, _path: &str) -> io::Result<R::File> {
+    fn open_file(
+        &self,
+        how: &OpenOptions,
+        _path: &str,
+    ) -> io::Result<<HostRuntime as Files>::File> {
         self.rt.open_file(how, self.path)
     }
 
-    fn open_dir(&self, _path: &str) -> io::Result<R::Dir> {
+    fn open_dir(&self, _path: &str) -> io::Result<<HostRuntime as Files>::Dir> {
         unsupported()
     }
 
@@ -71,12 +67,12 @@ impl<R: Files> Files for OneFile<'_, R> {
     }
 }
 
-impl<R: Files> Clock for OneFile<'_, R> {
+impl Clock for OneFile<'_> {
     fn monotonic(&self) -> io::Result<Duration> {
-        Ok(self.time)
+        unsupported()
     }
 
     fn since_1970(&self) -> io::Result<Duration> {
-        Ok(self.time)
+        unsupported()
     }
 }

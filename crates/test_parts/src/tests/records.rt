@@ -2,7 +2,7 @@
 ghost use Rattle.std.specs.Prelude.{◌≡◌, [], ◌∷◌, codes, IfOk};
 ghost use Rattle.dyl_section.specs.Written.{IsWritable};
 
-use dyl_section::{Dylink, ExportInfo, ImportInfo, RecordFault, write_dylink};
+use dyl_section::{Dylink, ExportInfo, ImportInfo, write_dylink};
 use std::alloc::{AllocError, Global};
 use wasm_form::{List, Text};
 
@@ -78,12 +78,5 @@ const WRITTEN: &[u8] = &[
 fn writes_a_record(rt: HostRuntime) -> Result<(), AllocError> {
     let found = written(rt.alloc())?;
     assert!(rt; found.as_slice() == WRITTEN);
-    Ok(())
-}
-
-#[test]
-fn says_that_memory_is_out(rt: HostRuntime) -> Result<(), AllocError> {
-    let said = format!(in rt.alloc(); "{}", RecordFault::Memory)?;
-    assert!(rt; said.as_str() == "out of memory");
     Ok(())
 }
