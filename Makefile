@@ -10,6 +10,7 @@
 # make inner  measures the memories and integer operators of a run beside C
 # make compare  runs random modules and random sets by wdyl and by node, validates changed ones by wdyl and by wabt, and replays traces
 #               of runs and changed ones
+# make boards  runs random sets in turns, and sees that each does what it does alone
 # make adapters  runs wdyl over files, streams and a random source of the system that fail
 # make refused  refuses each request for memory in turn, of several orders, which have to end for want of memory or as if none was refused
 # make hostile  gives wdyl damaged files for MINUTES, from the seed SEED on, with a limit on memory and time
@@ -27,7 +28,7 @@ shared = $(DESTDIR)$(PREFIX)/share/wdyl
 # what programs are compiled with: the entry and its arguments, dlopen and its like, text out and in; and a merged file run by node
 SHARED := start.c dl.h io.h io.c heap.h heap.c start_cxx.cpp runtime.cpp wasi.mjs
 
-.PHONY: all demo guide docs install uninstall bench speed codec inner compare adapters refused hostile test clean
+.PHONY: all demo guide docs install uninstall bench speed codec inner compare boards adapters refused hostile test clean
 
 all: bin/wdyl
 
@@ -67,6 +68,7 @@ bench: bin/wdyl
 	python3 bench/dlsym.py bin/wdyl
 	python3 bench/gen.py bin/wdyl
 	python3 bench/random.py bin/wdyl
+	python3 bench/boards.py bin/wdyl
 	@if command -v node >/dev/null; then node bench/recursion.mjs bin/wdyl; \
 	else echo "node is missing: the merged module that recurses for ever isn't run"; fi
 
@@ -85,6 +87,9 @@ compare: bin/wdyl
 	python3 compare/compare.py bin/wdyl
 	python3 compare/compare_sets.py bin/wdyl
 	python3 compare/traces.py bin/wdyl
+
+boards: bin/wdyl
+	python3 compare/boards.py bin/wdyl
 
 adapters: bin/wdyl
 	sh compare/adapters.sh bin/wdyl
