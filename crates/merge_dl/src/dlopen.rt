@@ -9,7 +9,7 @@ ghost use Rattle.dyl_addresses.specs.Sets.{IsOfSet};
 ghost use Rattle.merge_pieces.specs.Opcodes as op;
 ghost use Rattle.merge_start.specs.Words.{Starts, promote_code};
 ghost use Rattle.merge_find.specs.Decisions.{strings};
-ghost use Rattle.merge_find.specs.Building.{names_of, IsShort};
+ghost use Rattle.merge_find.specs.Building.{names_of, HasText};
 ghost use Rattle.merge_dl.specs.Words.{Finders, return_code, opens_code, named_members, members_code, open_call_code};
 ghost use Rattle.merge_dl.specs.Listed.{AreDlNumbers, starts_in, finders_in, open_begin, call_part};
 
@@ -65,7 +65,7 @@ fn named_members(alloc: Global, linked: &Linked, n: &DlNumbers) -> Result<Vec<Na
     requires set { IsOfSet linked.now }
     requires promoted { n.now.promoted < 2 ^ 31 }
     ensures names { IfOk result (λ x. (L : LinkedSet) → IsLinked L linked.now → names_of x.items ≡ strings (named_members L (starts_in n.now) 0 L.set.members)) }
-    ensures short { IfOk result (λ x. All IsShort x.items) }
+    ensures texts { IfOk result (λ x. All HasText x.items) }
 {
     let mut names = Vec::new(alloc);
     let mut m: u32 = 0;

@@ -7,7 +7,7 @@ ghost use Rattle.spec_loading.specs.spec_linking.Slots.{cell_number};
 ghost use Rattle.spec_loading.specs.Members.{from_members};
 ghost use Rattle.dyl_link.specs.Kept.{IsLinked};
 ghost use Rattle.dyl_addresses.specs.Sets.{IsOfSet};
-ghost use Rattle.merge_find.specs.Building.{names_of, IsShort};
+ghost use Rattle.merge_find.specs.Building.{names_of, HasText};
 ghost use Rattle.merge_dl.specs.Called.{AreSearchParts, AreQuick};
 ghost use Rattle.merge_dl.specs.Listed.{export_names, find_part, find_parts};
 
@@ -39,9 +39,9 @@ fn put_export(
     e: &Export,
 ) -> Result<(), Memory>
     requires set { IsOfSet linked.now }
-    requires short { All IsShort to.old.items }
+    requires texts { All HasText to.old.items }
     ensures names { OnOk result ((L : LinkedSet) → IsLinked L linked.now → names_of to.new.items ≡ names_of to.old.items ++ export_names L m e.now) }
-    ensures short { OnOk result (All IsShort to.new.items) }
+    ensures texts { OnOk result (All HasText to.new.items) }
 {
     let name = e.name.as_str().as_bytes();
     match name_number(linked, m, name) {
@@ -63,7 +63,7 @@ fn exported_names(
 ) -> Result<Vec<Named>, Memory>
     requires set { IsOfSet linked.now }
     ensures names { IfOk result (λ x. (L : LinkedSet) → IsLinked L linked.now → names_of x.items ≡ flat_map (export_names L m) exports.now) }
-    ensures short { IfOk result (λ x. All IsShort x.items) }
+    ensures texts { IfOk result (λ x. All HasText x.items) }
 {
     let mut names = Vec::new(alloc);
     for e in exports {

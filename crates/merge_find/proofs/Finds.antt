@@ -1,142 +1,189 @@
--- The code of a search comes to what is done for the name that is the string: among whatever names, and soon where they are of bytes and apart.
-use Rattle.std.proofs.Common.{◌≡◌, ℕ, zero, suc, ◌+◌, ◌*◌, ◌<◌, List, [], ◌∷◌, ◌++◌, length, take, get_or, Some, None, unwrap_or, Bool, true, false, if◌then◌else◌, refl, sym, ◌∙◌, subst, arith, add-one, take_all}
+-- The code of a search comes to what is done for the name that is the string: among whatever names, and soon where they are of bytes. By induction
+-- on what has been asked: of the questions that halve values, of the bytes behind, and of the whole.
+use Rattle.std.proofs.Common.{◌≡◌, ℕ, zero, suc, ◌+◌, ◌-◌, ◌*◌, ◌^◌, ◌<◌, ◌≤◌, List, [], ◌∷◌, ◌++◌, length, take, get_or, nat_eq, nat_lt, nat_le, None, unwrap_or, Bool, true, false, refl, sym, ap, ◌∙◌, subst, arith, add-one, take_all}
 use Rattle.std.specs.Prelude.{bytes_eq}
 use Rattle.std.specs.List.{AllByRecursion as Each}
+use Rattle.std.proofs.Math.Nat.{pow-suc}
+use Rattle.std.proofs.Math.Pow.{pow_mono}
 use Rattle.std.proofs.Math.Seq.{take-suc}
+use Rattle.std.proofs.lemmas.Bool.Decides.{nat_tests}
+use Rattle.std.proofs.lemmas.Slice.Eq.{bytes_eq-Decides}
 use Rattle.wasm_form.specs.declared.instr.Instr.{Instr}
 use Rattle.wasm_form.specs.declared.module.Module.{Module}
 use Rattle.wasm_form.specs.declared.runtime.Value.{Value}
 use Rattle.spec_execution.specs.spec_runtime.Memories.{MemoryInstance}
+use Rattle.spec_execution.specs.Activations.{Activation}
+use Rattle.spec_execution.specs.Runs.{Frame}
 use Rattle.spec_execution.specs.Instances.{ModuleParts}
-use Rattle.merge_find.specs.declared.key.Key.TheVariants.{Byte}
-use Rattle.merge_find.specs.Decisions.{Goal, Named, compared, by_bytes, exact_code, search_code, strings}
+use Rattle.spec_execution.specs.OneModule.{Starting}
+use Rattle.merge_find.specs.declared.key.Key.{Key}
+use Rattle.merge_find.specs.declared.key.Key.TheVariants.{Size, Byte}
+use Rattle.merge_find.specs.Decisions.{Goal, Named, Nested, value, is_below, lower, upper, either, sides, exact_code, halved, found_code, by_bytes, search_code, strings}
 use Rattle.merge_find.specs.Counted.{Comes}
-use Rattle.merge_find.specs.Finding.{first_named, IsText, SearchComes, SearchComesSoon}
-use Rattle.merge_find.proofs.Steps.{comes_here, comes_more}
-use Rattle.merge_find.proofs.Questions.{IsAsked, AllWords, all_words, either_low, either_high, exact_same, exact_other, same_found, same_passed}
-use Rattle.merge_find.proofs.Names.{each_map, each_of, Apart, apart_of, apart_lower, apart_upper, InRange, below_in, above_in, only_one, IsStringLike, strings_like, same_strings, texts_are_strings}
-use Rattle.merge_find.proofs.Decided.{IsRight, halved_right, search_right}
+use Rattle.merge_find.specs.Finding.{first_named, SearchComes, SearchComesSoon}
+use Rattle.merge_find.proofs.Halving.{all_upper, all_lower, narrow}
+use Rattle.merge_find.proofs.Steps.{LeavesTo, Leads, leads_here, leads_more, leads_block}
+use Rattle.merge_find.proofs.Questions.{IsAsked, InReach, either_low, either_high, exact_on, exact_off}
+use Rattle.merge_find.proofs.Names.{each_map, each_lower, each_upper, named_lower, named_upper, none_here, some_power, InRange, below_in, above_in, only_one, Fits, strings_fit, texts_fit, same_strings, texts_are_strings}
 
--- in some number of steps
-abbrev Some_number : (ℕ → List Named → List Instr → Type 0) → ℕ → List Named → List Instr → Type 0
-Some_number Right n xs code = (k : ℕ) × Right k xs code
+module _ (wasm : Module) (us : ModuleParts) (memory : MemoryInstance) (g : Goal) (p : ℕ) (s : List ℕ) (ls : List Value) (is : IsAsked memory g p s ls) (a : Activation)
+    (under : List (Frame Starting)) where
+  -- In at most so many steps the code comes to what is done for the first of these names that is the string, however deep it stands.
+  abbrev Right : ℕ → List Named → Nested → Type 0
+  Right n xs code = (deep : ℕ) → Leads a under wasm n (code deep) us memory ls (LeavesTo g.missed deep) (unwrap_or (first_named xs s) g.missed)
 
-any_right : (g : Goal) (s : List ℕ) (Right : ℕ → List Named → List Instr → Type 0) → IsRight g s Right → IsRight g s (Some_number Right)
-any_right g s Right right = record {
-  more = λ n m xs code le x. x;
-  alike = λ n xs ys code e x. (x.0, right.alike x.0 xs ys code e x.1);
-  nothing = (0, right.nothing);
-  low_on = λ key b n xs low high first reach small e x. (6 + x.0, right.low_on key b x.0 xs low high first reach small e x.1);
-  high_on = λ key b n xs low high first reach small e x. (6 + x.0, right.high_on key b x.0 xs low high first reach small e x.1);
-  exact_on = λ k n xs q small e x. (5 + x.0, right.exact_on k x.0 xs q small e x.1);
-  exact_off = λ k xs q small e none. (5, right.exact_off k xs q small e none);
-}
+  right_more : (n m : ℕ) (xs : List Named) (code : Nested) → n ≤ m → Right n xs code → Right m xs code
+  right_more n m xs code le x deep = leads_more a under m le (x deep)
 
-module _ (wasm : Module) (us : ModuleParts) (memory : MemoryInstance) (g : Goal) (p : ℕ) (s : List ℕ) (ls : List Value) (is : IsAsked memory g p s ls) where
-  abbrev Right : ℕ → List Named → List Instr → Type 0
-  Right n xs code = Comes wasm n code us memory ls (unwrap_or (first_named xs s) g.missed)
+  right_alike : (n : ℕ) (xs ys : List Named) (code : Nested) → first_named ys s ≡ first_named xs s → Right n ys code → Right n xs code
+  right_alike n xs ys code e x deep = subst (λ o. Leads a under wasm n (code deep) us memory ls (LeavesTo g.missed deep) (unwrap_or o g.missed)) e (x deep)
 
-  comes_right : IsRight g s Right
-  comes_right = record {
-    more = λ n m xs code le x. comes_more m le x;
-    alike = λ n xs ys code e x. subst (λ o. Comes wasm n code us memory ls (unwrap_or o g.missed)) e x;
-    nothing = comes_here;
-    low_on = λ key b n xs low high first reach small e x. either_low wasm us memory g p s ls is key b n low high first reach small e x;
-    high_on = λ key b n xs low high first reach small e x. either_high wasm us memory g p s ls is key b n low high first reach small e x;
-    exact_on = λ k n xs q small e x. exact_same wasm us memory g p s ls is k n q small e x;
-    exact_off = λ k xs q small e none. subst (λ o. Comes wasm 5 (exact_code g k ++ q) us memory ls (unwrap_or o g.missed)) (sym none) (exact_other wasm us memory g p s ls is k q small e);
-  }
+  -- ---- questions
 
-  -- ---- among whatever names
+  module _ (key : Key) (reach : InReach key s) where
+    module _ (b : ℕ) (small : b < 2 ^ 32) (n : ℕ) (xs : List Named) where
+      asked_right : (low high : Nested) (first : Bool) → Right n (lower key b xs) low → Right n (upper key b xs) high → Right (6 + n) xs (either g.len key b first low high)
+      asked_right low high first x y = go (nat_lt (value key s) b) refl
+        where
+          end : List Instr
+          end = unwrap_or (first_named xs s) g.missed
 
-  abbrev Any : ℕ → List Named → List Instr → Type 0
-  Any = Some_number Right
+          go : (z : Bool) → nat_lt (value key s) b ≡ z → Right (6 + n) xs (either g.len key b first low high)
+          go true e = either_low wasm us memory g p s ls is a under end key b n low high reach small first e (right_alike n xs (lower key b xs) low (named_lower key b s xs e) x)
+          go false e = either_high wasm us memory g p s ls is a under end key b n low high reach small first e (right_alike n xs (upper key b xs) high (named_upper key b s xs e) y)
 
-  abbrev IsAsLong : Named → Type 0
-  IsAsLong x = IsStringLike x × (length x.0 ≡ length s)
+      sides_right : (low high : List Named → Nested) → 0 < length xs → (0 < length (lower key b xs) → Right n (lower key b xs) (low (lower key b xs)))
+          → (0 < length (upper key b xs) → Right n (upper key b xs) (high (upper key b xs))) → Right (6 + n) xs (sides g.len key b low high (lower key b xs) (upper key b xs))
+      sides_right low high some x y = go (lower key b xs) (upper key b xs) refl refl x y
+        where
+          go : (us vs : List Named) → lower key b xs ≡ us → upper key b xs ≡ vs → (0 < length us → Right n us (low us)) → (0 < length vs → Right n vs (high vs))
+              → Right (6 + n) xs (sides g.len key b low high us vs)
+          go [] vs d e u v =
+              let all : vs ≡ xs = sym e ∙ all_upper key b xs (ap length d) in
+              right_more n (6 + n) xs (high vs) (omega arith) (right_alike n xs vs (high vs) (ap (λ l. first_named l s) all) (v (rw all some)))
+          go (i ∷ us) [] d e u v =
+              let all : i ∷ us ≡ xs = sym d ∙ all_lower key b xs (ap length e) in
+              right_more n (6 + n) xs (low (i ∷ us)) (omega arith) (right_alike n xs (i ∷ us) (low (i ∷ us)) (ap (λ l. first_named l s) all) (u (omega arith)))
+          go (i ∷ us) (k ∷ vs) d e u v =
+              asked_right (low (i ∷ us)) (high (k ∷ vs)) (nat_le (length (i ∷ us)) (length (k ∷ vs))) (subst (λ l. Right n l (low (i ∷ us))) (sym d) (u (omega arith)))
+              (subst (λ l. Right n l (high (k ∷ vs))) (sym e) (v (omega arith)))
 
-  compared_any : (n : ℕ) (xs : List Named) → Each IsAsLong xs → Any n xs (compared g xs)
-  compared_any n [] each = (0, comes_here)
-  compared_any n (x ∷ xs) each = go (bytes_eq s x.0) refl (compared_any n xs each.1)
-    where
-      go : (z : Bool) → bytes_eq s x.0 ≡ z → Any n xs (compared g xs)
-          → (k : ℕ) × Comes wasm k (compared g (x ∷ xs)) us memory ls (unwrap_or (if z then Some x.1 else first_named xs s) g.missed)
-      go true q later = (5 * length x.0 + 1, same_found wasm us memory g p s ls is x.0 x.1 (compared g xs) (each.0).0.1 q)
-      go false q later = (5 * length x.0 + 1 + later.0, same_passed wasm us memory g p s ls is x.0 x.1 (compared g xs) later.0 (each.0).0.1 (sym (each.0).1) q later.1)
+    -- What is known of each name goes over to those on either side. Where one value is left, no name of it is a string of another.
+    module _ (P : Named → Type 0) (next : ℕ → List Named → Nested) (n : ℕ)
+        (at_next : (b : ℕ) (xs : List Named) → 0 < length xs → value key s ≡ b → Each (λ x. P x × (value key x.0 ≡ b)) xs → Right n xs (next b xs)) where
+      exact_right : (b : ℕ) (xs : List Named) → b < 2 ^ 32 → 0 < length xs → Each (λ x. P x × (value key x.0 ≡ b)) xs
+          → Right (5 + n) xs (λ deep. exact_code g.len key b deep ++ next b xs deep)
+      exact_right b xs small some each = go (nat_eq (value key s) b) refl
+        where
+          go : (z : Bool) → nat_eq (value key s) b ≡ z → Right (5 + n) xs (λ deep. exact_code g.len key b deep ++ next b xs deep)
+          go true e deep =
+              let same : value key s ≡ b = grind (arith, nat_tests) in
+              exact_on wasm us memory g p s ls is a under key b deep (next b xs deep) reach small n e (at_next b xs some same each deep)
+          go false e deep =
+              let differ : value key s ≡ b → ⊥ = (λ h. (let t : nat_eq (value key s) b ≡ true = grind (arith, nat_tests) in cc)) in
+              let none : first_named xs s ≡ None = none_here key s b xs differ (each_map (λ x. P x × (value key x.0 ≡ b)) (λ x. value key x.0 ≡ b) (λ x h. h.1) xs each) in
+              leads_more a under (5 + n) (omega arith)
+              (subst (λ o. Leads a under wasm 5 (exact_code g.len key b deep ++ next b xs deep) us memory ls (LeavesTo g.missed deep) (unwrap_or o g.missed)) (sym none)
+              (exact_off wasm us memory g p s ls is a under key b deep (next b xs deep) reach small e))
 
-  by_bytes_any : (k i : ℕ) (xs : List Named) → length s ≡ i + k → Each IsAsLong xs → Any 0 xs (by_bytes g k i xs)
-  by_bytes_any zero i xs e each = compared_any 0 xs each
-  by_bytes_any (suc k) i xs e each =
-      halved_right g s Any (any_right g s Right comes_right) (λ xs. Unit {0}) (λ key b xs all. tt) (λ key b xs all. tt) (Byte i) (omega arith) (λ w least x. IsAsLong x)
-      (λ w least x h e. h) (λ w least x h e. h) (by_bytes g k (i + 1)) 0 (λ least ys all known. by_bytes_any k (i + 1) ys (omega arith) known) 8 0 xs (omega arith) tt each
+      abbrev Ranged : ℕ → ℕ → Named → Type 0
+      Ranged w least x = P x × InRange key w least x
 
-  comes_any : (xs : List Named) → Each IsStringLike xs → Any 197 xs (search_code g xs)
-  comes_any xs each =
-      search_right g s Any (any_right g s Right comes_right) (λ xs. Unit {0}) (λ key b xs all. tt) (λ key b xs all. tt) IsStringLike (λ x h. h.0) 0
-      (λ x ys all known. by_bytes_any (length x.0) 0 (x ∷ ys) (let e : length x.0 ≡ length s = (known.0).1 in omega arith) known) xs tt each
+      halved_right : (w least : ℕ) (xs : List Named) → least + 2 ^ w ≤ 2 ^ 32 → 0 < length xs → Each (Ranged w least) xs → Right (6 * w + (5 + n)) xs (halved g.len key next w least xs)
+      halved_right zero least xs room some each =
+          right_more (5 + n) (6 * 0 + (5 + n)) xs _ (omega arith)
+          (exact_right least xs (omega arith) some (each_map (Ranged 0 least) (λ x. P x × (value key x.0 ≡ least)) (λ x h. (h.0, only_one key least x h.1)) xs each))
+      halved_right (suc w) least xs room some each =
+          let b = least + 2 ^ w in
+          let twice = pow-suc 2 w in
+          let positive = some_power w in
+          let lows = each_map (λ x. Ranged (suc w) least x × (is_below key b x ≡ true)) (Ranged w least) (λ x h. ((h.0).0, below_in key w least x (h.0).1 h.1)) (lower key b xs) (each_lower (Ranged (suc w) least) key b xs each) in
+          let highs = each_map (λ x. Ranged (suc w) least x × (is_below key b x ≡ false)) (Ranged w b) (λ x h. ((h.0).0, above_in key w least x (h.0).1 h.1)) (upper key b xs) (each_upper (Ranged (suc w) least) key b xs each) in
+          right_more (6 + (6 * w + (5 + n))) (6 * suc w + (5 + n)) xs _ (omega arith)
+          (sides_right b (omega arith) (6 * w + (5 + n)) xs (halved g.len key next w least) (halved g.len key next w b) some
+          (λ there. halved_right w least (lower key b xs) (omega arith) there lows) (λ there. halved_right w b (upper key b xs) (omega arith) there highs))
 
-  -- ---- among names of bytes that are apart
+  -- ---- bytes, each of so many bits
 
-  -- as long as the string, and beginning like the names beside it
-  record Row (j : ℕ) (front : List ℕ) (x : Named) : Type 0 where
-    text : IsText x.0
-    size : length x.0 ≡ length s
-    begins : take j x.0 ≡ front
+  module _ (w : ℕ) (few : w ≤ 32) where
+    -- as long as the string, and beginning like it
+    record Row (i : ℕ) (x : Named) : Type 0 where
+      fits : Fits w x
+      size : length x.0 ≡ length s
+      begins : take i x.0 ≡ take i s
 
-  whole : (j : ℕ) (front : List ℕ) (x : Named) → length s ≡ j → Row j front x → x.0 ≡ front
-  whole j front x e r = (let l = r.size in sym (take_all j x.0 (omega arith)) ∙ r.begins)
+    next_row : (i b : ℕ) (x : Named) → i < length s → get_or s i 0 ≡ b → Row i x → get_or x.0 i 0 ≡ b → Row (i + 1) x
+    next_row i b x lt here r e =
+        let l = r.size in
+        let f = r.begins in
+        record { fits = r.fits; size = r.size; begins = rw (add-one, take-suc x.0 i 0 (omega arith), take-suc s i 0 lt, f, e, here) refl }
 
-  next_row : (j : ℕ) (front : List ℕ) (v : ℕ) (x : Named) → j < length s → Row j front x → get_or x.0 j 0 ≡ v → Row (j + 1) (front ++ v ∷ []) x
-  next_row j front v x lt r e =
-      let l = r.size in
-      let f = r.begins in
-      record { text = r.text; size = r.size; begins = rw (add-one, take-suc x.0 j 0 (omega arith), f, e) refl }
+    whole : (i : ℕ) (x : Named) → length s ≡ i → Row i x → s ≡ x.0
+    whole i x e r = (let l = r.size in sym (take_all i s (omega arith)) ∙ sym r.begins ∙ take_all i x.0 (omega arith))
 
-  abbrev most : ℕ
-  most = 5 * length s + 1
+    abbrev each_byte : ℕ
+    each_byte = 6 * w + 5
 
-  compared_soon : (j : ℕ) (front : List ℕ) (xs : List Named) → length s ≡ j → Apart xs → Each (Row j front) xs → Right most xs (compared g xs)
-  compared_soon j front [] e apart each = comes_more most (omega arith) comes_here
-  compared_soon j front (x ∷ []) e apart each =
-      let long : length x.0 ≡ length s = (each.0).size in
-      go (all_words x.0 (each.0).text.bytes) long (bytes_eq s x.0) refl
-    where
-      go : AllWords x.0 → length x.0 ≡ length s → (z : Bool) → bytes_eq s x.0 ≡ z
-          → Comes wasm most (compared g (x ∷ [])) us memory ls (unwrap_or (if z then Some x.1 else None) g.missed)
-      go words long true q = comes_more most (omega arith) (same_found wasm us memory g p s ls is x.0 x.1 g.missed words q)
-      go words long false q = comes_more most (omega arith) (same_passed wasm us memory g p s ls is x.0 x.1 g.missed 0 words (sym long) q comes_here)
-  compared_soon j front (x ∷ y ∷ xs) e apart each = absurd ((apart.0).0 (whole j front x e each.0 ∙ sym (whole j front y e (each.1).0)))
+    found_right : (i : ℕ) (xs : List Named) → 0 < length xs → length s ≡ i → Each (Row i) xs → Right 0 xs (λ deep. found_code g xs)
+    found_right i [] some e each deep = absurd (omega (arith, some))
+    found_right i (x ∷ xs) some e each deep =
+        let is : bytes_eq s x.0 ≡ true = (bytes_eq-Decides s x.0).1 (whole i x e each.0) in
+        rw is (leads_here a under)
 
-  by_bytes_soon : (front : List ℕ) (k j : ℕ) (xs : List Named) → length s ≡ j + k → Apart xs → Each (Row j front) xs → Right (48 * k + most) xs (by_bytes g k j xs)
-  by_bytes_soon front zero j xs e apart each = comes_more (48 * 0 + most) (omega arith) (compared_soon j front xs (omega arith) apart each)
-  by_bytes_soon front (suc k) j xs e apart each =
-      comes_more {m = 6 * 8 + (48 * k + most)} (48 * suc k + most) (omega arith)
-      (halved_right g s Right comes_right Apart apart_lower apart_upper (Byte j) (omega arith) (λ w least x. Row j front x × InRange (Byte j) w least x)
-      (λ w least x h e. (h.0, below_in (Byte j) w least x h.1 e)) (λ w least x h e. (h.0, above_in (Byte j) w least x h.1 e)) (by_bytes g k (j + 1)) (48 * k + most)
-      (λ v ys all known. by_bytes_soon (front ++ v ∷ []) k (j + 1) ys (omega arith) all
-      (each_map (λ x. Row j front x × InRange (Byte j) 0 v x) (Row (j + 1) (front ++ v ∷ [])) (λ x h. next_row j front v x (omega arith) h.0 (only_one (Byte j) v x h.1)) ys known))
-      8 0 xs (omega arith) apart
-      (each_map (Row j front) (λ x. Row j front x × InRange (Byte j) 8 0 x) (λ x r. (r, (let byte = r.text.bytes j in record { low = omega arith; high = omega arith }))) xs each))
+    by_bytes_right : (k i : ℕ) (xs : List Named) → 0 < length xs → length s ≡ i + k → Each (Row i) xs → Right (each_byte * k) xs (by_bytes g k i xs)
+    by_bytes_right zero i xs some e each = right_more 0 (each_byte * 0) xs _ (omega arith) (found_right i xs some (omega (arith, e)) each)
+    by_bytes_right (suc k) i xs some e each =
+        let next : ℕ → List Named → Nested = λ b. by_bytes g k (i + 1) in
+        let lt : i < length s = omega (arith, e) in
+        let room = power_few in
+        let fewer = narrow g.len (Byte i) next (32 - w) w 32 xs (omega arith) some (each_map (Row i) (λ x. get_or x.0 i 0 < 2 ^ w) (λ x r. r.fits.words i) xs each) in
+        subst (Right (each_byte * suc k) xs) (sym fewer)
+        (right_more (6 * w + (5 + each_byte * k)) (each_byte * suc k) xs _ (omega arith)
+        (halved_right (Byte i) lt (Row i) next (each_byte * k)
+        (λ b ys there here known. by_bytes_right k (i + 1) ys there (omega (arith, e)) (each_map (λ x. Row i x × (get_or x.0 i 0 ≡ b)) (Row (i + 1)) (λ x h. next_row i b x lt here h.0 h.1) ys known))
+        w 0 xs (omega arith) some (each_map (Row i) (λ x. Row i x × InRange (Byte i) w 0 x) (λ x r. (r, (let small = r.fits.words i in record { low = omega arith; high = omega arith }))) xs each)))
+      where
+        power_few : 2 ^ w ≤ 2 ^ 32
+        power_few = pow_mono few
 
-  comes_soon : (xs : List Named) → Each (λ x. IsText x.0) xs → Apart xs → Right (53 * length s + 198) xs (search_code g xs)
-  comes_soon xs texts apart =
-      comes_more {m = 197 + (53 * length s + 1)} (53 * length s + 198) (omega arith)
-      (search_right g s Right comes_right Apart apart_lower apart_upper (λ x. IsText x.0) (λ x t. t.short) (53 * length s + 1)
-      (λ x ys all known.
-      (let e : length x.0 ≡ length s = (known.0).1 in
-      comes_more {m = 48 * length x.0 + most} (53 * length s + 1) (omega arith)
-      (by_bytes_soon [] (length x.0) 0 (x ∷ ys) (omega arith) all
-      (each_map (λ y. IsText y.0 × (length y.0 ≡ length s)) (Row 0 []) (λ y h. record { text = h.0; size = h.1; begins = refl }) (x ∷ ys) known))))
-      xs apart texts)
+    -- ---- the whole
+
+    inner_right : (xs : List Named) → 0 < length xs → Each (Fits w) xs → Right (197 + each_byte * length s) xs (halved g.len Size (λ k. by_bytes g k 0) 32 0 xs)
+    inner_right xs some each =
+        right_more (6 * 32 + (5 + each_byte * length s)) (197 + each_byte * length s) xs _ (omega arith)
+        (halved_right Size tt (Fits w) (λ k. by_bytes g k 0) (each_byte * length s)
+        (λ k ys there here known.
+        right_more (each_byte * k) (each_byte * length s) ys _ (omega (arith, ap (λ l. each_byte * l) here))
+        (by_bytes_right k 0 ys there (omega (arith, here)) (each_map (λ x. Fits w x × (length x.0 ≡ k)) (Row 0) (λ x h. record { fits = h.0; size = h.1 ∙ sym here; begins = refl }) ys known)))
+        32 0 xs (omega arith) some (each_map (Fits w) (λ x. Fits w x × InRange Size 32 0 x) (λ x h. (h, (let short = h.short in record { low = omega arith; high = omega arith }))) xs each))
+
+    pub search_leads : (xs : List Named) → Each (Fits w) xs
+        → Leads a under wasm (198 + each_byte * length s) (search_code g xs) us memory ls (λ lv. Unit {0}) (unwrap_or (first_named xs s) g.missed)
+    unfolding search_code
+    search_leads [] each = leads_more a under (198 + each_byte * length s) (omega arith) (leads_here a under)
+    search_leads (x ∷ xs) each =
+        leads_block a under g.missed (halved g.len Size (λ k. by_bytes g k 0) 32 0 (x ∷ xs) 0) (197 + each_byte * length s) (198 + each_byte * length s) (omega arith)
+        (λ vs r lv. record { below = vs; more = r; there = refl }) (inner_right (x ∷ xs) (omega arith) each 0)
+
+-- wherever the search stands
+search_comes : (wasm : Module) (us : ModuleParts) (memory : MemoryInstance) (g : Goal) (p : ℕ) (s : List ℕ) (ls : List Value) → IsAsked memory g p s ls → (w : ℕ) → w ≤ 32
+    → (xs : List Named) → Each (Fits w) xs → Comes wasm (198 + (6 * w + 5) * length s) (search_code g xs) us memory ls (unwrap_or (first_named xs s) g.missed)
+search_comes wasm us memory g p s ls is w few xs each =
+    record { runs = λ a under. (search_leads wasm us memory g p s ls is a under w few xs each).runs a.values a.rest a.levels tt }
 
 pub searches_come : SearchComes
 searches_come wasm g xs us memory p s lies ls start long =
     let is : IsAsked memory g p s ls = record { lies = lies; start = start; long = long } in
-    let r = comes_any wasm us memory g p s ls is (strings xs) (strings_like xs) in
-    (r.0, subst (λ o. Comes wasm r.0 (search_code g (strings xs)) us memory ls (unwrap_or o g.missed)) (same_strings memory p s lies xs) r.1)
+    let n = 198 + (6 * 32 + 5) * length s in (
+      n,
+      subst (λ o. Comes wasm n (search_code g (strings xs)) us memory ls (unwrap_or o g.missed)) (same_strings memory p s lies xs)
+          (search_comes wasm us memory g p s ls is 32 (omega arith) (strings xs) (strings_fit xs)),
+    )
 
 pub searches_come_soon : SearchComesSoon
 searches_come_soon wasm g xs texts apart us memory p s lies ls start long =
     let is : IsAsked memory g p s ls = record { lies = lies; start = start; long = long } in
-    subst (λ l. Comes wasm (53 * length s + 198) (search_code g l) us memory ls (unwrap_or (first_named xs s) g.missed)) (sym (texts_are_strings xs texts))
-    (comes_soon wasm us memory g p s ls is xs (each_of (λ (x : Named). IsText x.0) xs texts) (apart_of xs apart))
+    let steps : 198 + (6 * 8 + 5) * length s ≡ 53 * length s + 198 = omega arith in
+    let end = unwrap_or (first_named xs s) g.missed in
+    subst (λ l. Comes wasm (53 * length s + 198) (search_code g l) us memory ls end) (sym (texts_are_strings xs texts))
+    (subst (λ n. Comes wasm n (search_code g xs) us memory ls end) steps (search_comes wasm us memory g p s ls is 8 (omega arith) xs (texts_fit xs texts)))

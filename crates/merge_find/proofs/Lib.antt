@@ -3,7 +3,6 @@ pub mod Halving
 pub mod Steps
 pub mod Questions
 pub mod Names
-pub mod Decided
 pub mod Finds
 pub mod Called
 pub mod Shapes

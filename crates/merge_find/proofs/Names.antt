@@ -1,5 +1,5 @@
--- Names on either side of a question, names apart, and what stands by the first name that is a string.
-use Rattle.std.proofs.Common.{◌≡◌, ◌≢◌, ℕ, zero, suc, ◌+◌, ◌^◌, ◌<◌, ◌≤◌, List, [], ◌∷◌, length, map, drop, nat_lt, Some, None, option_map, Bool, true, false, if◌then◌else◌, refl, sym, ap, ◌∙◌, subst, arith}
+-- Names on either side of a question, and what stands by the first name that is a string.
+use Rattle.std.proofs.Common.{◌≡◌, ℕ, zero, suc, ◌+◌, ◌^◌, ◌<◌, ◌≤◌, List, [], ◌∷◌, length, map, drop, get_or, nat_lt, Some, None, option_map, Bool, true, false, if◌then◌else◌, refl, sym, ap, ◌∙◌, subst, arith}
 use Rattle.std.specs.Prelude.{bytes_eq}
 use Rattle.std.specs.List.{list_all, All, AllByRecursion as Each}
 use Rattle.std.proofs.Math.Nat.{pow-suc}
@@ -14,7 +14,6 @@ use Rattle.spec_execution.specs.Values.{low}
 use Rattle.merge_find.specs.declared.key.Key.{Key}
 use Rattle.merge_find.specs.Decisions.{Named, value, is_below, lower, upper, may_be_string, strings}
 use Rattle.merge_find.specs.Finding.{first_named, IsText, AreTexts, AreApart, Begins, Lies, number_code, numbered, AreWords}
-use Rattle.merge_find.proofs.Questions.{AllWords}
 use Rattle.merge_find.proofs.Splits.{bytes_all}
 
 -- ---- what is so of each
@@ -43,41 +42,6 @@ each_upper P key b (x ∷ xs) h = go (each_upper P key b xs h.1) (is_below key b
 
 pub each_of : {A : Type 0} (P : A → Type 0) (xs : List A) → All P xs → Each P xs
 each_of P xs all = recursion_from_All P xs all
-
-each_mapped : {A B : Type 0} (f : A → B) (P : B → Type 0) (xs : List A) → Each P (map f xs) → Each (λ x. P (f x)) xs
-each_mapped f P [] h = tt
-each_mapped f P (x ∷ xs) h = (h.0, each_mapped f P xs h.1)
-
--- ---- names apart
-
-abbrev pub Apart : List Named → Type 0
-Apart [] = Unit {0}
-Apart (x ∷ xs) = Each (λ y. x.0 ≢ y.0) xs × Apart xs
-
-pub apart_of : (xs : List Named) → AreApart xs → Apart xs
-apart_of [] h = tt
-apart_of (x ∷ xs) h =
-    (each_mapped (λ (y : Named). y.0) (λ name. x.0 ≢ name) xs (each_of (λ name. x.0 ≢ name) (map (λ (y : Named). y.0) xs) h.0), apart_of xs h.1)
-
-pub apart_lower : (key : Key) (b : ℕ) (xs : List Named) → Apart xs → Apart (lower key b xs)
-apart_lower key b [] h = tt
-apart_lower key b (x ∷ xs) h =
-    go (each_map (λ y. (x.0 ≢ y.0) × (is_below key b y ≡ true)) (λ y. x.0 ≢ y.0) (λ y k. k.0) (lower key b xs) (each_lower (λ y. x.0 ≢ y.0) key b xs h.0))
-    (apart_lower key b xs h.1) (is_below key b x)
-  where
-    go : Each (λ y. x.0 ≢ y.0) (lower key b xs) → Apart (lower key b xs) → (z : Bool) → Apart (if z then x ∷ lower key b xs else lower key b xs)
-    go a r true = (a, r)
-    go a r false = r
-
-pub apart_upper : (key : Key) (b : ℕ) (xs : List Named) → Apart xs → Apart (upper key b xs)
-apart_upper key b [] h = tt
-apart_upper key b (x ∷ xs) h =
-    go (each_map (λ y. (x.0 ≢ y.0) × (is_below key b y ≡ false)) (λ y. x.0 ≢ y.0) (λ y k. k.0) (upper key b xs) (each_upper (λ y. x.0 ≢ y.0) key b xs h.0))
-    (apart_upper key b xs h.1) (is_below key b x)
-  where
-    go : Each (λ y. x.0 ≢ y.0) (upper key b xs) → Apart (upper key b xs) → (z : Bool) → Apart (if z then upper key b xs else x ∷ upper key b xs)
-    go a r false = (a, r)
-    go a r true = r
 
 -- ---- names on the string's side
 
@@ -108,13 +72,13 @@ named_upper key b s (x ∷ xs) h = go (named_upper key b s xs h) (is_below key b
     go r false e = rw r refl
     go r true e = rw (other_side key b s x.0 false true h e (λ q. cc)) r
 
--- no name of another length is the string
-pub none_here : (s : List ℕ) (k : ℕ) (xs : List Named) → (length s ≡ k → ⊥) → Each (λ x. length x.0 ≡ k) xs → first_named xs s ≡ None
-none_here s k [] h l = refl
-none_here s k (x ∷ xs) h l = go (bytes_eq s x.0) refl (none_here s k xs h l.1)
+-- no name of another value is the string
+pub none_here : (key : Key) (s : List ℕ) (b : ℕ) (xs : List Named) → (value key s ≡ b → ⊥) → Each (λ x. value key x.0 ≡ b) xs → first_named xs s ≡ None
+none_here key s b [] h l = refl
+none_here key s b (x ∷ xs) h l = go (bytes_eq s x.0) refl (none_here key s b xs h l.1)
   where
     go : (z : Bool) → bytes_eq s x.0 ≡ z → first_named xs s ≡ None → (if z then Some x.1 else first_named xs s) ≡ None
-    go true q later = absurd (h (ap length ((bytes_eq-Decides s x.0).0 q) ∙ l.0))
+    go true q later = absurd (h (ap (value key) ((bytes_eq-Decides s x.0).0 q) ∙ l.0))
     go false q later = later
 
 -- what questions leave possible: the value is among so many from a least one on
@@ -137,25 +101,29 @@ only_one key least x r = (let a = r.low in let b = r.high in omega arith)
 
 -- ---- names that no string is
 
-words_of : (bs : List ℕ) → list_all (λ b. nat_lt b (2 ^ 32)) bs ≡ true → AllWords bs
-words_of [] e = tt
-words_of (b ∷ bs) e =
-    let both = and_parts (nat_lt b (2 ^ 32)) (list_all (λ y. nat_lt y (2 ^ 32)) bs) e in
-    (ltb-true b (2 ^ 32) both.0, words_of bs both.1)
+-- as long as a string may be, of items of so many bits
+pub record Fits (w : ℕ) (x : Named) : Type 0 where
+  pub short : length x.0 < 2 ^ 32
+  pub words : (i : ℕ) → get_or x.0 i 0 < 2 ^ w
 
--- as long as a string may be, and of words
-abbrev pub IsStringLike : Named → Type 0
-IsStringLike x = (length x.0 < 2 ^ 32) × AllWords x.0
+words_of : (bs : List ℕ) → list_all (λ b. nat_lt b (2 ^ 32)) bs ≡ true → (i : ℕ) → get_or bs i 0 < 2 ^ 32
+words_of [] e i = omega arith
+words_of (b ∷ bs) e zero = ltb-true b (2 ^ 32) (and_parts (nat_lt b (2 ^ 32)) (list_all (λ y. nat_lt y (2 ^ 32)) bs) e).0
+words_of (b ∷ bs) e (suc i) = words_of bs (and_parts (nat_lt b (2 ^ 32)) (list_all (λ y. nat_lt y (2 ^ 32)) bs) e).1 i
 
-pub strings_like : (xs : List Named) → Each IsStringLike (strings xs)
-strings_like [] = tt
-strings_like (x ∷ xs) = go (may_be_string x.0) refl (strings_like xs)
+pub strings_fit : (xs : List Named) → Each (Fits 32) (strings xs)
+strings_fit [] = tt
+strings_fit (x ∷ xs) = go (may_be_string x.0) refl (strings_fit xs)
   where
-    go : (z : Bool) → may_be_string x.0 ≡ z → Each IsStringLike (strings xs) → Each IsStringLike (if z then x ∷ strings xs else strings xs)
+    go : (z : Bool) → may_be_string x.0 ≡ z → Each (Fits 32) (strings xs) → Each (Fits 32) (if z then x ∷ strings xs else strings xs)
     go true q later =
         let both = and_parts (nat_lt (length x.0) (2 ^ 32)) (list_all (λ b. nat_lt b (2 ^ 32)) x.0) q in
-        ((ltb-true (length x.0) (2 ^ 32) both.0, words_of x.0 both.1), later)
+        (record { short = ltb-true (length x.0) (2 ^ 32) both.0; words = words_of x.0 both.1 }, later)
     go false q later = later
+
+pub texts_fit : (xs : List Named) → AreTexts xs → Each (Fits 8) xs
+texts_fit xs texts =
+    each_map (λ x. IsText x.0) (Fits 8) (λ x text. record { short = text.short; words = text.bytes }) xs (each_of (λ (x : Named). IsText x.0) xs texts)
 
 low_all : (t bytes : List ℕ) → Begins t bytes → list_all (λ b. nat_lt b (2 ^ 32)) t ≡ true
 low_all [] bytes begins = refl

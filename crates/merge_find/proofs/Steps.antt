@@ -16,14 +16,14 @@ use Rattle.spec_execution.specs.spec_runs.Systems.{Moving}
 use Rattle.spec_execution.specs.spec_runtime.Memories.{MemoryInstance, little_value, bytes_at}
 use Rattle.spec_execution.specs.spec_runtime.Numerics.{W32}
 use Rattle.spec_execution.specs.Values.{low}
-use Rattle.spec_execution.specs.Activations.{Activation, one_if}
+use Rattle.spec_execution.specs.Activations.{Level, Activation, to_level, branched, one_if}
 use Rattle.spec_execution.specs.Runs.{Frame}
 use Rattle.spec_execution.specs.Instances.{ModuleParts}
 use Rattle.spec_execution.specs.OneModule.{Starting, ModuleState, module_step}
 use Rattle.merge_pieces.specs.Opcodes as op
 use Rattle.merge_pieces.specs.Code.{number}
 use Rattle.merge_find.specs.Decisions.{wide, when}
-use Rattle.merge_find.specs.Counted.{Within, there, goes, standing, Comes}
+use Rattle.merge_find.specs.Counted.{Within, there, goes, standing}
 
 -- ---- counting
 
@@ -111,9 +111,9 @@ module _ {wasm : Module} {us : ModuleParts} {memory : MemoryInstance} {ls : List
 
   -- ---- blocks
 
-  pub steps_stays : (x : ℕ) → low W32 x ≡ 0 → Steps wasm 1 (Index op.br_if 0 ∷ []) us memory ls (Num x ∷ []) []
+  pub steps_stays : (x deep : ℕ) → low W32 x ≡ 0 → Steps wasm 1 (Index op.br_if deep ∷ []) us memory ls (Num x ∷ []) []
   unfolding out-Instr out
-  steps_stays x e = record { runs = λ a under. one refl (rw e refl) }
+  steps_stays x deep e = record { runs = λ a under. one refl (rw e refl) }
 
   module _ (a : Activation) (under : List (Frame Starting)) where
     off_inner : Within wasm 1 (spot us memory ls (inner a) under [] []) (spot us memory ls a under [] [])
@@ -130,42 +130,96 @@ module _ {wasm : Module} {us : ModuleParts} {memory : MemoryInstance} {ls : List
     pub into_block : (p : List Instr) → Within wasm 1 (spot us memory ls a under [] (Block Empty (record { list = p }) ∷ [])) (spot us memory ls (inner a) under [] p)
     into_block p = rw (append-nil p) (one refl (rw (outs-Block Empty (record { list = p }), leb-zero (length a.values)) refl))
 
-    pub breaks_off : (x k : ℕ) (code : List Instr) → low W32 x ≡ suc k
-        → Within wasm 1 (spot us memory ls (inner a) under (Num x ∷ []) (Index op.br_if 0 ∷ code)) (spot us memory ls a under [] [])
+-- ---- in whatever blocks
+
+-- the same activation in other blocks, with these values and this code behind
+abbrev pub moved : Activation → List Value → List Instr → List Level → Activation
+moved a vs r lv = record a { values = vs; rest = r; levels = lv }
+
+-- a block that takes no values, with this code behind it
+abbrev pub level : List Value → List Instr → Level
+level below after = record { below = below; arity = 0; again = None; after = after }
+
+-- So many blocks further out is one that code follows.
+pub record LeavesTo (end : List Instr) (deep : ℕ) (lv : List Level) : Type 0 where
+  pub below : List Value
+  pub more : List Instr
+  pub there : slice_get lv deep ≡ Some (level below (end ++ more))
+
+branched_at : (a : Activation) (deep : ℕ) (lv : List Level) (l : Level) → slice_get lv deep ≡ Some l → branched a deep lv ≡ to_level a l (drop (suc deep) lv)
+branched_at a zero [] l e = absurd cc
+branched_at a (suc deep) [] l e = absurd cc
+branched_at a zero (x ∷ lv) l e = (let same : x ≡ l = cc in ap (λ k. to_level a k lv) same)
+branched_at a (suc deep) (x ∷ lv) l e = branched_at a deep lv l e
+
+module _ (a : Activation) (under : List (Frame Starting)) where
+  -- At most so many steps lead from this code, in whatever blocks of the activation of which this is so, to other code.
+  pub record Leads (wasm : Module) (n : ℕ) (code : List Instr) (us : ModuleParts) (memory : MemoryInstance) (ls : List Value) (In : List Level → Type 0) (end : List Instr) : Type 0 where
+    pub runs : (vs : List Value) (r : List Instr) (lv : List Level) → In lv → (below : List Value) × (more : List Instr) × (levels : List Level)
+        × Within wasm n (spot us memory ls (moved a vs r lv) under [] code) (spot us memory ls (moved a below more levels) under [] end)
+
+  module _ {wasm : Module} {us : ModuleParts} {memory : MemoryInstance} {ls : List Value} {In : List Level → Type 0} where
+    pub leads_here : {code : List Instr} → Leads wasm 0 code us memory ls In code
+    leads_here = record { runs = λ vs r lv at. (vs, r, lv, there) }
+
+    pub leads_more : {code end : List Instr} {m : ℕ} (n : ℕ) → m ≤ n → Leads wasm m code us memory ls In end → Leads wasm n code us memory ls In end
+    leads_more n le x = record { runs = λ vs r lv at. (let o = x.runs vs r lv at in (o.0, o.1, o.2, within_more n le o.3)) }
+
+    pub leads_after : {p q end : List Instr} {j : ℕ} (k n : ℕ) → j + k ≤ n → Steps wasm j p us memory ls [] [] → Leads wasm k q us memory ls In end
+        → Leads wasm n (p ++ q) us memory ls In end
+    leads_after {p} {q} k n le x y = record {
+      runs = λ vs r lv at. (let o = y.runs vs r lv at in (o.0, o.1, o.2, rw append_assoc (within_then k n le (x.runs (before q (moved a vs r lv)) under) o.3)));
+    }
+
+    -- code in a block that is entered, whatever follows
+    pub leads_when : {Inner : List Level → Type 0} {p end : List Instr} {j : ℕ} (q code : List Instr) (x i : ℕ) (k n : ℕ) → j + 1 + k ≤ n → low W32 x ≡ suc i
+        → ((l : Level) (lv : List Level) → In lv → Inner (l ∷ lv)) → Steps wasm j p us memory ls [] (Num x ∷ []) → Leads wasm k code us memory ls Inner end
+        → Leads wasm n ((p ++ when code ∷ []) ++ q) us memory ls In end
+    leads_when {p} q code x i k n le e within s y = record {
+      runs = λ vs r lv at.
+          (let b = moved a vs (q ++ r) lv in
+          let l = level vs (q ++ r) in
+          let o = y.runs [] [] (l ∷ lv) (within l lv at) in
+          let enters = within_then k (1 + k) (omega arith) (into_when b under code x i e) o.3 in
+          (o.0, o.1, o.2, simp append_assoc (within_then (1 + k) n (omega arith) (s.runs (before (when code ∷ []) b) under) enters)));
+    }
+
+    pub leads_over : {p q end : List Instr} {j : ℕ} (code : List Instr) (x : ℕ) (k n : ℕ) → j + 2 + k ≤ n → low W32 x ≡ 0
+        → Steps wasm j p us memory ls [] (Num x ∷ []) → Leads wasm k q us memory ls In end → Leads wasm n ((p ++ when code ∷ []) ++ q) us memory ls In end
+    leads_over {p} {q} code x k n le e s y = record {
+      runs = λ vs r lv at.
+          (let b = moved a vs (q ++ r) lv in
+          let o = y.runs vs r lv at in
+          let passes = within_then k (2 + k) (omega arith) (over_when b under code x e) o.3 in
+          (o.0, o.1, o.2, simp append_assoc (within_then (2 + k) n (omega arith) (s.runs (before (when code ∷ []) b) under) passes)));
+    }
+
+    -- code in a block that other code follows, to which a branch leads
+    pub leads_block : {Inner : List Level → Type 0} {end : List Instr} (q code : List Instr) (k n : ℕ) → 1 + k ≤ n
+        → ((vs : List Value) (r : List Instr) (lv : List Level) → Inner (level vs (q ++ r) ∷ lv)) → Leads wasm k code us memory ls Inner end
+        → Leads wasm n (Block Empty (record { list = code }) ∷ q) us memory ls In end
+    leads_block q code k n le within y = record {
+      runs = λ vs r lv at.
+          (let o = y.runs [] [] (level vs (q ++ r) ∷ lv) (within vs r lv) in
+          (o.0, o.1, o.2, within_then k n le (into_block (moved a vs (q ++ r) lv) under code) o.3));
+    }
+
+  module _ {wasm : Module} {us : ModuleParts} {memory : MemoryInstance} {ls : List Value} {end : List Instr} {deep : ℕ} where
+    branches : (x k : ℕ) (code : List Instr) → low W32 x ≡ suc k → (vs : List Value) (r : List Instr) (lv : List Level) → (to : LeavesTo end deep lv)
+        → Within wasm 1 (spot us memory ls (moved a vs r lv) under (Num x ∷ []) (Index op.br_if deep ∷ code))
+        (spot us memory ls (moved a to.below to.more (drop (suc deep) lv)) under [] end)
     unfolding out-Instr out
-    breaks_off x k code e = one refl (rw e refl)
+    branches x k code e vs r lv to =
+        one refl (rw (e, branched_at (record a { unit = 0; locals = ls; values = vs; rest = code ++ r; levels = lv }) deep lv (level to.below (end ++ to.more)) to.there, leb-zero (length vs)) refl)
 
-  -- ---- what is come to
-
-  pub comes_here : {code : List Instr} → Comes wasm 0 code us memory ls code
-  comes_here = record { runs = λ a under. (a.values, a.rest, a.levels, there) }
-
-  pub comes_more : {code end : List Instr} {m : ℕ} (n : ℕ) → m ≤ n → Comes wasm m code us memory ls end → Comes wasm n code us memory ls end
-  comes_more n le x = record { runs = λ a under. (let r = x.runs a under in (r.0, r.1, r.2, within_more n le r.3)) }
-
-  pub comes_after : {p q end : List Instr} {j : ℕ} (k n : ℕ) → j + k ≤ n → Steps wasm j p us memory ls [] [] → Comes wasm k q us memory ls end
-      → Comes wasm n (p ++ q) us memory ls end
-  comes_after {p} {q} k n le x y = record {
-    runs = λ a under. (let r = y.runs a under in (r.0, r.1, r.2, rw append_assoc (within_then k n le (x.runs (before q a) under) r.3)));
-  }
-
-  -- code in a block that is entered, whatever follows
-  pub comes_when : {p end : List Instr} {j : ℕ} (q code : List Instr) (x i : ℕ) (k n : ℕ) → j + 1 + k ≤ n → low W32 x ≡ suc i
-      → Steps wasm j p us memory ls [] (Num x ∷ []) → Comes wasm k code us memory ls end → Comes wasm n ((p ++ when code ∷ []) ++ q) us memory ls end
-  comes_when {p} q code x i k n le e s y = record {
-    runs = λ a under.
-        (let b = before q a in
-        let r = y.runs (inner b) under in
-        let enters = within_then k (1 + k) (omega arith) (into_when b under code x i e) r.3 in
-        (r.0, r.1, r.2, simp append_assoc (within_then (1 + k) n (omega arith) (s.runs (before (when code ∷ []) b) under) enters)));
-  }
-
-  pub comes_over : {p q end : List Instr} {j : ℕ} (code : List Instr) (x : ℕ) (k n : ℕ) → j + 2 + k ≤ n → low W32 x ≡ 0
-      → Steps wasm j p us memory ls [] (Num x ∷ []) → Comes wasm k q us memory ls end → Comes wasm n ((p ++ when code ∷ []) ++ q) us memory ls end
-  comes_over {p} {q} code x k n le e s y = record {
-    runs = λ a under.
-        (let b = before q a in
-        let r = y.runs a under in
-        let passes = within_then k (2 + k) (omega arith) (over_when b under code x e) r.3 in
-        (r.0, r.1, r.2, simp append_assoc (within_then (2 + k) n (omega arith) (s.runs (before (when code ∷ []) b) under) passes)));
-  }
+    -- what is left for where a number isn't 0
+    pub leads_off : {p : List Instr} {j : ℕ} (q : List Instr) (x k n : ℕ) → j + 1 ≤ n → low W32 x ≡ suc k → Steps wasm j p us memory ls [] (Num x ∷ [])
+        → Leads wasm n ((p ++ Index op.br_if deep ∷ []) ++ q) us memory ls (LeavesTo end deep) end
+    leads_off {p} q x k n le e s = record {
+      runs = λ vs r lv to. (
+        to.below,
+        to.more,
+        drop (suc deep) lv,
+        simp append_assoc (within_then 1 n le (s.runs (before (Index op.br_if deep ∷ q) (moved a vs r lv)) under) (branches x k q e vs r lv to)),
+      );
+    }

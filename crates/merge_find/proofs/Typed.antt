@@ -9,24 +9,18 @@ use Rattle.wasm_typing.proofs.Laws.{after-Plain, after-Index}
 use Rattle.merge_pieces.specs.Opcodes as op
 use Rattle.merge_find.specs.declared.key.Key.{Key}
 use Rattle.merge_find.specs.declared.key.Key.TheVariants.{Size, Byte}
-use Rattle.merge_find.specs.Decisions.{Goal, Named, wide, return_code, is_below, lower, upper, key_code, asked, either, sides, halved, bytes_code, same_code, compared, by_bytes, exact_code, of_length, search_code, may_be_string, strings}
+use Rattle.merge_find.specs.Decisions.{Goal, Named, Nested, wide, return_code, is_below, lower, upper, key_code, asked, exact_code, either, sides, halved, found_code, by_bytes, search_code, may_be_string, strings}
 use Rattle.merge_find.specs.Finding.{number_goal, number_code, numbered}
 use Rattle.merge_find.specs.Typed.{Ends, SearchIsTyped, BodyIsTyped}
 use Rattle.merge_find.proofs.Types.{none, on_top, Types, done, step, types_then, meaning, types_of, body_typed, when_typed, block_typed, local_typed, load_typed, number_typed, wide_typed, differ_typed, less_typed, least_typed}
 use Rattle.merge_find.proofs.Names.{each_map, each_lower, each_upper}
 
 module _ {c : Context} {labels : Labels} where
-  leaves_typed : Types c ([] ∷ labels) (Index op.br_if 0 ∷ []) (on_top (I32 ∷ []) none) none
-  leaves_typed = step 0 (after-Index c op.br_if 0 ([] ∷ labels) (on_top (I32 ∷ []) none)) done
+  leaves_typed : (deep : ℕ) → slice_get labels deep ≡ Some [] → Types c labels (Index op.br_if deep ∷ []) (on_top (I32 ∷ []) none) none
+  leaves_typed deep e = step 0 (after-Index c op.br_if deep labels (on_top (I32 ∷ []) none) ∙ rw e refl) done
 
   returns_typed : c.results ≡ I64 ∷ [] → Types c labels return_code (on_top (I64 ∷ []) none) unreachable
   returns_typed e = step 0 (after-Plain c op.return_ labels (on_top (I64 ∷ []) none) ∙ rw e refl) done
-
-  bytes_typed : (i : ℕ) (bs : List ℕ) → c.memory ≡ true → slice_get c.locals 0 ≡ Some I32 → Types c ([] ∷ labels) (bytes_code i bs) none none
-  bytes_typed i [] memory e = done
-  bytes_typed i (b ∷ bs) memory e =
-      types_then (local_typed 0 I32 none e) (types_then (load_typed i none memory) (types_then (number_typed b (on_top (I32 ∷ []) none))
-      (types_then (differ_typed none) (types_then leaves_typed (bytes_typed (i + 1) bs memory e)))))
 
 -- code that returns
 returning : {c : Context} (code : List Instr) → Ends c code → (labels : Labels) → Types c labels code none unreachable
@@ -36,8 +30,9 @@ returning code ends labels = (let e = ends labels in types_of code none unreacha
 
 module _ (c : Context) (g : Goal) (memory : c.memory ≡ true) (start : slice_get c.locals 0 ≡ Some I32) (long : slice_get c.locals g.len ≡ Some I32)
     (misses : Ends c g.missed) where
-  abbrev Returns : List Instr → Type 0
-  Returns code = (labels : Labels) → Types c labels code none unreachable
+  -- in whatever blocks, where the one that is so many further out takes no values
+  abbrev Returns : Nested → Type 0
+  Returns code = (deep : ℕ) (labels : Labels) → slice_get labels deep ≡ Some [] → Types c labels (code deep) none unreachable
 
   abbrev AllEnd : List Named → Type 0
   AllEnd xs = Each (λ x. Ends c x.1) xs
@@ -46,61 +41,56 @@ module _ (c : Context) (g : Goal) (memory : c.memory ≡ true) (start : slice_ge
   key_typed labels Size = local_typed g.len I32 none long
   key_typed labels (Byte i) = types_then (local_typed 0 I32 none start) (load_typed i none memory)
 
-  asked_typed : (key : Key) (operator b : ℕ) (code rest : List Instr)
+  asked_typed : (key : Key) (operator b : ℕ) (code rest : Nested)
       → ((labels : Labels) → Types c labels (Plain operator ∷ []) (on_top (I32 ∷ I32 ∷ []) none) (on_top (I32 ∷ []) none))
-      → Returns code → Returns rest → Returns (asked g.len key operator b code ++ rest)
+      → Returns code → Returns rest → Returns (λ deep. asked g.len key operator b (code (suc deep)) ++ rest deep)
   unfolding asked
-  asked_typed key operator b code rest tests inner behind labels =
+  asked_typed key operator b code rest tests inner behind deep labels e =
       types_then
-      (types_then (key_typed labels key) (types_then (number_typed b (on_top (I32 ∷ []) none)) (types_then (tests labels) (when_typed unreachable refl (inner ([] ∷ labels))))))
-      (behind labels)
+      (types_then (key_typed labels key) (types_then (number_typed b (on_top (I32 ∷ []) none)) (types_then (tests labels) (when_typed unreachable refl (inner (suc deep) ([] ∷ labels) e)))))
+      (behind deep labels e)
 
-  either_typed : (key : Key) (b : ℕ) (first : Bool) (low high : List Instr) → Returns low → Returns high → Returns (either g.len key b first low high)
+  exact_typed : (key : Key) (b deep : ℕ) (labels : Labels) → slice_get labels deep ≡ Some [] → Types c labels (exact_code g.len key b deep) none none
+  unfolding exact_code
+  exact_typed key b deep labels e =
+      types_then (key_typed labels key) (types_then (number_typed b (on_top (I32 ∷ []) none)) (types_then (differ_typed none) (leaves_typed deep e)))
+
+  either_typed : (key : Key) (b : ℕ) (first : Bool) (low high : Nested) → Returns low → Returns high → Returns (either g.len key b first low high)
   either_typed key b true low high x y = asked_typed key op.i32_lt_u b low high (λ labels. less_typed none) x y
   either_typed key b false low high x y = asked_typed key op.i32_ge_u b high low (λ labels. least_typed none) y x
 
-  sides_typed : (key : Key) (b : ℕ) (low high : List Named → List Instr) (us vs : List Named) → AllEnd us → AllEnd vs → ((ys : List Named) → AllEnd ys → Returns (low ys))
+  sides_typed : (key : Key) (b : ℕ) (low high : List Named → Nested) (us vs : List Named) → AllEnd us → AllEnd vs → ((ys : List Named) → AllEnd ys → Returns (low ys))
       → ((ys : List Named) → AllEnd ys → Returns (high ys)) → Returns (sides g.len key b low high us vs)
   sides_typed key b low high [] vs p q x y = y vs q
   sides_typed key b low high (i ∷ us) [] p q x y = x (i ∷ us) p
   sides_typed key b low high (i ∷ us) (k ∷ vs) p q x y =
       either_typed key b (nat_le (length (i ∷ us)) (length (k ∷ vs))) (low (i ∷ us)) (high (k ∷ vs)) (x (i ∷ us) p) (y (k ∷ vs) q)
 
-  halved_typed : (key : Key) (leaf : List Named → List Instr) → ((ys : List Named) → AllEnd ys → Returns (leaf ys)) → (w least : ℕ) (xs : List Named) → AllEnd xs
-      → Returns (halved g.len key leaf w least xs)
-  halved_typed key leaf at_leaf zero least xs all = at_leaf xs all
-  halved_typed key leaf at_leaf (suc w) least xs all =
+  halved_typed : (key : Key) (next : ℕ → List Named → Nested) → ((b : ℕ) (ys : List Named) → AllEnd ys → Returns (next b ys)) → (w least : ℕ) (xs : List Named) → AllEnd xs
+      → Returns (halved g.len key next w least xs)
+  halved_typed key next at_next zero least xs all deep labels e = types_then (exact_typed key least deep labels e) (at_next least xs all deep labels e)
+  halved_typed key next at_next (suc w) least xs all deep labels e =
       let b = least + 2 ^ w in
-      sides_typed key b (halved g.len key leaf w least) (halved g.len key leaf w b) (lower key b xs) (upper key b xs)
+      sides_typed key b (halved g.len key next w least) (halved g.len key next w b) (lower key b xs) (upper key b xs)
       (each_map (λ x. Ends c x.1 × (is_below key b x ≡ true)) (λ x. Ends c x.1) (λ x h. h.0) (lower key b xs) (each_lower (λ x. Ends c x.1) key b xs all))
       (each_map (λ x. Ends c x.1 × (is_below key b x ≡ false)) (λ x. Ends c x.1) (λ x h. h.0) (upper key b xs) (each_upper (λ x. Ends c x.1) key b xs all))
-      (halved_typed key leaf at_leaf w least) (halved_typed key leaf at_leaf w b)
+      (halved_typed key next at_next w least) (halved_typed key next at_next w b) deep labels e
 
-  same_typed : (labels : Labels) (name : List ℕ) (code : List Instr) → Ends c code → Types c labels (same_code name code ∷ []) none none
-  unfolding same_code
-  same_typed labels name code ends = block_typed unreachable refl (types_then (bytes_typed 0 name memory start) (returning code ends ([] ∷ labels)))
-
-  compared_typed : (xs : List Named) → AllEnd xs → Returns (compared g xs)
-  compared_typed [] all labels = returning g.missed misses labels
-  compared_typed (x ∷ xs) all labels = types_then (same_typed labels x.0 x.1 all.0) (compared_typed xs all.1 labels)
+  found_typed : (xs : List Named) → AllEnd xs → Returns (λ deep. found_code g xs)
+  found_typed [] all deep labels e = returning g.missed misses labels
+  found_typed (x ∷ xs) all deep labels e = returning x.1 all.0 labels
 
   by_bytes_typed : (k i : ℕ) (xs : List Named) → AllEnd xs → Returns (by_bytes g k i xs)
-  by_bytes_typed zero i xs all = compared_typed xs all
-  by_bytes_typed (suc k) i xs all = halved_typed (Byte i) (by_bytes g k (i + 1)) (by_bytes_typed k (i + 1)) 8 0 xs all
+  by_bytes_typed zero i xs all = found_typed xs all
+  by_bytes_typed (suc k) i xs all = halved_typed (Byte i) (λ b. by_bytes g k (i + 1)) (λ b. by_bytes_typed k (i + 1)) 32 0 xs all
 
-  exact_typed : (k : ℕ) (labels : Labels) → Types c labels (exact_code g k) none none
-  unfolding exact_code
-  exact_typed k labels =
-      types_then (local_typed g.len I32 none long) (types_then (number_typed k (on_top (I32 ∷ []) none))
-      (types_then (differ_typed none) (when_typed unreachable refl (returning g.missed misses ([] ∷ labels)))))
-
-  of_length_typed : (xs : List Named) → AllEnd xs → Returns (of_length g xs)
-  of_length_typed [] all labels = returning g.missed misses labels
-  of_length_typed (x ∷ xs) all labels = types_then (exact_typed (length x.0) labels) (by_bytes_typed (length x.0) 0 (x ∷ xs) all labels)
-
-  search_typed : (xs : List Named) → AllEnd xs → Returns (search_code g xs)
+  search_typed : (xs : List Named) → AllEnd xs → (labels : Labels) → Types c labels (search_code g xs) none unreachable
   unfolding search_code
-  search_typed xs all = halved_typed Size (of_length g) of_length_typed 32 0 xs all
+  search_typed [] all labels = returning g.missed misses labels
+  search_typed (x ∷ xs) all labels =
+      types_then
+      (block_typed unreachable refl (halved_typed Size (λ k. by_bytes g k 0) (λ k. by_bytes_typed k 0) 32 0 (x ∷ xs) all 0 ([] ∷ labels) refl))
+      (returning g.missed misses labels)
 
 pub searches_typed : SearchIsTyped
 searches_typed c g memory start long misses xs all labels = meaning (search_typed c g memory start long misses xs all labels)

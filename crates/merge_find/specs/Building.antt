@@ -1,10 +1,11 @@
 -- What is kept while the code of a search is built.
-use Rattle.std.specs.Prelude.{◌≡◌, ℕ, ◌+◌, ◌*◌, ◌^◌, ◌<◌, ◌≤◌, List, [], ◌∷◌, length, map, Bool, true, false}
+use Rattle.std.specs.Prelude.{◌≡◌, ℕ, ◌+◌, ◌*◌, ◌^◌, ◌<◌, ◌≤◌, List, ◌∷◌, length, map, Bool, true, false}
 use Rattle.std.specs.List.{All}
-use Rattle.wasm_form.specs.declared.instr.Instr.{Instr, Plain, Index, Access}
+use Rattle.wasm_form.specs.declared.instr.Instr.{Instr, Index}
 use Rattle.merge_pieces.specs.Opcodes as op
 use Rattle.merge_pieces.specs.Code.{number}
-use Rattle.merge_find.specs.Decisions.{Goal, Named, wide, return_code, halved, by_bytes, compared, of_length}
+use Rattle.merge_find.specs.Decisions.{Goal, Named, Nested, wide, return_code, halved, by_bytes, found_code}
+use Rattle.merge_find.specs.Finding.{IsText}
 use Rattle.merge_find.specs.declared.key.Key.{Key}
 use Rattle.merge_find.specs.declared.key.Key.TheVariants.{Size, Byte}
 use Rattle.merge_find.specs.declared.place.Place.{Place}
@@ -24,8 +25,8 @@ name_of n = (n.name, n.code.items)
 abbrev pub names_of : List kept.Named → List Named
 names_of ns = map name_of ns
 
-abbrev pub IsShort : kept.Named → Type 0
-IsShort n = length n.name < 2 ^ 32
+abbrev pub HasText : kept.Named → Type 0
+HasText n = IsText n.name
 
 -- ---- what the search is for
 
@@ -38,14 +39,14 @@ goal_of s = record { len = s.len; missed = missed_code s.missed }
 
 -- ---- where the search stands
 
-abbrev pub stage_code : Goal → Stage → ℕ → ℕ → List Named → List Instr
-stage_code g stage.Lengths w least xs = halved g.len Size (of_length g) w least xs
-stage_code g (stage.Bytes i left) w least xs = halved g.len (Byte i) (by_bytes g left (i + 1)) w least xs
-stage_code g stage.Done w least xs = compared g xs
+abbrev pub stage_code : Goal → Stage → ℕ → ℕ → List Named → Nested
+stage_code g stage.Lengths w least xs = halved g.len Size (λ k. by_bytes g k 0) w least xs
+stage_code g (stage.Bytes i left) w least xs = halved g.len (Byte i) (λ b. by_bytes g left (i + 1)) w least xs
+stage_code g stage.Done w least xs = λ deep. found_code g xs
 
 -- the code for these names, from here on
 unfoldable pub place_code : Goal → Place → List Named → List Instr
-place_code g p xs = stage_code g p.stage p.width p.least xs
+place_code g p xs = stage_code g p.stage p.width p.least xs p.deep
 
 abbrev pub IsStage : Stage → ℕ → ℕ → Type 0
 IsStage stage.Lengths w least = (w ≤ 32) × (least + 2 ^ w ≤ 2 ^ 32)
@@ -81,14 +82,9 @@ key_at p = go p.stage
 abbrev pub rest_code : Goal → Rest → List Instr
 rest_code g r = place_code g r.place (names_of r.names.items)
 
--- there is a name, and each is short
+-- There is a name, and each is of bytes. At each block that is entered there are at most half as many names.
 pub record IsRest (r : Rest) : Type 0 where
   pub place : IsPlace r.place
   pub some : 0 < length r.names.items
-  pub short : All IsShort r.names.items
-
--- ---- pieces
-
--- the byte at a place is compared
-abbrev pub byte_code : ℕ → ℕ → List Instr
-byte_code i b = Index op.local_get 0 ∷ Access op.i32_load8_u 0 i ∷ number b ∷ Plain op.i32_ne ∷ Index op.br_if 0 ∷ []
+  pub texts : All HasText r.names.items
+  pub few : 2 ^ r.place.deep * length r.names.items ≤ 2 ^ 64

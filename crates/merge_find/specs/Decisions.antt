@@ -1,5 +1,5 @@
--- The search for a string among names by decisions: the length is asked first, then one byte after the other, and at last all bytes are
--- compared. Names stand in code alone.
+-- The search for a string among names by decisions: the length is asked first, and then one byte after the other. What names share is compared
+-- once. Names stand in code alone.
 use Rattle.std.specs.Prelude.{ℕ, zero, suc, ◌+◌, ◌^◌, List, [], ◌∷◌, ◌++◌, length, get_or, nat_lt, nat_le, Bool, true, false, ◌&&◌, None, if◌then◌else◌}
 use Rattle.std.specs.Int.{cast_signed, w64}
 use Rattle.std.specs.List.{list_all}
@@ -61,61 +61,51 @@ key_code len (Byte i) = Index op.local_get 0 ∷ Access op.i32_load8_u 0 i ∷ [
 unfoldable pub asked : ℕ → Key → ℕ → ℕ → List Instr → List Instr
 asked len key operator b code = key_code len key ++ number b ∷ Plain operator ∷ when code ∷ []
 
+-- Where what is asked is another number, the block of the search is left, out of so many blocks inside it.
+unfoldable pub exact_code : ℕ → Key → ℕ → ℕ → List Instr
+exact_code len key b deep = key_code len key ++ number b ∷ Plain op.i32_ne ∷ Index op.br_if deep ∷ []
+
+-- code, by the number of blocks in which it stands inside the block of the search
+abbrev pub Nested : Type 0
+Nested = ℕ → List Instr
+
 -- The code for either side of a question. The side with fewer names stands in the block, and the other one behind it: so blocks are nested
 -- no deeper than names can be halved.
-abbrev pub either : ℕ → Key → ℕ → Bool → List Instr → List Instr → List Instr
-either len key b true low high = asked len key op.i32_lt_u b low ++ high
-either len key b false low high = asked len key op.i32_ge_u b high ++ low
+abbrev pub either : ℕ → Key → ℕ → Bool → Nested → Nested → Nested
+either len key b true low high = λ deep. asked len key op.i32_lt_u b (low (suc deep)) ++ high deep
+either len key b false low high = λ deep. asked len key op.i32_ge_u b (high (suc deep)) ++ low deep
 
 -- a question with names on one side alone is left out
-abbrev pub sides : ℕ → Key → ℕ → (List Named → List Instr) → (List Named → List Instr) → List Named → List Named → List Instr
+abbrev pub sides : ℕ → Key → ℕ → (List Named → Nested) → (List Named → Nested) → List Named → List Named → Nested
 sides len key b low high [] ys = high ys
 sides len key b low high (x ∷ xs) [] = low (x ∷ xs)
 sides len key b low high (x ∷ xs) (y ∷ ys) =
     either len key b (nat_le (length (x ∷ xs)) (length (y ∷ ys))) (low (x ∷ xs)) (high (y ∷ ys))
 
--- The values that are possible, 2^w from the least on, are halved at each question. Where one is left, other code follows.
-abbrev pub halved : ℕ → Key → (List Named → List Instr) → ℕ → ℕ → List Named → List Instr
-halved len key leaf zero least xs = leaf xs
-halved len key leaf (suc w) least xs =
-    sides len key (least + 2 ^ w) (halved len key leaf w least) (halved len key leaf w (least + 2 ^ w))
+-- The values that are possible, 2^w from the least on, are halved at each question. Where one is left, it is compared, once for all these names,
+-- and other code follows.
+abbrev pub halved : ℕ → Key → (ℕ → List Named → Nested) → ℕ → ℕ → List Named → Nested
+halved len key next zero least xs = λ deep. exact_code len key least deep ++ next least xs deep
+halved len key next (suc w) least xs =
+    sides len key (least + 2 ^ w) (halved len key next w least) (halved len key next w (least + 2 ^ w))
     (lower key (least + 2 ^ w) xs) (upper key (least + 2 ^ w) xs)
-
--- ---- all bytes
-
--- the bytes from place i on of the string are compared with these; the block is left where one is another
-abbrev pub bytes_code : ℕ → List ℕ → List Instr
-bytes_code i [] = []
-bytes_code i (b ∷ bs) =
-    Index op.local_get 0 ∷ Access op.i32_load8_u 0 i ∷ number b ∷ Plain op.i32_ne ∷ Index op.br_if 0 ∷ bytes_code (i + 1) bs
-
-unfoldable pub same_code : List ℕ → List Instr → Instr
-same_code name code = Block Empty (record { list = bytes_code 0 name ++ code })
-
--- the names are compared one after the other
-abbrev pub compared : Goal → List Named → List Instr
-compared g [] = g.missed
-compared g (x ∷ xs) = same_code x.0 x.1 ∷ compared g xs
 
 -- ---- the search
 
--- so many bytes are asked, from place i on
-abbrev pub by_bytes : Goal → ℕ → ℕ → List Named → List Instr
-by_bytes g zero i xs = compared g xs
-by_bytes g (suc k) i xs = halved g.len (Byte i) (by_bytes g k (i + 1)) 8 0 xs
+-- the string is the first of these names, if there is one
+abbrev pub found_code : Goal → List Named → List Instr
+found_code g [] = g.missed
+found_code g (x ∷ xs) = x.1
 
--- a string of another length is none of them
-unfoldable pub exact_code : Goal → ℕ → List Instr
-exact_code g k = Index op.local_get g.len ∷ number k ∷ Plain op.i32_ne ∷ when g.missed ∷ []
-
--- names of one length
-abbrev pub of_length : Goal → List Named → List Instr
-of_length g [] = g.missed
-of_length g (x ∷ xs) = exact_code g (length x.0) ++ by_bytes g (length x.0) 0 (x ∷ xs)
+-- So many bytes are asked, from place i on, as words. Among names of bytes all questions but eight are left out.
+abbrev pub by_bytes : Goal → ℕ → ℕ → List Named → Nested
+by_bytes g zero i xs = λ deep. found_code g xs
+by_bytes g (suc k) i xs = halved g.len (Byte i) (λ b. by_bytes g k (i + 1)) 32 0 xs
 
 -- among names of fewer than 2^32 bytes
 unfoldable pub search_code : Goal → List Named → List Instr
-search_code g xs = halved g.len Size (of_length g) 32 0 xs
+search_code g [] = g.missed
+search_code g (x ∷ xs) = Block Empty (record { list = halved g.len Size (λ k. by_bytes g k 0) 32 0 (x ∷ xs) 0 }) ∷ g.missed
 
 -- ---- names that may be a string
 

@@ -14,7 +14,7 @@ pub data IsAsking : Instr → Type 0 where
   tests_below : IsAsking (Plain op.i32_lt_u)
   tests_least : IsAsking (Plain op.i32_ge_u)
   tests_other : IsAsking (Plain op.i32_ne)
-  leaves : IsAsking (Index op.br_if 0)
+  leaves : (deep : ℕ) → IsAsking (Index op.br_if deep)
 
 -- Code that is made of these, of the code of some names and of that for no name. Its blocks are nested at most so deep, and it has at most so
 -- many instructions, where the code of a name has at most `found`, nested at most `inside`, and that for no name has `missed`, none of them a

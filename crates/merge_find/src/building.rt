@@ -1,17 +1,19 @@
 // The whole code of a search.
-ghost use Rattle.std.specs.Prelude.{◌≡◌, ◌++◌, ◌<◌, ◌≤◌, ◌^◌, ◌+◌, ◌-◌, length, true, IfOk, OnOk};
+ghost use Rattle.std.specs.Prelude.{◌≡◌, ◌++◌, ◌∷◌, ◌<◌, ◌≤◌, ◌^◌, ◌+◌, ◌-◌, length, true, IfOk};
 ghost use Rattle.std.specs.List.{All};
+ghost use Rattle.wasm_form.specs.declared.instr.BlockType.TheVariants.{Empty};
+ghost use Rattle.wasm_form.specs.declared.instr.Instr.{Block};
 ghost use Rattle.merge_find.specs.Decisions.{search_code, lower, upper};
-ghost use Rattle.merge_find.specs.Building.{goal_of, names_of, place_code, rest_code, is_asking, key_at, IsShort, IsPlace, IsRest, rank};
+ghost use Rattle.merge_find.specs.Building.{goal_of, names_of, place_code, rest_code, is_asking, key_at, HasText, IsPlace, IsRest, rank};
 
 use crate::asking::{put_asked, put_exact};
-use crate::comparing::put_compared;
+use crate::found::put_found;
 use crate::named::{Named, count_below, split};
-use crate::place::{Place, Stage, at_byte, halved, is_asking, key_at};
+use crate::place::{Place, Stage, deeper, halved, is_asking, key_at, next_place};
 use crate::search::Search;
 use merge_pieces::opcodes;
 use std::alloc::Global;
-use wasm_form::{Instr, Memory};
+use wasm_form::{BlockType, Expr, Instr, List, Memory};
 
 /// Where a search stands, and the names among which it searches.
 #[derive(Drop)]
@@ -29,9 +31,8 @@ fn half(width: u32) -> u32
     1 << (width - 1)
 }
 
-// One value alone is possible: what is asked next.
-#[tactic(auto, unfolding(crate::specs::Building::place_code))]
-fn next_key(to: &mut Vec<Instr>, alloc: Global, search: &Search, rest: Rest) -> Result<Rest, Memory>
+// One value alone is possible: it is compared.
+fn next_key(to: &mut Vec<Instr>, search: &Search, rest: Rest) -> Result<Rest, Memory>
     requires sound { IsRest rest }
     requires asking { is_asking rest.place ≡ true }
     requires one { rest.place.width ≡ 0 }
@@ -39,17 +40,10 @@ fn next_key(to: &mut Vec<Instr>, alloc: Global, search: &Search, rest: Rest) -> 
     ensures sound { IfOk result (λ q. IsRest q) }
     ensures less { IfOk result (λ q. rank q.place < rank rest.place) }
 {
-    let place = match rest.place.stage {
-        Stage::Lengths => {
-            let size = rest.names[0].name.items().len() as u32;
-            put_exact(to, alloc, search, size)?;
-            at_byte(0, size)
-        }
-        Stage::Bytes(i, left) => at_byte(i + 1, left),
-        Stage::Done => rest.place,
-    };
+    let here = rest.place;
+    put_exact(to, search.len, key_at(here), here.least, here.deep)?;
     Ok(Rest {
-        place,
+        place: next_place(here),
         names: rest.names,
     })
 }
@@ -77,22 +71,28 @@ fn ask(
     let low_place = halved(rest.place, rest.place.least);
     let high_place = halved(rest.place, bound);
     let (low, high) = split(alloc, key, bound, rest.names)?;
-    let low = Rest {
-        place: low_place,
-        names: low,
-    };
-    let high = Rest {
-        place: high_place,
+    if low.len() <= high.len() {
+        let inner = Rest {
+            place: deeper(low_place),
+            names: low,
+        };
+        let code = code_from(alloc, search, inner)?;
+        put_asked(to, search.len, key, opcodes::I32_LT_U, bound, code)?;
+        return Ok(Rest {
+            place: high_place,
+            names: high,
+        });
+    }
+    let inner = Rest {
+        place: deeper(high_place),
         names: high,
     };
-    if low.names.len() <= high.names.len() {
-        let inner = code_from(alloc, search, low)?;
-        put_asked(to, alloc, search.len, key, opcodes::I32_LT_U, bound, inner)?;
-        return Ok(high);
-    }
-    let inner = code_from(alloc, search, high)?;
-    put_asked(to, alloc, search.len, key, opcodes::I32_GE_U, bound, inner)?;
-    Ok(low)
+    let code = code_from(alloc, search, inner)?;
+    put_asked(to, search.len, key, opcodes::I32_GE_U, bound, code)?;
+    Ok(Rest {
+        place: low_place,
+        names: low,
+    })
 }
 
 // The values are halved. A question with names on one side alone is left out.
@@ -131,19 +131,32 @@ fn code_from(alloc: Global, search: &Search, rest: Rest) -> Result<Vec<Instr>, M
     let mut rest = rest;
     while is_asking(rest.place) {
         if rest.place.width == 0 {
-            rest = next_key(&mut code, alloc, search, rest)?;
+            rest = next_key(&mut code, search, rest)?;
         } else {
             rest = halve(&mut code, alloc, search, rest)?;
         }
     }
-    put_compared(&mut code, alloc, search, rest.names)?;
+    put_found(&mut code, alloc, search, rest.names)?;
     Ok(code)
+}
+
+// Some code in a block, and other code behind it.
+fn in_block(alloc: Global, code: Vec<Instr>, after: Vec<Instr>) -> Result<Vec<Instr>, Memory>
+    ensures { IfOk result (λ x. x.items ≡ Block Empty (record { list = code.items }) ∷ after.items) }
+{
+    let mut after = after;
+    let body = Expr {
+        list: List::of(code),
+    };
+    let mut whole = vec![in alloc; Instr::Block(BlockType::Empty, body)]?;
+    whole.append(&mut after)?;
+    Ok(whole)
 }
 
 /// The code of a search among names. `Memory` where no memory could be had.
 #[tactic(auto, unfolding(crate::specs::Decisions::search_code, crate::specs::Building::place_code))]
 pub fn search_code(alloc: Global, search: &Search, names: Vec<Named>) -> Result<Vec<Instr>, Memory>
-    requires short { All IsShort names.items }
+    requires texts { All HasText names.items }
     ensures { IfOk result (λ x. x.items ≡ search_code (goal_of search.now) (names_of names.items)) }
 {
     if names.len() == 0 {
@@ -153,6 +166,8 @@ pub fn search_code(alloc: Global, search: &Search, names: Vec<Named>) -> Result<
         stage: Stage::Lengths,
         width: 32,
         least: 0,
+        deep: 0,
     };
-    code_from(alloc, search, Rest { place, names })
+    let code = code_from(alloc, search, Rest { place, names })?;
+    in_block(alloc, code, search.missed(alloc)?)
 }

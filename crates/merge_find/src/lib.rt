@@ -3,7 +3,7 @@
 
 mod asking;
 mod building;
-mod comparing;
+mod found;
 mod key;
 mod laws;
 mod named;

@@ -2,7 +2,7 @@
 ghost use Rattle.std.specs.Prelude.{◌≡◌, ◌++◌, ◌∷◌, [], length, IfOk, OnOk};
 ghost use Rattle.std.specs.List.{All};
 ghost use Rattle.merge_find.specs.Decisions.{is_below, lower, upper, strings};
-ghost use Rattle.merge_find.specs.Building.{name_of, names_of, IsShort};
+ghost use Rattle.merge_find.specs.Building.{name_of, names_of, HasText};
 
 use crate::key::{Key, value_of};
 use std::alloc::Global;
@@ -23,9 +23,9 @@ pub fn put_named(
     name: &[u8],
     code: Vec<Instr>,
 ) -> Result<(), Memory>
-    requires short { All IsShort to.old.items }
+    requires texts { All HasText to.old.items }
     ensures names { OnOk result (names_of to.new.items ≡ names_of to.old.items ++ strings ((name.now, code.items) ∷ [])) }
-    ensures short { OnOk result (All IsShort to.new.items) }
+    ensures texts { OnOk result (All HasText to.new.items) }
 {
     if name.len() > u32::MAX as usize {
         drop(code);
@@ -37,7 +37,7 @@ pub fn put_named(
 }
 
 fn is_below(key: Key, bound: u32, n: &Named) -> bool
-    requires { IsShort n.now }
+    requires { HasText n.now }
     ensures { result ≡ is_below key bound (name_of n.now) }
 {
     value_of(key, n.name.items()) < bound
@@ -45,7 +45,7 @@ fn is_below(key: Key, bound: u32, n: &Named) -> bool
 
 // How many names are below a number.
 pub(crate) fn count_below(key: Key, bound: u32, names: &[Named]) -> usize
-    requires { All IsShort names.now }
+    requires { All HasText names.now }
     ensures { result ≡ length (lower key bound (names_of names.now)) }
 {
     let mut count: usize = 0;
@@ -64,11 +64,11 @@ pub(crate) fn split(
     bound: u32,
     names: Vec<Named>,
 ) -> Result<(Vec<Named>, Vec<Named>), Memory>
-    requires { All IsShort names.items }
+    requires { All HasText names.items }
     ensures low { IfOk result (λ x. names_of x.0.items ≡ lower key bound (names_of names.items)) }
     ensures high { IfOk result (λ x. names_of x.1.items ≡ upper key bound (names_of names.items)) }
-    ensures short_low { IfOk result (λ x. All IsShort x.0.items) }
-    ensures short_high { IfOk result (λ x. All IsShort x.1.items) }
+    ensures texts_low { IfOk result (λ x. All HasText x.0.items) }
+    ensures texts_high { IfOk result (λ x. All HasText x.1.items) }
 {
     let mut low = Vec::new(alloc);
     let mut high = Vec::new(alloc);

@@ -66,7 +66,7 @@ asking_step (made.numbers k) = number_step k
 asking_step made.tests_below = operator_step 0x49 refl (λ wasm j. refl)
 asking_step made.tests_least = operator_step 0x4F refl (λ wasm j. refl)
 asking_step made.tests_other = operator_step 0x47 refl (λ wasm j. refl)
-asking_step made.leaves = branch_if_step 0
+asking_step (made.leaves deep) = branch_if_step deep
 
 module _ (g : Goal) (xs : List Named) (inside found missed : ℕ)
     (each : (k : ℕ) (x : Named) → slice_get xs k ≡ Some x → IsPiece inside found x.1) (none : IsPiece 0 missed g.missed) where

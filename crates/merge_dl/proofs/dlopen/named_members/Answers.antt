@@ -13,6 +13,6 @@ loop-member-preserved c = record {
       (c.in_ok-put_named.ensures.names
       ∙ ap₂ (λ name code. names_of c.loop-member.names.items ++ strings ((name, code) ∷ [])) (c.as_bytes.ensures.value ∙ c.as_str.ensures) (c.in_ok-code.ensures L h))
       (c.loop-member.invariant.names L h);
-  short = c.in_ok-put_named.ensures.short;
+  texts = c.in_ok-put_named.ensures.texts;
   at = omega (arith, c.loop-member.invariant.at);
 }
