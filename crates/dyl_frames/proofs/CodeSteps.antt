@@ -21,10 +21,11 @@ use Rattle.wasm_machine.specs.declared.event.Event.{Event}
 use Rattle.wasm_machine.specs.declared.event.Event.TheVariants as event
 use Rattle.wasm_machine.proofs.Marked.{marked_move}
 use Rattle.wasm_machine.proofs.Under.{step_over}
+use Rattle.wasm_machine.proofs.Stepping.{stepped_on}
 use Rattle.spec_loading.specs.Phases.{LoaderFrame}
 use Rattle.spec_loading.specs.Loading.{Loading, LoadedState, comes_to, loaded_next}
 use Rattle.dyl_frames.specs.declared.frames.Core.{Core}
-use Rattle.dyl_frames.specs.Next.{IsCodeNext, CallsOrGrows, MayWant}
+use Rattle.dyl_frames.specs.Next.{HasCodeOnTop, IsCodeNext, CallsOrGrows, MayWant}
 use Rattle.dyl_frames.specs.Cores.{frame_at, stack_of, LiesUnder, loader_arguments, IsStacked, IsLive, IsLoaded, IsSound, IsState, StandsAs, Steps, QuickSteps, StepsFrom, QuickStepsFrom, WantsFrom, IsMarkTold, is_made, is_mark}
 use Rattle.dyl_frames.proofs.Loads.{IsLoad, step_load}
 use Rattle.dyl_frames.proofs.Telling.{ComesFrom, steps_told, loader_told, deep_told, live_told, leaves_moving}
@@ -196,18 +197,16 @@ module _ {Units : Type 0} (D : Loading Units) (c : Core) (n : MachineState) (us 
 
   -- ---- a step that is told in few bytes
 
-  goes_on : Stepped D.view event.Moved c.machine n (changes us us' memory memory') → n.standing ≡ standing.Moving
-  goes_on (inl t) = go next_here t.2
-    where
-      go : (next : Option (Next Units ℕ)) → Told D.view event.Moved next c.machine n (changes us us' memory memory') → n.standing ≡ standing.Moving
-      go (Some (Goes us memory frames)) t = t.0.standing_is
-      go (Some (Asks entry args frames)) t = absurd t
-      go (Some (Loads which args frames)) t = absurd t
-      go (Some Ends) t = absurd t
-      go (Some (Traps why)) t = absurd t
-      go None t = absurd t
-  goes_on (inr (inl t)) = absurd t.1
-  goes_on (inr (inr t)) = absurd (repeats_nothing event.Moved c.machine.standing moving t.0)
+  -- code is on top
+  running_seen : (frames : List (Frame ℕ)) → is_running frames ≡ true → is_running (marked_stack (frame_at c.frames.items) frames) ≡ true
+  running_seen [] e = e
+  running_seen (Active a ∷ frames) e = refl
+  running_seen (Marked tag ∷ frames) e = e
+
+  code_on_top : (e : Event) → is_mark e ≡ false → Stepped D.view e c.machine n (changes us us' memory memory') → HasCodeOnTop s
+  code_on_top e is (inl t) = ap is_running at.1 ∙ running_seen c.machine.stack.frames t.1
+  code_on_top e is (inr (inl t)) = absurd (let wrong : true ≡ false = sym (at_mark e c.machine.stack.frames t.1) ∙ is in cc)
+  code_on_top e is (inr (inr t)) = absurd (repeats_nothing e c.machine.standing moving t.0)
 
   -- no step is made, and the next isn't one of code
   abbrev StaysHere : Type 0
@@ -241,10 +240,10 @@ module _ {Units : Type 0} (D : Loading Units) (c : Core) (n : MachineState) (us 
       leaves_moving D s s (with_machine c n) us' memory' code.4 next_here (frame_at c.frames.items) (comes_code on_top) leaves code.3.0 code.3.1 code.3.2
 
   pub quick_steps : (d : Done) → QuickStepped D.view d c.machine n (changes us us' memory memory') → IsOver D.view us' memory' n → QuickSteps D d s (with_machine c n) us' memory'
-  quick_steps done.Goes t o = (goes_on t, step_steps event.Moved t o refl)
-  quick_steps (done.Trapped why) t o = step_steps (event.Trapped why) t o refl
+  quick_steps done.Goes t o = ((stepped_on D.view c.machine n (changes us us' memory memory') t).1, code_on_top event.Moved refl t, step_steps event.Moved t o refl)
+  quick_steps (done.Trapped why) t o = (code_on_top (event.Trapped why) refl t, step_steps (event.Trapped why) t o refl)
   quick_steps done.Stuck t o = t
-  quick_steps done.Returned t o = step_steps event.Returned t o refl
+  quick_steps done.Returned t o = (code_on_top event.Returned refl t, step_steps event.Returned t o refl)
   quick_steps done.Exited t o = subst IsExited moving t.0
   quick_steps done.Marked t o = stays_as (t.1, t.2) (marked_none t.0)
   quick_steps done.Deep t o = deep_none (step_steps event.Deep t o refl)

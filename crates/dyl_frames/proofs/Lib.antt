@@ -10,3 +10,5 @@ pub mod Giving
 pub mod FewFrames
 pub mod Placed
 pub mod Deep
+pub mod Running
+pub mod Started

@@ -1,5 +1,5 @@
 -- The core of a run, and the state at which it stands.
-use Rattle.std.specs.Prelude.{◌≡◌, ◌≢◌, ◌<◌, ◌≤◌, ◌+◌, ℕ, List, [], ◌∷◌, length, sum, reverse, drop, take, slice_get, slice_set, ◌-◌, nat_lt, replicate, Option, Some, None, Bool, true, false, IfSome, IsTrue, Result, Ok, Err}
+use Rattle.std.specs.Prelude.{◌≡◌, ◌≢◌, ◌⊎◌, ◌<◌, ◌≤◌, ◌+◌, ℕ, List, [], ◌∷◌, length, sum, reverse, drop, take, slice_get, slice_set, ◌-◌, nat_lt, replicate, Option, Some, None, Bool, true, false, IfSome, IsTrue, Result, Ok, Err}
 use Rattle.std.specs.List.{All}
 use Rattle.spec_loading.specs.spec_runs.Systems.{Moving, Waits, Returned, Exited, Trapped}
 use Rattle.spec_loading.specs.wasm_form.declared.runtime.LoaderCall.{LoaderCall}
@@ -18,6 +18,7 @@ use Rattle.wasm_step.specs.declared.done.Done.{Done}
 use Rattle.wasm_step.specs.declared.done.Done.TheVariants as done
 use Rattle.wasm_view.specs.Seen.{Seen}
 use Rattle.wasm_machine.specs.Machines.{IsOver, IsMarked}
+use Rattle.wasm_machine.specs.Iterated.{Iterated}
 use Rattle.wasm_machine.specs.Marks.{marked_stack, IsStackOver}
 use Rattle.wasm_machine.specs.declared.machine.Standing.{Standing}
 use Rattle.wasm_machine.specs.declared.machine.Standing.TheVariants as standing
@@ -31,7 +32,8 @@ use Rattle.spec_loading.specs.Loading.{Loading, LoaderState, LoadedState, Loader
 use Rattle.dyl_frames.specs.declared.frames.Pending.{Pending}
 use Rattle.dyl_frames.specs.declared.frames.Core.{Core}
 use Rattle.wasm_machine.specs.Steps.{TellsStatus}
-use Rattle.dyl_frames.specs.Next.{next_answer, IsCodeNext, MayWant}
+use Rattle.dyl_frames.specs.Next.{next_answer, HasCodeOnTop, IsCodeNext, MayWant}
+use Rattle.spec_keeping.specs.Started.{calls_entry, is_started}
 
 -- ---- the frames
 
@@ -179,12 +181,12 @@ Steps {Units} D e s new us memory =
     (loaded_too_deep D s ≡ false)
     × ((t : LoadedState Units) × (loaded_step D s ≡ Some t) × TellsStatus D.names e t.run.status × IsState D new us memory t)
 
--- the same of a step that the machine tells in few bytes; or memory was wanting; or it is left to be made with more care, and isn't one of
--- code
+-- The same of a step of code that the machine tells in few bytes; or memory was wanting; or it is left to be made with more care, and isn't
+-- one of code.
 abbrev pub QuickSteps : {Units : Type 0} → Loading Units → Done → LoadedState Units → Core → Units → MemoryInstance → Type 0
-QuickSteps D done.Goes s new us memory = (new.machine.standing ≡ standing.Moving) × Steps D event.Moved s new us memory
-QuickSteps D done.Returned s new us memory = Steps D event.Returned s new us memory
-QuickSteps D (done.Trapped why) s new us memory = Steps D (event.Trapped why) s new us memory
+QuickSteps D done.Goes s new us memory = (new.machine.standing ≡ standing.Moving) × HasCodeOnTop s × Steps D event.Moved s new us memory
+QuickSteps D done.Returned s new us memory = HasCodeOnTop s × Steps D event.Returned s new us memory
+QuickSteps D (done.Trapped why) s new us memory = HasCodeOnTop s × Steps D (event.Trapped why) s new us memory
 QuickSteps D done.Stuck s new us memory = ⊥
 QuickSteps D done.Exited s new us memory = ⊥
 QuickSteps D done.NoMemory s new us memory = MayWant s
@@ -199,9 +201,33 @@ abbrev pub QuickStepsFrom : {Units : Type 0} → Loading Units → Done → Core
 QuickStepsFrom {Units} D d old before new after =
     (s : LoadedState Units) → IsState D old before.units before.memory s → QuickSteps D d s new after.units after.memory
 
+-- a step of code that passes no limit of depth, after which the run goes on by itself
+abbrev pub CodeStep : {Units : Type 0} → Loading Units → LoadedState Units → LoadedState Units → Type 0
+CodeStep D s t = HasCodeOnTop s × (loaded_too_deep D s ≡ false) × (loaded_step D s ≡ Some t) × (t.run.status ≡ Moving)
+
+-- this is what one step more comes to; `Goes` says that none was made
+abbrev pub StopsAt : {Units : Type 0} → Loading Units → Done → LoadedState Units → Core → Units → MemoryInstance → Type 0
+StopsAt D d s new us memory =
+    ((d ≡ done.Goes) × (new.machine.standing ≡ standing.Moving) × IsState D new us memory s) ⊎ ((d ≢ done.Goes) × QuickSteps D d s new us memory)
+
+-- from wherever the run stands, so many steps, and then what one more comes to
+abbrev pub RunsFrom : {Units : Type 0} → Loading Units → ℕ → Done → Core → Seen Units → Core → Seen Units → Type 0
+RunsFrom {Units} D n d old before new after =
+    (s : LoadedState Units) → IsState D old before.units before.memory s
+    → (u : LoadedState Units) × Iterated (CodeStep D) n s u × StopsAt D d u new after.units after.memory
+
 -- from wherever the run stands, this is whether the next step would pass a limit of depth
 abbrev pub TellsDeep : {Units : Type 0} → Loading Units → Bool → Core → Seen Units → Type 0
 TellsDeep {Units} D deep c w = (s : LoadedState Units) → IsState D c w.units w.memory s → deep ≡ loaded_too_deep D s
+
+-- whether the first frame is the one that calls the entry
+abbrev pub first_calls : Option Pending → Bool
+first_calls None = false
+first_calls (Some p) = calls_entry p.after
+
+-- wherever the run stands, this is whether its entry was called and it goes on
+abbrev pub TellsStarted : {Units : Type 0} → Loading Units → Bool → Core → Seen Units → Type 0
+TellsStarted {Units} D started c w = (s : LoadedState Units) → IsState D c w.units w.memory s → started ≡ is_started s
 
 -- from wherever the run stands the next step may want memory
 abbrev pub WantsFrom : {Units : Type 0} → Loading Units → Core → Seen Units → Type 0

@@ -16,11 +16,15 @@ answer_of D s _ = None
 abbrev pub next_answer : {Units : Type 0} → Loading Units → LoadedState Units → Option LoaderAnswer
 next_answer D s = loaded_next D s s.run.stack >>= λ x. answer_of D x.state x.next
 
+-- code is on top
+abbrev pub HasCodeOnTop : {Units : Type 0} → LoadedState Units → Type 0
+HasCodeOnTop s = is_running s.run.stack ≡ true
+
 -- The next step is one of code that is on top: it passes no limit of depth, the run goes on by itself after it, and it calls no function
 -- of the loader.
 abbrev pub IsCodeNext : {Units : Type 0} → Loading Units → LoadedState Units → Type 0
 IsCodeNext {Units} D s =
-    (s.run.status ≡ Moving) × (is_running s.run.stack ≡ true) × (loaded_too_deep D s ≡ false)
+    (s.run.status ≡ Moving) × HasCodeOnTop s × (loaded_too_deep D s ≡ false)
     × ((t : LoadedState Units) × (loaded_step D s ≡ Some t) × (t.run.status ≡ Moving)) × (next_answer D s ≡ None)
 
 -- a frame of the loader is on top, or code that begins with a call or a growth

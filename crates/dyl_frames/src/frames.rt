@@ -12,12 +12,13 @@ ghost use Rattle.spec_loading.specs.declared.task.Phase.TheVariants as phases;
 ghost use Rattle.spec_loading.specs.declared.task.After.TheVariants as follows;
 ghost use Rattle.spec_loading.specs.Loading.{Loading};
 ghost use Rattle.spec_loading.specs.Loading as loading;
-ghost use Rattle.dyl_frames.specs.Cores.{IsCore, StepsFrom, QuickStepsFrom, TakenFrom, PlacesFrom, OpensAt, IsMarkTold, IsLoaded, is_deep_event};
+ghost use Rattle.dyl_frames.specs.Cores.{IsCore, StepsFrom, RunsFrom, TakenFrom, PlacesFrom, OpensAt, IsMarkTold, IsLoaded, is_deep_event};
 ghost use Rattle.spec_loading.specs.spec_linking.LinkedSets.{LinkedSet};
 ghost use Rattle.spec_loading.specs.LoaderAnswers.{promoted_with};
 ghost use Rattle.dyl_link.specs.Kept.{IsLinked};
 ghost use Rattle.dyl_frames.specs.Cores.{IsHandle, GivesHandle, AreFrames, first_task, top_frame, TakesTask, Finishes, is_behind, raised_stages, is_mark, IsOwn, FitsHost};
-ghost use Rattle.dyl_frames.specs.Cores.{AnsweredFrom, WantsFrom, TellsDeep, gives_number, opens_member, Drops};
+ghost use Rattle.dyl_frames.specs.Cores.{AnsweredFrom, WantsFrom, TellsDeep, TellsStarted, first_calls, gives_number, opens_member, Drops};
+ghost use Rattle.spec_keeping.specs.Started.{calls_entry};
 
 use dyl_link::Linked;
 use dyl_world::{Errors, Promoted, Stages};
@@ -71,6 +72,23 @@ fn is_deep(event: &Event) -> bool
     ensures { result ≡ is_deep_event event.now }
 {
     matches!(event, Event::Deep)
+}
+
+// Whether the entry follows the tasks of a frame.
+fn calls_entry(after: After) -> bool
+    ensures { result ≡ calls_entry after }
+{
+    matches!(after, After::CallEntry)
+}
+
+// Whether the first frame is the one that calls the entry.
+fn first_calls(frames: &[Pending]) -> bool
+    ensures { result ≡ first_calls (slice_get frames.now 0) }
+{
+    match frames.first() {
+        Some(frame) => calls_entry(frame.after),
+        None => false,
+    }
 }
 
 // Takes the next task away.
@@ -167,17 +185,18 @@ impl<'m> Core<'m> {
         self.machine.step(alloc, view)
     }
 
-    /// One step of code, where the machine can tell it in few bytes.
-    #[inline(always)]
-    pub fn quick<V: View<'m>>(&mut self, alloc: Global, view: &mut V) -> Done
+    /// Steps of code, so many or fewer, where the machine can tell them in few bytes: how many were made, and what the next one came to.
+    pub fn run<V: View<'m>>(&mut self, alloc: Global, view: &mut V, most: u64) -> (u64, Done)
         requires core { IsCore (V.seen view.old).fixed (V.seen view.old).units (V.seen view.old).memory self.old }
         requires moving { self.old.machine.standing ≡ Standing.Moving }
-        ensures stepped { (D : Loading V.Units) → IsLoaded D (V.seen view.old).fixed → QuickStepsFrom D result self.old (V.seen view.old) self.new (V.seen view.new) }
-        ensures core { result ≢ Done.NoMemory → IsCore (V.seen view.old).fixed (V.seen view.new).units (V.seen view.new).memory self.new }
+        ensures ran { (D : Loading V.Units) → IsLoaded D (V.seen view.old).fixed → RunsFrom D result.0 result.1 self.old (V.seen view.old) self.new (V.seen view.new) }
+        ensures core { result.1 ≢ Done.NoMemory → IsCore (V.seen view.old).fixed (V.seen view.new).units (V.seen view.new).memory self.new }
         ensures fixed { (V.seen view.new).fixed ≡ (V.seen view.old).fixed }
         ensures members { length self.new.stages ≡ length self.old.stages }
+        ensures most { result.1 ≡ Done.Goes → result.0 ≡ most }
+        ensures fewer { result.1 ≢ Done.Goes → result.0 < most }
     {
-        self.machine.quick(alloc, view)
+        self.machine.run(alloc, view, most)
     }
 
     /// Takes the answer of the host function that is waited for.
@@ -494,6 +513,22 @@ impl<'m> Core<'m> {
         self.machine.give(view, member + 1);
         self.drop_top();
         self.promoted.add(linked, member);
+    }
+}
+
+// ---- whether start-up is done
+
+impl<'m> Core<'m> {
+    /// Whether the entry was called, and the run goes on. It takes no memory.
+    pub fn started<V: View<'m>>(&self, view: &V) -> bool
+        requires core { IsCore (V.seen view.now).fixed (V.seen view.now).units (V.seen view.now).memory self.now }
+        ensures { (D : Loading V.Units) → TellsStarted D result self.now (V.seen view.now) }
+    {
+        let _view = view;
+        match self.machine.standing() {
+            Standing::Moving | Standing::Asking(..) => !first_calls(&self.frames),
+            _ => false,
+        }
     }
 }
 

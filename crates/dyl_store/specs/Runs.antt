@@ -7,7 +7,7 @@ use Rattle.spec_loading.specs.SoundSets.{HoldBytes, IsSoundState}
 use Rattle.wasm_step.specs.declared.done.Done.{Done}
 use Rattle.wasm_machine.specs.declared.event.Event.{Event}
 use Rattle.dyl_link.specs.Kept.{Kept, IsLinked}
-use Rattle.dyl_frames.specs.Cores.{IsCore, IsState, StepsFrom, QuickStepsFrom, WantsFrom, TellsDeep}
+use Rattle.dyl_frames.specs.Cores.{IsCore, IsState, StepsFrom, RunsFrom, WantsFrom, TellsDeep, TellsStarted}
 use Rattle.dyl_addresses.specs.Sets.{IsOfSet}
 use Rattle.dyl_store.specs.Worlds.{set_in, kept_view, seen_of}
 use Rattle.dyl_store.specs.Placements.{IsPlacement}
@@ -26,8 +26,9 @@ IsSomewhere x = (L : LinkedSet) × IsLinked L x.linked.now × ((s : SetState) ×
 abbrev pub StepsTo : LinkedSet → Event → Running → Running → Type 0
 StepsTo L e old new = StepsFrom (set_loading L) e old.core (seen_of old.world) new.core (seen_of new.world)
 
-abbrev pub QuickStepsTo : LinkedSet → Done → Running → Running → Type 0
-QuickStepsTo L d old new = QuickStepsFrom (set_loading L) d old.core (seen_of old.world) new.core (seen_of new.world)
+-- from wherever the run stands so many steps of code were made, and this is what the next one came to
+abbrev pub RunsTo : LinkedSet → ℕ → Done → Running → Running → Type 0
+RunsTo L n d old new = RunsFrom (set_loading L) n d old.core (seen_of old.world) new.core (seen_of new.world)
 
 -- from wherever the run stands the next step may want memory
 abbrev pub WantsTo : Running → Type 0
@@ -36,6 +37,10 @@ WantsTo x = (L : LinkedSet) → IsLinked L x.linked.now → WantsFrom (set_loadi
 -- from wherever the run stands, this is whether the next step would pass a limit of depth
 abbrev pub IsDeepTo : LinkedSet → Bool → Running → Type 0
 IsDeepTo L deep x = TellsDeep (set_loading L) deep x.core (seen_of x.world)
+
+-- wherever the run stands, this is whether its entry was called and it goes on
+abbrev pub IsStartedTo : LinkedSet → Bool → Running → Type 0
+IsStartedTo L started x = TellsStarted (set_loading L) started x.core (seen_of x.world)
 
 -- there is a placement of each member
 pub record ArePlacements (k : Kept) (ps : List Placement) : Type 0 where

@@ -9,7 +9,7 @@ ghost use Rattle.wasm_machine.specs.Machines.{IsMarked};
 ghost use Rattle.dyl_link.specs.Kept.{IsLinked};
 ghost use Rattle.dyl_frames.specs.Cores.{is_mark, first_task, top_frame, FitsHost, TakenFrom};
 ghost use Rattle.dyl_store.specs.Worlds.{kept_view, seen_of};
-ghost use Rattle.dyl_store.specs.Runs.{IsRunning, IsSomewhere, StepsTo, QuickStepsTo, WantsTo, IsDeepTo};
+ghost use Rattle.dyl_store.specs.Runs.{IsRunning, IsSomewhere, StepsTo, RunsTo, WantsTo, IsDeepTo, IsStartedTo};
 ghost use Rattle.dyl_store.specs.Calls.{is_loader};
 
 use crate::callees::callee;
@@ -78,16 +78,17 @@ impl<'m> Running<'m> {
         Ok(event)
     }
 
-    // One step of code, where the machine can tell it in few bytes.
-    #[inline(always)]
-    pub fn quick(&mut self, alloc: Global) -> Done
+    // Steps of code, so many or fewer, where the machine can tell them in few bytes: how many were made, and what the next one came to.
+    pub fn run(&mut self, alloc: Global, most: u64) -> (u64, Done)
         requires running { IsRunning self.old }
         requires moving { self.old.core.machine.standing ≡ Standing.Moving }
-        ensures stepped { (L : LinkedSet) → IsLinked L self.old.linked.now → QuickStepsTo L result self.old self.new }
-        ensures running { result ≢ Done.NoMemory → IsRunning self.new }
+        ensures ran { (L : LinkedSet) → IsLinked L self.old.linked.now → RunsTo L result.0 result.1 self.old self.new }
+        ensures running { result.1 ≢ Done.NoMemory → IsRunning self.new }
         ensures linked { self.new.linked ≡ self.old.linked }
+        ensures most { result.1 ≡ Done.Goes → result.0 ≡ most }
+        ensures fewer { result.1 ≢ Done.Goes → result.0 < most }
     {
-        self.core.quick(alloc, &mut self.world)
+        self.core.run(alloc, &mut self.world, most)
     }
 
     // Takes the answer of the host function that is waited for.
@@ -246,5 +247,17 @@ impl<'m> Running<'m> {
             func: self.linked.entry(),
         };
         self.core.follow_deep(&self.world, entry)
+    }
+}
+
+// ---- whether start-up is done
+
+impl<'m> Running<'m> {
+    // Whether the entry was called, and the run goes on.
+    pub fn started(&self) -> bool
+        requires running { IsRunning self.now }
+        ensures { (L : LinkedSet) → IsStartedTo L result self.now }
+    {
+        self.core.started(&self.world)
     }
 }

@@ -1,14 +1,17 @@
 // The run of a linked set.
-ghost use Rattle.std.specs.Prelude.{◌≡◌, ◌<◌, ◌⊎◌, map, true, false, IfOk, OnOk, OnErr, Err};
+ghost use Rattle.std.specs.Prelude.{◌≡◌, ◌<◌, ◌⊎◌, length, map, true, false, Some, IfOk, OnOk, OnErr, Err};
 ghost use Rattle.spec_loading.specs.SoundSets.{HoldBytes};
 ghost use Rattle.spec_loading.specs.spec_runtime.Recorded.{has_ended};
 ghost use Rattle.spec_loading.specs.spec_linking.LinkedSets.{LinkedSet, set_hosts};
+ghost use Rattle.spec_loading.specs.Loading.{stage_in};
+ghost use Rattle.spec_loading.specs.Members.{set_view, shared_table};
+ghost use Rattle.spec_keeping.specs.Started.{is_started};
 ghost use Rattle.spec_loading.specs.LoadedSet.{SetState};
 ghost use Rattle.spec_loading.specs.spec_runtime.Courses.{state_at, status_at, memory_at, IsAt, is_waiting, with_answer, as_lost};
 ghost use Rattle.wasm_machine.specs.Steps.{RunStepped, TellsStatus, ArgumentsFit, Advances, AreOfCode, Awaits, stands_told, is_wait};
 ghost use Rattle.dyl_link.specs.host_table.Names.{host_name_of};
 ghost use Rattle.dyl_link.specs.Kept.{IsLinked};
-ghost use Rattle.dyl_store.specs.Stores.{set_course, new_run, is_deep_at, IsCodeNext, MayWantAt};
+ghost use Rattle.dyl_store.specs.Stores.{set_course, new_run, is_deep_at, units_at, IsDroppedTold, HadCodeOnTop, IsCodeNext, MayWantAt};
 ghost use Rattle.dyl_store.specs.Runs.{IsRunning, RunsAt};
 ghost use Rattle.dyl_store.specs.Steps.{Counted};
 ghost use Rattle.dyl_store.specs.Worlds.{set_in};
@@ -19,12 +22,12 @@ use dyl_link::host_table::HostName;
 use spec_loading::linked_sets_never_get_stuck;
 use std::alloc::Global;
 use std::marker::Model;
-use wasm_form::{List, Memory};
+use wasm_form::{List, Memory, Ref, Value};
 use wasm_machine::{
-    Answer, Done, Event, Standing, are_numbers, event_of, holds_bytes, is_of_bytes, stands_told,
-    steps_told,
+    Answer, Done, Event, Standing, View, are_numbers, event_of, holds_bytes, is_of_bytes,
+    stands_told, steps_told,
 };
-use wasm_space::Space;
+use wasm_space::{Slots, Space};
 
 /// The run of a linked set: its steps, and the answers of its host. Contracts see it as a `StoreRun`.
 #[derive(Drop)]
@@ -68,31 +71,22 @@ fn tell_step(kept: &mut Event, alloc: Global, event: &Event) -> Result<(), Memor
     Ok(())
 }
 
-// Makes one step of code, if the machine can tell it in few bytes, and counts it. Whether code goes on.
-#[inline(always)]
-fn quick_step(running: &mut Running, alloc: Global, steps: &mut u64, lost: &mut bool) -> bool
+// Makes steps of code, up to so many in all, and counts them.
+fn run_code(running: &mut Running, alloc: Global, most: u64, steps: &mut u64, lost: &mut bool)
     requires running { IsRunning running.old }
     requires moving { running.old.core.machine.standing ≡ Standing.Moving }
-    requires few { steps.old < 18446744073709551615 }
+    requires few { steps.old < most }
     requires found { lost.old ≡ false }
-    ensures counted { (L : LinkedSet) → IsLinked L running.old.linked.now → (s : SetState) → RunsAt L running.old s → Counted L result s running.new steps.old steps.new lost.new }
+    ensures counted { (L : LinkedSet) → IsLinked L running.old.linked.now → (s : SetState) → RunsAt L running.old s → Counted L most s running.new steps.old steps.new lost.new }
     ensures running { lost.new ≡ false → IsRunning running.new }
     ensures linked { running.new.linked ≡ running.old.linked }
 {
-    match running.quick(alloc) {
-        Done::Goes => {
-            *steps += 1;
-            true
-        }
-        Done::Returned | Done::Trapped(_) => {
-            *steps += 1;
-            false
-        }
-        Done::NoMemory => {
-            *lost = true;
-            false
-        }
-        Done::Stuck | Done::Exited | Done::Marked | Done::Deep | Done::Outside => false,
+    let (made, done) = running.run(alloc, most - *steps);
+    *steps += made;
+    match done {
+        Done::Returned | Done::Trapped(_) => *steps += 1,
+        Done::NoMemory => *lost = true,
+        Done::Goes | Done::Stuck | Done::Exited | Done::Marked | Done::Deep | Done::Outside => {}
     }
 }
 
@@ -130,6 +124,13 @@ impl<'m> Store<'m> {
         ensures { (L : LinkedSet) × IsLinked L self.now.linked }
     {
         self.running.linked.links();
+    }
+
+    /// The data segments of the members are of bytes. The call changes nothing: a proof gets this fact by it.
+    pub fn holds_bytes(&self)
+        ensures { (L : LinkedSet) → IsLinked L self.now.linked → HoldBytes L }
+    {
+        hold_bytes(self.running.linked);
     }
 
     /// Makes one step, which takes the answer that is recorded for a wait, and tells how the run stands then. An end is told again,
@@ -184,6 +185,7 @@ impl<'m> Store<'m> {
     pub fn advance(&mut self, alloc: Global, most: u64) -> Result<(), Memory>
         ensures advances { Advances most self.old.run self.new.run }
         ensures code { (L : LinkedSet) → IsLinked L self.old.linked → AreOfCode (set_course L) self.old.run self.new.run }
+        ensures tops { (L : LinkedSet) → IsLinked L self.old.linked → HadCodeOnTop L self.old.run self.new.run }
         ensures left { (L : LinkedSet) → IsLinked L self.old.linked → OnOk result (IsAt (set_course L) self.new.run → self.new.run.steps < most → IsCodeNext L (state_at (set_course L) self.new.run) → ⊥) }
         ensures found { OnOk result (self.new.run.lost ≡ false) }
         ensures wanting { OnErr result ((self.old.run.lost ≡ true) ⊎ MayWantAt self.old.linked self.new.run) }
@@ -198,9 +200,16 @@ impl<'m> Store<'m> {
         if !matches!(self.running.core.standing(), Standing::Moving) {
             return Ok(());
         }
-        'code: while self.steps < most
-            && quick_step(&mut self.running, alloc, &mut self.steps, &mut self.lost)
-        {}
+        if self.steps >= most {
+            return Ok(());
+        }
+        run_code(
+            &mut self.running,
+            alloc,
+            most,
+            &mut self.steps,
+            &mut self.lost,
+        );
         let standing = self.running.core.standing();
         tell(&mut self.event, event_of(standing));
         if self.lost { Err(Memory) } else { Ok(()) }
@@ -260,6 +269,125 @@ impl<'m> Store<'m> {
             Standing::Moving => self.running.deep(),
             _ => false,
         }
+    }
+
+    /// How far member m has come in the loader's phases: 0 before it is placed, and 1 to 4 once it was placed, started, relocated and
+    /// constructed. It takes no memory. Of a run that answered `Memory` nothing is said.
+    pub fn stage(&self, m: u32) -> u8
+        requires { m < length self.now.linked.set.members }
+        ensures { (L : LinkedSet) → IsLinked L self.now.linked → self.now.run.lost ≡ false → stage_in (state_at (set_course L) self.now.run).loader m ≡ Some result }
+    {
+        if self.lost {
+            return 0;
+        }
+        self.running.core.stages().get(m)
+    }
+
+    /// The last error of the loader, by its number, or 0. It takes no memory. Of a run that answered `Memory` nothing is said.
+    pub fn error(&self) -> u8
+        ensures { (L : LinkedSet) → IsLinked L self.now.linked → self.now.run.lost ≡ false → result ≡ (state_at (set_course L) self.now.run).loader.error }
+    {
+        self.running.core.errors().get()
+    }
+
+    /// The promoted members, in the order in which they were promoted. It takes no memory. Of a run that answered `Memory` nothing is said.
+    pub fn promoted(&self) -> &[u32]
+        ensures { (L : LinkedSet) → IsLinked L self.now.linked → self.now.run.lost ≡ false → result.now ≡ (state_at (set_course L) self.now.run).loader.promoted }
+    {
+        self.running.core.promoted().list()
+    }
+
+    /// The table that all members share. It takes no memory. Of a run that answered `Memory` nothing is said.
+    pub fn shared_table(&self) -> &Slots
+        ensures { (L : LinkedSet) → IsLinked L self.now.linked → self.now.run.lost ≡ false → shared_table (state_at (set_course L) self.now.run).run.units ≡ Some result.now }
+    {
+        &self.running.world.tables[0]
+    }
+
+    /// Whether the entry was called, and the run goes on. It takes no memory. Of a run that answered `Memory` nothing is said.
+    pub fn started(&self) -> bool
+        ensures { (L : LinkedSet) → IsLinked L self.now.linked → self.now.run.lost ≡ false → result ≡ is_started (state_at (set_course L) self.now.run) }
+    {
+        if self.lost {
+            return false;
+        }
+        self.running.started()
+    }
+
+    /// A global of member m, by its number there. It takes no memory. Of a run that answered `Memory` nothing is said.
+    pub fn global(&self, m: u32, g: u32) -> Value
+        requires { (L : LinkedSet) × IsLinked L self.now.linked × (g < ((set_view L).counts m).globals) }
+        ensures { (L : LinkedSet) → IsLinked L self.now.linked → self.now.run.lost ≡ false → (set_view L).global (units_at L self.now.run) m g ≡ Some result }
+    {
+        if self.lost {
+            return Value::Num(0);
+        }
+        self.running.world.global(m, g)
+    }
+
+    /// A table of member m, by its number there. It takes no memory. Of a run that answered `Memory` nothing is said.
+    pub fn table(&self, m: u32, t: u32) -> &Slots
+        requires { (L : LinkedSet) × IsLinked L self.now.linked × (t < ((set_view L).counts m).tables) }
+        ensures { (L : LinkedSet) → IsLinked L self.now.linked → self.now.run.lost ≡ false → (set_view L).table (units_at L self.now.run) m t ≡ Some result.now }
+    {
+        if self.lost {
+            return self.shared_table();
+        }
+        self.running.world.table(m, t)
+    }
+
+    /// Whether an element segment of member m, by its number there, is empty, as it is once it is dropped. It takes no memory. Of a run that
+    /// answered `Memory` nothing is said.
+    pub fn elem_dropped(&self, m: u32, e: u32) -> bool
+        requires { (L : LinkedSet) × IsLinked L self.now.linked × (e < ((set_view L).counts m).elems) }
+        ensures { (L : LinkedSet) → IsLinked L self.now.linked → self.now.run.lost ≡ false → IsDroppedTold result ((set_view L).elem (units_at L self.now.run) m e) }
+    {
+        if self.lost {
+            return true;
+        }
+        self.running.world.elem_dropped(m, e)
+    }
+
+    /// Whether a data segment of member m, by its number there, is empty, as it is once it is dropped. It takes no memory. Of a run that
+    /// answered `Memory` nothing is said.
+    pub fn data_dropped(&self, m: u32, d: u32) -> bool
+        requires { (L : LinkedSet) × IsLinked L self.now.linked × (d < ((set_view L).counts m).datas) }
+        ensures { (L : LinkedSet) → IsLinked L self.now.linked → self.now.run.lost ≡ false → IsDroppedTold result ((set_view L).bytes (units_at L self.now.run) m d) }
+    {
+        if self.lost {
+            return true;
+        }
+        self.running.world.data_dropped(m, d)
+    }
+
+    /// The globals of all members, by their addresses in the store. It takes no memory. Of a run that answered `Memory` nothing is said.
+    pub fn globals(&self) -> &[Value]
+        ensures { (L : LinkedSet) → IsLinked L self.now.linked → self.now.run.lost ≡ false → result.now ≡ (units_at L self.now.run).globals }
+    {
+        &self.running.world.globals
+    }
+
+    /// The tables of all members, by their addresses in the store. It takes no memory. Of a run that answered `Memory` nothing is said.
+    pub fn tables(&self) -> &[Slots]
+        ensures { (L : LinkedSet) → IsLinked L self.now.linked → self.now.run.lost ≡ false → result.now ≡ (units_at L self.now.run).tables }
+    {
+        &self.running.world.tables
+    }
+
+    /// What is left of the element segments of all members, by their addresses in the store. It takes no memory. Of a run that answered
+    /// `Memory` nothing is said.
+    pub fn elems(&self) -> &[Vec<Option<Ref>>]
+        ensures { (L : LinkedSet) → IsLinked L self.now.linked → self.now.run.lost ≡ false → map (λ v. v.items) result.now ≡ (units_at L self.now.run).elems }
+    {
+        &self.running.world.elems
+    }
+
+    /// What is left of the data segments of all members, by their addresses in the store. It takes no memory. Of a run that answered `Memory`
+    /// nothing is said.
+    pub fn datas(&self) -> &[&'m [u8]]
+        ensures { (L : LinkedSet) → IsLinked L self.now.linked → self.now.run.lost ≡ false → map (λ d. d.now) result.now ≡ (units_at L self.now.run).datas }
+    {
+        &self.running.world.datas
     }
 
     /// How many steps were made. The run stands where these lead.

@@ -1,7 +1,8 @@
 // The members of a linked set over one store.
 ghost use Rattle.std.specs.Prelude.{◌≡◌, ◌<◌, length, Some};
 ghost use Rattle.dyl_store.specs.Units.{IsMember, IsUnit};
-ghost use Rattle.dyl_store.specs.Worlds.{kept_instances, HasPlaces};
+ghost use Rattle.dyl_store.specs.Stores.{IsDroppedTold};
+ghost use Rattle.dyl_store.specs.Worlds.{kept_instances, kept_view, HasPlaces};
 
 use crate::run_member::Unit;
 use dyl_link::Linked;
@@ -85,5 +86,20 @@ impl<'m> World<'m> {
         ensures inside { result < length self.now.store.datas }
     {
         self.unit(m).first_data as usize + d as usize
+    }
+    // Whether an element segment of a member is empty.
+    pub fn elem_dropped(&self, m: u32, e: u32) -> bool
+        requires { e < ((kept_instances self.now.linked).counts m).elems }
+        ensures { IsDroppedTold result ((kept_view self.now.linked).elem self.now.store m e) }
+    {
+        self.elems[self.elem_address(m, e)].is_empty()
+    }
+
+    // Whether a data segment of a member is empty.
+    pub fn data_dropped(&self, m: u32, d: u32) -> bool
+        requires { d < ((kept_instances self.now.linked).counts m).datas }
+        ensures { IsDroppedTold result ((kept_view self.now.linked).bytes self.now.store m d) }
+    {
+        self.datas[self.data_address(m, d)].is_empty()
     }
 }

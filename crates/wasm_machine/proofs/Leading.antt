@@ -1,5 +1,5 @@
 -- From an instruction that leaves its activation on top to the step of the call stack.
-use Rattle.std.proofs.Common.{arith, ◌≡◌, ℕ, ◌≤◌, ◌+◌, ◌⊎◌, true, List, [], ◌∷◌, length, drop, refl, sym, ap, subst, ◌∙◌, Option, None, Some, inl, inr}
+use Rattle.std.proofs.Common.{arith, ◌≡◌, ◌≢◌, ℕ, ◌≤◌, ◌+◌, ◌⊎◌, true, List, [], ◌∷◌, length, drop, refl, sym, ap, subst, ◌∙◌, Option, None, Some, inl, inr}
 use Rattle.std.specs.Prelude.{IsTrue}
 use Rattle.std.proofs.Math.Bool.{or-true}
 use Rattle.wasm_form.specs.declared.instr.Instr.{Instr, out-Instr}
@@ -16,7 +16,7 @@ use Rattle.spec_safety.specs.spec_execution.Limits.{room_of}
 use Rattle.wasm_step.specs.Tops.{Top, with_act, height_of}
 use Rattle.wasm_step.specs.Primitives.{first_of, with_rest}
 use Rattle.wasm_machine.specs.Stacks.{CallStack, most_blocks, is_live, under_of, joined, IsJoined}
-use Rattle.wasm_step.specs.Moves.{LeadsPast, Act, To, Ends, Nowhere, act_done, act_referred, acted, Changes, Acted}
+use Rattle.wasm_step.specs.Moves.{LeadsPast, Act, To, Ends, Nowhere, act_done, act_referred, acted, IsWithin, Changes, Acted}
 use Rattle.wasm_step.specs.Named.{is_call, is_growth}
 use Rattle.wasm_machine.specs.Machines.{indirect, RoomsAre, Led, StaysWithin, MayGrow, may_grow_at, next_of}
 use Rattle.wasm_machine.specs.Outside.{callee_of}
@@ -27,6 +27,10 @@ use Rattle.wasm_step.specs.declared.done.Done.TheVariants as done
 use Rattle.wasm_machine.proofs.Joined.{frames_live, nesting_live, RoomsAre_live}
 use Rattle.wasm_machine.proofs.Staying.{StaysIn, instr-stays}
 use Rattle.wasm_machine.proofs.Coming.{none_called, some_called, step_is, entry_step}
+
+-- an activation past its next instruction, which is put back
+pub put_back : (t u v : Top) (rest : List Instr) → u ≡ with_act t (with_rest t.act (drop 1 t.act.rest)) → rest ≡ t.act.rest → v ≡ with_act u (with_rest u.act rest) → v ≡ t
+put_back t u v rest e r f = rw (f, e, r) refl
 
 -- ---- what a move comes to, in the activation and on the call stack
 
@@ -134,21 +138,20 @@ module _ {Units : Type 0} (V : View Units) (cs : List Caller) (t : Top) (i : Ins
   not_past u b (Ends why) next j r eu f w k = k
   not_past u b Nowhere next j r eu f w k = k
 
+  -- what moves and stays within the room is one of typed code
+  within : (u : Top) (b : Activation) (act : Act Units) (next : Option (Next Units ℕ)) → IsJoined cs t → RoomsAre V (joined cs t) → u ≡ with_act t b → Fits t.act.unit t.act.func (under_of cs t) act next → StaysWithin V next → next ≢ None → IsWithin u act
+  within u b (To us memory a) next j r eu f w m = λ k. not_past u b (To us memory a) next j r eu f w k
+  within u b (Ends why) next j r eu f w m = tt
+  within u b Nowhere next j r eu f w m = m f
+
 -- ---- the next step
 
-module _ {Units : Type 0} (V : View Units) (us : Units) (memory : MemoryInstance) (cs : List Caller) (t : Top) (i : Instr) (d : Done) (c : Changes Units) (live : is_live t ≡ true) (e : Some i ≡ first_of t.act.rest) where
+module _ {Units : Type 0} (V : View Units) (us : Units) (memory : MemoryInstance) (cs : List Caller) (t : Top) (i : Instr) (live : is_live t ≡ true) (e : Some i ≡ first_of t.act.rest) where
   next_live : next_of V us memory (joined cs t).frames ≡ next_of V us memory (Active t.act ∷ under_of cs t)
   next_live = ap (next_of V us memory) (frames_live cs t live)
 
-  -- the entry of a table is called
-  pub led_entry : (ds : List Caller) (new : Top) (ty table : ℕ) → callee_of (out-Instr i) ≡ Some (callee.Entry ty table) → Led V d (carried_out V us memory (under_of cs t) (indirect ty table t.act)) (Unit {0}) (joined cs t) (joined ds new) c
-      → Led V d (next_of V us memory (joined cs t).frames) (MayGrow (joined cs t).frames) (joined cs t) (joined ds new) c
-  led_entry ds new ty table q h =
-      led_step V (Unit {0}) (MayGrow (joined cs t).frames) (joined cs t) (joined ds new) c (λ _. call_may_grow V cs t i live e (some_called (out-Instr i) (callee.Entry ty table) q)) d _ _
-      (next_live ∙ entry_step V us t.act i e ty table q memory (under_of cs t)) h
-
   -- an instruction that doesn't call
-  module _ (u new : Top) (q : callee_of (out-Instr i) ≡ None) (eu : u ≡ with_act t (with_rest t.act (drop 1 t.act.rest))) (h : Acted d (acted V us memory (instr_move (V.declared u.act.unit) (out-Instr i) u.act)) (IsTrue (is_growth (out-Instr i))) u new c) where
+  module _ (u : Top) (q : callee_of (out-Instr i) ≡ None) (eu : u ≡ with_act t (with_rest t.act (drop 1 t.act.rest))) where
     past : Activation
     past = with_rest t.act (drop 1 t.act.rest)
 
@@ -158,15 +161,28 @@ module _ {Units : Type 0} (V : View Units) (us : Units) (memory : MemoryInstance
         rw (eu, next_live, step_is V us t.act i e memory (under_of cs t)) (
         acted-fits V us memory (under_of cs t) t.act.unit t.act.func (length t.act.locals) (instr_move (V.declared t.act.unit) (out-Instr i) past) (instr-stays (V.declared t.act.unit) (out-Instr i) past (none_called (out-Instr i) q)))
 
-    wants : IsJoined cs t → RoomsAre V (joined cs t) → StaysWithin V (next_of V us memory (joined cs t).frames) → IsTrue (is_growth (out-Instr i)) ⊎ LeadsPast u (acted V us memory (instr_move (V.declared u.act.unit) (out-Instr i) u.act)) → MayGrow (joined cs t).frames
+    pub within_plain : IsJoined cs t → RoomsAre V (joined cs t) → StaysWithin V (next_of V us memory (joined cs t).frames) → next_of V us memory (joined cs t).frames ≢ None → IsWithin u (acted V us memory (instr_move (V.declared u.act.unit) (out-Instr i) u.act))
     unfolding past
+    within_plain j r w m = within V cs t i live e u past _ _ j r eu fits w m
+
+module _ {Units : Type 0} (V : View Units) (us : Units) (memory : MemoryInstance) (cs : List Caller) (t : Top) (i : Instr) (d : Done) (c : Changes Units) (live : is_live t ≡ true) (e : Some i ≡ first_of t.act.rest) where
+  -- the entry of a table is called
+  pub led_entry : (ds : List Caller) (new : Top) (ty table : ℕ) → callee_of (out-Instr i) ≡ Some (callee.Entry ty table) → Led V d (carried_out V us memory (under_of cs t) (indirect ty table t.act)) (Unit {0}) (joined cs t) (joined ds new) c
+      → Led V d (next_of V us memory (joined cs t).frames) (MayGrow (joined cs t).frames) (joined cs t) (joined ds new) c
+  led_entry ds new ty table q h =
+      led_step V (Unit {0}) (MayGrow (joined cs t).frames) (joined cs t) (joined ds new) c (λ _. call_may_grow V cs t i live e (some_called (out-Instr i) (callee.Entry ty table) q)) d _ _
+      (next_live V us memory cs t i live e ∙ entry_step V us t.act i e ty table q memory (under_of cs t)) h
+
+  -- an instruction that doesn't call
+  module _ (u new : Top) (q : callee_of (out-Instr i) ≡ None) (eu : u ≡ with_act t (with_rest t.act (drop 1 t.act.rest))) (h : Acted d (acted V us memory (instr_move (V.declared u.act.unit) (out-Instr i) u.act)) (IsTrue (is_growth (out-Instr i))) u new c) where
+    wants : IsJoined cs t → RoomsAre V (joined cs t) → StaysWithin V (next_of V us memory (joined cs t).frames) → IsTrue (is_growth (out-Instr i)) ⊎ LeadsPast u (acted V us memory (instr_move (V.declared u.act.unit) (out-Instr i) u.act)) → MayGrow (joined cs t).frames
     wants j r w (inl g) = growth_may_grow V cs t i live e g
-    wants j r w (inr k) = absurd (not_past V cs t i live e u past _ _ j r eu fits w k)
+    wants j r w (inr k) = absurd (not_past V cs t i live e u (with_rest t.act (drop 1 t.act.rest)) _ _ j r eu (fits V us memory cs t i live e u q eu) w k)
 
     pub led_plain : IsJoined cs t → RoomsAre V (joined cs t) → StaysWithin V (next_of V us memory (joined cs t).frames) → Led V d (next_of V us memory (joined cs t).frames) (MayGrow (joined cs t).frames) (joined cs t) (joined cs new) c
-    led_plain j r w = led_acted V cs t u new (with_rest t.act (drop 1 t.act.rest)) c _ _ live eu d _ _ t.act.unit t.act.func fits (wants j r w) h
+    led_plain j r w = led_acted V cs t u new (with_rest t.act (drop 1 t.act.rest)) c _ _ live eu d _ _ t.act.unit t.act.func (fits V us memory cs t i live e u q eu) (wants j r w) h
 
     pub rooms_plain : RoomsAre V (joined cs t) → new ≡ with_act u new.act → d ≡ done.Goes → RoomsAre V (joined cs new)
     rooms_plain r en goes =
-        let w = act_within V cs t u new (with_rest t.act (drop 1 t.act.rest)) c (IsTrue (is_growth (out-Instr i))) (Unit {0}) live eu d _ _ t.act.unit t.act.func fits h goes in
+        let w = act_within V cs t u new (with_rest t.act (drop 1 t.act.rest)) c (IsTrue (is_growth (out-Instr i))) (Unit {0}) live eu d _ _ t.act.unit t.act.func (fits V us memory cs t i live e u q eu) h goes in
         rooms_kept cs t new new.act live (twice t u new _ _ eu en) V r w.0 w.1

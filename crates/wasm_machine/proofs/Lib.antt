@@ -19,3 +19,4 @@ pub mod Under
 pub mod Courses
 pub mod Steps
 pub mod Passing
+pub mod Stepping

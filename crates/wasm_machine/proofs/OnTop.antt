@@ -72,6 +72,10 @@ idle_of (caller.Active p ∷ rs) t h = absurd h
 pub is_idle : (rs : List Caller) (t : Top) → IsOnTop rs t → is_live t ≡ false → IsIdle t
 is_idle rs t h e = idle_of rs t (rw e at h.top)
 
+-- where nothing is on top, nothing remains to be run
+pub none_remain : (cs : List Caller) (t : Top) → IsJoined cs t → is_live t ≡ false → t.act.rest ≡ []
+none_remain cs t h e = (is_idle (reverse cs) t (from_joined cs (reverse cs) t refl h) e).rest
+
 pub stack_live : (rs : List Caller) (t : Top) → is_live t ≡ true → stack_on rs t ≡ record { frames = Active t.act ∷ frames_at rs t.under t.outer; rooms = t.room ∷ rooms_at rs }
 stack_live rs t e = rw e refl
 
@@ -85,8 +89,8 @@ more_room rs t cap h q = record { lies = LieWell_more rs t.under t.outer t.capac
   where
     top_more : (b : Bool) (rs' : List Caller) → IsTopOf t b rs' → IsTopOf (record t { capacity = cap }) b rs'
     top_more true rs' k = k
-    top_more false [] k = record { nesting = k.nesting; room = k.room; locals = k.locals; values = k.values; levels = k.levels }
-    top_more false (caller.Mark tag ∷ rs') k = record { nesting = k.nesting; room = k.room; locals = k.locals; values = k.values; levels = k.levels }
+    top_more false [] k = record { nesting = k.nesting; room = k.room; locals = k.locals; values = k.values; levels = k.levels; rest = k.rest }
+    top_more false (caller.Mark tag ∷ rs') k = record { nesting = k.nesting; room = k.room; locals = k.locals; values = k.values; levels = k.levels; rest = k.rest }
     top_more false (caller.Active p ∷ rs') k = k
 
 module _ (rs : List Caller) (t t' : Top) (w : Widened t t') where

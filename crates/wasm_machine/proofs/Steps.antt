@@ -1,5 +1,5 @@
 -- What is told of a step that was made, and what further steps of code make of a run.
-use Rattle.std.proofs.Common.{◌≡◌, ◌≢◌, ◌⊎◌, ℕ, suc, ◌<◌, ◌≤◌, List, [], ◌∷◌, map, reverse, Option, Some, Bool, true, false, refl, sym, ap, ◌∙◌, subst, inl, inr, ⊎_elim, arith}
+use Rattle.std.proofs.Common.{◌≡◌, ◌≢◌, ◌⊎◌, ℕ, zero, suc, ◌+◌, ◌<◌, ◌≤◌, List, [], ◌∷◌, map, reverse, Option, Some, Bool, true, false, refl, sym, ap, ◌∙◌, subst, inl, inr, ⊎_elim, arith}
 use Rattle.std.proofs.lemmas.Bool.{cases_lt}
 use Rattle.wasm_form.specs.declared.runtime.Trap.{Trap}
 use Rattle.wasm_form.specs.declared.runtime.Value.{Value}
@@ -18,6 +18,7 @@ use Rattle.wasm_machine.specs.declared.machine.Standing.TheVariants as standing
 use Rattle.wasm_machine.specs.declared.event.Event.{Event}
 use Rattle.wasm_machine.specs.declared.event.Event.TheVariants as event
 use Rattle.spec_safety.specs.spec_runtime.Courses.{Course, after, state_at, status_at, IsAt, with_step}
+use Rattle.wasm_machine.specs.Iterated.{Iterated}
 use Rattle.wasm_machine.specs.Steps.{TellsStatus, event_of, steps_told, StepMade, RunStepped, Advances, AreOfCode}
 use Rattle.wasm_machine.proofs.Courses.{TakesLast, at_moved}
 
@@ -39,15 +40,17 @@ pub taken_goes : {Units Mark : Type 0} (a : Answer) (s : State Units Mark) → w
 taken_goes (answer.Reply results writes) s = returned_goes (record s { memory = all_written writes s.memory }) (reverse (map Num results)) s.stack
 taken_goes (answer.Exit code) s = refl
 
--- where no step was made in few bytes, memory wasn't wanting
-pub left_found : (d : Done)
-    → (d ≡ done.Stuck) ⊎ (d ≡ done.Exited) ⊎ (d ≡ done.Marked) ⊎ (d ≡ done.Deep) ⊎ (d ≡ done.Outside)
-    → d ≢ done.NoMemory
-left_found d (inl e) none = cc
-left_found d (inr (inl e)) none = cc
-left_found d (inr (inr (inl e))) none = cc
-left_found d (inr (inr (inr (inl e)))) none = cc
-left_found d (inr (inr (inr (inr e)))) none = cc
+-- where no step was made in few bytes, code didn't go on, and memory wasn't wanting
+abbrev pub IsLeft : Done → Type 0
+IsLeft d = (d ≡ done.Stuck) ⊎ (d ≡ done.Exited) ⊎ (d ≡ done.Marked) ⊎ (d ≡ done.Deep) ⊎ (d ≡ done.Outside)
+
+module _ (d : Done) where
+  pub left_more : IsLeft d → d ≢ done.Goes
+  left_more (inl e) goes = cc
+  left_more (inr (inl e)) goes = cc
+  left_more (inr (inr (inl e))) goes = cc
+  left_more (inr (inr (inr (inl e)))) goes = cc
+  left_more (inr (inr (inr (inr e)))) goes = cc
 
 pub one_told : (st : Standing) → steps_told (event_of st) ≡ 1
 one_told standing.Moving = refl
@@ -120,9 +123,6 @@ abbrev pub advanced : Recorded → ℕ → Bool → Recorded
 advanced x steps lost = record x { steps = steps; lost = lost }
 
 -- no step was made
-pub none_advances : (most : ℕ) (x : Recorded) → Advances most x x
-none_advances most x = record { same = refl; more = omega arith; few = inl refl }
-
 pub none_of_code : (C : Course) (x : Recorded) → AreOfCode C x x
 none_of_code C x = record { free = λ k from to. absurd (omega arith); unasked = λ at more. absurd (omega arith) }
 
@@ -194,3 +194,34 @@ module _ (C : Course) (v x : Recorded) (same : x.answers ≡ v.answers) (code : 
             subst (λ n. waits (C.system.status (after C n x.answers).state) ≡ false) (sym e)
             (ap (λ (s : C.system.State). waits (C.system.status s)) m.2 ∙ goes);
       }
+
+-- a step that passes no limit of depth and leads to a state that goes on
+abbrev pub OneStep : (C : Course) → C.system.State → C.system.State → Type 0
+OneStep C s t = (C.deep s ≡ false) × (C.system.step s ≡ Some t) × (C.system.status t ≡ Moving)
+
+module _ (C : Course) (v : Recorded) (at : IsAt C v) (moving : status_at C v ≡ Moving) where
+  -- the run stands at a state after so many steps in all
+  pub record IsReached (steps : ℕ) (t : C.system.State) : Type 0 where
+    pub stands : IsAt C (advanced v steps v.lost)
+    pub reaches : state_at C (advanced v steps v.lost) ≡ t
+    pub goes : C.system.status t ≡ Moving
+    pub code : AreOfCode C v (advanced v steps v.lost)
+
+  pub made_many : (n steps : ℕ) (t : C.system.State) → steps ≡ v.steps + n → Iterated (OneStep C) n (state_at C v) t → IsReached steps t
+  made_many zero steps t e same =
+      let none : steps ≡ v.steps = omega arith in
+      let kept = kept_at C v at steps v.lost at.found none in
+      record { stands = kept.0; reaches = kept.1 ∙ sym same; goes = ap C.system.status same ∙ moving; code = kept_code C v v refl (none_of_code C v) at steps v.lost none }
+  made_many (suc n) steps t e made =
+      let r = made_many n (v.steps + n) made.0 refl made.1 in
+      let x = advanced v (v.steps + n) v.lost in
+      let one : steps ≡ suc x.steps = omega arith in
+      let on : status_at C x ≡ Moving = ap C.system.status r.reaches ∙ r.goes in
+      let flat : C.deep (state_at C x) ≡ false = ap C.deep r.reaches ∙ made.2.0 in
+      let step : C.system.step (state_at C x) ≡ Some t = ap C.system.step r.reaches ∙ made.2.1 in
+      let m = made_one C x r.stands steps v.lost at.found t on step one in
+      record { stands = m.0; reaches = m.1; goes = made.2.2; code = made_code C v x refl r.code r.stands steps v.lost t on flat step (ap waits made.2.2) one }
+
+-- up to so many in all
+pub many_advances : (most : ℕ) (v : Recorded) (n : ℕ) → v.steps + n ≤ most → Advances most v (advanced v (v.steps + n) v.lost)
+many_advances most v n few = record { same = refl; more = omega arith; few = inr few }

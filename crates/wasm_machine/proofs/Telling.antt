@@ -61,6 +61,11 @@ module _ {Units : Type 0} (V : View Units) (Wanting : Type 0) (us : Units) (memo
 
 -- ---- one step that is told in few bytes
 
+-- a sound step is there
+pub always_moves : {Units : Type 0} (V : View Units) (next : Option (Next Units ℕ)) → NextIsSound V next → next ≢ None
+always_moves V None n e = n.0
+always_moves V (Some step) n e = absurd cc
+
 module _ {Units : Type 0} (V : View Units) (Wanting : Type 0) (old new : CallStack) (c : Changes Units) where
   pub returned_same : (next : Option (Next Units ℕ)) → Led V done.Returned next Wanting old new c → AreSame c
   returned_same None l = absurd l
@@ -129,6 +134,9 @@ module _ {Units : Type 0} (V : View Units) (us : Units) (memory : MemoryInstance
 
   pub here_within : StaysWithin V (next_of V us memory (joined cs t).frames)
   here_within = stays_within V (next_of V us memory (joined cs t).frames) here_sound
+
+  pub here_moves : next_of V us memory (joined cs t).frames ≢ None
+  here_moves = always_moves V (next_of V us memory (joined cs t).frames) here_sound
 
   pub here_in_range : AreInRange (V.counts t.act.unit) t.act.rest
   here_in_range =

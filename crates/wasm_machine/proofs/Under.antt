@@ -1,5 +1,5 @@
 -- A step keeps what lies under, and one that goes on or asks a host function leaves something on the call stack.
-use Rattle.std.proofs.Common.{◌≡◌, ℕ, zero, suc, List, [], ◌∷◌, Option, Some, None, Bool, true, false, refl}
+use Rattle.std.proofs.Common.{◌≡◌, ◌≢◌, ℕ, zero, suc, List, [], ◌∷◌, Option, Some, None, Bool, true, false, refl}
 use Rattle.std.specs.Prelude.{IfSome, reverse}
 use Rattle.wasm_form.specs.declared.types.FuncType.{FuncType}
 use Rattle.wasm_form.specs.declared.runtime.Ref.{Ref}
@@ -18,11 +18,69 @@ use Rattle.spec_safety.specs.spec_execution.Views.{View, type_of, loader_type, E
 use Rattle.spec_safety.specs.spec_execution.Views as effects
 use Rattle.spec_safety.specs.spec_execution.Runs.{Frame, Active, Marked, Traps, Caller, call_own, call_host, call_loader, call, calling, call_entry, given, left_with, effected_with, carried_out}
 use Rattle.wasm_machine.specs.Machines.{next_of}
-use Rattle.wasm_machine.specs.Marks.{LiesUnder, AreMarks, AreMarksOver, IsStack, IsStackOver, KeepsOver, KeepsUnder}
+use Rattle.wasm_machine.specs.Marks.{LiesUnder, AreMarks, AreMarksOver, IsStack, IsStackOver, Keeps, KeepsOver, KeepsUnder}
 
 if_there : {X Y : Type 0} (P : Y → Type 0) (b : Bool) (x : X) (f : X → Option Y) → (b ≡ true → IfSome (f x) P) → IfSome (only_if b x >>= f) P
 if_there P true x f k = k refl
 if_there P false x f k = tt
+
+-- What a step leaves on the call stack is so, if it is so of an activation over a stack of which `Q` is so, and where values are given to what is on
+-- top of such a stack.
+module _ (P Q : List (Frame ℕ) → Type 0) (top : (a : Activation) (frames : List (Frame ℕ)) → Q frames → P (Active a ∷ frames)) (back : (values : List Value) (f : Frame ℕ) (frames : List (Frame ℕ)) → Q (f ∷ frames) → P (given values f ∷ frames)) {Units : Type 0} (V : View Units) (us : Units) (memory : MemoryInstance) where
+  own_keeps : (caller : Caller ℕ) (values : List Value) → ((vs : List Value) → Q (caller vs)) → (unit f : ℕ) → IfSome (call V us memory caller values (Own unit f)) (Keeps P V)
+  own_keeps caller values k unit f =
+      each (Keeps P V) (V.code unit f) (call_own us memory caller values unit f)
+      (λ x. each (Keeps P V) (take_values (reverse x.ty.params) values) _ (λ p. top _ (caller p.1) (k p.1)))
+
+  host_keeps : (caller : Caller ℕ) (values : List Value) → ((vs : List Value) → P (caller vs)) → (entry : ℕ) → IfSome (call V us memory caller values (Host entry)) (Keeps P V)
+  host_keeps caller values k entry =
+      each (Keeps P V) (V.host entry) (call_host {Units = Units} caller values entry)
+      (λ ty. each (Keeps P V) (take_values (reverse ty.params) values) _ (λ p. k p.1))
+
+  call_keeps : (caller : Caller ℕ) (values : List Value) → ((vs : List Value) → P (caller vs)) → ((vs : List Value) → Q (caller vs)) → (r : Ref) → IfSome (call V us memory caller values r) (Keeps P V)
+  call_keeps caller values k q (Own unit f) = own_keeps caller values q unit f
+  call_keeps caller values k q (Host entry) = host_keeps caller values k entry
+  call_keeps caller values k q (Loader which) =
+      if_there (Keeps P V) V.has_loader (loader_type which) (call_loader {Units = Units} caller values which)
+      (λ there. each (Keeps P V) (take_values (reverse (loader_type which).params) values) _ (λ p. (there, k p.1)))
+  call_keeps caller values k q (Stub unit f) = each (Keeps P V) (V.stub unit f) _ (λ ty. each (Keeps P V) (take_values (reverse ty.params) values) _ (λ p. tt))
+
+  module _ (frames : List (Frame ℕ)) (code : (a : Activation) → Q (Active a ∷ frames)) (h : Q frames) where
+    from_keeps : (a : Activation) (r : Ref) → IfSome (call V us memory (calling a frames) a.values r) (Keeps P V)
+    from_keeps a r = call_keeps (calling a frames) a.values (λ vs. top _ frames h) (λ vs. code _) r
+
+    entry_keeps : (a : Activation) (ty : FuncType) (o : Option (Option Ref)) → IfSome (call_entry V us memory frames a ty o) (Keeps P V)
+    entry_keeps a ty None = tt
+    entry_keeps a ty (Some None) = tt
+    entry_keeps a ty (Some (Some r)) =
+        each (Keeps P V) (type_of V r) _
+        (λ found. either_way (Keeps P V) (same_function_type found ty) (call V us memory (calling a frames) a.values r) (Some (Traps trap.WrongType)) (from_keeps a r) tt)
+
+    effected_keeps : (a : Activation) (e : Effected Units) → Keeps P V (effected_with frames a e)
+    effected_keeps a (effects.Gives values units space) = top _ frames h
+    effected_keeps a (effects.Traps why) = tt
+
+  left_keeps : (values : List Value) (frames : List (Frame ℕ)) → Q frames → Keeps P V (left_with us memory values frames)
+  left_keeps values [] h = tt
+  left_keeps values (f ∷ fs) h = back values f fs h
+
+  module _ (code : (a : Activation) (frames : List (Frame ℕ)) → Q frames → Q (Active a ∷ frames)) where
+    move_keeps : (frames : List (Frame ℕ)) (m : Move) → Q frames → IfSome (carried_out V us memory frames m) (Keeps P V)
+    move_keeps frames (On a) h = top a frames h
+    move_keeps frames (Calls f a) h = each (Keeps P V) (V.target a.unit f) _ (from_keeps frames (λ b. code b frames h) h a)
+    move_keeps frames (CallsEntry t ty i a) h =
+        each (Keeps P V) (V.table us a.unit t) _ (λ table. each (Keeps P V) (V.declared a.unit ty) _ (λ f. entry_keeps frames (λ b. code b frames h) h a f (entry_at table i)))
+    move_keeps frames (Refers f a) h = each (Keeps P V) (V.target a.unit f) _ (λ r. top _ frames h)
+    move_keeps frames (Does effect a) h = each (Keeps P V) (performed V us memory a.unit effect) _ (effected_keeps frames (λ b. code b frames h) h a)
+    move_keeps frames (Leaves values) h = left_keeps values frames h
+    move_keeps frames (Fails why) h = tt
+    move_keeps frames Stuck h = tt
+
+-- something is left on it
+pub some_left : {Units : Type 0} (V : View Units) (us : Units) (memory : MemoryInstance) (frames : List (Frame ℕ)) → IfSome (next_of V us memory frames) (Keeps (λ fs. fs ≢ []) V)
+some_left V us memory [] = tt
+some_left V us memory (Active a ∷ frames) = move_keeps (λ fs. fs ≢ []) (λ fs. Unit {0}) (λ b fs h e. cc) (λ values f fs h e. cc) V us memory (λ b fs h. tt) frames (move (V.declared a.unit) a) tt
+some_left V us memory (Marked tag ∷ frames) = tt
 
 module _ (L : ℕ → List (Frame ℕ) → Type 0) where
   on_top : (n : ℕ) (a : Activation) (frames : List (Frame ℕ)) → AreMarksOver L n frames → IsStackOver L n (Active a ∷ frames)
@@ -34,58 +92,19 @@ module _ (L : ℕ → List (Frame ℕ) → Type 0) where
   given_over zero values (Marked tag) frames h = h
   given_over (suc n) values (Marked tag) frames h = h
 
+  back_over : (n : ℕ) (values : List Value) (f : Frame ℕ) (frames : List (Frame ℕ)) → AreMarksOver L n (f ∷ frames) → IsStackOver L n (given values f ∷ frames)
+  back_over n values f frames h = record { some = λ e. cc; marks = given_over n values f frames h }
+
   module _ {Units : Type 0} (V : View Units) (us : Units) (memory : MemoryInstance) (n : ℕ) where
     pub own_over : (caller : Caller ℕ) (values : List Value) → ((vs : List Value) → AreMarksOver L n (caller vs)) → (unit f : ℕ) → IfSome (call V us memory caller values (Own unit f)) (KeepsOver L V n)
-    own_over caller values k unit f =
-        each (KeepsOver L V n) (V.code unit f) (call_own us memory caller values unit f)
-        (λ x. each (KeepsOver L V n) (take_values (reverse x.ty.params) values) _ (λ p. on_top n _ (caller p.1) (k p.1)))
-
-    host_over : (caller : Caller ℕ) (values : List Value) → ((vs : List Value) → IsStackOver L n (caller vs)) → (entry : ℕ) → IfSome (call V us memory caller values (Host entry)) (KeepsOver L V n)
-    host_over caller values k entry =
-        each (KeepsOver L V n) (V.host entry) (call_host {Units = Units} caller values entry)
-        (λ ty. each (KeepsOver L V n) (take_values (reverse ty.params) values) _ (λ p. k p.1))
+    own_over = own_keeps (IsStackOver L n) (AreMarksOver L n) (on_top n) (back_over n) V us memory
 
     pub call_over : (caller : Caller ℕ) (values : List Value) → ((vs : List Value) → IsStackOver L n (caller vs)) → (r : Ref) → IfSome (call V us memory caller values r) (KeepsOver L V n)
-    call_over caller values k (Own unit f) = own_over caller values (λ vs. (k vs).marks) unit f
-    call_over caller values k (Host entry) = host_over caller values k entry
-    call_over caller values k (Loader which) =
-        if_there (KeepsOver L V n) V.has_loader (loader_type which) (call_loader {Units = Units} caller values which)
-        (λ there. each (KeepsOver L V n) (take_values (reverse (loader_type which).params) values) _ (λ p. (there, k p.1)))
-    call_over caller values k (Stub unit f) = each (KeepsOver L V n) (V.stub unit f) _ (λ ty. each (KeepsOver L V n) (take_values (reverse ty.params) values) _ (λ p. tt))
-
-    module _ (frames : List (Frame ℕ)) (h : AreMarksOver L n frames) where
-      from_over : (a : Activation) (r : Ref) → IfSome (call V us memory (calling a frames) a.values r) (KeepsOver L V n)
-      from_over a r = call_over (calling a frames) a.values (λ vs. on_top n _ frames h) r
-
-      entry_over : (a : Activation) (ty : FuncType) (o : Option (Option Ref)) → IfSome (call_entry V us memory frames a ty o) (KeepsOver L V n)
-      entry_over a ty None = tt
-      entry_over a ty (Some None) = tt
-      entry_over a ty (Some (Some r)) =
-          each (KeepsOver L V n) (type_of V r) _
-          (λ found. either_way (KeepsOver L V n) (same_function_type found ty) (call V us memory (calling a frames) a.values r) (Some (Traps trap.WrongType)) (from_over a r) tt)
-
-      effected_over : (a : Activation) (e : Effected Units) → KeepsOver L V n (effected_with frames a e)
-      effected_over a (effects.Gives values units space) = on_top n _ frames h
-      effected_over a (effects.Traps why) = tt
-
-    pub left_over : (values : List Value) (frames : List (Frame ℕ)) → AreMarksOver L n frames → KeepsOver L V n (left_with us memory values frames)
-    left_over values [] h = tt
-    left_over values (f ∷ fs) h = record { some = λ e. cc; marks = given_over n values f fs h }
-
-    move_over : (frames : List (Frame ℕ)) (m : Move) → AreMarksOver L n frames → IfSome (carried_out V us memory frames m) (KeepsOver L V n)
-    move_over frames (On a) h = on_top n a frames h
-    move_over frames (Calls f a) h = each (KeepsOver L V n) (V.target a.unit f) _ (from_over frames h a)
-    move_over frames (CallsEntry t ty i a) h =
-        each (KeepsOver L V n) (V.table us a.unit t) _ (λ table. each (KeepsOver L V n) (V.declared a.unit ty) _ (λ f. entry_over frames h a f (entry_at table i)))
-    move_over frames (Refers f a) h = each (KeepsOver L V n) (V.target a.unit f) _ (λ r. on_top n _ frames h)
-    move_over frames (Does effect a) h = each (KeepsOver L V n) (performed V us memory a.unit effect) _ (effected_over frames h a)
-    move_over frames (Leaves values) h = left_over values frames h
-    move_over frames (Fails why) h = tt
-    move_over frames Stuck h = tt
+    call_over caller values k = call_keeps (IsStackOver L n) (AreMarksOver L n) (on_top n) (back_over n) V us memory caller values k (λ vs. (k vs).marks)
 
     pub step_over : (frames : List (Frame ℕ)) → AreMarksOver L n frames → IfSome (next_of V us memory frames) (KeepsOver L V n)
     step_over [] h = tt
-    step_over (Active a ∷ frames) h = move_over frames (move (V.declared a.unit) a) h
+    step_over (Active a ∷ frames) h = move_keeps (IsStackOver L n) (AreMarksOver L n) (on_top n) (back_over n) V us memory (λ b fs k. k) frames (move (V.declared a.unit) a) h
     step_over (Marked tag ∷ frames) h = tt
 
 -- ---- where nothing lies under the first mark, and an activation under each other

@@ -4,3 +4,4 @@ pub mod Whole
 pub mod Outside
 pub mod Marks
 pub mod Steps
+pub mod Iterated

@@ -32,6 +32,7 @@ use Rattle.wasm_step.specs.Tops.{height_of}
 use Rattle.wasm_step.specs.Primitives.{number_on, with_rest}
 use Rattle.wasm_view.specs.Seen.{Seen}
 use Rattle.wasm_machine.specs.Stacks.{CallStack, empty_stack, most_blocks}
+use Rattle.wasm_machine.specs.Iterated.{Iterated}
 use Rattle.wasm_step.specs.Moves.{Changes, AreSame, between}
 use Rattle.wasm_step.specs.Named.{is_call, is_growth}
 use Rattle.wasm_machine.specs.declared.machine.Standing.{Standing}
@@ -416,3 +417,40 @@ QuickStepped V done.Marked old new c = IsMarked old × (new ≡ old) × AreSame 
 QuickStepped V done.Deep old new c = Stepped V event.Deep old new c
 QuickStepped V done.Outside old new c = IsCallingOutside V c.old_units old × (new ≡ old) × AreSame c × LeavesCode (next_of V c.old_units c.old_memory old.stack.frames)
 QuickStepped V done.NoMemory old new c = IsWanting old × (new ≡ lost_machine) × AreSame c
+
+-- ---- many steps
+
+-- a machine that goes on
+abbrev pub going : CallStack → MachineState
+going s = record { stack = s; standing = standing.Moving }
+
+-- an end, or that no memory was found, is kept
+abbrev pub settled : Done → CallStack → MachineState
+settled done.Returned s = ended standing.Returned
+settled (done.Trapped why) s = ended (standing.Trapped why)
+settled done.NoMemory s = lost_machine
+settled _ s = going s
+
+-- A machine, with the units and the memory of its view.
+pub record Point (Units : Type 0) : Type 0 where
+  pub machine : MachineState
+  pub units : Units
+  pub memory : MemoryInstance
+
+abbrev pub at_point : {Units : Type 0} → MachineState → Seen Units → Point Units
+at_point m w = record { machine = m; units = w.units; memory = w.memory }
+
+abbrev pub passed : {Units : Type 0} → Point Units → Point Units → Changes Units
+passed p q = record { old_units = p.units; old_memory = p.memory; new_units = q.units; new_memory = q.memory }
+
+-- a step after which code goes on, and the machine stands over its view
+abbrev pub GoesOn : {Units : Type 0} → View Units → Point Units → Point Units → Type 0
+GoesOn V p q = QuickStepped V done.Goes p.machine q.machine (passed p q) × IsOver V q.units q.memory q.machine
+
+-- this is what one step more comes to; `Goes` says that none was made
+abbrev pub Stops : {Units : Type 0} → View Units → Done → Point Units → Point Units → Type 0
+Stops V d p q = ((d ≡ done.Goes) × (q ≡ p)) ⊎ ((d ≢ done.Goes) × QuickStepped V d p.machine q.machine (passed p q))
+
+-- so many steps, and then what one more comes to
+abbrev pub Runs : {Units : Type 0} → View Units → ℕ → Done → Point Units → Point Units → Type 0
+Runs {Units} V n d p q = (r : Point Units) × Iterated (GoesOn V) n p r × Stops V d r q

@@ -42,13 +42,16 @@ pub record IsStackOver (L : ℕ → List (Frame ℕ) → Type 0) (n : ℕ) (fram
 abbrev pub IsStack : ℕ → List (Frame ℕ) → Type 0
 IsStack = IsStackOver LiesUnder
 
--- what a step leaves on the call stack; a function of the loader is called only where there are those
+-- this is so of what a step leaves on the call stack; a function of the loader is called only where there are those
+abbrev pub Keeps : (List (Frame ℕ) → Type 0) → {Units : Type 0} → View Units → Next Units ℕ → Type 0
+Keeps P V (Goes us memory frames) = P frames
+Keeps P V (Asks entry args frames) = P frames
+Keeps P V (Loads which args frames) = (V.has_loader ≡ true) × P frames
+Keeps P V Ends = Unit {0}
+Keeps P V (Traps why) = Unit {0}
+
 abbrev pub KeepsOver : (ℕ → List (Frame ℕ) → Type 0) → {Units : Type 0} → View Units → ℕ → Next Units ℕ → Type 0
-KeepsOver L V n (Goes us memory frames) = IsStackOver L n frames
-KeepsOver L V n (Asks entry args frames) = IsStackOver L n frames
-KeepsOver L V n (Loads which args frames) = (V.has_loader ≡ true) × IsStackOver L n frames
-KeepsOver L V n Ends = Unit {0}
-KeepsOver L V n (Traps why) = Unit {0}
+KeepsOver L V n next = Keeps (IsStackOver L n) V next
 
 abbrev pub KeepsUnder : {Units : Type 0} → View Units → ℕ → Next Units ℕ → Type 0
 KeepsUnder V n next = KeepsOver LiesUnder V n next

@@ -1,5 +1,5 @@
 // Calls and returns (section 4.4.10), and one step of the code on top.
-ghost use Rattle.std.specs.Prelude.{◌≡◌, ◌≢◌, ◌<◌, ◌≤◌, ◌+◌, [], drop, length, true, false, Some};
+ghost use Rattle.std.specs.Prelude.{◌≡◌, ◌≢◌, ◌<◌, ◌≤◌, ◌+◌, [], drop, length, true, false, None, Some};
 ghost use Rattle.spec_safety.specs.spec_execution.Limits.{most_activations, most_values, passes_limit};
 ghost use Rattle.spec_safety.specs.spec_execution.Ranges.{HoldsAll, AreInRange, Exists};
 ghost use Rattle.spec_safety.specs.spec_execution.Views.{type_of as type_seen};
@@ -13,6 +13,7 @@ ghost use Rattle.wasm_machine.specs.Machines.{Leads, Advances, StaysWithin, next
 
 use crate::callers::{Caller, Callers};
 use std::alloc::Global;
+use std::mem;
 use wasm_form::{FuncType, Instr, Ref, Trap};
 use wasm_step::{Current, Done, instruction};
 use wasm_view::View;
@@ -36,7 +37,13 @@ fn passes_over(count: usize, taken: usize, room: usize) -> bool
 }
 
 /// Leaves the innermost block at its end, or the activation whose body is done.
-fn end<'m, V: View<'m>>(callers: &mut Callers<'m>, top: &mut Current<'m>, view: &V) -> Done
+#[inline(always)]
+fn end<'m, V: View<'m>>(
+    callers: &mut Callers<'m>,
+    top: &mut Current<'m>,
+    spare: &mut Current<'m>,
+    view: &V,
+) -> Done
     requires joined { IsJoined callers.old top.old }
     requires live { is_live top.old ≡ true }
     requires done { top.old.act.rest ≡ [] }
@@ -52,10 +59,14 @@ fn end<'m, V: View<'m>>(callers: &mut Callers<'m>, top: &mut Current<'m>, view: 
     if top.height() != top.results() {
         return Done::Stuck;
     }
-    finish(callers, top)
+    mem::swap(top, spare);
+    let done = finish(callers, spare);
+    mem::swap(top, spare);
+    done
 }
 
 /// Gives the values on top to what called.
+#[inline(never)]
 fn finish<'m>(callers: &mut Callers<'m>, top: &mut Current<'m>) -> Done
     requires joined { IsJoined callers.old top.old }
     requires live { is_live top.old ≡ true }
@@ -163,6 +174,7 @@ fn is_same_type(one: &FuncType, other: &FuncType) -> bool
 }
 
 /// Calls the function of a table at the index on top, which has to be of a type.
+#[inline(never)]
 fn call_indirect<'m, V: View<'m>>(
     callers: &mut Callers<'m>,
     top: &mut Current<'m>,
@@ -201,6 +213,7 @@ fn call_indirect<'m, V: View<'m>>(
 }
 
 /// Calls a function of the unit.
+#[inline(never)]
 fn call<'m, V: View<'m>>(
     callers: &mut Callers<'m>,
     top: &mut Current<'m>,
@@ -245,11 +258,12 @@ fn named_callee(i: &Instr) -> Option<Callee>
     }
 }
 
-/// One step of the code on top.
+/// One step of the code on top. A function that isn't inlined works on it in `spare`, so that the fields of `top` may be kept in registers.
 #[inline(always)]
 pub(crate) fn advance<'m, V: View<'m>>(
     callers: &mut Callers<'m>,
     top: &mut Current<'m>,
+    spare: &mut Current<'m>,
     alloc: Global,
     view: &mut V,
 ) -> Done
@@ -260,22 +274,34 @@ pub(crate) fn advance<'m, V: View<'m>>(
     requires holds { HoldsAll (V.seen view.old).fixed (V.seen view.old).units }
     requires rest { AreInRange ((V.seen view.old).fixed.counts top.old.act.unit) top.old.act.rest }
     requires within { StaysWithin (V.seen view.old).fixed (next_in (V.seen view.old) (joined callers.old top.old).frames) }
+    requires moves { next_in (V.seen view.old) (joined callers.old top.old).frames ≢ None }
     ensures led { Advances result (joined callers.old top.old) (joined callers.new top.new) (V.seen view.old) (V.seen view.new) }
     ensures outside { result ≡ Done.Outside → calls_outside (V.seen view.old).fixed (V.seen view.old).units top.old.act ≡ true }
     ensures joined { result ≢ Done.NoMemory → IsJoined callers.new top.new }
     ensures rooms { result ≡ Done.Goes → RoomsAre (V.seen view.old).fixed (joined callers.new top.new) }
     ensures fixed { (V.seen view.new).fixed ≡ (V.seen view.old).fixed }
 {
+    let rest = top.rest();
     let Some(i) = top.peek() else {
-        return end(callers, top, view);
+        return end(callers, top, spare, view);
     };
+    top.advance();
     match named_callee(i) {
-        Some(Callee::Function(f)) => call(callers, top, alloc, view, f),
-        Some(Callee::Entry { ty, table }) => call_indirect(callers, top, alloc, view, ty, table),
-        None => {
-            top.advance();
-            instruction(top, alloc, view, i)
+        Some(Callee::Function(f)) => {
+            top.set_rest(rest);
+            mem::swap(top, spare);
+            let done = call(callers, spare, alloc, view, f);
+            mem::swap(top, spare);
+            done
         }
+        Some(Callee::Entry { ty, table }) => {
+            top.set_rest(rest);
+            mem::swap(top, spare);
+            let done = call_indirect(callers, spare, alloc, view, ty, table);
+            mem::swap(top, spare);
+            done
+        }
+        None => instruction(top, spare, alloc, view, i),
     }
 }
 

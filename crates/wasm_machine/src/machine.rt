@@ -1,5 +1,5 @@
 // The machine.
-ghost use Rattle.std.specs.Prelude.{◌≡◌, ◌≢◌, ◌≤◌, ◌<◌, ◌^◌, [], ◌∷◌, ◌++◌, length, map, reverse, take, drop, is_some, true, slice_get, unwrap_or, All, IfOk, OnOk, OnErr, Some, IsTrue};
+ghost use Rattle.std.specs.Prelude.{◌≡◌, ◌≢◌, ◌≤◌, ◌<◌, ◌^◌, [], ◌∷◌, ◌++◌, length, map, reverse, take, drop, is_some, true, false, slice_get, unwrap_or, All, IfOk, OnOk, OnErr, Some, IsTrue};
 ghost use Rattle.spec_safety.specs.spec_binary.Indices.{nullary};
 ghost use Rattle.spec_safety.specs.spec_runtime.Hosts.{writes_fit, all_written};
 ghost use Rattle.spec_safety.specs.spec_execution.Values.{take_values, numbers_of};
@@ -8,16 +8,17 @@ ghost use Rattle.spec_safety.specs.spec_execution.Views.{type_of as type_seen};
 ghost use Rattle.spec_safety.specs.ValueTypes.{IsOfBytes};
 ghost use Rattle.wasm_step.specs.Tops.{with_act};
 ghost use Rattle.wasm_step.specs.Primitives.{HasSpare, IsIdle, Widened, with_rest};
-ghost use Rattle.wasm_machine.specs.Stacks.{empty_stack};
+ghost use Rattle.wasm_machine.specs.Stacks.{empty_stack, is_live, joined, IsJoined};
 ghost use Rattle.wasm_step.specs.Moves.{AreSame, between};
 ghost use Rattle.wasm_machine.specs.Machines.{IsOver, IsReady, IsStart, Stepped, QuickStepped, Told, IsWanting, FitsAnswer, Answered, IsCallingOutside, MayMark, Marks, IsMarked, IsExited, IsAtMark, Unmarks, IsExpecting, Received, IsEnd};
-ghost use Rattle.wasm_machine.specs.Machines.{Begins, next_in, is_deep_next, is_deep_call, lost_machine, ended, on_top};
+ghost use Rattle.wasm_machine.specs.Machines.{Begins, next_in, is_deep_next, is_deep_call, lost_machine, ended, going, settled, at_point, Runs, on_top};
 
 use crate::callers::{Caller, Callers};
 use crate::calls::{advance, begin_own, begin_passes, next_passes, outside_call};
 use crate::event::Event;
 use std::alloc::Global;
 use std::marker::Model;
+use std::mem;
 use wasm_form::{Answer, Asked, List, Memory, Ref, Trap, ValType, Value, Write};
 use wasm_step::{Current, Done};
 use wasm_view::View;
@@ -178,8 +179,7 @@ impl<'m> Machine<'m> {
     }
 
     /// Makes one step, as `step` does, and answers in few bytes: `Outside`, `Exited` and `Marked` don't tell what takes more.
-    #[inline(always)]
-    pub fn quick<V: View<'m>>(&mut self, alloc: Global, view: &mut V) -> Done
+    fn quick<V: View<'m>>(&mut self, alloc: Global, view: &mut V) -> Done
         requires over { IsOver (V.seen view.old).fixed (V.seen view.old).units (V.seen view.old).memory self.old }
         requires ready { IsReady self.old }
         ensures stepped { QuickStepped (V.seen view.old).fixed result self.old self.new (between (V.seen view.old) (V.seen view.new)) }
@@ -194,18 +194,33 @@ impl<'m> Machine<'m> {
             Standing::Lost => return Done::NoMemory,
             Standing::Asking(..) | Standing::Loading => unreachable!(),
         }
-        if !self.top.is_live() {
-            return Done::Marked;
-        }
-        let done = advance(&mut self.callers, &mut self.top, alloc, view);
-        match done {
-            Done::Goes | Done::Deep | Done::Outside => {}
-            Done::Returned => self.end(Standing::Returned),
-            Done::Trapped(trap) => self.end(Standing::Trapped(trap)),
-            Done::Stuck => unreachable!(),
-            _ => lose(&mut self.callers, &mut self.top, &mut self.standing),
-        }
-        done
+        self.run(alloc, view, 1).1
+    }
+
+    /// Makes steps of code, so many or fewer, while the code goes on: how many were made, and what the next one came to, or `Goes` where as
+    /// many were made. What is said of `quick` holds of this next step.
+    pub fn run<V: View<'m>>(&mut self, alloc: Global, view: &mut V, most: u64) -> (u64, Done)
+        requires over { IsOver (V.seen view.old).fixed (V.seen view.old).units (V.seen view.old).memory self.old }
+        requires ready { IsReady self.old }
+        requires moving { self.old.standing ≡ Standing.Moving }
+        ensures ran { Runs (V.seen view.old).fixed result.0 result.1 (at_point self.old (V.seen view.old)) (at_point self.new (V.seen view.new)) }
+        ensures over { IsOver (V.seen view.old).fixed (V.seen view.new).units (V.seen view.new).memory self.new }
+        ensures fixed { (V.seen view.new).fixed ≡ (V.seen view.old).fixed }
+        ensures most { result.1 ≡ Done.Goes → result.0 ≡ most }
+        ensures fewer { result.1 ≢ Done.Goes → result.0 < most }
+    {
+        let mut top = mem::replace(&mut self.top, Current::new(alloc));
+        let (made, done) = steps_of_code(
+            &mut self.callers,
+            &mut top,
+            &mut self.top,
+            alloc,
+            view,
+            most,
+        );
+        self.top = top;
+        settle(&mut self.callers, &mut self.top, &mut self.standing, done);
+        (made, done)
     }
 
     /// Makes one step of the code on top, tells the mark on top, or answers the end again. Without memory `Memory`, from then on:
@@ -417,10 +432,108 @@ impl<'m> Machine<'m> {
         requires { IsEnd standing }
         ensures { self.new ≡ ended standing }
     {
-        self.callers.clear();
-        self.top.clear();
-        self.standing = standing;
+        end_all(
+            &mut self.callers,
+            &mut self.top,
+            &mut self.standing,
+            standing,
+        );
     }
+}
+
+/// Whether code is on top. Where none is, nothing remains to be run: so a test of that comes first, which a step makes in any case.
+#[inline(always)]
+fn has_code(top: &Current) -> bool
+    requires { is_live top.now ≡ false → top.now.act.rest ≡ [] }
+    ensures { result ≡ is_live top.now }
+{
+    !top.rest().is_empty() || top.is_live()
+}
+
+/// One step of the code on top, whose end or loss is still to be kept.
+#[inline(always)]
+fn step_code<'m, V: View<'m>>(
+    callers: &mut Callers<'m>,
+    top: &mut Current<'m>,
+    spare: &mut Current<'m>,
+    alloc: Global,
+    view: &mut V,
+) -> Done
+    requires joined { IsJoined callers.old top.old }
+    requires over { IsOver (V.seen view.old).fixed (V.seen view.old).units (V.seen view.old).memory (going (joined callers.old top.old)) }
+    requires some { (joined callers.old top.old).frames ≢ [] }
+    ensures stepped { QuickStepped (V.seen view.old).fixed result (going (joined callers.old top.old)) (settled result (joined callers.new top.new)) (between (V.seen view.old) (V.seen view.new)) }
+    ensures over { IsOver (V.seen view.old).fixed (V.seen view.new).units (V.seen view.new).memory (settled result (joined callers.new top.new)) }
+    ensures joined { result ≢ Done.NoMemory → IsJoined callers.new top.new }
+    ensures fixed { (V.seen view.new).fixed ≡ (V.seen view.old).fixed }
+{
+    if !has_code(top) {
+        return Done::Marked;
+    }
+    advance(callers, top, spare, alloc, view)
+}
+
+/// Steps of the code on top while it goes on, so many or fewer: how many were made, and what the next one came to, whose end or loss is still
+/// to be kept.
+#[inline(always)]
+fn steps_of_code<'m, V: View<'m>>(
+    callers: &mut Callers<'m>,
+    top: &mut Current<'m>,
+    spare: &mut Current<'m>,
+    alloc: Global,
+    view: &mut V,
+    most: u64,
+) -> (u64, Done)
+    requires joined { IsJoined callers.old top.old }
+    requires over { IsOver (V.seen view.old).fixed (V.seen view.old).units (V.seen view.old).memory (going (joined callers.old top.old)) }
+    requires some { (joined callers.old top.old).frames ≢ [] }
+    ensures ran { Runs (V.seen view.old).fixed result.0 result.1 (at_point (going (joined callers.old top.old)) (V.seen view.old)) (at_point (settled result.1 (joined callers.new top.new)) (V.seen view.new)) }
+    ensures over { IsOver (V.seen view.old).fixed (V.seen view.new).units (V.seen view.new).memory (settled result.1 (joined callers.new top.new)) }
+    ensures joined { result.1 ≢ Done.NoMemory → IsJoined callers.new top.new }
+    ensures fixed { (V.seen view.new).fixed ≡ (V.seen view.old).fixed }
+    ensures most { result.1 ≡ Done.Goes → result.0 ≡ most }
+    ensures fewer { result.1 ≢ Done.Goes → result.0 < most }
+{
+    let mut made = 0;
+    'steps: while made < most {
+        let done = step_code(callers, top, spare, alloc, view);
+        if done != Done::Goes {
+            return (made, done);
+        }
+        made += 1;
+    }
+    (made, Done::Goes)
+}
+
+/// Keeps the end that a step came to, or that no memory was found.
+fn settle<'m>(callers: &mut Callers<'m>, top: &mut Current<'m>, standing: &mut Standing, done: Done)
+    requires moving { standing.old ≡ Standing.Moving }
+    requires joined { done ≢ Done.NoMemory → IsJoined callers.old top.old }
+    ensures settled { (record { stack = joined callers.new top.new; standing = standing.new }) ≡ settled done (joined callers.old top.old) }
+    ensures joined { IsJoined callers.new top.new }
+{
+    match done {
+        Done::Returned => end_all(callers, top, standing, Standing::Returned),
+        Done::Trapped(trap) => end_all(callers, top, standing, Standing::Trapped(trap)),
+        Done::NoMemory => end_all(callers, top, standing, Standing::Lost),
+        _ => {}
+    }
+}
+
+/// Nothing is left but an end.
+fn end_all<'m>(
+    callers: &mut Callers<'m>,
+    top: &mut Current<'m>,
+    standing: &mut Standing,
+    end: Standing,
+)
+    ensures callers { callers.new ≡ [] }
+    ensures idle { IsIdle top.new }
+    ensures standing { standing.new ≡ end }
+{
+    callers.clear();
+    top.clear();
+    *standing = end;
 }
 
 /// No memory was found: nothing is left.
@@ -429,9 +542,7 @@ fn lose<'m>(callers: &mut Callers<'m>, top: &mut Current<'m>, standing: &mut Sta
     ensures idle { IsIdle top.new }
     ensures standing { standing.new ≡ Standing.Lost }
 {
-    callers.clear();
-    top.clear();
-    *standing = Standing::Lost;
+    end_all(callers, top, standing, Standing::Lost);
 }
 
 /// Goes past a call whose arguments lie under the topmost `above` values, takes these and the arguments off, and takes room for

@@ -1,5 +1,5 @@
 -- What further steps of code make of the run.
-use Rattle.std.proofs.Common.{◌≡◌, ◌≢◌, ℕ, suc, ◌<◌, Ok, Bool, true, false, refl, sym, ap, ◌∙◌, subst, inl, inr}
+use Rattle.std.proofs.Common.{◌≡◌, ℕ, suc, ◌<◌, ◌≤◌, ◌+◌, Ok, Some, Bool, true, false, refl, sym, ap, ◌∙◌, subst, inl, inr}
 use Rattle.std.specs.Borrow.{Bor}
 use Rattle.wasm_form.specs.declared.module.Module.{Module}
 use Rattle.std.proofs.lemmas.Bool.{false≢true}
@@ -7,16 +7,16 @@ use Rattle.spec_safety.specs.spec_runs.Systems.{Moving}
 use Rattle.spec_safety.specs.spec_runtime.Recorded.{Recorded}
 use Rattle.spec_safety.specs.spec_execution.OneModule.{module_too_deep, ModuleState, module_step}
 use Rattle.wasm_machine.specs.declared.machine.Standing.TheVariants as standing
-use Rattle.spec_safety.specs.spec_runtime.Courses.{Course, state_at}
+use Rattle.spec_safety.specs.spec_runtime.Courses.{Course, state_at, status_at, IsAt}
+use Rattle.wasm_machine.specs.Iterated.{Iterated}
 use Rattle.wasm_machine.specs.Steps.{Advances, AreOfCode}
-use Rattle.wasm_machine.proofs.Steps.{advanced, none_advances, none_of_code, kept_advances, made_advances, kept_at, made_one, kept_code, made_code}
+use Rattle.wasm_machine.proofs.Steps.{advanced, kept_advances, made_advances, kept_at, made_one, kept_code, made_code, IsReached, made_many, many_advances}
 use Rattle.wasm_single.specs.declared.bare_run.Core.{Core}
-use Rattle.wasm_single.specs.declared.bare_run.Phase.TheVariants as phase
 use Rattle.wasm_single.specs.declared.single.Single.TheInside.{Inside}
-use Rattle.wasm_single.specs.Cores.{IsCore, IsState}
+use Rattle.wasm_single.specs.Cores.{IsCore, IsState, CodeStep}
 use Rattle.wasm_single.specs.Singles.{SingleRun, module_course, MayWant, MayWantAt}
 use Rattle.wasm_single.specs.Starts.{opened}
-use Rattle.wasm_single.specs.Steps.{IsMade, HasStopped, Counted}
+use Rattle.wasm_single.specs.Steps.{IsMade, HasStopped, Stopped, Counted}
 use Rattle.wasm_single.specs.Kept.{run_of, StandsFrom, IsSingle}
 use Rattle.wasm_single.proofs.Running.{stands_from}
 use Rattle.wasm_single.proofs.Stopping.{HasNoneLeft, none_left}
@@ -36,159 +36,144 @@ pub record IsAdvanced (most : ℕ) (v : SingleRun) (i : Inside) : Type 0 where
   pub left : HasNoneLeft most (run_of i)
   pub wants : i.lost ≡ true → MayWantAt v.wasm (run_of i).run
 
--- what is so of one that makes them
-pub record GoesOn (most : ℕ) (v : SingleRun) (i : Inside) : Type 0 where
-  pub single : IsSingle i
-  pub same : i.core.checked.now ≡ v.wasm
-  pub advances : Advances most v.run (run_of i).run
-  pub code : IsByCode v (run_of i).run
-  pub found : i.lost ≡ false
-  pub moving : i.core.machine.standing ≡ standing.Moving
-  pub called : i.core.phase ≢ phase.Opened
-
--- no step was made yet
-pub starts : (most : ℕ) (v : SingleRun) (i : Inside) → run_of i ≡ v → IsSingle i → i.lost ≡ false → i.core.machine.standing ≡ standing.Moving → i.core.phase ≢ phase.Opened → GoesOn most v i
-starts most v i is h found moving called =
-    let P : SingleRun → Type 0 = λ s. GoesOn most s i in
-    subst P is (record {
-      single = h;
-      same = refl;
-      advances = none_advances most (run_of i).run;
-      code = λ opening opens. none_of_code (module_course i.core.checked.now opening) (run_of i).run;
-      found = found;
-      moving = moving;
-      called = called;
-    })
-
--- the parts of a run after a step of code
+-- the parts of a run after steps of code
 abbrev pub counted : Inside → Core → ℕ → Bool → Inside
 counted i core steps lost = record i { core = core; steps = steps; lost = lost }
 
-module _ (most : ℕ) (v : SingleRun) (i : Inside) (core : Core) (steps : ℕ) (lost : Bool) (g : GoesOn most v i) (below : i.steps < most) (checked : core.checked ≡ i.core.checked) where
-  abbrev x : Recorded
-  x = (run_of i).run
+module _ (most : ℕ) (i : Inside) (core : Core) (steps : ℕ) (lost : Bool) (g : IsSingle i) (found : i.lost ≡ false) (goes : i.core.machine.standing ≡ standing.Moving) (checked : core.checked ≡ i.core.checked) where
+  abbrev m : Module
+  m = i.core.checked.now
+
+  abbrev v : Recorded
+  v = (run_of i).run
 
   abbrev y : Recorded
-  y = advanced x steps lost
+  y = advanced v steps lost
 
-  wasm_same : core.checked.now ≡ i.core.checked.now
+  wasm_same : core.checked.now ≡ m
   wasm_same = ap (λ (c : Bor Module). c.now) checked
 
-  answers_same : x.answers ≡ v.run.answers
-  answers_same = ap (λ (z : Recorded). z.answers) g.advances.same
-
-  -- the module is the same before the steps, and after this one
-  to : v.wasm ≡ core.checked.now
-  to = sym (wasm_same ∙ g.same)
-
-  -- what is so of the run of the module from an opening state after this step
+  -- what is so of the run of the module from an opening state after these steps
   record HasAdvanced (opening : ModuleState) : Type 0 where
-    pub stands : lost ≡ false → StandsFrom v.wasm opening y core
-    pub advances : Advances most v.run y
-    pub code : AreOfCode (module_course v.wasm opening) v.run y
-    pub stopped : lost ≡ false → HasStopped core
-    pub wants : lost ≡ true → MayWant (state_at (module_course v.wasm opening) y)
+    pub stands : lost ≡ false → StandsFrom m opening y core
+    pub advances : Advances most v y
+    pub code : AreOfCode (module_course m opening) v y
+    pub stopped : lost ≡ false → y.steps < most → HasStopped core
+    pub wants : lost ≡ true → MayWant (state_at (module_course m opening) y)
 
-  module _ (opening : ModuleState) (opens : opened v.wasm ≡ Ok opening) where
+  module _ (opening : ModuleState) (opens : opened m ≡ Ok opening) where
     abbrev C : Course
-    C = module_course v.wasm opening
+    C = module_course m opening
 
-    abbrev here : ModuleState
-    here = state_at C x
+    from : StandsFrom m opening v i.core
+    from = stands_from i g found m refl opening opens
 
-    from : StandsFrom v.wasm opening x i.core
-    from = stands_from i g.single g.found v.wasm g.same opening opens
+    start : status_at C v ≡ Moving
+    start = (state_moving i.core (state_at C v) from.2 goes).0
 
-    moving : here.status ≡ Moving
-    moving = (state_moving i.core here from.2 g.moving).0
+    module _ (n : ℕ) (u : ModuleState) (few : v.steps + n ≤ most) (made : Iterated (CodeStep core.checked.now) n (state_at C v) u) where
+      abbrev x : Recorded
+      x = advanced v (v.steps + n) v.lost
 
-    -- a step was made
-    code_made : IsMade here core → steps ≡ suc i.steps → AreOfCode C v.run y
-    code_made m count =
-        made_code C v.run x answers_same (g.code opening opens) from.1 steps lost m.1.0 moving
-        (ap (λ n. module_too_deep n here) to ∙ m.0) (ap (λ n. module_step n here) to ∙ m.1.1) m.1.3 count
+      reached : IsReached C v from.1 start (v.steps + n) u
+      reached = made_many C v from.1 start n (v.steps + n) u refl (subst (λ w. Iterated (CodeStep w) n (state_at C v) u) wasm_same made)
 
-    stands_made : IsMade here core → steps ≡ suc i.steps → lost ≡ false → StandsFrom v.wasm opening y core
-    stands_made m count found =
-        let s = made_one C x from.1 steps lost found m.1.0 moving (ap (λ n. module_step n here) to ∙ m.1.1) count in
-        (opens, s.0, subst (IsState core) (sym s.1) m.1.2)
+      -- the run stands there
+      at : IsAt C x
+      at = reached.stands
 
-    -- no step was made
-    code_kept : steps ≡ i.steps → AreOfCode C v.run y
-    code_kept count = kept_code C v.run x answers_same (g.code opening opens) from.1 steps lost count
+      here : state_at C x ≡ u
+      here = reached.reaches
 
-    stands_kept : IsState core here → steps ≡ i.steps → lost ≡ false → StandsFrom v.wasm opening y core
-    stands_kept at count found = let s = kept_at C x from.1 steps lost found count in (opens, s.0, subst (IsState core) (sym s.1) at)
+      moving : status_at C x ≡ Moving
+      moving = ap (λ (s : ModuleState). s.status) here ∙ reached.goes
 
-    -- a step after which it doesn't go on
-    stops_so : Counted false here core i.steps steps lost → HasAdvanced opening
-    stops_so (inl o) = record {
-      stands = stands_made o.2 o.0;
-      advances = made_advances most v.run x g.advances steps lost below o.0;
-      code = code_made o.2 o.0;
-      stopped = λ _. o.3;
-      wants = λ wanting. absurd (false≢true (sym o.1 ∙ wanting));
-    }
-    stops_so (inr (inl o)) = record {
-      stands = stands_kept o.2 o.0;
-      advances = kept_advances most v.run x g.advances steps lost o.0;
-      code = code_kept o.0;
-      stopped = λ _. o.3;
-      wants = λ wanting. absurd (false≢true (sym o.1 ∙ wanting));
-    }
-    stops_so (inr (inr o)) = record {
-      stands = λ found. absurd (false≢true (sym found ∙ o.1));
-      advances = kept_advances most v.run x g.advances steps lost o.0;
-      code = code_kept o.0;
-      stopped = λ found. absurd (false≢true (sym found ∙ o.1));
-      wants = λ _. subst (λ n. MayWant (state_at C (advanced x n lost))) (sym o.0) o.2;
-    }
+      so_far : Advances most v x
+      so_far = many_advances most v n few
 
-  -- the module has an opening state
-  opens_so : (opening : ModuleState) × (opened v.wasm ≡ Ok opening)
-  opens_so = let q = g.single.stands g.found in (q.0, ap opened (sym g.same) ∙ q.1.0)
+      -- a step more was made
+      module _ (made_more : IsMade u core) (count : steps ≡ suc x.steps) where
+        abbrev to : ModuleState
+        to = made_more.1.0
 
-  single_now : (lost ≡ false → IsCore core) → (opening : ModuleState) → (lost ≡ false → StandsFrom v.wasm opening y core) → IsSingle (counted i core steps lost)
-  single_now is_core opening stands = record {
-    hosts_are = same_hosts i core wasm_same g.single;
-    core = is_core;
-    stands = λ found. (opening, subst (λ m. StandsFrom m opening y core) to (stands found));
-  }
+        flat : C.deep (state_at C x) ≡ false
+        flat = ap (module_too_deep m) here ∙ ap (λ w. module_too_deep w u) (sym wasm_same) ∙ made_more.0
 
-  abbrev CountsSo : Bool → Type 0
-  CountsSo goes = (s : ModuleState) → IsState i.core s → Counted goes s core i.steps steps lost
+        step : C.system.step (state_at C x) ≡ Some to
+        step = ap (module_step m) here ∙ ap (λ w. module_step w u) (sym wasm_same) ∙ made_more.1.1
 
-  -- a step after which code goes on
-  pub goes_on : core.phase ≡ i.core.phase → (lost ≡ false → IsCore core) → CountsSo true → GoesOn most v (counted i core steps lost)
-  goes_on called is_core outcome =
-      let q = opens_so in
-      let o = outcome (here q.0 q.1) (from q.0 q.1).2 in
-      record {
-        single = single_now is_core q.0 (stands_made q.0 q.1 o.3 o.0);
-        same = wasm_same ∙ g.same;
-        advances = made_advances most v.run x g.advances steps lost below o.0;
-        code = λ opening opens. code_made opening opens (outcome (here opening opens) (from opening opens).2).3 o.0;
-        found = o.1;
-        moving = o.2;
-        called = subst (λ p. p ≢ phase.Opened) (sym called) g.called;
+        code_made : AreOfCode C v y
+        code_made = made_code C v x refl reached.code at steps lost to moving flat step made_more.1.3 count
+
+        stands_made : lost ≡ false → StandsFrom m opening y core
+        stands_made none =
+            let s = made_one C x at steps lost none to moving step count in
+            (opens, s.0, subst (IsState core) (sym s.1) made_more.1.2)
+
+      -- none was
+      code_kept : steps ≡ x.steps → AreOfCode C v y
+      code_kept count = kept_code C v x refl reached.code at steps lost count
+
+      stands_kept : IsState core u → steps ≡ x.steps → lost ≡ false → StandsFrom m opening y core
+      stands_kept k count none = let s = kept_at C x at steps lost none count in (opens, s.0, subst (IsState core) (sym (s.1 ∙ here)) k)
+
+      stops_so : Stopped most u core (v.steps + n) steps lost → HasAdvanced opening
+      stops_so (inl o) = record {
+        stands = stands_made o.3 o.0;
+        advances = made_advances most v x so_far steps lost o.1 o.0;
+        code = code_made o.3 o.0;
+        stopped = λ _ less. o.4;
+        wants = λ wanting. absurd (false≢true (sym o.2 ∙ wanting));
+      }
+      stops_so (inr (inl o)) = record {
+        stands = stands_kept o.2 o.0;
+        advances = kept_advances most v x so_far steps lost o.0;
+        code = code_kept o.0;
+        stopped = λ _ less. o.3 (subst (λ k. k < most) o.0 less);
+        wants = λ wanting. absurd (false≢true (sym o.1 ∙ wanting));
+      }
+      stops_so (inr (inr o)) = record {
+        stands = λ none. absurd (false≢true (sym none ∙ o.1));
+        advances = kept_advances most v x so_far steps lost o.0;
+        code = code_kept o.0;
+        stopped = λ none less. absurd (false≢true (sym none ∙ o.1));
+        wants = λ _. subst (λ k. MayWant (state_at C (advanced v k lost))) (sym o.0) (subst MayWant (sym here) o.2);
       }
 
-  pub is_nearer : CountsSo true → steps ≡ suc i.steps
-  is_nearer outcome = let q = opens_so in (outcome (here q.0 q.1) (from q.0 q.1).2).0
+  module _ (is_core : lost ≡ false → IsCore core) (counts : (s : ModuleState) → IsState i.core s → Counted most s core i.steps steps lost) where
+    has_advanced : (opening : ModuleState) → opened m ≡ Ok opening → HasAdvanced opening
+    has_advanced opening opens =
+        let o = counts (state_at (module_course m opening) v) (from opening opens).2 in
+        stops_so opening opens o.0 o.1 o.2 o.3 o.4
 
-  -- a step after which it doesn't
-  pub stops : (lost ≡ false → IsCore core) → CountsSo false → IsAdvanced most v (counted i core steps lost)
-  stops is_core outcome =
-      let so : (opening : ModuleState) → opened v.wasm ≡ Ok opening → HasAdvanced opening = λ opening opens.
-      stops_so opening opens (outcome (here opening opens) (from opening opens).2) in
-      let q = opens_so in
-      let once = so q.0 q.1 in
-      let single = single_now is_core q.0 once.stands in
-      record {
-        single = single;
-        same = wasm_same ∙ g.same;
-        advances = once.advances;
-        code = λ opening opens. (so opening opens).code;
-        left = none_left most (counted i core steps lost) single once.stopped;
-        wants = λ wanting. (q.0, q.1, once.wants wanting);
-      }
+    -- the module has an opening state
+    opens_so : (opening : ModuleState) × (opened m ≡ Ok opening)
+    opens_so = let q = g.stands found in (q.0, q.1.0)
+
+    single_now : IsSingle (counted i core steps lost)
+    single_now =
+        let q = opens_so in
+        record {
+          hosts_are = same_hosts i core wasm_same g;
+          core = is_core;
+          stands = λ none. (q.0, subst (λ w. StandsFrom w q.0 y core) (sym wasm_same) ((has_advanced q.0 q.1).stands none));
+        }
+
+    pub advanced_so : IsAdvanced most (run_of i) (counted i core steps lost)
+    advanced_so =
+        let q = opens_so in
+        let once = has_advanced q.0 q.1 in
+        record {
+          single = single_now;
+          same = wasm_same;
+          advances = once.advances;
+          code = λ opening opens. (has_advanced opening opens).code;
+          left = none_left most (counted i core steps lost) single_now once.stopped;
+          wants = λ wanting. (q.0, q.1, once.wants wanting);
+        }
+
+-- the same of a run that is so
+pub advanced_run : (most : ℕ) (v : SingleRun) (i : Inside) → run_of i ≡ v → IsSingle i → i.lost ≡ false → i.core.machine.standing ≡ standing.Moving → (core : Core) (steps : ℕ) (lost : Bool) → core.checked ≡ i.core.checked → (lost ≡ false → IsCore core)
+    → ((s : ModuleState) → IsState i.core s → Counted most s core i.steps steps lost) → IsAdvanced most v (counted i core steps lost)
+advanced_run most v i is g found goes core steps lost checked is_core counts =
+    subst (λ (w : SingleRun). IsAdvanced most w (counted i core steps lost)) is (advanced_so most i core steps lost g found goes checked is_core counts)

@@ -1,5 +1,5 @@
 -- The steps of the machine and the answers that it takes are those of the run.
-use Rattle.std.proofs.Common.{◌≡◌, ◌≢◌, inl, inr, ℕ, List, [], ◌∷◌, Option, Some, None, refl, ap, sym, ◌∙◌, subst, Bool, true, false}
+use Rattle.std.proofs.Common.{◌≡◌, ◌≢◌, inl, inr, ℕ, zero, suc, List, [], ◌∷◌, Option, Some, None, refl, ap, sym, ◌∙◌, subst, Bool, true, false}
 use Rattle.std.specs.Prelude.{IfSome, IsTrue}
 use Rattle.std.specs.Option.{option_map}
 use Rattle.wasm_form.specs.declared.module.Module.{Module}
@@ -8,14 +8,15 @@ use Rattle.spec_safety.specs.spec_runtime.Memories.{MemoryInstance}
 use Rattle.spec_safety.specs.spec_runtime.Names.{HostName}
 use Rattle.spec_safety.specs.spec_runtime.Hosts.{fits_results}
 use Rattle.spec_safety.specs.spec_execution.Views.{View}
-use Rattle.spec_safety.specs.spec_execution.Runs.{is_running, Frame, Active, Marked, Next, Goes, Asks, Loads, Ends, Traps}
+use Rattle.spec_safety.specs.spec_execution.Runs.{is_running, Frame, Active, Marked}
 use Rattle.spec_safety.specs.spec_execution.Instances.{ModuleParts, module_view, module_hosts, host_type}
 use Rattle.spec_safety.specs.spec_execution.OneModule.{Starting, ModuleState, module_next}
 use Rattle.wasm_step.specs.Moves.{Changes, AreSame}
 use Rattle.wasm_step.specs.declared.done.Done.{Done}
 use Rattle.wasm_step.specs.declared.done.Done.TheVariants as done
 use Rattle.wasm_instance.specs.States.{InstanceState}
-use Rattle.wasm_machine.specs.Machines.{MachineState, IsOver, next_of, LeavesCode, Told, Repeats, IsAtMark, IsMarked, IsCallingOutside, IsExited, Stepped, QuickStepped, FitsAnswer, MayGrow, IsWanting}
+use Rattle.wasm_machine.specs.Machines.{MachineState, IsOver, next_of, LeavesCode, Told, Repeats, IsAtMark, IsMarked, IsCallingOutside, IsExited, Stepped, QuickStepped, FitsAnswer, MayGrow, IsWanting, Point, passed, GoesOn, Runs}
+use Rattle.wasm_machine.specs.Iterated.{Iterated}
 use Rattle.wasm_machine.specs.declared.machine.Standing.{Standing}
 use Rattle.wasm_machine.specs.declared.machine.Standing.TheVariants as standing
 use Rattle.wasm_machine.specs.declared.event.Event.{Event}
@@ -23,9 +24,10 @@ use Rattle.wasm_machine.specs.declared.event.Event.TheVariants as event
 use Rattle.wasm_single.specs.declared.bare_run.Core.{Core}
 use Rattle.wasm_single.specs.declared.bare_run.Phase.TheVariants as phase
 use Rattle.wasm_single.specs.Singles.{CallsOrGrows, MayWant}
-use Rattle.wasm_single.specs.Cores.{seen, starting_of, IsLive, IsCore, IsState, StandsAs, Steps, QuickSteps, IsCodeNext, FitsHost, MayTake, is_begun, is_mark}
+use Rattle.wasm_single.specs.Cores.{seen, starting_of, IsLive, IsCore, IsState, StandsAs, Steps, QuickSteps, CodeStep, StopsAt, RunsTo, IsCodeNext, FitsHost, MayTake, is_begun, is_mark}
 use Rattle.wasm_machine.specs.Marks.{KeepsUnder}
 use Rattle.wasm_machine.proofs.Under.{step_under}
+use Rattle.wasm_machine.proofs.Stepping.{stepped_on}
 use Rattle.wasm_single.proofs.Seen.{seen_next, seen_step}
 use Rattle.wasm_single.proofs.Telling.{marks_in, under_phase, stack_called, steps_told, deep_told, leaves_moving, live_told}
 use Rattle.wasm_single.proofs.Calling.{live_moving, state_moving, deep_same, is_deep_event}
@@ -204,19 +206,6 @@ module _ (c : Core) (i : InstanceState) (n : MachineState) (h : IsCore c) (movin
 
   -- ---- a step that is told in few bytes
 
-  goes_on : Stepped (module_view c.instance.wasm) event.Moved c.machine n (changes c.instance i) → n.standing ≡ standing.Moving
-  goes_on (inl t) = go (next_of (module_view c.instance.wasm) c.instance.parts c.instance.memory c.machine.stack.frames) t.2
-    where
-      go : (next : Option (Next ModuleParts ℕ)) → Told (module_view c.instance.wasm) event.Moved next c.machine n (changes c.instance i) → n.standing ≡ standing.Moving
-      go (Some (Goes us memory frames)) t = t.0.standing_is
-      go (Some (Asks entry args frames)) t = absurd t
-      go (Some (Loads which args frames)) t = absurd t
-      go (Some Ends) t = absurd t
-      go (Some (Traps why)) t = absurd t
-      go None t = absurd t
-  goes_on (inr (inl t)) = absurd t.1
-  goes_on (inr (inr t)) = absurd (repeats_nothing c i n h fixed moving called event.Moved t.0)
-
   -- no step is made, and the next isn't one of code
   stays_as : (n ≡ c.machine) × AreSame (changes c.instance i) → (s : ModuleState) → IsState c s → (IsCodeNext c.checked.now s → ⊥)
       → (n.standing ≡ standing.Moving) × IsState (with_both c i n) s × (IsCodeNext c.checked.now s → ⊥)
@@ -239,9 +228,9 @@ module _ (c : Core) (i : InstanceState) (n : MachineState) (h : IsCore c) (movin
       (subst (λ (V : View ModuleParts). LeavesCode (next_of V c.instance.parts c.instance.memory c.machine.stack.frames)) h.fixed leaves)
       code.3.0 code.3.1 code.3.2
 
-  pub quick_steps : (d : Done) → QuickStepped (module_view c.instance.wasm) d c.machine n (changes c.instance i) → IsOver (module_view c.instance.wasm) i.parts i.memory n
+  quick_steps : (d : Done) → QuickStepped (module_view c.instance.wasm) d c.machine n (changes c.instance i) → IsOver (module_view c.instance.wasm) i.parts i.memory n
       → (s : ModuleState) → IsState c s → QuickSteps d s (with_both c i n)
-  quick_steps done.Goes t o s k = (goes_on t, steps_after event.Moved t o refl s k)
+  quick_steps done.Goes t o s k = ((stepped_on (module_view c.instance.wasm) c.machine n (changes c.instance i) t).1, steps_after event.Moved t o refl s k)
   quick_steps (done.Trapped why) t o s k = steps_after (event.Trapped why) t o refl s k
   quick_steps done.Stuck t o s k = t
   quick_steps done.Returned t o s k = steps_after event.Returned t o refl s k
@@ -251,7 +240,7 @@ module _ (c : Core) (i : InstanceState) (n : MachineState) (h : IsCore c) (movin
   quick_steps done.Outside t o s k = stays_as (t.1, t.2) s k (outside_none s k t.0 t.3)
   quick_steps done.NoMemory t o s k = wants_grown c moving called t.0 s k
 
-  pub quick_core : (d : Done) → QuickStepped (module_view c.instance.wasm) d c.machine n (changes c.instance i) → IsOver (module_view c.instance.wasm) i.parts i.memory n → d ≢ done.NoMemory → IsCore (with_both c i n)
+  quick_core : (d : Done) → QuickStepped (module_view c.instance.wasm) d c.machine n (changes c.instance i) → IsOver (module_view c.instance.wasm) i.parts i.memory n → d ≢ done.NoMemory → IsCore (with_both c i n)
   quick_core done.Goes t o found = core_after event.Moved t o
   quick_core (done.Trapped why) t o found = core_after (event.Trapped why) t o
   quick_core done.Stuck t o found = absurd t
@@ -261,6 +250,71 @@ module _ (c : Core) (i : InstanceState) (n : MachineState) (h : IsCore c) (movin
   quick_core done.Deep t o found = core_after event.Deep t o
   quick_core done.Outside t o found = same_core c i n h fixed t.1 t.2
   quick_core done.NoMemory t o found = absurd (found refl)
+
+-- ---- many steps
+
+module _ (c : Core) (h : IsCore c) (moving : c.machine.standing ≡ standing.Moving) (called : c.phase ≢ phase.Opened) where
+  abbrev V : View ModuleParts
+  V = module_view c.instance.wasm
+
+  abbrev point : InstanceState → MachineState → Point ModuleParts
+  point i n = record { machine = n; units = i.parts; memory = i.memory }
+
+  abbrev instance_at : Point ModuleParts → InstanceState
+  instance_at p = record c.instance { parts = p.units; memory = p.memory }
+
+  abbrev core_at : Point ModuleParts → Core
+  core_at p = with_both c (instance_at p) p.machine
+
+  -- the core stands at a point after so many steps, and goes on
+  record IsThere (n : ℕ) (p : Point ModuleParts) : Type 0 where
+    pub core : IsCore (core_at p)
+    pub goes : p.machine.standing ≡ standing.Moving
+    pub stands : (s : ModuleState) → IsState c s → (u : ModuleState) × Iterated (CodeStep c.checked.now) n s u × IsState (core_at p) u
+
+  there : (n : ℕ) (p : Point ModuleParts) → Iterated (GoesOn V) n (point c.instance c.machine) p → IsThere n p
+  there zero p same = subst (IsThere zero) (sym same) (record { core = h; goes = moving; stands = λ s k. (s, refl, k) })
+  there (suc n) p made =
+      let r = made.0 in
+      let a = there n r made.1 in
+      record {
+        core = quick_core (core_at r) (instance_at p) p.machine a.core a.goes called refl done.Goes made.2.0 made.2.1 (λ e. let clash : done.Goes ≡ done.NoMemory = e in cc);
+        goes = (stepped_on V r.machine p.machine (passed r p) made.2.0).1;
+        stands = λ s k.
+            let b = a.stands s k in
+            let q = quick_steps (core_at r) (instance_at p) p.machine a.core a.goes called refl done.Goes made.2.0 made.2.1 b.0 b.2 in
+            let t = q.1.1 in
+            (t.0, (b.0, b.1, (q.1.0, t.1, (state_moving (core_at p) t.0 t.3 q.0).0)), t.3);
+      }
+
+  module _ (n : ℕ) (d : Done) (i : InstanceState) (m : MachineState) (fixed : module_view i.wasm ≡ V) (over : IsOver V i.parts i.memory m) (runs : Runs V n d (point c.instance c.machine) (point i m)) where
+    last : IsThere n runs.0
+    last = there n runs.0 runs.1
+
+    -- no step more was made
+    module _ (same : point i m ≡ runs.0) where
+      same_machine : m ≡ runs.0.machine
+      same_machine = ap (λ (p : Point ModuleParts). p.machine) same
+
+      same_rest : AreSame (changes (instance_at runs.0) i)
+      same_rest = (ap (λ (p : Point ModuleParts). p.units) same, ap (λ (p : Point ModuleParts). p.memory) same)
+
+    pub runs_after : (s : ModuleState) → IsState c s → RunsTo n d s (with_both c i m)
+    runs_after s k =
+        let b = last.stands s k in (
+          b.0,
+          b.1,
+          elim runs.2 as (λ _. StopsAt d b.0 (with_both c i m)) [
+            | inl q ↦ inl (q.0, ap (λ (x : MachineState). x.standing) (same_machine q.1) ∙ last.goes, same_state (core_at runs.0) i m last.core fixed (same_machine q.1) (same_rest q.1) b.0 b.2)
+            | inr q ↦ inr (q.0, quick_steps (core_at runs.0) i m last.core last.goes called fixed d q.1 over b.0 b.2)
+          ],
+        )
+
+    pub core_run : d ≢ done.NoMemory → IsCore (with_both c i m)
+    core_run found = elim runs.2 as (λ _. IsCore (with_both c i m)) [
+      | inl q ↦ same_core (core_at runs.0) i m last.core fixed (same_machine q.1) (same_rest q.1)
+      | inr q ↦ quick_core (core_at runs.0) i m last.core last.goes called fixed d q.1 over found
+    ]
 
 -- ---- answers
 

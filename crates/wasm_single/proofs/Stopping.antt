@@ -74,7 +74,7 @@ on_either (Err e) P p = tt
 abbrev pub HasNoneLeft : ℕ → SingleRun → Type 0
 HasNoneLeft most v = (opening : ModuleState) → opened v.wasm ≡ Ok opening → IsAt (module_course v.wasm opening) v.run → v.run.steps < most → IsCodeNext v.wasm (state_at (module_course v.wasm opening) v.run) → ⊥
 
-pub none_left : (most : ℕ) (i : Inside) → IsSingle i → (i.lost ≡ false → HasStopped i.core) → HasNoneLeft most (run_of i)
+pub none_left : (most : ℕ) (i : Inside) → IsSingle i → (i.lost ≡ false → i.steps < most → HasStopped i.core) → HasNoneLeft most (run_of i)
 none_left most i h stopped = λ opening opens at few code.
     let m = i.core.checked.now in
-    stopped at.found (state_at (module_course m opening) (run_of i).run) (stands_from i h at.found m refl opening opens).2 code
+    stopped at.found few (state_at (module_course m opening) (run_of i).run) (stands_from i h at.found m refl opening opens).2 code

@@ -1,5 +1,5 @@
 -- A module in its run: its instance, the machine, and what is still to be called.
-use Rattle.std.specs.Prelude.{◌≡◌, ◌≢◌, ◌≤◌, ℕ, List, [], ◌∷◌, Some, Bool, true, false, IfSome, IsTrue}
+use Rattle.std.specs.Prelude.{◌≡◌, ◌≢◌, ◌≤◌, ◌⊎◌, ℕ, List, [], ◌∷◌, Some, Bool, true, false, IfSome, IsTrue}
 use Rattle.spec_safety.specs.spec_runs.Systems.{Moving, Waits, Returned, Exited, Trapped}
 use Rattle.wasm_form.specs.declared.module.Module.{Module}
 use Rattle.wasm_form.specs.declared.runtime.Answer.{Answer}
@@ -13,6 +13,7 @@ use Rattle.spec_safety.specs.spec_execution.OneModule.{Starting, ModuleState, mo
 use Rattle.wasm_step.specs.declared.done.Done.{Done}
 use Rattle.wasm_step.specs.declared.done.Done.TheVariants as done
 use Rattle.wasm_machine.specs.Machines.{MachineState, IsOver, Told}
+use Rattle.wasm_machine.specs.Iterated.{Iterated}
 use Rattle.wasm_machine.specs.Marks.{marked_stack, AreMarks}
 use Rattle.wasm_machine.specs.Steps.{TellsStatus}
 use Rattle.wasm_machine.specs.declared.machine.Standing.{Standing}
@@ -110,6 +111,18 @@ QuickSteps done.Stuck s new = ⊥
 QuickSteps done.Exited s new = ⊥
 QuickSteps done.NoMemory s new = MayWant s
 QuickSteps _ s new = (new.machine.standing ≡ standing.Moving) × IsState new s × (IsCodeNext new.checked.now s → ⊥)
+
+-- a step that passes no limit of depth, after which the run goes on by itself
+abbrev pub CodeStep : Module → ModuleState → ModuleState → Type 0
+CodeStep m s t = (module_too_deep m s ≡ false) × (module_step m s ≡ Some t) × (t.status ≡ Moving)
+
+-- this is what one step more comes to; `Goes` says that none was made
+abbrev pub StopsAt : Done → ModuleState → Core → Type 0
+StopsAt d s new = ((d ≡ done.Goes) × (new.machine.standing ≡ standing.Moving) × IsState new s) ⊎ ((d ≢ done.Goes) × QuickSteps d s new)
+
+-- so many steps, and then what one more comes to
+abbrev pub RunsTo : ℕ → Done → ModuleState → Core → Type 0
+RunsTo n d s new = (u : ModuleState) × Iterated (CodeStep new.checked.now) n s u × StopsAt d u new
 
 -- ---- calls and answers
 

@@ -1,11 +1,11 @@
 // The run of a module without what is counted and recorded of it.
-ghost use Rattle.std.specs.Prelude.{◌≡◌, ◌≢◌, IfOk, OnOk, OnErr, Some};
+ghost use Rattle.std.specs.Prelude.{◌≡◌, ◌≢◌, ◌<◌, IfOk, OnOk, OnErr, Some};
 ghost use Rattle.spec_safety.specs.spec_execution.Instances.{module_view};
 ghost use Rattle.spec_safety.specs.spec_execution.OneModule.{ModuleState};
 ghost use Rattle.spec_safety.specs.spec_execution.Runs.{taken};
 ghost use Rattle.wasm_machine.specs.Machines.{IsClear, IsOver};
 ghost use Rattle.wasm_single.specs.Singles.{MayWant};
-ghost use Rattle.wasm_single.specs.Cores.{IsCore, IsState, IsStartable, Steps, QuickSteps, Calls, MayTake, is_begun, is_mark};
+ghost use Rattle.wasm_single.specs.Cores.{IsCore, IsState, IsStartable, Steps, RunsTo, Calls, MayTake, is_begun, is_mark};
 
 use std::alloc::Global;
 use wasm_check::Checked;
@@ -170,18 +170,18 @@ impl<'m> Core<'m> {
         self.machine.begin(alloc, &self.instance, r)
     }
 
-    /// One step of code, where the machine can tell it in few bytes.
-    #[inline(always)]
-    pub fn quick(&mut self, alloc: Global) -> Done
+    /// Steps of code, so many or fewer, where the machine can tell them in few bytes: how many were made, and what the next one came to.
+    pub fn run(&mut self, alloc: Global, most: u64) -> (u64, Done)
         requires core { IsCore self.old }
         requires moving { self.old.machine.standing ≡ Standing.Moving }
         requires called { self.old.phase ≢ Phase.Opened }
-        ensures stepped { (s : ModuleState) → IsState self.old s → QuickSteps result s self.new }
-        ensures core { result ≢ Done.NoMemory → IsCore self.new }
+        ensures ran { (s : ModuleState) → IsState self.old s → RunsTo result.0 result.1 s self.new }
+        ensures core { result.1 ≢ Done.NoMemory → IsCore self.new }
         ensures wasm { self.new.checked ≡ self.old.checked }
-        ensures phase { self.new.phase ≡ self.old.phase }
+        ensures most { result.1 ≡ Done.Goes → result.0 ≡ most }
+        ensures fewer { result.1 ≢ Done.Goes → result.0 < most }
     {
-        self.machine.quick(alloc, &mut self.instance)
+        self.machine.run(alloc, &mut self.instance, most)
     }
 
     /// Takes the answer of the host function that is waited for.

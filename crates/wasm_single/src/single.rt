@@ -1,5 +1,5 @@
 // The run of one module.
-ghost use Rattle.std.specs.Prelude.{◌≡◌, ◌≢◌, ◌<◌, ◌⊎◌, map, Bool, true, false, IfOk, OnOk, OnErr, Ok, Err};
+ghost use Rattle.std.specs.Prelude.{◌≡◌, ◌≢◌, ◌<◌, ◌⊎◌, map, true, false, IfOk, OnOk, OnErr, Ok, Err};
 ghost use Rattle.spec_safety.specs.spec_runtime.Recorded.{has_ended};
 ghost use Rattle.spec_safety.specs.spec_execution.Instances.{imported_hosts, module_hosts};
 ghost use Rattle.spec_safety.specs.spec_execution.OneModule.{ModuleState};
@@ -45,33 +45,23 @@ impl<'m> Model for Single<'m> {
     ghost invariant = { IsSingle };
 }
 
-/// Makes one step of code, if the machine can tell it in few bytes, and counts it. Whether code goes on.
-#[inline(always)]
-fn quick_step(core: &mut Core, alloc: Global, steps: &mut u64, lost: &mut bool) -> bool
+/// Makes steps of code, up to so many in all, and counts them.
+fn run_code(core: &mut Core, alloc: Global, most: u64, steps: &mut u64, lost: &mut bool)
     requires core { IsCore core.old }
     requires moving { core.old.machine.standing ≡ Standing.Moving }
     requires called { core.old.phase ≢ Phase.Opened }
-    requires few { steps.old < 18446744073709551615 }
+    requires few { steps.old < most }
     requires found { lost.old ≡ false }
-    ensures counted { (s : ModuleState) → IsState core.old s → Counted result s core.new steps.old steps.new lost.new }
+    ensures counted { (s : ModuleState) → IsState core.old s → Counted most s core.new steps.old steps.new lost.new }
     ensures core { lost.new ≡ false → IsCore core.new }
     ensures wasm { core.new.checked ≡ core.old.checked }
-    ensures phase { core.new.phase ≡ core.old.phase }
 {
-    match core.quick(alloc) {
-        Done::Goes => {
-            *steps += 1;
-            true
-        }
-        Done::Returned | Done::Trapped(_) => {
-            *steps += 1;
-            false
-        }
-        Done::NoMemory => {
-            *lost = true;
-            false
-        }
-        Done::Stuck | Done::Exited | Done::Marked | Done::Deep | Done::Outside => false,
+    let (made, done) = core.run(alloc, most - *steps);
+    *steps += made;
+    match done {
+        Done::Returned | Done::Trapped(_) => *steps += 1,
+        Done::NoMemory => *lost = true,
+        Done::Goes | Done::Stuck | Done::Exited | Done::Marked | Done::Deep | Done::Outside => {}
     }
 }
 
@@ -136,9 +126,10 @@ impl<'m> Single<'m> {
         if !matches!(self.core.machine.standing(), Standing::Moving) {
             return Ok(());
         }
-        'code: while self.steps < most
-            && quick_step(&mut self.core, alloc, &mut self.steps, &mut self.lost)
-        {}
+        if self.steps >= most {
+            return Ok(());
+        }
+        run_code(&mut self.core, alloc, most, &mut self.steps, &mut self.lost);
         if self.lost { Err(Memory) } else { Ok(()) }
     }
 

@@ -1,18 +1,18 @@
 // Instructions without an index that stay in their activation, branches, blocks and locals (sections 4.4.1, 4.4.2, 4.4.4, 4.4.5
 // and 4.4.8).
-ghost use Rattle.std.specs.Prelude.{◌≡◌, ◌∷◌, ℕ, slice_get, unwrap_or, Some, None, IfSome, IfNone};
+ghost use Rattle.std.specs.Prelude.{◌≡◌, ◌∷◌, ℕ, slice_get, slice_set, is_some, true, unwrap_or, Some, None, IfSome, IfNone};
 ghost use Rattle.wasm_form.specs.Plain.{plain_form as plain_form_of};
 ghost use Rattle.spec_execution.specs.Activations.{with_values, pushed, with_top, with_i32, with_reference, on_some, to_end, branch_move, branch_if_move, select_move, is_null, one_if, plain_move, local_got, local_set, entered_block, On};
 ghost use Rattle.spec_execution.specs.Values.{low};
 ghost use Rattle.spec_execution.specs.spec_runtime.Numerics.{W32};
 ghost use Rattle.wasm_step.specs.Tops.{with_act};
-ghost use Rattle.wasm_step.specs.Primitives.{either_of, landed_on, number_on};
-ghost use Rattle.wasm_step.specs.Moves.{Took};
+ghost use Rattle.wasm_step.specs.Primitives.{either_of, landed_on, number_on, with_locals};
+ghost use Rattle.wasm_step.specs.Moves.{Took, IsSafe};
 
 use crate::current::Current;
 use crate::done::Done;
-use crate::operators::operate;
-use wasm_form::{Instr, PlainForm, Trap, Value, plain_form};
+use crate::operators::narrow;
+use wasm_form::{Instr, Trap, Value};
 
 /// Takes the low 32 bits of the topmost value, if it is a number.
 #[inline(always)]
@@ -29,6 +29,19 @@ pub(crate) fn pop_i32(top: &mut Current) -> Option<u32>
 /// Puts a value on top.
 #[inline(always)]
 pub(crate) fn give(top: &mut Current, v: Value) -> Done
+    requires { IsSafe top.old (On (pushed top.old.act v)) }
+    ensures took { Took result (On (pushed top.old.act v)) top.old top.new }
+    ensures rest { top.new ≡ with_act top.old top.new.act }
+{
+    if !top.push(v) {
+        unreachable!();
+    }
+    Done::Goes
+}
+
+/// Puts a value on top, where there is room for it.
+#[inline(always)]
+pub(crate) fn offer(top: &mut Current, v: Value) -> Done
     ensures took { Took result (On (pushed top.old.act v)) top.old top.new }
     ensures rest { top.new ≡ with_act top.old top.new.act }
 {
@@ -39,36 +52,39 @@ pub(crate) fn give(top: &mut Current, v: Value) -> Done
     }
 }
 
-#[inline(always)]
+#[inline]
 fn drop_one(top: &mut Current) -> Done
+    requires { IsSafe top.old (with_top top.old.act.values (λ v vs. On (with_values top.old.act vs))) }
     ensures took { Took result (with_top top.old.act.values (λ v vs. On (with_values top.old.act vs))) top.old top.new }
     ensures rest { top.new ≡ with_act top.old top.new.act }
 {
     match top.pop() {
         Some(_) => Done::Goes,
-        None => Done::Stuck,
+        None => unreachable!(),
     }
 }
 
 /// The first of two values where the number on top isn't 0, else the second.
-#[inline(always)]
+#[inline]
 pub(crate) fn select(top: &mut Current) -> Done
+    requires { IsSafe top.old (select_move top.old.act) }
     ensures took { Took result (select_move top.old.act) top.old top.new }
     ensures rest { top.new ≡ with_act top.old top.new.act }
 {
     let Some(n) = pop_i32(top) else {
-        return Done::Stuck;
+        unreachable!();
     };
     let Some(y) = top.pop() else {
-        return Done::Stuck;
+        unreachable!();
     };
     let Some(x) = top.value() else {
-        return Done::Stuck;
+        unreachable!();
     };
     top.set_top(if n != 0 { x } else { y });
     Done::Goes
 }
 
+#[inline]
 fn is_null_on(top: &mut Current) -> Done
     ensures took { Took result (with_reference top.old.act.values (λ r vs. On (pushed (with_values top.old.act vs) (Value.Num (one_if (is_null r)))))) top.old top.new }
     ensures rest { top.new ≡ with_act top.old top.new.act }
@@ -83,6 +99,7 @@ fn is_null_on(top: &mut Current) -> Done
 }
 
 /// Makes the body done.
+#[inline(always)]
 fn give_back(top: &mut Current) -> Done
     ensures took { Took result (on_some (to_end top.old.act)) top.old top.new }
     ensures rest { top.new ≡ with_act top.old top.new.act }
@@ -98,18 +115,18 @@ fn give_back(top: &mut Current) -> Done
 /// An instruction without operands.
 #[inline(always)]
 pub(crate) fn plain(top: &mut Current, op: u8) -> Done
+    requires { IsSafe top.old (plain_move op (plain_form_of op) top.old.act) }
     ensures took { Took result (plain_move op (plain_form_of op) top.old.act) top.old top.new }
     ensures rest { top.new ≡ with_act top.old top.new.act }
 {
-    match plain_form(op) {
-        None => Done::Stuck,
-        Some(PlainForm::Unreachable) => Done::Trapped(Trap::Unreachable),
-        Some(PlainForm::Nop) => Done::Goes,
-        Some(PlainForm::Return) => give_back(top),
-        Some(PlainForm::Drop) => drop_one(top),
-        Some(PlainForm::Select) => select(top),
-        Some(PlainForm::RefIsNull) => is_null_on(top),
-        Some(PlainForm::Operator(operator)) => operate(top, op, operator),
+    match op {
+        0x00 => Done::Trapped(Trap::Unreachable),
+        0x01 => Done::Goes,
+        0x0F => give_back(top),
+        0x1A => drop_one(top),
+        0x1B => select(top),
+        0xD1 => is_null_on(top),
+        _ => narrow(top, op),
     }
 }
 
@@ -157,11 +174,12 @@ pub(crate) fn branch(top: &mut Current, k: u32) -> Done
 /// Branches where the number on top isn't 0.
 #[inline(always)]
 pub(crate) fn branch_if(top: &mut Current, k: u32) -> Done
+    requires { IsSafe top.old (with_i32 top.old.act.values (λ c vs. branch_if_move (with_values top.old.act vs) k c)) }
     ensures took { Took result (with_i32 top.old.act.values (λ c vs. branch_if_move (with_values top.old.act vs) k c)) top.old top.new }
     ensures rest { top.new ≡ with_act top.old top.new.act }
 {
     let Some(n) = pop_i32(top) else {
-        return Done::Stuck;
+        unreachable!();
     };
     if n == 0 {
         return Done::Goes;
@@ -170,6 +188,7 @@ pub(crate) fn branch_if(top: &mut Current, k: u32) -> Done
 }
 
 /// Branches by the number on top: to the block of that place in a list, or past its end to the last one.
+#[inline(never)]
 pub(crate) fn branch_by(top: &mut Current, blocks: &[u32], last: u32) -> Done
     ensures took { Took result (with_i32 top.old.act.values (λ n vs. branch_move (with_values top.old.act vs) (unwrap_or (slice_get blocks.now n) last))) top.old top.new }
     ensures rest { top.new ≡ with_act top.old top.new.act }
@@ -241,45 +260,56 @@ pub(crate) fn either<'m>(
     block(top, params, results, if n == 0 { other } else { body })
 }
 
-// ---- locals
+// ---- locals: numbers and references are moved apart, since a number is shorter
+
+/// Sets a local that is there.
+#[inline(always)]
+fn set_local(top: &mut Current, k: u32, v: Value) -> Done
+    requires { is_some (slice_get top.old.act.locals k) ≡ true }
+    ensures goes { result ≡ Done.Goes }
+    ensures set { top.new ≡ with_act top.old (with_locals top.old.act (slice_set top.old.act.locals k v)) }
+{
+    if !top.set_local(k, v) {
+        unreachable!();
+    }
+    Done::Goes
+}
 
 #[inline(always)]
 pub(crate) fn local_get(top: &mut Current, k: u32) -> Done
+    requires { IsSafe top.old (local_got top.old.act (slice_get top.old.act.locals k)) }
     ensures took { Took result (local_got top.old.act (slice_get top.old.act.locals k)) top.old top.new }
     ensures rest { top.new ≡ with_act top.old top.new.act }
 {
     match top.local(k) {
-        Some(v) => give(top, v),
-        None => Done::Stuck,
+        Some(Value::Num(n)) => give(top, Value::Num(n)),
+        Some(Value::Func(r)) => give(top, Value::Func(r)),
+        None => unreachable!(),
     }
 }
 
 #[inline(always)]
 pub(crate) fn local_set_to(top: &mut Current, k: u32) -> Done
+    requires { IsSafe top.old (with_top top.old.act.values (λ v vs. local_set top.old.act k v vs (slice_get top.old.act.locals k))) }
     ensures took { Took result (with_top top.old.act.values (λ v vs. local_set top.old.act k v vs (slice_get top.old.act.locals k))) top.old top.new }
     ensures rest { top.new ≡ with_act top.old top.new.act }
 {
-    let Some(v) = top.pop() else {
-        return Done::Stuck;
-    };
-    if top.set_local(k, v) {
-        Done::Goes
-    } else {
-        Done::Stuck
+    match top.pop() {
+        Some(Value::Num(n)) => set_local(top, k, Value::Num(n)),
+        Some(Value::Func(r)) => set_local(top, k, Value::Func(r)),
+        None => unreachable!(),
     }
 }
 
 #[inline(always)]
 pub(crate) fn local_tee(top: &mut Current, k: u32) -> Done
+    requires { IsSafe top.old (with_top top.old.act.values (λ v vs. local_set top.old.act k v (v ∷ vs) (slice_get top.old.act.locals k))) }
     ensures took { Took result (with_top top.old.act.values (λ v vs. local_set top.old.act k v (v ∷ vs) (slice_get top.old.act.locals k))) top.old top.new }
     ensures rest { top.new ≡ with_act top.old top.new.act }
 {
-    let Some(v) = top.value() else {
-        return Done::Stuck;
-    };
-    if top.set_local(k, v) {
-        Done::Goes
-    } else {
-        Done::Stuck
+    match top.value() {
+        Some(Value::Num(n)) => set_local(top, k, Value::Num(n)),
+        Some(Value::Func(r)) => set_local(top, k, Value::Func(r)),
+        None => unreachable!(),
     }
 }

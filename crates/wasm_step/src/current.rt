@@ -180,6 +180,7 @@ impl<'m> Current<'m> {
     }
 
     /// Takes the topmost value, if it is a reference.
+    #[inline(always)]
     pub fn pop_reference(&mut self) -> Option<Option<Ref>>
         ensures some { IfSome result (λ r. self.old ≡ with_act self.new (pushed self.new.act (Value.Func r))) }
         ensures none { IfNone result (reference_on self.old.act.values ≡ None) }
@@ -242,6 +243,14 @@ impl<'m> Current<'m> {
         ensures { option_map (λ i. i.now) result ≡ first_of self.now.act.rest }
     {
         self.place.rest.first()
+    }
+
+    /// The instructions that remain in the innermost block.
+    #[inline(always)]
+    pub fn rest(&self) -> &'m [Instr]
+        ensures { result.now ≡ self.now.act.rest }
+    {
+        self.place.rest
     }
 
     /// Goes past the next instruction.

@@ -6,7 +6,7 @@ ghost use Rattle.wasm_form.specs.Second.{second_form as second_form_of};
 ghost use Rattle.spec_execution.specs.Activations.{expanded, else_of, index_move, second_move, instr_move};
 ghost use Rattle.spec_execution.specs.Ranges.{HoldsAll, index_in_range, second_in_range, block_in_range};
 ghost use Rattle.wasm_step.specs.Tops.{with_act};
-ghost use Rattle.wasm_step.specs.Moves.{MakesMove};
+ghost use Rattle.wasm_step.specs.Moves.{MakesMove, IsWithin, acted};
 ghost use Rattle.wasm_step.specs.Named.{NamesAreThere, named_here, is_call, is_call_form, is_growth, is_table_growth};
 
 use crate::control::{
@@ -21,7 +21,8 @@ use crate::store::{
     table_set, table_size,
 };
 use std::alloc::Global;
-use wasm_form::{BlockType, Expr, IndexForm, Instr, SecondForm, Value, index_form, second_form};
+use std::mem;
+use wasm_form::{BlockType, Expr, Instr, SecondForm, Value, second_form};
 use wasm_view::View;
 
 /// How many parameters and results a block has.
@@ -60,27 +61,30 @@ fn indexed<'m, V: View<'m>>(top: &mut Current<'m>, view: &mut V, op: u8, n: u32)
     requires no_call { is_call_form (index_form_of op) ≡ false }
     requires names { NamesAreThere (V.seen view.old).fixed }
     requires holds { HoldsAll (V.seen view.old).fixed (V.seen view.old).units }
+    requires within { IsWithin top.old (acted (V.seen view.old).fixed (V.seen view.old).units (V.seen view.old).memory (index_move n (index_form_of op) top.old.act)) }
     ensures acted { MakesMove result (index_move n (index_form_of op) top.old.act) ⊥ top.old top.new (V.seen view.old) (V.seen view.new) }
     ensures rest { top.new ≡ with_act top.old top.new.act }
     ensures fixed { (V.seen view.new).fixed ≡ (V.seen view.old).fixed }
 {
-    match index_form(op) {
-        None => Done::Stuck,
-        Some(IndexForm::Br) => branch(top, n),
-        Some(IndexForm::BrIf) => branch_if(top, n),
-        Some(IndexForm::Call) => unreachable!(),
-        Some(IndexForm::LocalGet) => local_get(top, n),
-        Some(IndexForm::LocalSet) => local_set_to(top, n),
-        Some(IndexForm::LocalTee) => local_tee(top, n),
-        Some(IndexForm::GlobalGet) => global_get(top, view, n),
-        Some(IndexForm::GlobalSet) => global_set(top, view, n),
-        Some(IndexForm::TableGet) => table_get(top, view, n),
-        Some(IndexForm::TableSet) => table_set(top, view, n),
-        Some(IndexForm::RefFunc) => refer(top, view, n),
+    match op {
+        0x0C => branch(top, n),
+        0x0D => branch_if(top, n),
+        0x10 => unreachable!(),
+        0x20 => local_get(top, n),
+        0x21 => local_set_to(top, n),
+        0x22 => local_tee(top, n),
+        0x23 => global_get(top, view, n),
+        0x24 => global_set(top, view, n),
+        0x25 => table_get(top, view, n),
+        0x26 => table_set(top, view, n),
+        0xD2 => refer(top, view, n),
+        _ => unreachable!(),
     }
 }
 
 /// An instruction with a second opcode.
+#[cold]
+#[inline(never)]
 fn prefixed<'m, V: View<'m>>(
     top: &mut Current<'m>,
     alloc: Global,
@@ -111,10 +115,12 @@ fn prefixed<'m, V: View<'m>>(
     }
 }
 
-/// One instruction that is no call, past which the activation stands.
+/// One instruction that is no call, past which the activation stands. What isn't inlined runs on `spare`, so that `top` may lie in
+/// registers.
 #[inline(always)]
 pub fn instruction<'m, V: View<'m>>(
     top: &mut Current<'m>,
+    spare: &mut Current<'m>,
     alloc: Global,
     view: &mut V,
     i: &'m Instr,
@@ -123,6 +129,7 @@ pub fn instruction<'m, V: View<'m>>(
     requires no_call { is_call (out-Instr i.now) ≡ false }
     requires names { NamesAreThere (V.seen view.old).fixed }
     requires holds { HoldsAll (V.seen view.old).fixed (V.seen view.old).units }
+    requires within { IsWithin top.old (acted (V.seen view.old).fixed (V.seen view.old).units (V.seen view.old).memory (instr_move ((V.seen view.old).fixed.declared top.old.act.unit) (out-Instr i.now) top.old.act)) }
     ensures acted { MakesMove result (instr_move ((V.seen view.old).fixed.declared top.old.act.unit) (out-Instr i.now) top.old.act) (IsTrue (is_growth (out-Instr i.now))) top.old top.new (V.seen view.old) (V.seen view.new) }
     ensures rest { top.new ≡ with_act top.old top.new.act }
     ensures fixed { (V.seen view.new).fixed ≡ (V.seen view.old).fixed }
@@ -142,16 +149,31 @@ pub fn instruction<'m, V: View<'m>>(
             let (params, results) = sizes(view, top.unit(), *ty);
             either(top, params, results, body.list.items(), else_items(other))
         }
-        Instr::BrTable(blocks, last) => branch_by(top, blocks.items(), *last),
+        Instr::BrTable(blocks, last) => {
+            mem::swap(top, spare);
+            let done = branch_by(spare, blocks.items(), *last);
+            mem::swap(top, spare);
+            done
+        }
         Instr::CallIndirect { .. } => unreachable!(),
         Instr::Select(_) => select(top),
         Instr::Access { op, offset, .. } => access(top, view, *op, *offset),
         Instr::MemorySize => memory_size(top, view),
-        Instr::MemoryGrow => memory_grow(top, alloc, view),
+        Instr::MemoryGrow => {
+            mem::swap(top, spare);
+            let done = memory_grow(spare, alloc, view);
+            mem::swap(top, spare);
+            done
+        }
         Instr::I32Const(n) => give(top, Value::Num(u64::from(n.cast_unsigned()))),
         Instr::I64Const(n) => give(top, Value::Num(n.cast_unsigned())),
-        Instr::F32Const(_) | Instr::F64Const(_) => Done::Stuck,
+        Instr::F32Const(_) | Instr::F64Const(_) => unreachable!(),
         Instr::RefNull(_) => give(top, Value::Func(None)),
-        Instr::Prefixed { op, a, b } => prefixed(top, alloc, view, *op, *a, *b),
+        Instr::Prefixed { op, a, b } => {
+            mem::swap(top, spare);
+            let done = prefixed(spare, alloc, view, *op, *a, *b);
+            mem::swap(top, spare);
+            done
+        }
     }
 }

@@ -8,10 +8,10 @@ ghost use Rattle.spec_execution.specs.Views.{access_length, load_extended};
 ghost use Rattle.wasm_space.specs.Access.{IsAccessLength};
 ghost use Rattle.spec_execution.specs.Ranges.{HoldsAll};
 ghost use Rattle.wasm_step.specs.Tops.{with_act};
-ghost use Rattle.wasm_step.specs.Moves.{MakesMove};
+ghost use Rattle.wasm_step.specs.Moves.{MakesMove, IsWithin, acted};
 ghost use Rattle.wasm_step.specs.Named.{NamesAreThere};
 
-use crate::control::{give, pop_i32};
+use crate::control::{give, offer, pop_i32};
 use crate::current::Current;
 use crate::done::Done;
 use std::alloc::Global;
@@ -33,20 +33,22 @@ fn changed(answer: Result<(), Trap>) -> Done
 // ---- references and globals
 
 /// A reference to a function of the unit.
+#[inline(always)]
 pub(crate) fn refer<'m, V: View<'m>>(top: &mut Current<'m>, view: &V, f: u32) -> Done
     requires named { f < ((V.seen view.now).fixed.counts top.old.act.unit).functions }
     requires names { NamesAreThere (V.seen view.now).fixed }
     ensures acted { MakesMove result (Refers f top.old.act) ⊥ top.old top.new (V.seen view.now) (V.seen view.now) }
     ensures rest { top.new ≡ with_act top.old top.new.act }
 {
-    give(top, Value::Func(Some(view.target(top.unit(), f))))
+    offer(top, Value::Func(Some(view.target(top.unit(), f))))
 }
 
 /// The value of a global.
-#[inline(always)]
+#[inline]
 pub(crate) fn global_get<'m, V: View<'m>>(top: &mut Current<'m>, view: &V, g: u32) -> Done
     requires named { g < ((V.seen view.now).fixed.counts top.old.act.unit).globals }
     requires holds { HoldsAll (V.seen view.now).fixed (V.seen view.now).units }
+    requires within { IsWithin top.old (acted (V.seen view.now).fixed (V.seen view.now).units (V.seen view.now).memory (Does (GlobalGet g) top.old.act)) }
     ensures acted { MakesMove result (Does (GlobalGet g) top.old.act) ⊥ top.old top.new (V.seen view.now) (V.seen view.now) }
     ensures rest { top.new ≡ with_act top.old top.new.act }
 {
@@ -54,16 +56,17 @@ pub(crate) fn global_get<'m, V: View<'m>>(top: &mut Current<'m>, view: &V, g: u3
 }
 
 /// Sets a global.
-#[inline(always)]
+#[inline]
 pub(crate) fn global_set<'m, V: View<'m>>(top: &mut Current<'m>, view: &mut V, g: u32) -> Done
     requires named { g < ((V.seen view.old).fixed.counts top.old.act.unit).globals }
     requires holds { HoldsAll (V.seen view.old).fixed (V.seen view.old).units }
+    requires within { IsWithin top.old (acted (V.seen view.old).fixed (V.seen view.old).units (V.seen view.old).memory (with_top top.old.act.values (λ v vs. Does (GlobalSet g v) (with_values top.old.act vs)))) }
     ensures acted { MakesMove result (with_top top.old.act.values (λ v vs. Does (GlobalSet g v) (with_values top.old.act vs))) ⊥ top.old top.new (V.seen view.old) (V.seen view.new) }
     ensures rest { top.new ≡ with_act top.old top.new.act }
     ensures fixed { (V.seen view.new).fixed ≡ (V.seen view.old).fixed }
 {
     let Some(v) = top.pop() else {
-        return Done::Stuck;
+        unreachable!();
     };
     view.set_global(top.unit(), g, v);
     Done::Goes
@@ -72,6 +75,7 @@ pub(crate) fn global_set<'m, V: View<'m>>(top: &mut Current<'m>, view: &mut V, g
 // ---- tables
 
 /// An entry of a table.
+#[inline(always)]
 pub(crate) fn table_get<'m, V: View<'m>>(top: &mut Current<'m>, view: &V, t: u32) -> Done
     requires named { t < ((V.seen view.now).fixed.counts top.old.act.unit).tables }
     requires holds { HoldsAll (V.seen view.now).fixed (V.seen view.now).units }
@@ -91,6 +95,7 @@ pub(crate) fn table_get<'m, V: View<'m>>(top: &mut Current<'m>, view: &V, t: u32
 }
 
 /// Sets an entry of a table.
+#[inline(always)]
 pub(crate) fn table_set<'m, V: View<'m>>(top: &mut Current<'m>, view: &mut V, t: u32) -> Done
     requires named { t < ((V.seen view.old).fixed.counts top.old.act.unit).tables }
     requires holds { HoldsAll (V.seen view.old).fixed (V.seen view.old).units }
@@ -115,7 +120,7 @@ pub(crate) fn table_size<'m, V: View<'m>>(top: &mut Current<'m>, view: &V, t: u3
     ensures rest { top.new ≡ with_act top.old top.new.act }
 {
     let size = view.table(top.unit(), t).size();
-    give(top, Value::Num(u64::from(size)))
+    offer(top, Value::Num(u64::from(size)))
 }
 
 /// Adds entries to a table.
@@ -283,11 +288,12 @@ pub(crate) fn load<'m, V: View<'m>>(
 ) -> Done
     requires access { access_of op ≡ Some access }
     requires reads { access.writes ≡ false }
+    requires within { IsWithin top.old (acted (V.seen view.now).fixed (V.seen view.now).units (V.seen view.now).memory (with_i32 top.old.act.values (λ at vs. Does (Load op access offset at) (with_values top.old.act vs)))) }
     ensures acted { MakesMove result (with_i32 top.old.act.values (λ at vs. Does (Load op access offset at) (with_values top.old.act vs))) ⊥ top.old top.new (V.seen view.now) (V.seen view.now) }
     ensures rest { top.new ≡ with_act top.old top.new.act }
 {
     let Some(at) = top.number() else {
-        return Done::Stuck;
+        unreachable!();
     };
     match view.memory().load(low_index(at), offset, length_of(access)) {
         Ok(n) => {
@@ -309,27 +315,24 @@ pub(crate) fn store<'m, V: View<'m>>(
 ) -> Done
     requires access { access_of op ≡ Some access }
     requires writes { access.writes ≡ true }
+    requires within { IsWithin top.old (acted (V.seen view.old).fixed (V.seen view.old).units (V.seen view.old).memory (with_number top.old.act.values (λ v vs. with_i32 vs (λ at ws. Does (Store access offset at v) (with_values top.old.act ws))))) }
     ensures acted { MakesMove result (with_number top.old.act.values (λ v vs. with_i32 vs (λ at ws. Does (Store access offset at v) (with_values top.old.act ws)))) ⊥ top.old top.new (V.seen view.old) (V.seen view.new) }
     ensures rest { top.new ≡ with_act top.old top.new.act }
     ensures fixed { (V.seen view.new).fixed ≡ (V.seen view.old).fixed }
 {
     let Some(v) = top.pop_number() else {
-        return Done::Stuck;
+        unreachable!();
     };
     let Some(at) = pop_i32(top) else {
-        return Done::Stuck;
+        unreachable!();
     };
     changed(view.memory_store(at, offset, length_of(access), v))
 }
 
 /// A load or a store.
 #[inline(always)]
-pub(crate) fn access<'m, V: View<'m>>(
-    top: &mut Current<'m>,
-    view: &mut V,
-    op: u8,
-    offset: u32,
-) -> Done
+fn accessed<'m, V: View<'m>>(top: &mut Current<'m>, view: &mut V, op: u8, offset: u32) -> Done
+    requires within { IsWithin top.old (acted (V.seen view.old).fixed (V.seen view.old).units (V.seen view.old).memory (access_move op offset (access_of op) top.old.act)) }
     ensures acted { MakesMove result (access_move op offset (access_of op) top.old.act) ⊥ top.old top.new (V.seen view.old) (V.seen view.new) }
     ensures rest { top.new ≡ with_act top.old top.new.act }
     ensures fixed { (V.seen view.new).fixed ≡ (V.seen view.old).fixed }
@@ -346,16 +349,56 @@ pub(crate) fn access<'m, V: View<'m>>(
     }
 }
 
+/// A load or a store by its opcode.
+#[inline(always)]
+pub(crate) fn access<'m, V: View<'m>>(
+    top: &mut Current<'m>,
+    view: &mut V,
+    op: u8,
+    offset: u32,
+) -> Done
+    requires within { IsWithin top.old (acted (V.seen view.old).fixed (V.seen view.old).units (V.seen view.old).memory (access_move op offset (access_of op) top.old.act)) }
+    ensures acted { MakesMove result (access_move op offset (access_of op) top.old.act) ⊥ top.old top.new (V.seen view.old) (V.seen view.new) }
+    ensures rest { top.new ≡ with_act top.old top.new.act }
+    ensures fixed { (V.seen view.new).fixed ≡ (V.seen view.old).fixed }
+{
+    match op {
+        0x28 => accessed(top, view, 0x28, offset),
+        0x29 => accessed(top, view, 0x29, offset),
+        0x2C => accessed(top, view, 0x2C, offset),
+        0x2D => accessed(top, view, 0x2D, offset),
+        0x2E => accessed(top, view, 0x2E, offset),
+        0x2F => accessed(top, view, 0x2F, offset),
+        0x30 => accessed(top, view, 0x30, offset),
+        0x31 => accessed(top, view, 0x31, offset),
+        0x32 => accessed(top, view, 0x32, offset),
+        0x33 => accessed(top, view, 0x33, offset),
+        0x34 => accessed(top, view, 0x34, offset),
+        0x35 => accessed(top, view, 0x35, offset),
+        0x36 => accessed(top, view, 0x36, offset),
+        0x37 => accessed(top, view, 0x37, offset),
+        0x3A => accessed(top, view, 0x3A, offset),
+        0x3B => accessed(top, view, 0x3B, offset),
+        0x3C => accessed(top, view, 0x3C, offset),
+        0x3D => accessed(top, view, 0x3D, offset),
+        0x3E => accessed(top, view, 0x3E, offset),
+        _ => unreachable!(),
+    }
+}
+
 /// The size of the memory.
+#[inline]
 pub(crate) fn memory_size<'m, V: View<'m>>(top: &mut Current<'m>, view: &V) -> Done
     ensures acted { MakesMove result (Does MemorySize top.old.act) ⊥ top.old top.new (V.seen view.now) (V.seen view.now) }
     ensures rest { top.new ≡ with_act top.old top.new.act }
 {
     let size = view.memory().size();
-    give(top, Value::Num(u64::from(size)))
+    offer(top, Value::Num(u64::from(size)))
 }
 
 /// Adds pages to the memory.
+#[cold]
+#[inline(never)]
 pub(crate) fn memory_grow<'m, V: View<'m>>(
     top: &mut Current<'m>,
     alloc: Global,
