@@ -1,6 +1,6 @@
 -- What is so of a linked set makes that its merged module can be written, and where there is little of it, no section of that is too long.
 use Rattle.std.proofs.Common.{◌≡◌, ℕ, ◌+◌, ◌*◌, ◌^◌, ◌≤◌, ◌<◌, min, Ok, List, [], ◌∷◌, ◌++◌, length, take, get_or, refl, sym, ap, ◌∙◌, subst, arith}
-use Rattle.std.specs.Prelude.{sum_by, ◌↔◌}
+use Rattle.std.specs.Prelude.{sum_by}
 use Rattle.std.proofs.Math.Nat.{pow-le-pow_left}
 use Rattle.std.specs.List.{All}
 use Rattle.std.proofs.lemmas.List.{take_more}
@@ -56,10 +56,10 @@ sizes_are (m ∷ ms) = (let later = sizes_are ms in let one = names_cons m ms in
 pub square_few : (n : ℕ) → n ≤ 256 → n ^ 2 ≤ 65536
 square_few n le = (let squared = pow-le-pow_left le 2 in omega arith)
 
--- so whether there is so much of a set can be seen by the bounded sum
-pub big_is : (ms : List Member) (size square : ℕ) → size ≡ min (sizes ms) 16777216 → square ≡ length ms ^ 2
-    → (2 ^ 32 ≤ 256 * size + 64 * square) ↔ (2 ^ 32 ≤ bulk_of ms)
-big_is ms size square one two = (let all = sizes_are ms in ((λ h. omega arith), (λ h. omega arith)))
+-- so it can be told by the bounded sum
+pub bulk_is : (ms : List Member) (size square : ℕ) → size ≡ min (sizes ms) 16777216 → square ≡ length ms ^ 2
+    → min (256 * size + 64 * square) 4294967296 ≡ min (bulk_of ms) 4294967296
+bulk_is ms size square one two = (let all = sizes_are ms in omega arith)
 
 -- ---- a set
 

@@ -1,7 +1,6 @@
 // The parts of the merged module of a linked set.
 mod codes;
 mod constants;
-mod copies;
 mod counts;
 mod datas;
 mod elems;

@@ -8,5 +8,5 @@ mod sets;
 
 pub use made::Parts;
 pub use making::parts;
-pub use sets::merge;
+pub use sets::{capped_bulk, check_types, merge};
 pub use spec_merging::MergeFault;

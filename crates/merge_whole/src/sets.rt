@@ -24,6 +24,9 @@ use wasm_form::{FuncType, Memory, Module};
 // A set that has so many bytes of files and of names is big, however many members it has.
 const MANY: u64 = 16_777_216;
 
+// The bulk from which on a set is big.
+const BIG: u64 = 4_294_967_296;
+
 // A sum, or the bound where it is more.
 fn capped(size: u64, more: u64) -> u64
     ensures { result ≡ min (size + more) 16777216 }
@@ -55,14 +58,23 @@ fn square(count: u64) -> u64
     count.pow(2)
 }
 
+/// How much there is of members, of which there are at most 256: their bulk, or 4,294,967,296 where it is more.
+pub fn capped_bulk(members: &[Member]) -> u64
+    requires { length members.now ≤ 256 }
+    ensures { result ≡ min (bulk_of (members_of members.now)) 4294967296 }
+{
+    let size = capped_size(members);
+    let square = square(members.len() as u64);
+    let bulk = 256 * size + 64 * square;
+    if bulk > BIG { BIG } else { bulk }
+}
+
 // Whether there is so much of a set that a section of its merged module may be too long.
 fn is_big(members: &[Member]) -> bool
     requires { length members.now ≤ 256 }
     ensures { IsTrue result ↔ (2 ^ 32 ≤ bulk_of (members_of members.now)) }
 {
-    let size = capped_size(members);
-    let square = square(members.len() as u64);
-    256 * size + 64 * square >= 0x1_0000_0000
+    capped_bulk(members) >= BIG
 }
 
 fn check_type(ty: &FuncType) -> Result<(), Memory>
@@ -77,8 +89,9 @@ fn check_type(ty: &FuncType) -> Result<(), Memory>
     Ok(())
 }
 
-// Only a host table may bring a type that can't be written, with 2^32 parameters or results. Want of memory stands for it.
-fn check_types(types: &[FuncType]) -> Result<(), Memory>
+/// Whether the types of a merged module can be written: only a host table may bring one that can't, with 2^32 parameters or results. Want of
+/// memory stands for it.
+pub fn check_types(types: &[FuncType]) -> Result<(), Memory>
     ensures { OnOk result (All IsFormedType types.now) }
 {
     for ty in types {

@@ -14,7 +14,6 @@ ghost use Rattle.merge_module.specs.MergedModule.{finders_of, with_loader, loade
 ghost use Rattle.merge_whole.specs.Built.{joined, HasBodies, bodies_of, traps_of, code_of, generated_codes};
 ghost use Rattle.merge_whole.specs.Given.{HasLoader, AreSmall};
 
-use crate::built::copies::copied_code;
 use crate::built::stubs::{imported_types, put_traps};
 use dyl_link::Linked;
 use dyl_link::dyl_search::Member;
@@ -22,6 +21,7 @@ use merge_dl::{DlNumbers, dl_functions, find_functions, length_function};
 use merge_index::Numbers;
 use merge_start::{StartNumbers, entry_function, open_functions, phase_functions};
 use std::alloc::Global;
+use wasm_copies::copied_code;
 use wasm_form::{Code, List, Memory, Part};
 
 fn put_bodies(

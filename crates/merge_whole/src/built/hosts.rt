@@ -12,13 +12,13 @@ ghost use Rattle.merge_module.specs.MergedModule.{with_type, types_added};
 ghost use Rattle.merge_whole.specs.Hosts as hosted;
 ghost use Rattle.merge_whole.specs.Hosts.{given_to, given_at, given_from, use_in};
 
-use crate::built::copies::copied_type;
 use crate::built::stubs::imported_types;
 use dyl_link::Linked;
 use dyl_link::dyl_search::Member;
 use dyl_link::host_table::HostName;
 use merge_index::Numbers;
 use std::alloc::Global;
+use wasm_copies::copied_type;
 use wasm_form::{FuncType, Memory, Ref};
 
 // ---- numbers that imported functions give

@@ -11,13 +11,13 @@ ghost use Rattle.merge_module.specs.MergedModule.{host_imports, merged_imports};
 ghost use Rattle.merge_whole.specs.Built.{joined, types_of, generated_in, nullary_in, import_of};
 ghost use Rattle.merge_whole.specs.Hosts.{number_by};
 
-use crate::built::copies::copied_text;
 use crate::built::hosts::{added_types, first_uses, type_number};
 use dyl_link::Linked;
 use dyl_link::dyl_search::Member;
 use dyl_link::host_table::HostName;
 use merge_index::Numbers;
 use std::alloc::Global;
+use wasm_copies::copied_text;
 use wasm_form::{FuncType, Import, ImportDesc, List, Memory};
 
 fn type_count(members: &[Member]) -> u32

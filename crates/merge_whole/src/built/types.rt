@@ -6,11 +6,11 @@ ghost use Rattle.dyl_link.specs.Kept.{IsLinked};
 ghost use Rattle.merge_module.specs.MergedModule.{added_types, merged_types};
 ghost use Rattle.merge_whole.specs.Built.{joined, types_of, generated_in, types_in};
 
-use crate::built::copies::copied_type;
 use dyl_link::Linked;
 use dyl_link::dyl_search::Member;
 use merge_dl::loader_types;
 use std::alloc::Global;
+use wasm_copies::copied_type;
 use wasm_form::{FuncType, List, Memory};
 
 fn put_types(alloc: Global, to: &mut Vec<FuncType>, types: &[FuncType]) -> Result<(), Memory>

@@ -1,0 +1,4 @@
+pub mod Answers
+pub mod StartUp
+pub mod Added
+pub mod Written

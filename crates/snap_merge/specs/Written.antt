@@ -1,0 +1,70 @@
+-- The module that holds the state of a start-up, and its bytes.
+use Rattle.std.specs.Prelude.{◌≡◌, ◌<◌, ◌^◌, ℕ, ◌+◌, ◌*◌, List, [], length, map, false, sum_by}
+use Rattle.std.specs.List.{All}
+use Rattle.spec_reading.specs.spec_binary.Modules.{SpellsModule}
+use Rattle.spec_reading.specs.spec_binary.IndexSpaces.{function_space}
+use Rattle.spec_reading.specs.spec_binary.WellFormed.{IsFormedType, IsWellFormed}
+use Rattle.spec_loading.specs.wasm_form.declared.module.Module.{Module}
+use Rattle.spec_loading.specs.spec_runtime.Memories.{MemoryInstance}
+use Rattle.spec_loading.specs.spec_runtime.Tables.{TableInstance}
+use Rattle.spec_loading.specs.spec_runtime.Recorded.{Recorded}
+use Rattle.spec_loading.specs.spec_linking.Sets.{Member}
+use Rattle.spec_loading.specs.spec_linking.LinkedSets.{LinkedSet}
+use Rattle.spec_loading.specs.LoadedSet.{SetState}
+use Rattle.spec_snapshots.specs.declared.fault.SnapFault.{SnapFault}
+use Rattle.spec_snapshots.specs.declared.fault.SnapFault.TheVariants as faults
+use Rattle.merge_match.specs.Renumbering.{table_instance}
+use Rattle.merge_match.specs.Parts.{AreFew}
+use Rattle.merge_index.specs.Numbering.{numbers_of}
+use Rattle.merge_module.specs.MergedModule.{merged_module}
+use Rattle.merge_whole.specs.Merges.{bulk_of}
+use Rattle.snap_module.specs.Held.{Contents, held_parts}
+use Rattle.snap_parts.specs.Sparse.{IsWritten}
+use Rattle.snap_set.specs.Causes.{Takes, IsFirst}
+use Rattle.snap_set.specs.Parts.{snapshot_parts, snapshot_module}
+use Rattle.snap_merge.specs.Answers.{entries, IsHeldWith, IsTooLongAfter}
+
+-- the run stands where its entry has just been called
+pub record IsTaken (L : LinkedSet) (x : Recorded) : Type 0 where
+  pub most : ℕ
+  pub first : IsFirst L most x.steps Takes
+  pub found : x.lost ≡ false
+  pub none : x.answers ≡ []
+
+-- The module is the merged one with the contents of the state, of which little is written.
+pub record IsMade (L : LinkedSet) (s : SetState) (m : Module) : Type 0 where
+  pub contents : Contents
+  pub is : m ≡ snapshot_module L s contents
+  pub written : IsWritten s.run.memory (map (table_instance (numbers_of L)) s.run.units.tables) contents
+  pub few : AreFew (held_parts (snapshot_parts L s) contents)
+  pub functions : length (function_space (merged_module L)) < 2 ^ 32
+  pub types : All IsFormedType (merged_module L).types
+
+-- the module holds the state
+pub record IsHolding (L : LinkedSet) (s : SetState) (m : Module) : Type 0 where
+  pub contents : Contents
+  pub held : IsHeldWith L s contents
+  pub is : m ≡ snapshot_module L s contents
+  pub formed : IsWellFormed m
+
+-- how much there is to be written of members, a memory and tables
+abbrev pub amount_of : List Member → MemoryInstance → List TableInstance → ℕ
+amount_of members memory tables = 2 * bulk_of members + length memory.bytes + 8 * sum_by entries tables
+
+-- bytes spell a module that holds the state
+pub record IsSpelled (L : LinkedSet) (s : SetState) (bytes : List ℕ) : Type 0 where
+  pub contents : Contents
+  pub held : IsHeldWith L s contents
+  pub spelled : SpellsModule (snapshot_module L s contents) bytes
+
+-- faults of writing
+abbrev pub IsWriteFault : SnapFault → Type 0
+IsWriteFault (faults.SectionSize id) = Unit {0}
+IsWriteFault faults.Memory = Unit {0}
+IsWriteFault _ = ⊥
+
+-- what is told by them: a section is too long, or memory is wanting
+abbrev pub WriteTells : LinkedSet → SetState → SnapFault → Type 0
+WriteTells L s (faults.SectionSize id) = IsTooLongAfter L s id
+WriteTells L s faults.Memory = Unit {0}
+WriteTells L s _ = ⊥

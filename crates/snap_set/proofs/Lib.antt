@@ -1,0 +1,12 @@
+mod Agreement
+mod Silent
+mod Matched
+pub mod References
+pub mod Snapped
+mod Bottom
+mod First
+mod HeldGlobals
+mod HeldTables
+mod HeldSegments
+mod HeldParts
+mod Spelled

@@ -1,0 +1,4 @@
+pub mod Causes
+pub mod Snapshots
+pub mod Parts
+pub mod Laws

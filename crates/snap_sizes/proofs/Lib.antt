@@ -1,0 +1,6 @@
+pub mod Spelled
+pub mod Apart
+pub mod Elems
+pub mod Datas
+pub mod Merged
+pub mod Short

@@ -1,0 +1,1 @@
+pub use Rattle.wasm_form.specs as wasm_form
