@@ -11,3 +11,4 @@ pub use spec_hosts::{Ran, RunEnd};
 pub use spec_linking::spec_execution::SingleFault;
 pub use spec_linking::{LinkFault, SetFault};
 pub use spec_merging::MergeFault;
+pub use spec_snapshots::SnapFault;

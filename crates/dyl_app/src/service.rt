@@ -17,7 +17,9 @@ ghost use Rattle.dyl_commands.specs.Served.{Serves};
 ghost use Rattle.dyl_commands.specs.Runs.{guest_arguments, PlanWorks, GenWorks};
 ghost use Rattle.dyl_commands.specs.Clauses.{DoesBy, RunDoes, ExecDoes, TraceDoes, BoardDoes};
 
-use dyl_commands::{board_main, exec_file, gen_main, merge_main, plan_main, run_main, tell};
+use dyl_commands::{
+    board_main, exec_file, gen_main, merge_main, plan_main, run_main, snap_main, tell,
+};
 use dyl_front::{Order, Outcome, WordFault, read_words};
 use dyl_gen::generated_set_links;
 use dyl_link::LinkOptions;
@@ -27,6 +29,7 @@ use dyl_link::host_table::HostTable;
 use replay_check::runs_agree_up_to_one_call;
 use replay_commands::{replay_main, trace_main};
 use slice_exec::Picker;
+use snap_set::first_states_are_one;
 use spec_hosts::dyl_outside::{Ambient, Files, Sink, Source};
 use spec_linking::one_gathered;
 use spec_merging::wasm_form::Text;
@@ -200,6 +203,28 @@ fn perform_replay<F: Files, E: Sink>(
     tell(alloc, replayed, errors)
 }
 
+/// Writes the snapshot of a set after its start-up, and tells what came of it.
+fn perform_snap<F: Files, E: Sink>(
+    alloc: Global,
+    set: &SetOptions,
+    link: &LinkOptions,
+    steps: u64,
+    out: &str,
+    files: &mut F,
+    errors: &mut E,
+    host: &HostTable,
+) -> Outcome
+    requires link { IsLinkInRange link.now }
+    requires steps { steps ≤ 9223372036854775807 }
+    ensures serves { (before now : ℕ) → Serves (names_of host.now) (Ok (Order.Snap set.now link.now steps out.now)) result (F.seen files.old) (F.seen files.new) before now }
+    ensures counts { Counts (Ok (Order.Snap set.now link.now steps out.now)) result (F.seen files.old) (F.seen files.new) }
+    ensures told { TellsErrors result (E.seen errors.old) (E.seen errors.new) }
+    ensures quiet { is_done result ≡ true → errors.new ≡ errors.old }
+{
+    let snapped = snap_main(alloc, set, link, steps, out, files, host);
+    tell(alloc, snapped, errors)
+}
+
 /// Runs several sets in turns, and tells what came of them.
 fn perform_board<F: Files, I: Source, O: Sink, E: Sink, A: Ambient>(
     alloc: Global,
@@ -261,6 +286,7 @@ pub fn perform<F: Files, I: Source, O: Sink, E: Sink, A: Ambient>(
     generated_set_links();
     texts_are_of_one_trace();
     runs_agree_up_to_one_call();
+    first_states_are_one();
     match order {
         Order::Merge { set, link, out } => {
             perform_merge(alloc, set, link, out.as_str(), files, errors, host)
@@ -338,6 +364,12 @@ pub fn perform<F: Files, I: Source, O: Sink, E: Sink, A: Ambient>(
             errors,
             host,
         ),
+        Order::Snap {
+            set,
+            link,
+            steps,
+            out,
+        } => perform_snap(alloc, set, link, *steps, out.as_str(), files, errors, host),
         Order::Board {
             mains,
             link,
@@ -378,13 +410,16 @@ pub fn perform<F: Files, I: Source, O: Sink, E: Sink, A: Ambient>(
 ///   at OUT: its host calls with their answers, its steps and its end. A trace of more than 67,108,864 bytes is not written.
 /// - `replay TRACE MAIN` checks that the file at TRACE is the trace of a run of the set, or with `--one` of the module at the path MAIN: it is
 ///   done exactly where the steps of that program over the answers of the trace come to its host calls and to its end.
+/// - `snap MAIN OUT` gathers and links the set, runs its start-up up to the call of its entry, and writes one module at OUT, which begins
+///   there: it opens with the memory that start-up left, and agrees with the merged module. There is none where start-up makes a host call or
+///   traps.
 /// - `board MAIN` gathers and links the set of each of 1 to 64 main modules, and runs them in turns. A turn is of the program that the picker
 ///   answers for the turn's number, from 0, and the number of programs. It stops where the program has ended, where its steps are used up, where
 ///   it waits at a host call, after 1,000 steps, or as many as `--slice` says, or where a limit of depth is due; a call is answered before the
 ///   next turn. There are turns until each program has ended or has a limit due, and at most 1,048,576, or as many as `--turns` says.
 ///
-/// A run of `run`, `exec` and `trace` makes at most 1,000,000,000 steps, or as many as `--steps` says, and so does one that is replayed, and
-/// each program of a board. Calls of `wasi_snapshot_preview1` are answered over the input, the output, the errors, the clock and the random
+/// A run of `run`, `exec` and `trace` makes at most 1,000,000,000 steps, or as many as `--steps` says, and so does one that is replayed, the
+/// start-up of `snap`, and each program of a board. Calls of `wasi_snapshot_preview1` are answered over the input, the output, the errors, the clock and the random
 /// words, and others by the callbacks of the table. The options of a set are `--dl`, `--path`, `--pages`, `--stack` and `--no-duplicates`, those
 /// of the sets of a board `--pages` and `--stack`.
 ///

@@ -12,13 +12,18 @@ use Rattle.spec_loading.specs.spec_linking.Gathering.{IsGathered}
 use Rattle.spec_loading.specs.spec_linking.Plans.{LinkOptions}
 use Rattle.spec_loading.specs.spec_linking.Links.{link_fault}
 use Rattle.spec_loading.specs.spec_linking.Laws.{OneAnswer, OneRecord, OneGathered}
+use Rattle.spec_snapshots.specs.declared.fault.SnapFault.{SnapFault}
+use Rattle.spec_snapshots.specs.declared.fault.SnapFault.TheVariants as snap
+use Rattle.snap_set.specs.Causes.{SnapCause, Takes, TrapsSo, Calls, StepsEnd, IsDeep, IsFirst}
+use Rattle.snap_set.specs.Laws.{OneFirst}
 use Rattle.dyl_gen.specs.Laws.{NeedsThreePages}
 use Rattle.spec_traces.specs.Laws.{OneTrace}
 use Rattle.replay_check.specs.Laws.{OneAgreeing}
 use Rattle.dyl_front.specs.declared.outcome.Outcome.{Outcome}
-use Rattle.dyl_front.specs.declared.outcome.Outcome.TheVariants.{Done, Ran, Board, Set, Link, Single}
+use Rattle.dyl_front.specs.declared.outcome.Outcome.TheVariants.{Done, Ran, Board, Set, Link, Single, Snap}
 use Rattle.dyl_commands.specs.OneFile.{OfFile}
 use Rattle.dyl_commands.specs.Linking.{linked, LinksAt, FaultDue}
+use Rattle.dyl_commands.specs.StartUp.{SnapDue}
 use Rattle.dyl_commands.specs.Sets.{AllLink, FirstFault}
 use Rattle.dyl_commands.specs.Due.{MergeDue, RunDue, PlanDue, ExecDue, BoardDue}
 use Rattle.dyl_commands.proofs.OneFile.{one_of_file}
@@ -31,6 +36,7 @@ pub record Laws : Type 0 where
   pub three_pages : NeedsThreePages
   pub one_trace : OneTrace
   pub one_agreeing : OneAgreeing
+  pub one_first : OneFirst
 
 -- some run, which stands for each
 abbrev pub any_run : Outcome
@@ -127,7 +133,7 @@ module _ (laws : Laws) (names : HostNames) (files : Files) (l : LinkOptions) whe
   all_by mains due d = first_fault mains due d
 
   -- a set that links has no fault
-  no_fault : (o : SetOptions) (due : Outcome) → FaultDue names files o l due → LinksAt names files o l → ⊥
+  pub no_fault : (o : SetOptions) (due : Outcome) → FaultDue names files o l due → LinksAt names files o l → ⊥
   no_fault o due d links =
       not_done due d (one_set_due laws names files o l (Done []) due (Done []) (fault_by laws names files o l (Done []) due d) (links_by laws names files o l (Done []) (Done []) links.set links.gathered links.links refl))
     where
@@ -146,6 +152,67 @@ module _ (laws : Laws) (names : HostNames) (files : Files) (l : LinkOptions) whe
 
   pub one_board_due : (mains : List (List ℕ)) (a b : Outcome) → BoardDue names files mains l a → BoardDue names files mains l b → Alike a b
   one_board_due mains a b h k = one_all mains a b (all_by mains a h) (all_by mains b k)
+
+-- ---- the start-up of a set
+
+module _ (laws : Laws) (names : HostNames) (files : Files) (o : SetOptions) (l : LinkOptions) where
+  -- the files give one set
+  pub same_set : (one other : LinksAt names files o l) → one.set ≡ other.set
+  same_set one other =
+      let same = (laws.one_gathered laws.one_answer laws.one_record files o one.gathered.tried other.gathered.tried (Ok one.set) (Ok other.set) one.gathered.gathers other.gathered.gathers).1 in
+      cc
+
+  module _ (most : ℕ) where
+    -- what is said first of its start-up, and after how many steps
+    pub same_start : (S T : ClosedSet) → S ≡ T → (n m : ℕ) (c d : SnapCause) → IsFirst (linked names l S) most n c → IsFirst (linked names l T) most m d → (n ≡ m) × (c ≡ d)
+    same_start S T same n m c d h k = laws.one_first (linked names l S) most n m c d h (subst (λ U. IsFirst (linked names l U) most m d) (sym same) k)
+
+    -- the outcome by that
+    abbrev cause_outcome : SnapCause → Outcome
+    cause_outcome Takes = Done []
+    cause_outcome Calls = Snap snap.HostCall
+    cause_outcome (TrapsSo why) = Snap (snap.Trap why)
+    cause_outcome StepsEnd = Snap snap.Steps
+    cause_outcome IsDeep = Snap snap.Depth
+
+    record StartsSo (due : Outcome) : Type 0 where
+      links : LinksAt names files o l
+      steps : ℕ
+      cause : SnapCause
+      first : IsFirst (linked names l links.set) most steps cause
+      is : canon due ≡ cause_outcome cause
+
+    one_start : (a b : Outcome) → StartsSo a → StartsSo b → Alike a b
+    one_start a b h k =
+        let same = same_start h.links.set k.links.set (same_set h.links k.links) h.steps k.steps h.cause k.cause h.first k.first in
+        h.is ∙ ap cause_outcome same.1 ∙ sym k.is
+
+    abbrev SnapBy : Outcome → Type 0
+    SnapBy due = StartsSo due ⊎ FaultDue names files o l due
+
+    refused_by : (why : SnapFault) → SnapDue names files o l most (Snap why) → StartsSo (Snap why)
+    refused_by snap.HostCall d = record { links = d.links; steps = d.tells.0; cause = Calls; first = d.tells.1; is = refl }
+    refused_by (snap.Trap why) d = record { links = d.links; steps = d.tells.0; cause = TrapsSo why; first = d.tells.1; is = refl }
+    refused_by snap.Steps d = record { links = d.links; steps = d.tells.0; cause = StepsEnd; first = d.tells.1; is = refl }
+    refused_by snap.Depth d = record { links = d.links; steps = d.tells.0; cause = IsDeep; first = d.tells.1; is = refl }
+    refused_by _ d = absurd d
+
+    snap_by : (due : Outcome) → SnapDue names files o l most due → SnapBy due
+    snap_by (Done []) d = inl (record { links = d.links; steps = d.steps; cause = Takes; first = d.first; is = refl })
+    snap_by (Snap why) d = inl (refused_by why d)
+    snap_by due d = inr d
+
+    by_fault : (a b : Outcome) → FaultDue names files o l a → FaultDue names files o l b → Alike a b
+    by_fault a b h k = one_set_due laws names files o l (Done []) a b (fault_by laws names files o l (Done []) a h) (fault_by laws names files o l (Done []) b k)
+
+    one_snap_by : (a b : Outcome) → SnapBy a → SnapBy b → Alike a b
+    one_snap_by a b (inl h) (inl k) = one_start a b h k
+    one_snap_by a b (inl h) (inr k) = absurd (no_fault laws names files l o b k h.links)
+    one_snap_by a b (inr h) (inl k) = absurd (no_fault laws names files l o a h k.links)
+    one_snap_by a b (inr h) (inr k) = by_fault a b h k
+
+    pub one_snap_due : (a b : Outcome) → SnapDue names files o l most a → SnapDue names files o l most b → Alike a b
+    one_snap_due a b h k = one_snap_by a b (snap_by a h) (snap_by b k)
 
 -- ---- one module
 

@@ -21,13 +21,13 @@ use Rattle.spec_merging.specs.declared.fault.MergeFault.{MergeFault}
 use Rattle.spec_merging.specs.declared.fault.MergeFault.TheVariants as merge
 use Rattle.dyl_front.specs.declared.outcome.UsageKind.{UsageKind}
 use Rattle.dyl_front.specs.declared.outcome.Outcome.{Outcome}
-use Rattle.dyl_front.specs.declared.outcome.Outcome.TheVariants.{Done, Ran, Board, Set, Merge, Single, WriteFault, Memory}
+use Rattle.dyl_front.specs.declared.outcome.Outcome.TheVariants.{Done, Ran, Board, Set, Merge, Single, Snap, WriteFault, Memory}
 use Rattle.dyl_front.specs.declared.order.Order.{Order}
 use Rattle.dyl_front.specs.declared.order.Order.TheVariants as order
 use Rattle.dyl_commands.specs.Counts.{Stays, ReadsFor, StoresFor, AbsentsOfFile, AbsentsOfSet, TriedForSet, SetCounts, FileCounts, ProgramCounts, AfterSets, StopsAtSet, BoardCounts, Counts}
 use Rattle.dyl_commands.specs.Fetched.{ReadsFile}
 use Rattle.dyl_commands.specs.Told.{IsTold}
-use Rattle.dyl_commands.specs.Served.{IsNotGot, Gets, StoreCounts, WritesMerged, Lists, ExecutesSet, ExecutesModule, set_outcome, merge_outcome}
+use Rattle.dyl_commands.specs.Served.{IsNotGot, Gets, StoreCounts, WritesMerged, WritesSnapshot, Lists, ExecutesSet, ExecutesModule, set_outcome, merge_outcome}
 use Rattle.dyl_commands.proofs.Telling.{told_keeps}
 
 pub at_least : (before now : ℕ) → now ≡ before → before ≤ now
@@ -160,6 +160,8 @@ counts_memory (Ok (order.Trace one o link steps out args)) answer old new h =
     program_memory answer old new (StoresFor answer) (StoresFor Memory) (stores_rise answer old.write_faults new.write_faults) one (options_of o) h
 counts_memory (Ok (order.Replay one path o link steps)) answer old new (inl h) = inl ((λ files told. tt), file_memory answer old new Stays Stays (λ s. s) h.1)
 counts_memory (Ok (order.Replay one path o link steps)) answer old new (inr h) = inr (h.0, program_memory answer old new Stays Stays (λ s. s) one (options_of o) h.1)
+counts_memory (Ok (order.Snap o link steps out)) answer old new h =
+    set_memory answer old new (StoresFor answer) (StoresFor Memory) (stores_rise answer old.write_faults new.write_faults) (options_of o) h
 counts_memory (Ok (order.Board mains link steps slice turns)) answer old new h = board_memory mains answer old new h
 
 -- where nothing was done with the files
@@ -187,6 +189,7 @@ module _ (old : FilesState) where
   nothing_counted (Ok (order.Gen n pages steps)) = refl
   nothing_counted (Ok (order.Trace one o link steps out args)) = program_untouched one (StoresFor Memory) (options_of o) (at_least _ _ refl)
   nothing_counted (Ok (order.Replay one path o link steps)) = inl ((λ files told. tt), file_untouched Stays refl)
+  nothing_counted (Ok (order.Snap o link steps out)) = set_untouched (StoresFor Memory) (options_of o) (at_least _ _ refl)
   nothing_counted (Ok (order.Board mains link steps slice turns)) = board_untouched mains
 
 -- ---- where no set is linked
@@ -266,6 +269,13 @@ written_no_fault k out (Merge merge.Memory) old new h = absurd h
 written_no_fault k out (Merge (merge.SectionSize id)) old new h = refl
 written_no_fault k out Memory old new h = refl
 written_no_fault k out _ old new h = absurd h
+
+pub snapped_no_fault : (k : Kept) (most : ℕ) (out : List ℕ) (answer : Outcome) (old new : FilesState) → WritesSnapshot k most out answer old new → is_set_fault answer ≡ false
+snapped_no_fault k most out (Done []) old new h = refl
+snapped_no_fault k most out WriteFault old new h = refl
+snapped_no_fault k most out (Snap why) old new h = refl
+snapped_no_fault k most out Memory old new h = refl
+snapped_no_fault k most out _ old new h = absurd h
 
 pub listed_no_fault : (k : Kept) (answer : Outcome) (old new : SinkState) → Lists k answer old new → is_set_fault answer ≡ false
 listed_no_fault k (Done []) old new h = refl

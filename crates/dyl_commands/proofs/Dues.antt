@@ -12,12 +12,17 @@ use Rattle.spec_loading.specs.spec_linking.declared.fault.LinkFault.{LinkFault}
 use Rattle.spec_loading.specs.spec_linking.declared.fault.LinkFault.TheVariants.{MemoryLimit}
 use Rattle.spec_loading.specs.spec_linking.declared.fault.SetFault.{SetFault}
 use Rattle.spec_loading.specs.spec_linking.declared.fault.SetFault.TheVariants.{ReadFault}
-use Rattle.spec_loading.specs.spec_linking.Sets.{Files, SetOptions}
+use Rattle.spec_loading.specs.spec_linking.Sets.{Files, ClosedSet, SetOptions}
 use Rattle.spec_loading.specs.spec_linking.Plans.{LinkOptions, limit}
 use Rattle.spec_loading.specs.spec_linking.Laws.{OneGathered}
 use Rattle.spec_reading.specs.Laws.{ReadingAnswers}
 use Rattle.spec_traces.specs.Laws.{OneTrace}
 use Rattle.replay_check.specs.Laws.{OneAgreeing}
+use Rattle.spec_snapshots.specs.declared.fault.SnapFault.{SnapFault}
+use Rattle.spec_snapshots.specs.declared.fault.SnapFault.TheVariants as snap
+use Rattle.snap_set.specs.Causes.{state_after}
+use Rattle.snap_set.specs.Laws.{OneFirst}
+use Rattle.snap_merge.specs.Answers.{amount}
 use Rattle.dyl_link.specs.dyl_section.Laws.{OneRecordAnswer}
 use Rattle.dyl_gen.specs.declared.fault.GenFault.{GenFault}
 use Rattle.dyl_gen.specs.declared.fault.GenFault.TheVariants.{Range}
@@ -31,17 +36,18 @@ use Rattle.dyl_link.specs.declared.options.LinkOptions as linking
 use Rattle.dyl_link.specs.Kept as links
 use Rattle.dyl_front.specs.declared.outcome.UsageKind.{UsageKind}
 use Rattle.dyl_front.specs.declared.outcome.Outcome.{Outcome}
-use Rattle.dyl_front.specs.declared.outcome.Outcome.TheVariants.{Done, Ran, Board, Usage, Set, Link, Merge, Single, Gen, Trace, TooLong, WriteFault, Memory}
+use Rattle.dyl_front.specs.declared.outcome.Outcome.TheVariants.{Done, Ran, Board, Usage, Set, Link, Merge, Single, Gen, Trace, TooLong, Snap, WriteFault, Memory}
 use Rattle.dyl_front.specs.declared.order.Order.{Order}
 use Rattle.dyl_front.specs.declared.order.Order.TheVariants as order
 use Rattle.dyl_commands.specs.Linking.{linked, LinksAt}
 use Rattle.dyl_commands.specs.Traced.{LoadFault, ReplayDue}
 use Rattle.dyl_commands.specs.Generated.{GenDue}
+use Rattle.dyl_commands.specs.StartUp.{StartsUp, SnapDue}
 use Rattle.dyl_commands.specs.Sets.{FirstFault}
-use Rattle.dyl_commands.specs.Due.{MergeDue, RunDue, PlanDue, ExecDue, TraceDue, BoardDue, DueFor, TellsFor, MergeFaultTells, TooLongTells, WriteFaultTells, is_run, is_board, is_done, is_written, is_traced, Yields, IsComplete}
+use Rattle.dyl_commands.specs.Due.{MergeDue, RunDue, PlanDue, ExecDue, TraceDue, BoardDue, DueFor, TellsFor, MergeFaultTells, TooLongTells, SnapFaultTells, WriteFaultTells, is_run, is_board, is_done, is_written, is_traced, Yields, IsComplete}
 use Rattle.dyl_commands.specs.Causes.{ProgramCause, FaultCause, WriteCause, IsTraceOrder, Caused}
 use Rattle.dyl_commands.specs.Served.{Serves}
-use Rattle.dyl_commands.proofs.Alike.{Laws, any_run, any_board, canon, Alike, verdict, one_merge_due, one_run_due, one_plan_due, one_exec_due, one_board_due}
+use Rattle.dyl_commands.proofs.Alike.{Laws, any_run, any_board, canon, Alike, verdict, one_merge_due, one_run_due, one_plan_due, one_exec_due, same_set, same_start, one_snap_due, one_board_due}
 use Rattle.dyl_commands.proofs.Programs.{run_due}
 use Rattle.dyl_commands.proofs.OneReplay.{one_replay_due}
 
@@ -104,6 +110,7 @@ canon_is (Single fault) none = refl
 canon_is (Gen fault) none = refl
 canon_is (Trace fault) none = refl
 canon_is (TooLong run) none = refl
+canon_is (Snap why) none = refl
 canon_is WriteFault none = refl
 canon_is Memory none = refl
 
@@ -122,6 +129,7 @@ module _ (test : Outcome → Bool) (of_runs : (r : ran.Ran) → test any_run ≡
   canon_tests (Gen fault) = refl
   canon_tests (Trace fault) = refl
   canon_tests (TooLong run) = refl
+  canon_tests (Snap why) = refl
   canon_tests WriteFault = refl
   canon_tests Memory = refl
 
@@ -175,6 +183,7 @@ module _ (laws : Laws) (names : HostNames) (can : CanWrite names) (files : Files
   one_due (Ok (order.Gen n pages steps)) a b h k = one_gen_due laws names can n pages a b h k
   one_due (Ok (order.Trace one o l steps out args)) a b h k = one_trace_due laws names files (options_of o) (links.options_of l) one a b h k
   one_due (Ok (order.Replay one path o l steps)) a b h k = one_replay_due laws names files one path (options_of o) (links.options_of l) steps a b h k
+  one_due (Ok (order.Snap o l steps out)) a b h k = one_snap_due laws names files (options_of o) (links.options_of l) steps a b h k
   one_due (Ok (order.Board mains l steps slice turns)) a b h k = one_board_due laws names files (links.options_of l) mains a b h k
 
   no_usage : (asked : Result Order UsageKind) (at : List ℕ) (due : Outcome) → TellsFor names files asked (Set (ReadFault at)) → DueFor names files asked due → (kind : UsageKind) → due ≡ Usage kind → ⊥
@@ -188,6 +197,7 @@ module _ (laws : Laws) (names : HostNames) (can : CanWrite names) (files : Files
       no_trace_usage laws names files (options_of o) (links.options_of l) one kind (subst (TraceDue names files one (options_of o) (links.options_of l)) is d)
   no_usage (Ok (order.Replay one path o l steps)) at due tells d kind is =
       no_replay_usage laws names files (options_of o) (links.options_of l) one path steps kind (subst (ReplayDue names files one path (options_of o) (links.options_of l) steps) is d)
+  no_usage (Ok (order.Snap o l steps out)) at due tells d kind is = subst (SnapDue names files (options_of o) (links.options_of l) steps) is d
   no_usage (Ok (order.Board mains l steps slice turns)) at due tells d kind is = no_board_usage names files mains (links.options_of l) kind (subst (BoardDue names files mains (links.options_of l)) is d)
 
   -- where a section is too long, Done is due
@@ -199,6 +209,17 @@ module _ (laws : Laws) (names : HostNames) (can : CanWrite names) (files : Files
   long_due : (asked : Result Order UsageKind) (run : ran.Ran) → TooLongTells names files asked run → DueFor names files asked (Ran run)
   long_due (Ok (order.Trace one o l steps out args)) run h = h
   long_due _ run h = absurd h
+
+  -- where a snapshot has too long a section, Done is due; any other reason is due itself
+  snap_due : (asked : Result Order UsageKind) (why : SnapFault) → SnapFaultTells names files asked why → (due : Outcome) → DueFor names files asked due → Yields asked due (Snap why)
+  snap_due asked snap.Memory h due d = absurd h
+  snap_due (Ok (order.Snap o l steps out)) (snap.SectionSize id) h due d =
+      a_done due (Done []) (one_due (Ok (order.Snap o l steps out)) due (Done []) d (record { links = h.links; steps = h.tells.0; first = h.tells.1 }))
+  snap_due (Ok (order.Snap o l steps out)) snap.HostCall h due d = no_runs due (Snap snap.HostCall) refl (one_due (Ok (order.Snap o l steps out)) due (Snap snap.HostCall) d h)
+  snap_due (Ok (order.Snap o l steps out)) (snap.Trap why) h due d = no_runs due (Snap (snap.Trap why)) refl (one_due (Ok (order.Snap o l steps out)) due (Snap (snap.Trap why)) d h)
+  snap_due (Ok (order.Snap o l steps out)) snap.Steps h due d = no_runs due (Snap snap.Steps) refl (one_due (Ok (order.Snap o l steps out)) due (Snap snap.Steps) d h)
+  snap_due (Ok (order.Snap o l steps out)) snap.Depth h due d = no_runs due (Snap snap.Depth) refl (one_due (Ok (order.Snap o l steps out)) due (Snap snap.Depth) d h)
+  snap_due _ _ h due d = absurd h
 
   -- what is due is written where a write fault is told
   written_due : (asked : Result Order UsageKind) → WriteFaultTells names files asked → (due : Outcome) → DueFor names files asked due → is_written asked due ≡ true
@@ -213,6 +234,7 @@ module _ (laws : Laws) (names : HostNames) (can : CanWrite names) (files : Files
       go Memory t = tt
       go WriteFault t = written_due asked t due d
       go (Merge fault) t = a_done due (Done []) (one_due asked due (Done []) d (done_due asked fault t))
+      go (Snap why) t = snap_due asked why t due d
       go (Ran run) t = a_run due (Ran run) (one_due asked due (Ran run) d t)
       go (Board run) t = a_board due (Board run) (one_due asked due (Board run) d t)
       go (TooLong run) t = a_run due (Ran run) (one_due asked due (Ran run) d (long_due asked run t))
@@ -230,6 +252,9 @@ module _ (laws : Laws) (names : HostNames) (can : CanWrite names) (files : Files
 
   -- ---- completeness
 
+  too_big : (n : ℕ) → 2 ^ 32 ≤ n → n < 2 ^ 32 → ⊥
+  too_big n big few = omega arith
+
   within : (amount most : ℕ) → amount ≤ most → limit MemoryLimit amount most ≡ None
   within amount most few = (let so : nat_le amount most ≡ true = grind (arith, nat_tests, few) in ap (λ b. cond b None (Some (MemoryLimit amount most))) so)
 
@@ -239,14 +264,8 @@ module _ (laws : Laws) (names : HostNames) (can : CanWrite names) (files : Files
         → MergeFaultTells names files (Ok (order.Merge o l out)) fault → bulk (linked names (links.options_of l) m.set) < 2 ^ 32 → ⊥
     not_long o l out merge.Memory m tells few = tells
     not_long o l out (merge.SectionSize id) m tells few =
-        let other = tells.merges in
-        let same = (laws.one_gathered laws.one_answer laws.one_record files (options_of o) other.gathered.tried m.gathered.tried (Ok other.set) (Ok m.set) other.gathered.gathers m.gathered.gathers).1 in
-        let sets : other.set ≡ m.set = cc in
-        let big : 2 ^ 32 ≤ bulk (linked names (links.options_of l) m.set) = subst (λ S. 2 ^ 32 ≤ bulk (linked names (links.options_of l) S)) sets tells.long.big in
-        too_big (bulk (linked names (links.options_of l) m.set)) big few
-      where
-        too_big : (n : ℕ) → 2 ^ 32 ≤ n → n < 2 ^ 32 → ⊥
-        too_big n big few = omega arith
+        too_big (bulk (linked names (links.options_of l) m.set))
+        (subst (λ S. 2 ^ 32 ≤ bulk (linked names (links.options_of l) S)) (same_set laws names files (options_of o) (links.options_of l) tells.merges m) tells.long.big) few
 
     merged_whole : (o : search.SetOptions) (l : linking.LinkOptions) (out : List ℕ) (answer : Outcome) (m : LinksAt names files (options_of o) (links.options_of l))
         → TellsFor names files (Ok (order.Merge o l out)) answer → Yields (Ok (order.Merge o l out)) (Done []) answer → Caused names (Ok (order.Merge o l out)) answer old new before now
@@ -258,6 +277,7 @@ module _ (laws : Laws) (names : HostNames) (can : CanWrite names) (files : Files
     merged_whole o l out (Ran run) m tells y caused few reads writes = absurd cc
     merged_whole o l out (Board run) m tells y caused few reads writes = absurd cc
     merged_whole o l out (TooLong run) m tells y caused few reads writes = absurd cc
+    merged_whole o l out (Snap why) m tells y caused few reads writes = absurd caused
     merged_whole o l out (Trace fault) m tells y caused few reads writes = absurd cc
     merged_whole o l out (Usage kind) m tells y caused few reads writes = absurd cc
     merged_whole o l out (Link fault) m tells y caused few reads writes = absurd cc
@@ -266,6 +286,43 @@ module _ (laws : Laws) (names : HostNames) (can : CanWrite names) (files : Files
     merged_whole o l out (Set fault) m tells y caused few reads writes = of_set fault y caused
       where
         of_set : (fault : SetFault) → Yields (Ok (order.Merge o l out)) (Done []) (Set fault) → Caused names (Ok (order.Merge o l out)) (Set fault) old new before now → (Set fault ≡ Done []) ⊎ (Set fault ≡ Memory)
+        of_set (ReadFault at) y caused = absurd (reads caused.rose)
+        of_set other y caused = absurd cc
+
+    -- how much there is to be written of a set after so many steps
+    abbrev written_for : linking.LinkOptions → ClosedSet → ℕ → ℕ
+    written_for l S n = amount (linked names (links.options_of l) S) (state_after (linked names (links.options_of l) S) n)
+
+    -- what is answered in place of a snapshot
+    not_refused : (o : search.SetOptions) (l : linking.LinkOptions) (steps : ℕ) (out : List ℕ) (why : SnapFault) (s : StartsUp names files (options_of o) (links.options_of l) steps)
+        → SnapFaultTells names files (Ok (order.Snap o l steps out)) why → Yields (Ok (order.Snap o l steps out)) (Done []) (Snap why)
+        → written_for l s.links.set s.steps < 2 ^ 32 → ⊥
+    not_refused o l steps out (snap.SectionSize id) s tells y few =
+        let sets = same_set laws names files (options_of o) (links.options_of l) tells.links s.links in
+        let same = same_start laws names files (options_of o) (links.options_of l) steps tells.links.set s.links.set sets tells.tells.0 s.steps _ _ tells.tells.1 s.first in
+        too_big (written_for l s.links.set s.steps)
+        (subst (λ n. 2 ^ 32 ≤ written_for l s.links.set n) same.0 (subst (λ S. 2 ^ 32 ≤ written_for l S tells.tells.0) sets tells.tells.2.big)) few
+    not_refused o l steps out why s tells y few = absurd cc
+
+    snapped_whole : (o : search.SetOptions) (l : linking.LinkOptions) (steps : ℕ) (out : List ℕ) (answer : Outcome) (s : StartsUp names files (options_of o) (links.options_of l) steps)
+        → TellsFor names files (Ok (order.Snap o l steps out)) answer → Yields (Ok (order.Snap o l steps out)) (Done []) answer → Caused names (Ok (order.Snap o l steps out)) answer old new before now
+        → written_for l s.links.set s.steps < 2 ^ 32 → ¬ Rose old.read_faults new.read_faults → ¬ Rose old.write_faults new.write_faults → (answer ≡ Done []) ⊎ (answer ≡ Memory)
+    snapped_whole o l steps out (Done runs) s tells y caused few reads writes = inl (ap Done caused)
+    snapped_whole o l steps out Memory s tells y caused few reads writes = inr refl
+    snapped_whole o l steps out (Snap why) s tells y caused few reads writes = absurd (not_refused o l steps out why s tells y few)
+    snapped_whole o l steps out WriteFault s tells y caused few reads writes = absurd (writes caused.rose)
+    snapped_whole o l steps out (Merge fault) s tells y caused few reads writes = absurd caused
+    snapped_whole o l steps out (Ran run) s tells y caused few reads writes = absurd cc
+    snapped_whole o l steps out (Board run) s tells y caused few reads writes = absurd cc
+    snapped_whole o l steps out (TooLong run) s tells y caused few reads writes = absurd cc
+    snapped_whole o l steps out (Trace fault) s tells y caused few reads writes = absurd cc
+    snapped_whole o l steps out (Usage kind) s tells y caused few reads writes = absurd cc
+    snapped_whole o l steps out (Link fault) s tells y caused few reads writes = absurd cc
+    snapped_whole o l steps out (Single fault) s tells y caused few reads writes = absurd cc
+    snapped_whole o l steps out (Gen fault) s tells y caused few reads writes = absurd cc
+    snapped_whole o l steps out (Set fault) s tells y caused few reads writes = of_set fault y caused
+      where
+        of_set : (fault : SetFault) → Yields (Ok (order.Snap o l steps out)) (Done []) (Set fault) → Caused names (Ok (order.Snap o l steps out)) (Set fault) old new before now → (Set fault ≡ Done []) ⊎ (Set fault ≡ Memory)
         of_set (ReadFault at) y caused = absurd (reads caused.rose)
         of_set other y caused = absurd cc
 
@@ -278,6 +335,7 @@ module _ (laws : Laws) (names : HostNames) (can : CanWrite names) (files : Files
     listed_whole o l (Ran run) y caused reads puts = absurd cc
     listed_whole o l (Board run) y caused reads puts = absurd cc
     listed_whole o l (TooLong run) y caused reads puts = absurd cc
+    listed_whole o l (Snap why) y caused reads puts = absurd caused
     listed_whole o l (Trace fault) y caused reads puts = absurd cc
     listed_whole o l (Usage kind) y caused reads puts = absurd cc
     listed_whole o l (Link fault) y caused reads puts = absurd cc
@@ -298,6 +356,7 @@ module _ (laws : Laws) (names : HostNames) (can : CanWrite names) (files : Files
     replayed_whole one path o l steps (Ran run) y caused reads = absurd cc
     replayed_whole one path o l steps (Board run) y caused reads = absurd cc
     replayed_whole one path o l steps (TooLong run) y caused reads = absurd cc
+    replayed_whole one path o l steps (Snap why) y caused reads = absurd caused
     replayed_whole one path o l steps (Trace fault) y caused reads = absurd cc
     replayed_whole one path o l steps (Usage kind) y caused reads = absurd cc
     replayed_whole one path o l steps (Link fault) y caused reads = absurd cc
@@ -318,6 +377,11 @@ module _ (laws : Laws) (names : HostNames) (can : CanWrite names) (files : Files
     run_whole asked Memory y read write = inr refl
     run_whole asked WriteFault y read write = absurd (write refl)
     run_whole asked (Merge fault) y read write = absurd cc
+    run_whole asked (Snap why) y read write = of_snap why y
+      where
+        of_snap : (why : SnapFault) → Yields asked any_run (Snap why) → (is_traced (Snap why) ≡ true) ⊎ (Snap why ≡ Memory)
+        of_snap (snap.SectionSize id) y = absurd cc
+        of_snap other y = absurd cc
     run_whole asked (Board run) y read write = absurd cc
     run_whole asked (Done runs) y read write = absurd cc
     run_whole asked (Usage kind) y read write = absurd cc
@@ -353,6 +417,7 @@ module _ (laws : Laws) (names : HostNames) (can : CanWrite names) (files : Files
     board_whole mains l steps slice turns (Done runs) y caused reads = absurd caused
     board_whole mains l steps slice turns (Ran run) y caused reads = absurd caused
     board_whole mains l steps slice turns (TooLong run) y caused reads = absurd caused
+    board_whole mains l steps slice turns (Snap why) y caused reads = absurd caused
     board_whole mains l steps slice turns (Trace fault) y caused reads = absurd caused
     board_whole mains l steps slice turns (Usage kind) y caused reads = absurd caused
     board_whole mains l steps slice turns (Single fault) y caused reads = absurd caused
@@ -389,6 +454,7 @@ module _ (laws : Laws) (names : HostNames) (can : CanWrite names) (files : Files
       gen_whole (Ran run) caused puts = absurd caused
       gen_whole (Board run) caused puts = absurd caused
       gen_whole (TooLong run) caused puts = absurd caused
+      gen_whole (Snap why) caused puts = absurd caused
       gen_whole (Trace fault) caused puts = absurd caused
       gen_whole (Usage kind) caused puts = absurd caused
       gen_whole (Single fault) caused puts = absurd caused
@@ -412,6 +478,8 @@ module _ (laws : Laws) (names : HostNames) (can : CanWrite names) (files : Files
         (λ is. writes (subst (λ a. Caused names (Ok (order.Trace one o l steps out args)) a old new before now) is caused).rose)
     told_complete (Ok (order.Replay one path o l steps)) answer tells caused = λ due reads.
         replayed_whole one path o l steps answer (told_yields (Ok (order.Replay one path o l steps)) answer tells (Done []) due) caused reads
+    told_complete (Ok (order.Snap o l steps out)) answer tells caused = λ starts few reads writes.
+        snapped_whole o l steps out answer starts tells (told_yields (Ok (order.Snap o l steps out)) answer tells (Done []) starts) caused few reads writes
     told_complete (Ok (order.Board mains l steps slice turns)) answer tells caused = λ links reads.
         board_whole mains l steps slice turns answer (told_yields (Ok (order.Board mains l steps slice turns)) answer tells any_board links) caused reads
 
@@ -424,12 +492,13 @@ module _ (laws : Laws) (names : HostNames) (can : CanWrite names) (asked : Resul
   served_complete = λ told is. told_complete laws names can (get told) old new before now asked answer (serves.tells told is) serves.caused
 
 -- the laws, as they are told
-pub laws_of : ReadingAnswers → OneRecordAnswer → OneGathered → NeedsThreePages → OneTrace → OneAgreeing → Laws
-laws_of answers records gathers pages traces agreeing = record {
+pub laws_of : ReadingAnswers → OneRecordAnswer → OneGathered → NeedsThreePages → OneTrace → OneAgreeing → OneFirst → Laws
+laws_of answers records gathers pages traces agreeing first = record {
   one_answer = λ bytes one other h k. (answers bytes).1 one h ∙ sym ((answers bytes).1 other k);
   one_record = records;
   one_gathered = gathers;
   three_pages = pages;
   one_trace = traces;
   one_agreeing = agreeing;
+  one_first = first;
 }

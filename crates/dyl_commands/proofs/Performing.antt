@@ -16,7 +16,7 @@ use Rattle.dyl_link.specs.declared.options.LinkOptions.{LinkOptions}
 use Rattle.dyl_link.specs.Kept as links
 use Rattle.dyl_front.specs.Orders.{IsLinkInRange, AreArgumentsInRange, IsInRange}
 use Rattle.dyl_front.specs.declared.order.Order.{Order}
-use Rattle.dyl_front.specs.declared.order.Order.TheVariants.{Merge, Run, Exec, Plan, Gen, Trace, Replay, Board}
+use Rattle.dyl_front.specs.declared.order.Order.TheVariants.{Merge, Run, Exec, Plan, Gen, Trace, Replay, Snap, Board}
 use Rattle.dyl_front.specs.declared.outcome.UsageKind.{UsageKind}
 use Rattle.dyl_front.specs.declared.outcome.Outcome.{Outcome}
 use Rattle.dyl_front.specs.declared.outcome.Outcome.TheVariants.{Usage, Memory}
@@ -50,6 +50,9 @@ pub at_replay : (P : Asked → Type 0) (order : Order) (one : Bool) (trace path 
     → P (Ok (Replay one path set link steps)) → P (Ok order)
 at_replay P order one trace path set link steps is same h = subst (λ o. P (Ok o)) (sym is) (subst (λ p. P (Ok (Replay one p set link steps))) same h)
 
+pub at_snap : (P : Asked → Type 0) (order : Order) (set : SetOptions) (link : LinkOptions) (steps : ℕ) (out path : List ℕ) → order ≡ Snap set link steps out → path ≡ out → P (Ok (Snap set link steps path)) → P (Ok order)
+at_snap P order set link steps out path is same h = subst (λ o. P (Ok o)) (sym is) (subst (λ p. P (Ok (Snap set link steps p))) same h)
+
 pub at_board : (P : Asked → Type 0) (order : Order) (mains items : List (List ℕ)) (link : LinkOptions) (steps slice turns : ℕ) → order ≡ Board mains link steps slice turns → items ≡ mains
     → P (Ok (Board items link steps slice turns)) → P (Ok order)
 at_board P order mains items link steps slice turns is same h = subst (λ o. P (Ok o)) (sym is) (subst (λ m. P (Ok (Board m link steps slice turns))) same h)
@@ -60,6 +63,9 @@ range_of_merge order set link out is h = (subst IsInRange is h).1
 
 pub range_of_run : (order : Order) (set : SetOptions) (link : LinkOptions) (steps : ℕ) (args : List (List ℕ)) → order ≡ Run set link steps args → IsInRange order → IsLinkInRange link × AreArgumentsInRange steps args
 range_of_run order set link steps args is h = let r = subst IsInRange is h in (r.1, r.2)
+
+pub range_of_snap : (order : Order) (set : SetOptions) (link : LinkOptions) (steps : ℕ) (out : List ℕ) → order ≡ Snap set link steps out → IsInRange order → IsLinkInRange link × (steps ≤ 9223372036854775807)
+range_of_snap order set link steps out is h = let r = subst IsInRange is h in (r.1, r.3)
 
 pub range_of_plan : (order : Order) (set : SetOptions) (link : LinkOptions) → order ≡ Plan set link → IsInRange order → IsLinkInRange link
 range_of_plan order set link is h = (subst IsInRange is h).1
@@ -105,6 +111,7 @@ module _ (names : HostNames) (asked : Asked) (answer : Outcome) (old : FilesStat
     whole files (Ok (Gen n pages steps)) = λ some few enough puts. inr refl
     whole files (Ok (Trace one set link steps out args)) = λ x gives reads writes. inr refl
     whole files (Ok (Replay one trace set link steps)) = λ due reads. inr refl
+    whole files (Ok (Snap set link steps out)) = λ starts few reads writes. inr refl
     whole files (Ok (Board mains link steps slice turns)) = λ links reads. inr refl
 
     pub memory_complete : IsTold Memory answer → ForSome old.told (λ told. IsComplete names (get told) asked answer old new before now)
@@ -131,6 +138,7 @@ module _ (told : Option FileMap) (embedder : List (List ℕ) → Embedder) (pick
   nothing_works (Ok (Gen n pages steps)) old = (inl refl, refl)
   nothing_works (Ok (Trace one set link steps out args)) old = nothing_traced one (options_of set) (links.options_of link) steps (embedder (guest_arguments args)) old
   nothing_works (Ok (Replay one trace set link steps)) old = refl
+  nothing_works (Ok (Snap set link steps out)) old = refl
   nothing_works (Ok (Board mains link steps slice turns)) old = inl refl
 
   -- memory was wanting before anything was done, and that is told
@@ -156,6 +164,7 @@ module _ (told : Option FileMap) (embedder : List (List ℕ) → Embedder) (pick
   without_picks (Ok (Gen n pages steps)) answer old new none h = h
   without_picks (Ok (Trace one set link steps out args)) answer old new none h = h
   without_picks (Ok (Replay one trace set link steps)) answer old new none h = h
+  without_picks (Ok (Snap set link steps out)) answer old new none h = h
   without_picks (Ok (Board mains link steps slice turns)) answer old new none h = absurd cc
 
   pub does_without_picks : (asked : Asked) (answer : Outcome) (old new : Devices) → takes_turns asked ≡ false → Does told embedder no_picks asked answer old new → Does told embedder pick asked answer old new

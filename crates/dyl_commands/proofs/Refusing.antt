@@ -34,6 +34,16 @@ module _ (names : HostNames) (o : SetOptions) (l : LinkOptions) (old new : Files
   merge_refused out (Link fault) h = record { tells = h.tells; leaves = λ files told. same ∙ told; caused = tt; inner = h.inner }
   merge_refused out _ h = absurd h.caused
 
+  pub snap_refused : (steps : ℕ) (out : List ℕ) (answer : Outcome) → IsNotGot names (options_of o) (links.options_of l) answer old new → Serves names (Ok (order.Snap o l steps out)) answer old new before now
+  snap_refused steps out Memory h = record { tells = λ files told. tt; leaves = λ files told. inl (same ∙ told); caused = tt; inner = refl }
+  snap_refused steps out (Set fault) h = of_set fault h
+    where
+      of_set : (f : SetFault) → IsNotGot names (options_of o) (links.options_of l) (Set f) old new → Serves names (Ok (order.Snap o l steps out)) (Set f) old new before now
+      of_set (set.ReadFault at) h = record { tells = h.tells; leaves = λ files told. same ∙ told; caused = h.caused; inner = refl }
+      of_set f h = record { tells = h.tells; leaves = λ files told. same ∙ told; caused = h.caused; inner = h.inner }
+  snap_refused steps out (Link fault) h = record { tells = h.tells; leaves = λ files told. same ∙ told; caused = tt; inner = h.inner }
+  snap_refused steps out _ h = absurd h.caused
+
   pub run_refused : (steps : ℕ) (args : List (List ℕ)) (answer : Outcome) → IsNotGot names (options_of o) (links.options_of l) answer old new
       → Serves names (Ok (order.Run o l steps args)) answer old new before now
   run_refused steps args Memory h = record { tells = λ files told. tt; leaves = λ files told. same ∙ told; caused = tt; inner = refl }

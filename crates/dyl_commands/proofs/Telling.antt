@@ -24,13 +24,13 @@ use Rattle.dyl_link.specs.declared.options.LinkOptions.{LinkOptions}
 use Rattle.dyl_link.specs.Kept as links
 use Rattle.dyl_front.specs.declared.outcome.UsageKind.{UsageKind}
 use Rattle.dyl_front.specs.declared.outcome.Outcome.{Outcome}
-use Rattle.dyl_front.specs.declared.outcome.Outcome.TheVariants.{Done, Ran, Board, Usage, Set, Link, Merge, Single, Gen, Trace, TooLong, WriteFault, Memory}
+use Rattle.dyl_front.specs.declared.outcome.Outcome.TheVariants.{Done, Ran, Board, Usage, Set, Link, Merge, Single, Gen, Trace, TooLong, Snap, WriteFault, Memory}
 use Rattle.dyl_front.specs.declared.order.Order.{Order}
 use Rattle.dyl_front.specs.declared.order.Order.TheVariants as order
 use Rattle.dyl_front.specs.Lines.{line_of}
 use Rattle.spec_traces.specs.Traces.{Traces, IsTraceOf}
 use Rattle.dyl_commands.specs.Traced.{IsShort, IsLong}
-use Rattle.dyl_commands.specs.Files.{MergeLeaves, IsTraced, TraceLeaves, LeavesFor}
+use Rattle.dyl_commands.specs.Files.{OutputLeaves, IsMerged, IsSnapped, IsTraced, TraceLeaves, LeavesFor}
 use Rattle.dyl_commands.specs.Causes.{Caused}
 use Rattle.dyl_commands.specs.Due.{is_done}
 use Rattle.dyl_commands.specs.Told.{IsTold}
@@ -59,18 +59,18 @@ done_silent (Single fault) is = absurd cc
 done_silent (Gen fault) is = absurd cc
 done_silent (Trace fault) is = absurd cc
 done_silent (TooLong run) is = absurd cc
+done_silent (Snap why) is = absurd cc
 done_silent WriteFault is = absurd cc
 done_silent Memory is = absurd cc
 
 -- ---- files
 
-merge_memory : (names : HostNames) (o : SetOptions) (l : LinkOptions) (out : List ℕ) (files : FileMap) (outcome : Outcome) (old new : FilesState) (before now : ℕ) → IsSome (line_of outcome)
-    → Caused names (Ok (order.Merge o l out)) outcome old new before now
-    → MergeLeaves names (options_of o) (links.options_of l) out files outcome old new → MergeLeaves names (options_of o) (links.options_of l) out files Memory old new
-merge_memory names o l out files (Done runs) old new before now line caused leaves = absurd cc
-merge_memory names o l out files WriteFault old new before now line caused leaves = inr (caused.rose, leaves)
-merge_memory names o l out files Memory old new before now line caused leaves = leaves
-merge_memory names o l out files _ old new before now line caused leaves = inl leaves
+output_memory : (IsWritten : FileMap → FileMap → Type 0) (out : List ℕ) (files : FileMap) (outcome : Outcome) (old new : FilesState) → IsSome (line_of outcome)
+    → (outcome ≡ WriteFault → Rose old.write_faults new.write_faults) → OutputLeaves IsWritten out files outcome old new → OutputLeaves IsWritten out files Memory old new
+output_memory IsWritten out files (Done runs) old new line rose leaves = absurd cc
+output_memory IsWritten out files WriteFault old new line rose leaves = inr (rose refl, leaves)
+output_memory IsWritten out files Memory old new line rose leaves = leaves
+output_memory IsWritten out files _ old new line rose leaves = inl leaves
 
 -- a trace of this run is one of a run
 traced_memory : (names : HostNames) (one : Bool) (o : sets.SetOptions) (l : plans.LinkOptions) (out : List ℕ) (r : ran.Ran) (files : FileMap) (told : Option FileMap)
@@ -89,7 +89,9 @@ trace_memory names one o l out files _ old new rose leaves = inl leaves
 leaves_memory : (names : HostNames) (asked : Result Order UsageKind) (files : FileMap) (outcome : Outcome) (old new : FilesState) (before now : ℕ) → IsSome (line_of outcome)
     → Caused names asked outcome old new before now → LeavesFor names asked files outcome old new → LeavesFor names asked files Memory old new
 leaves_memory names (Err kind) files outcome old new before now line caused leaves = leaves
-leaves_memory names (Ok (order.Merge o l out)) files outcome old new before now line caused leaves = merge_memory names o l out files outcome old new before now line caused leaves
+leaves_memory names (Ok (order.Merge o l out)) files outcome old new before now line caused leaves =
+    output_memory (IsMerged names (options_of o) (links.options_of l) out) out files outcome old new line
+    (λ is. (subst (λ a. Caused names (Ok (order.Merge o l out)) a old new before now) is caused).rose) leaves
 leaves_memory names (Ok (order.Run o l steps args)) files outcome old new before now line caused leaves = leaves
 leaves_memory names (Ok (order.Exec file steps args)) files outcome old new before now line caused leaves = leaves
 leaves_memory names (Ok (order.Plan o l)) files outcome old new before now line caused leaves = leaves
@@ -98,6 +100,9 @@ leaves_memory names (Ok (order.Trace one o l steps out args)) files outcome old 
     trace_memory names one (options_of o) (links.options_of l) out files outcome old new
     (λ is. (subst (λ a. Caused names (Ok (order.Trace one o l steps out args)) a old new before now) is caused).rose) leaves
 leaves_memory names (Ok (order.Replay one path o l steps)) files outcome old new before now line caused leaves = leaves
+leaves_memory names (Ok (order.Snap o l steps out)) files outcome old new before now line caused leaves =
+    output_memory (IsSnapped names (options_of o) (links.options_of l) steps out) out files outcome old new line
+    (λ is. (subst (λ a. Caused names (Ok (order.Snap o l steps out)) a old new before now) is caused).rose) leaves
 leaves_memory names (Ok (order.Board mains l steps slice turns)) files outcome old new before now line caused leaves = leaves
 
 memory_caused : (names : HostNames) (asked : Result Order UsageKind) (old new : FilesState) (before now : ℕ) → Caused names asked Memory old new before now
@@ -128,6 +133,7 @@ memory_serves names asked old before now = record { tells = λ files is. tt; lea
     same (Ok (order.Gen n pages steps)) files is = is
     same (Ok (order.Trace one o l steps out args)) files is = inl is
     same (Ok (order.Replay one path o l steps)) files is = is
+    same (Ok (order.Snap o l steps out)) files is = inl is
     same (Ok (order.Board mains l steps slice turns)) files is = is
 
 pub usage_serves : (names : HostNames) (asked : Result Order UsageKind) (kind : UsageKind) → asked ≡ Err kind → (old : FilesState) (before now : ℕ) → Serves names asked (Usage kind) old old before now
@@ -262,6 +268,7 @@ works_memory told embedder pick (Ok (order.Gen n pages steps)) outcome old new l
     (gen_memory (embedder (guest_arguments [])) n pages steps outcome old.output new.output line h.0, h.1)
 works_memory told embedder pick (Ok (order.Trace one o l steps out args)) outcome old new line h = cut_trace told one (options_of o) (links.options_of l) steps (embedder (guest_arguments args)) outcome old new h
 works_memory told embedder pick (Ok (order.Replay one path o l steps)) outcome old new line h = h
+works_memory told embedder pick (Ok (order.Snap o l steps out)) outcome old new line h = h
 works_memory told embedder pick (Ok (order.Board mains l steps slice turns)) outcome old new line h =
     board_memory told mains (links.options_of l) steps slice turns pick (embedder (guest_arguments [])) outcome old new h
 

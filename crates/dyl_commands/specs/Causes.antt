@@ -12,6 +12,7 @@ use Rattle.spec_loading.specs.spec_linking.declared.fault.SetFault.TheVariants a
 use Rattle.spec_loading.specs.spec_linking.Sets.{main_name}
 use Rattle.spec_hosts.specs.spec_runtime.Names.{HostNames}
 use Rattle.spec_merging.specs.declared.fault.MergeFault.TheVariants as merge
+use Rattle.spec_snapshots.specs.declared.fault.SnapFault.TheVariants as snap
 use Rattle.spec_traces.specs.declared.trace.TraceFault.{TraceFault}
 use Rattle.spec_traces.specs.declared.trace.TraceFault.TheVariants as trace
 use Rattle.spec_hosts.specs.declared.ran.Ran as ran
@@ -21,7 +22,7 @@ use Rattle.spec_hosts.specs.dyl_outside.Faults.{Rises}
 use Rattle.spec_hosts.specs.dyl_outside.Files.{FilesState}
 use Rattle.dyl_front.specs.declared.outcome.UsageKind.{UsageKind}
 use Rattle.dyl_front.specs.declared.outcome.Outcome.{Outcome}
-use Rattle.dyl_front.specs.declared.outcome.Outcome.TheVariants.{Done, Ran, Board, Usage, Set, Link, Merge, Single, Gen, Trace, TooLong, WriteFault, Memory}
+use Rattle.dyl_front.specs.declared.outcome.Outcome.TheVariants.{Done, Ran, Board, Usage, Set, Link, Merge, Single, Gen, Trace, TooLong, Snap, WriteFault, Memory}
 use Rattle.dyl_front.specs.declared.order.Order.{Order}
 use Rattle.dyl_front.specs.declared.order.Order.TheVariants as order
 use Rattle.dyl_commands.specs.Generated.{GenDue}
@@ -62,12 +63,13 @@ FaultCause (order.Trace one o l steps out args) fault old new = ProgramCause one
 FaultCause (order.Replay one path o l steps) fault old new = TraceFileCause path fault old new ⊎ ProgramCause one o.main fault old new
 FaultCause _ fault old new = SetCause fault old new
 
--- what a command writes couldn't be written: the output of a merge, a trace, a listing, or the summary of a generated set
+-- what a command writes couldn't be written: the output of a merge, a trace, a snapshot, a listing, or the summary of a generated set
 abbrev pub WriteCause : Order → FilesState → FilesState → ℕ → ℕ → Type 0
 WriteCause (order.Merge o l out) old new before now = Rises old.write_faults new.write_faults
 WriteCause (order.Plan o l) old new before now = Rises before now
 WriteCause (order.Gen n pages steps) old new before now = Rises before now
 WriteCause (order.Trace one o l steps out args) old new before now = Rises old.write_faults new.write_faults
+WriteCause (order.Snap o l steps out) old new before now = Rises old.write_faults new.write_faults
 WriteCause _ old new before now = ⊥
 
 -- what is run ends as a run does, and isn't done; what is done otherwise has no runs, but a generated set
@@ -128,6 +130,11 @@ abbrev pub IsMergeOrder : Order → Type 0
 IsMergeOrder (order.Merge o l out) = Unit {0}
 IsMergeOrder _ = ⊥
 
+-- only where a snapshot is asked for is there none
+abbrev pub IsSnapOrder : Order → Type 0
+IsSnapOrder (order.Snap o l steps out) = Unit {0}
+IsSnapOrder _ = ⊥
+
 -- What an answer to what is asked says of the files before and after, and of the counts of the puts to the output that failed, where these
 -- host functions are declared.
 abbrev pub Caused : HostNames → Result Order UsageKind → Outcome → FilesState → FilesState → ℕ → ℕ → Type 0
@@ -143,6 +150,7 @@ Caused names (Ok order) (Single fault) old new before now = IsOneOrder order
 Caused names (Ok order) (Gen fault) old new before now = GenCause names order fault
 Caused names (Ok order) (Trace fault) old new before now = TraceCause order fault
 Caused names (Ok order) (TooLong ran) old new before now = IsTraceOrder order
+Caused names (Ok order) (Snap why) old new before now = IsSnapOrder order
 Caused names (Ok order) WriteFault old new before now = WriteCause order old new before now
 Caused names (Ok order) Memory old new before now = Unit {0}
 
@@ -163,4 +171,5 @@ has_inner_memory (Single single.Memory) = true
 has_inner_memory (Gen gen.Memory) = true
 has_inner_memory (Trace trace.Memory) = true
 has_inner_memory (Trace (trace.Single single.Memory)) = true
+has_inner_memory (Snap snap.Memory) = true
 has_inner_memory answer = false

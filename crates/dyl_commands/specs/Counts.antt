@@ -29,7 +29,7 @@ ReadsFor (Set (ReadFault path)) before now = Rises before now
 ReadsFor Memory before now = before ≤ now
 ReadsFor _ before now = now ≡ before
 
--- so did the store of what was merged, or of a trace
+-- so did the store of what was merged, of a trace, or of a snapshot
 abbrev pub StoresFor : Outcome → ℕ → ℕ → Type 0
 StoresFor WriteFault before now = Rises before now
 StoresFor Memory before now = before ≤ now
@@ -95,7 +95,7 @@ BoardCounts (main ∷ mains) answer old new =
     StopsAtSet (default_options main) answer old new
     ⊎ ((middle : FilesState) × SetCounts Stays (default_options main) (Done []) old middle × (middle.told ≡ old.told) × BoardCounts mains answer middle new)
 
--- Only merging stores a file, and tracing. A generated set, and words that are no order, leave files as they were.
+-- Only merging stores a file, tracing, and writing a snapshot. A generated set, and words that are no order, leave files as they were.
 abbrev pub Counts : Result Order UsageKind → Outcome → FilesState → FilesState → Type 0
 Counts (Err kind) answer old new = new ≡ old
 Counts (Ok (order.Merge o link out)) answer old new = SetCounts (StoresFor answer) (options_of o) answer old new
@@ -105,4 +105,5 @@ Counts (Ok (order.Plan o link)) answer old new = SetCounts Stays (options_of o) 
 Counts (Ok (order.Gen n pages steps)) answer old new = new ≡ old
 Counts (Ok (order.Trace one o link steps out args)) answer old new = ProgramCounts one (StoresFor answer) (options_of o) answer old new
 Counts (Ok (order.Replay one path o link steps)) answer old new = ReplayCounts one path (options_of o) answer old new
+Counts (Ok (order.Snap o link steps out)) answer old new = SetCounts (StoresFor answer) (options_of o) answer old new
 Counts (Ok (order.Board mains link steps slice turns)) answer old new = BoardCounts mains answer old new

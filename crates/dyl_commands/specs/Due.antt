@@ -13,16 +13,21 @@ use Rattle.spec_loading.specs.spec_linking.Plans.{LinkOptions}
 use Rattle.spec_merging.specs.declared.fault.MergeFault.{MergeFault}
 use Rattle.spec_merging.specs.declared.fault.MergeFault.TheVariants as merge
 use Rattle.merge_whole.specs.Merges.{bulk, IsTooLongFor}
+use Rattle.spec_snapshots.specs.declared.fault.SnapFault.{SnapFault}
+use Rattle.spec_snapshots.specs.declared.fault.SnapFault.TheVariants as snap
+use Rattle.snap_set.specs.Causes.{state_after}
+use Rattle.snap_merge.specs.Answers.{amount}
 use Rattle.dyl_link.specs.dyl_search.Gathers.{options_of}
 use Rattle.dyl_link.specs.Kept as links
 use Rattle.run_loaded.specs.Courses.{Origin}
 use Rattle.dyl_front.specs.declared.outcome.UsageKind.{UsageKind}
 use Rattle.dyl_front.specs.declared.outcome.Outcome.{Outcome}
-use Rattle.dyl_front.specs.declared.outcome.Outcome.TheVariants.{Done, Ran, Board, Usage, Set, Merge, Single, TooLong, WriteFault, Memory}
+use Rattle.dyl_front.specs.declared.outcome.Outcome.TheVariants.{Done, Ran, Board, Usage, Set, Merge, Single, TooLong, Snap, WriteFault, Memory}
 use Rattle.dyl_front.specs.declared.order.Order.{Order}
 use Rattle.dyl_front.specs.declared.order.Order.TheVariants as order
 use Rattle.dyl_commands.specs.OneFile.{OfFile, OpensAt, IsRefusedAt}
 use Rattle.dyl_commands.specs.Linking.{linked, LinksAt, FaultDue}
+use Rattle.dyl_commands.specs.StartUp.{StartsUp, HasNoSnapshot, SnapDue}
 use Rattle.dyl_commands.specs.Generated.{GenDue}
 use Rattle.dyl_commands.specs.Traced.{IsProgram, ProgramTries, ReplayDue}
 use Rattle.dyl_commands.specs.Sets.{AllLink, FirstFault, SetsTry}
@@ -76,6 +81,7 @@ DueFor names files (Ok (order.Plan o link)) due = PlanDue names files (options_o
 DueFor names files (Ok (order.Gen n pages steps)) due = GenDue names n pages due
 DueFor names files (Ok (order.Trace one o link steps out args)) due = TraceDue names files one (options_of o) (links.options_of link) due
 DueFor names files (Ok (order.Replay one trace o link steps)) due = ReplayDue names files one trace (options_of o) (links.options_of link) steps due
+DueFor names files (Ok (order.Snap o link steps out)) due = SnapDue names files (options_of o) (links.options_of link) steps due
 DueFor names files (Ok (order.Board mains link steps slice turns)) due = BoardDue names files mains (links.options_of link) due
 
 -- a path at which a file is sought
@@ -88,6 +94,7 @@ Tries names files (Ok (order.Plan o link)) path = gathering.Tries files (options
 Tries names files (Ok (order.Gen n pages steps)) path = ⊥
 Tries names files (Ok (order.Trace one o link steps out args)) path = ProgramTries files one (options_of o) path
 Tries names files (Ok (order.Replay one trace o link steps)) path = (path ≡ trace) ⊎ ProgramTries files one (options_of o) path
+Tries names files (Ok (order.Snap o link steps out)) path = gathering.Tries files (options_of o) path
 Tries names files (Ok (order.Board mains link steps slice turns)) path = SetsTry names files mains (links.options_of link) path
 
 -- a set that is merged has a section that is too long
@@ -104,19 +111,26 @@ abbrev pub TooLongTells : HostNames → Files → Result Order UsageKind → ran
 TooLongTells names files (Ok (order.Trace one o link steps out args)) run = TraceDue names files one (options_of o) (links.options_of link) (Ran run)
 TooLongTells names files _ run = ⊥
 
+-- a set that links has no snapshot, for this reason
+abbrev pub SnapFaultTells : HostNames → Files → Result Order UsageKind → SnapFault → Type 0
+SnapFaultTells names files asked snap.Memory = ⊥
+SnapFaultTells names files (Ok (order.Snap o link steps out)) why = HasNoSnapshot names files (options_of o) (links.options_of link) steps why
+SnapFaultTells names files _ why = ⊥
+
 -- so it is where a trace couldn't be written; where anything else couldn't, Done was due
 abbrev pub WriteFaultTells : HostNames → Files → Result Order UsageKind → Type 0
 WriteFaultTells names files (Ok (order.Trace one o link steps out args)) = (run : ran.Ran) × TraceDue names files one (options_of o) (links.options_of link) (Ran run)
 WriteFaultTells names files asked = DueFor names files asked (Done [])
 
--- What an answer tells of the files: that it was due; at a write fault, and where a trace is too long, what was due in its place; and that a
--- section is too long where it is told.
+-- What an answer tells of the files: that it was due; at a write fault, and where a trace is too long, what was due in its place; that a section
+-- is too long where it is told; and why there is no snapshot.
 abbrev pub TellsFor : HostNames → Files → Result Order UsageKind → Outcome → Type 0
 TellsFor names files asked Memory = Unit {0}
 TellsFor names files asked (Set (ReadFault at)) = Tries names files asked at
 TellsFor names files asked WriteFault = WriteFaultTells names files asked
 TellsFor names files asked (Merge fault) = MergeFaultTells names files asked fault
 TellsFor names files asked (TooLong run) = TooLongTells names files asked run
+TellsFor names files asked (Snap why) = SnapFaultTells names files asked why
 TellsFor names files asked answer = DueFor names files asked answer
 
 abbrev pub is_run : Outcome → Bool
@@ -137,8 +151,8 @@ is_written (Ok (order.Trace one o link steps out args)) due = is_run due
 is_written asked due = is_done due
 
 -- The answer is the outcome that is due, or it yields to a fault of the outside or to want of memory. A write fault takes the place of what is
--- written alone, a fault of what was merged that of Done, a trace that is too long that of a run, and a read fault not that of Usage. What
--- comes of runs isn't said here.
+-- written alone, a fault of what was merged that of Done, and so does a snapshot with too long a section, a trace that is too long that of a
+-- run, and a read fault not that of Usage. What comes of runs isn't said here.
 abbrev pub Yields : Result Order UsageKind → Outcome → Outcome → Type 0
 Yields asked due Memory = Unit {0}
 Yields asked due (Set (ReadFault at)) = (kind : UsageKind) → due ≢ Usage kind
@@ -148,6 +162,7 @@ Yields asked due (Ran run) = is_run due ≡ true
 Yields asked due (Board ran) = is_board due ≡ true
 Yields asked due (TooLong run) = is_run due ≡ true
 Yields asked due (Done runs) = is_done due ≡ true
+Yields asked due (Snap (snap.SectionSize id)) = is_done due ≡ true
 Yields asked due answer = due ≡ answer
 
 -- ---- completeness
@@ -159,7 +174,8 @@ is_traced answer = is_run answer
 
 -- Where the command can be done over these files, and no read and nothing that it writes has failed, it is: merged where there isn't too much
 -- of the set, listed, run whatever the devices did, generated and run: a generated set needs three pages; replayed where the trace is that of
--- a run; or run in turns, where each of the sets links. The numbers are the counts of the puts to the output that failed.
+-- a run; written as a snapshot where its start-up comes to the entry and there isn't too much of it then; or run in turns, where each of the
+-- sets links. The numbers are the counts of the puts to the output that failed.
 abbrev pub IsComplete : HostNames → Files → Result Order UsageKind → Outcome → FilesState → FilesState → ℕ → ℕ → Type 0
 IsComplete names files (Err kind) answer old new before now = Unit {0}
 IsComplete names files (Ok (order.Merge o link out)) answer old new before now =
@@ -177,5 +193,9 @@ IsComplete names files (Ok (order.Trace one o link steps out args)) answer old n
     → ¬ Rose old.read_faults new.read_faults → ¬ Rose old.write_faults new.write_faults → (is_traced answer ≡ true) ⊎ (answer ≡ Memory)
 IsComplete names files (Ok (order.Replay one trace o link steps)) answer old new before now =
     ReplayDue names files one trace (options_of o) (links.options_of link) steps (Done []) → ¬ Rose old.read_faults new.read_faults → (answer ≡ Done []) ⊎ (answer ≡ Memory)
+IsComplete names files (Ok (order.Snap o link steps out)) answer old new before now =
+    (starts : StartsUp names files (options_of o) (links.options_of link) steps)
+    → amount (linked names (links.options_of link) starts.links.set) (state_after (linked names (links.options_of link) starts.links.set) starts.steps) < 2 ^ 32
+    → ¬ Rose old.read_faults new.read_faults → ¬ Rose old.write_faults new.write_faults → (answer ≡ Done []) ⊎ (answer ≡ Memory)
 IsComplete names files (Ok (order.Board mains link steps slice turns)) answer old new before now =
     AllLink names files mains (links.options_of link) → ¬ Rose old.read_faults new.read_faults → (is_board answer ≡ true) ⊎ (answer ≡ Memory)

@@ -12,6 +12,8 @@ use Rattle.spec_loading.specs.spec_linking.Gathering.{IsGathered}
 use Rattle.spec_loading.specs.spec_linking.Plans.{LinkOptions}
 use Rattle.spec_loading.specs.spec_linking.Links.{Links}
 use Rattle.spec_loading.specs.Merged.{Merged}
+use Rattle.snap_set.specs.Causes.{Takes, IsFirst, state_after}
+use Rattle.snap_merge.specs.Answers.{Snapped}
 use Rattle.merge_whole.specs.Merges.{HasShape}
 use Rattle.spec_traces.specs.declared.trace.Trace.{Trace}
 use Rattle.spec_traces.specs.Texts.{IsTextOf}
@@ -38,12 +40,24 @@ pub record IsMerged (names : HostNames) (o : SetOptions) (link : LinkOptions) (o
   pub shape : HasShape (linked names link set) merged.wasm
   pub written : after ≡ insert files out output
 
--- What an answer of merging leaves of these files. After a write fault the path of the output may hold anything.
-abbrev pub MergeLeaves : HostNames → SetOptions → LinkOptions → List ℕ → FileMap → Outcome → FilesState → FilesState → Type 0
-MergeLeaves names o link out files (Done runs) old new = IsSomeAnd new.told (IsMerged names o link out files)
-MergeLeaves names o link out files WriteFault old new = IsSomeAnd new.told (SameBut out files)
-MergeLeaves names o link out files Memory old new = (new.told ≡ Some files) ⊎ (Rose old.write_faults new.write_faults × IsSomeAnd new.told (SameBut out files))
-MergeLeaves names o link out files answer old new = new.told ≡ Some files
+-- The set is gathered from the files and links, and the path of the output holds bytes that are a snapshot of it, as it stands where its entry
+-- has just been called, after at most so many steps. Every other path is as it was.
+pub record IsSnapped (names : HostNames) (o : SetOptions) (link : LinkOptions) (most : ℕ) (out : List ℕ) (files after : FileMap) : Type 0 where
+  pub set : ClosedSet
+  pub gathered : IsGathered (get files) o (Ok set)
+  pub links : Links (linked names link set)
+  pub steps : ℕ
+  pub first : IsFirst (linked names link set) most steps Takes
+  pub output : List ℕ
+  pub snapped : Snapped (linked names link set) output (state_after (linked names link set) steps)
+  pub written : after ≡ insert files out output
+
+-- What an answer leaves of these files where what is written is so. After a write fault the path of the output may hold anything.
+abbrev pub OutputLeaves : (FileMap → FileMap → Type 0) → List ℕ → FileMap → Outcome → FilesState → FilesState → Type 0
+OutputLeaves IsWritten out files (Done runs) old new = IsSomeAnd new.told (IsWritten files)
+OutputLeaves IsWritten out files WriteFault old new = IsSomeAnd new.told (SameBut out files)
+OutputLeaves IsWritten out files Memory old new = (new.told ≡ Some files) ⊎ (Rose old.write_faults new.write_faults × IsSomeAnd new.told (SameBut out files))
+OutputLeaves IsWritten out files answer old new = new.told ≡ Some files
 
 -- The path of the output holds the text of a trace, of which this is so by the run of the program that the files give. Every other path is as it
 -- was.
@@ -65,8 +79,9 @@ TraceLeaves names one o link out files Memory old new =
     (new.told ≡ Some files) ⊎ (IsSomeAnd new.told (IsTraced names one o link out Traces files) ⊎ (Rose old.write_faults new.write_faults × IsSomeAnd new.told (SameBut out files)))
 TraceLeaves names one o link out files answer old new = new.told ≡ Some files
 
--- only merging and tracing change a file
+-- only merging, tracing and writing a snapshot change a file
 abbrev pub LeavesFor : HostNames → Result Order UsageKind → FileMap → Outcome → FilesState → FilesState → Type 0
-LeavesFor names (Ok (order.Merge o link out)) files answer old new = MergeLeaves names (options_of o) (links.options_of link) out files answer old new
+LeavesFor names (Ok (order.Merge o link out)) files answer old new = OutputLeaves (IsMerged names (options_of o) (links.options_of link) out) out files answer old new
 LeavesFor names (Ok (order.Trace one o link steps out args)) files answer old new = TraceLeaves names one (options_of o) (links.options_of link) out files answer old new
+LeavesFor names (Ok (order.Snap o link steps out)) files answer old new = OutputLeaves (IsSnapped names (options_of o) (links.options_of link) steps out) out files answer old new
 LeavesFor names _ files answer old new = new.told ≡ Some files

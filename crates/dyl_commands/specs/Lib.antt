@@ -10,8 +10,8 @@
 --   counts    Counts               Counts         what an answer leaves of the counts of the files
 --   does      DoesBy               Clauses        what is done to the devices: Does of Runs, and TellsErrors of Told for the line
 --
--- These speak of what there is to say of a set (Linking), of several (Sets), of the one file that is run (OneFile), of a trace (Traced), and of
--- a generated set (Generated). The contracts of what the clauses are had from cite the others: Fetched (reading a file), Served (each command),
+-- These speak of what there is to say of a set (Linking), of several (Sets), of the start-up of one (StartUp), of the one file that is run
+-- (OneFile), of a trace (Traced), and of a generated set (Generated). The contracts of what the clauses are had from cite the others: Fetched (reading a file), Served (each command),
 -- GeneratedRuns (`gen`).
 pub mod Due
 pub mod Files
@@ -21,6 +21,7 @@ pub mod Clauses
 pub mod Runs
 pub mod Told
 pub mod Linking
+pub mod StartUp
 pub mod Sets
 pub mod OneFile
 pub mod Traced

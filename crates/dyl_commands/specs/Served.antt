@@ -26,6 +26,10 @@ use Rattle.spec_loading.specs.spec_linking.LinkedSets.{LinkedSet}
 use Rattle.spec_loading.specs.spec_linking.Links.{link_fault}
 use Rattle.spec_merging.specs.declared.fault.MergeFault.{MergeFault}
 use Rattle.spec_merging.specs.declared.fault.MergeFault.TheVariants as merge
+use Rattle.spec_snapshots.specs.declared.fault.SnapFault.{SnapFault}
+use Rattle.spec_snapshots.specs.declared.fault.SnapFault.TheVariants as snap
+use Rattle.snap_set.specs.Causes.{Takes, IsFirst, state_after}
+use Rattle.snap_merge.specs.Answers.{Snapped, SnapTells}
 use Rattle.spec_boards.specs.BoardRuns.{IsBoardRun, IsBoardCut}
 use Rattle.dyl_store.specs.Stores.{set_course}
 use Rattle.slice_exec.specs.Executed.{AreKept}
@@ -40,7 +44,7 @@ use Rattle.dyl_front.specs.Listing.{listing_of}
 use Rattle.dyl_front.specs.declared.order.Order.{Order}
 use Rattle.dyl_front.specs.declared.outcome.UsageKind.{UsageKind}
 use Rattle.dyl_front.specs.declared.outcome.Outcome.{Outcome}
-use Rattle.dyl_front.specs.declared.outcome.Outcome.TheVariants.{Done, Ran, Board, Set, Link, Merge, Single, WriteFault, Memory}
+use Rattle.dyl_front.specs.declared.outcome.Outcome.TheVariants.{Done, Ran, Board, Set, Link, Merge, Single, Snap, WriteFault, Memory}
 use Rattle.dyl_commands.specs.Linking.{linked, FaultTells}
 use Rattle.dyl_commands.specs.Sets.{FirstTells}
 use Rattle.dyl_commands.specs.Due.{TellsFor}
@@ -184,6 +188,27 @@ WritesMerged k out (Merge (merge.SectionSize id)) old new = ((L : LinkedSet) →
 WritesMerged k out Memory old new = ForSome old.told (λ files. new.told ≡ Some files)
 WritesMerged k out _ old new = ⊥
 
+-- ---- writing the snapshot of a linked set
+
+-- the set of which this is kept comes to the call of its entry, after at most so many steps
+abbrev pub Starts : Kept → ℕ → Type 0
+Starts k most = (L : LinkedSet) → IsLinked L k → (n : ℕ) × IsFirst L most n Takes
+
+-- the path of the output holds a snapshot of it, and every other path is as it was
+pub record HoldsSnapshot (k : Kept) (most : ℕ) (out : List ℕ) (files after : FileMap) : Type 0 where
+  pub output : List ℕ
+  pub snapped : (L : LinkedSet) → IsLinked L k → (n : ℕ) × IsFirst L most n Takes × Snapped L output (state_after L n)
+  pub written : after ≡ insert files out output
+
+-- what each outcome leaves of the files
+abbrev pub WritesSnapshot : Kept → ℕ → List ℕ → Outcome → FilesState → FilesState → Type 0
+WritesSnapshot k most out (Done []) old new = Starts k most × ForSome old.told (λ files. IsSomeAnd new.told (HoldsSnapshot k most out files))
+WritesSnapshot k most out WriteFault old new = Starts k most × ForSome old.told (λ files. IsSomeAnd new.told (SameBut out files)) × Rises old.write_faults new.write_faults
+WritesSnapshot k most out (Snap snap.Memory) old new = ⊥
+WritesSnapshot k most out (Snap why) old new = ((L : LinkedSet) → IsLinked L k → SnapTells L most why) × (new.told ≡ old.told)
+WritesSnapshot k most out Memory old new = ForSome old.told (λ files. new.told ≡ Some files)
+WritesSnapshot k most out _ old new = ⊥
+
 -- ---- listing a linked set
 
 -- its listing was put, with this result
@@ -224,7 +249,7 @@ ExecutesModule wasm embedder steps (Single fault) old new = (module_opening wasm
 ExecutesModule wasm embedder steps Memory old new = (new ≡ old) ⊎ ((opening : ModuleState) × (module_opening wasm embedder.names ≡ Ok opening) × IsModuleCut wasm embedder opening steps old new)
 ExecutesModule wasm embedder steps _ old new = ⊥
 
--- ---- a fault of the files, of linking, or of merging
+-- ---- a fault of the files, of linking, of merging, or of a snapshot
 
 abbrev pub set_outcome : SetFault → Outcome
 set_outcome set.Memory = Memory
@@ -237,6 +262,10 @@ link_outcome fault = Link fault
 abbrev pub merge_outcome : MergeFault → Outcome
 merge_outcome merge.Memory = Memory
 merge_outcome fault = Merge fault
+
+abbrev pub snap_outcome : SnapFault → Outcome
+snap_outcome snap.Memory = Memory
+snap_outcome why = Snap why
 
 -- ---- the runs of a program: it may be said to have each that begins so
 

@@ -11,6 +11,7 @@ mod one_file;
 mod plan;
 mod run;
 mod sets;
+mod snap;
 mod store;
 
 pub use board::board_main;
@@ -22,4 +23,5 @@ pub use one_file::{MOST_RUN, fetch_file, read_module};
 pub use plan::plan_main;
 pub use run::{run_linked, run_main};
 pub use sets::{linked_set, refused};
+pub use snap::snap_main;
 pub use store::store_output;

@@ -14,7 +14,7 @@ use Rattle.dyl_front.specs.declared.outcome.Opt.{Opt}
 use Rattle.dyl_front.specs.declared.outcome.Opt.TheVariants.{Dl, Path, Pages, Stack, Steps, Slice, Turns, N}
 use Rattle.dyl_front.specs.declared.outcome.UsageKind.{UsageKind}
 use Rattle.dyl_front.specs.declared.order.Order.{Order}
-use Rattle.dyl_front.specs.declared.order.Order.TheVariants.{Merge, Run, Exec, Plan, Gen, Trace, Replay, Board}
+use Rattle.dyl_front.specs.declared.order.Order.TheVariants.{Merge, Run, Exec, Plan, Gen, Trace, Replay, Snap, Board}
 use Rattle.dyl_front.specs.Orders.{Text, on_ok, is_number, is_between, number_of, number_in, is_empty, items_of, items_in, set_in, pages_in, link_in, steps_in, slice_in, turns_in, over_set, order_by, order_asked, order_for, order_of, has_no_zero, is_item, IsSetInRange, IsLinkInRange, AreMainsInRange, IsInRange}
 
 parts_false : (a b : Bool) → (a || b) ≡ false → (a ≡ false) × (b ≡ false)
@@ -153,6 +153,14 @@ module _ (a : Asked) (free : IsZeroFree a) where
       (λ set link s l. ok_then (λ n. n ≤ 9223372036854775807) IsInRange (steps_in a) (λ n. Ok (Replay a.one trace set link n)) steps
       (λ n m. (ap not first.0, s, l, m)))
   orders command.Replay (trace ∷ main ∷ word ∷ words) h t = tt
+  orders command.Snap [] h t = tt
+  orders command.Snap (main ∷ []) h t = tt
+  orders command.Snap (main ∷ out ∷ []) h t =
+      let both = parts_false (has_zero main) (list_any has_zero (out ∷ [])) h in
+      over main (λ set link. on_ok (steps_in a) (λ n. Ok (Snap set link n out))) both.0
+      (λ set link s l. ok_then (λ n. n ≤ 9223372036854775807) IsInRange (steps_in a) (λ n. Ok (Snap set link n out)) steps
+      (λ n m. (s, l, ap not (parts_false (has_zero out) false both.1).0, m)))
+  orders command.Snap (main ∷ out ∷ word ∷ words) h t = tt
   orders command.Board mains h t =
       let few = parts_true (nat_le 1 (length mains)) (nat_le (length mains) 64) t in
       let all : AreMainsInRange mains = (leb-true 1 (length mains) few.0, leb-true (length mains) 64 few.1, args_free mains h) in

@@ -27,6 +27,8 @@ use Rattle.dyl_gen.specs.declared.fault.GenFault.{GenFault}
 use Rattle.dyl_gen.specs.declared.fault.GenFault.TheVariants as gen
 use Rattle.spec_traces.specs.declared.trace.TraceFault.{TraceFault}
 use Rattle.spec_traces.specs.declared.trace.TraceFault.TheVariants as trace
+use Rattle.spec_snapshots.specs.declared.fault.SnapFault.{SnapFault}
+use Rattle.spec_snapshots.specs.declared.fault.SnapFault.TheVariants as snap
 use Rattle.dyl_front.specs.declared.outcome.Opt.{Opt}
 use Rattle.dyl_front.specs.declared.outcome.Opt.TheVariants.{Dl, Path, Pages, Stack, Steps, Slice, Turns, N}
 use Rattle.dyl_front.specs.declared.outcome.UsageKind.{UsageKind}
@@ -35,7 +37,7 @@ use Rattle.spec_linking.specs.declared.fault.SetFault.{SetFault}
 use Rattle.spec_linking.specs.declared.fault.SetFault.TheVariants as set
 use Rattle.spec_linking.specs.declared.fault.SetFault.TheVariants.{Missing, ReadFault, Decode, Record, Check, ModuleCount, SetSize}
 use Rattle.dyl_front.specs.declared.outcome.Outcome.{Outcome}
-use Rattle.dyl_front.specs.declared.outcome.Outcome.TheVariants.{Done, Ran, Board, Usage, Set, Link, Merge, Single, Gen, Trace, TooLong, WriteFault, Memory}
+use Rattle.dyl_front.specs.declared.outcome.Outcome.TheVariants.{Done, Ran, Board, Usage, Set, Link, Merge, Single, Gen, Trace, TooLong, Snap, WriteFault, Memory}
 
 abbrev pub option_text : Opt → List ℕ
 option_text Dl = codes "--dl"
@@ -123,8 +125,12 @@ link_text (link.Duplicate name first second) = codes "duplicate " ++ escaped nam
 link_text link.NoEntry = codes "no entry"
 link_text link.Memory = codes "out of memory"
 
+-- that the section of a number is too long to be written
+abbrev pub long_text : ℕ → List ℕ
+long_text id = codes "section " ++ decimal id ++ codes " too long"
+
 abbrev pub merge_text : MergeFault → List ℕ
-merge_text (merge.SectionSize id) = codes "section " ++ decimal id ++ codes " too long"
+merge_text (merge.SectionSize id) = long_text id
 merge_text merge.Memory = codes "out of memory"
 
 -- a run that returned or exited has no text
@@ -156,6 +162,15 @@ trace_fault_text (trace.Single fault) = single_text fault
 trace_fault_text (trace.Differs call) = codes "trace differs at call " ++ decimal call
 trace_fault_text trace.Memory = codes "out of memory"
 
+-- why there is no snapshot of a set
+abbrev pub snap_text : SnapFault → List ℕ
+snap_text snap.HostCall = codes "snapshot: host call in start-up"
+snap_text (snap.Trap why) = codes "snapshot: " ++ (codes "trap " ++ trap_text why) ++ codes " in start-up"
+snap_text snap.Steps = codes "snapshot: step limit in start-up"
+snap_text snap.Depth = codes "snapshot: depth limit in start-up"
+snap_text (snap.SectionSize id) = long_text id
+snap_text snap.Memory = codes "out of memory"
+
 abbrev pub memory_text : List ℕ
 memory_text = codes "out of memory"
 
@@ -172,6 +187,7 @@ outcome_text (Single fault) = Some (single_text fault)
 outcome_text (Gen fault) = Some (gen_text fault)
 outcome_text (Trace fault) = Some (trace_fault_text fault)
 outcome_text (TooLong ran) = Some (codes "trace too long")
+outcome_text (Snap fault) = Some (snap_text fault)
 outcome_text WriteFault = Some (codes "write fault")
 outcome_text Memory = Some memory_text
 

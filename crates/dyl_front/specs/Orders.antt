@@ -19,7 +19,7 @@ use Rattle.dyl_front.specs.declared.outcome.UsageKind.TheVariants.{NoCommand, Un
 use Rattle.dyl_front.specs.declared.outcome.Outcome.{Outcome}
 use Rattle.dyl_front.specs.declared.outcome.Outcome.TheVariants as outcome
 use Rattle.dyl_front.specs.declared.order.Order.{Order}
-use Rattle.dyl_front.specs.declared.order.Order.TheVariants.{Merge, Run, Exec, Plan, Gen, Trace, Replay, Board}
+use Rattle.dyl_front.specs.declared.order.Order.TheVariants.{Merge, Run, Exec, Plan, Gen, Trace, Replay, Snap, Board}
 use Rattle.dyl_front.specs.declared.words.WordFault.{WordFault}
 use Rattle.dyl_front.specs.declared.words.WordFault.TheVariants as word
 
@@ -108,6 +108,9 @@ trace_order main out args a = over_set main a (λ set link. on_ok (steps_in a) (
 abbrev pub replay_order : Text → Text → Asked → Result Order UsageKind
 replay_order trace main a = over_set main a (λ set link. on_ok (steps_in a) (λ steps. Ok (Replay a.one trace set link steps)))
 
+abbrev pub snap_order : Text → Text → Asked → Result Order UsageKind
+snap_order main out a = over_set main a (λ set link. on_ok (steps_in a) (λ steps. Ok (Snap set link steps out)))
+
 -- all plain words are main modules
 abbrev pub board_order : List Text → Asked → Result Order UsageKind
 board_order mains a =
@@ -122,6 +125,7 @@ order_by command.Plan (main ∷ []) a = plan_order main a
 order_by command.Gen (number ∷ []) a = gen_order number a
 order_by command.Trace (main ∷ out ∷ args) a = trace_order main out args a
 order_by command.Replay (trace ∷ main ∷ []) a = replay_order trace main a
+order_by command.Snap (main ∷ out ∷ []) a = snap_order main out a
 order_by command.Board mains a = board_order mains a
 order_by _ _ a = Err Words
 
@@ -187,4 +191,5 @@ IsInRange (Plan set link) = IsSetInRange set × IsLinkInRange link
 IsInRange (Gen n pages steps) = (1 ≤ pages) × (pages ≤ 16384) × (steps ≤ 9223372036854775807)
 IsInRange (Trace one set link steps out args) = IsSetInRange set × IsLinkInRange link × (has_no_zero out ≡ true) × AreArgumentsInRange steps args
 IsInRange (Replay one trace set link steps) = (has_no_zero trace ≡ true) × IsSetInRange set × IsLinkInRange link × (steps ≤ 9223372036854775807)
+IsInRange (Snap set link steps out) = IsSetInRange set × IsLinkInRange link × (has_no_zero out ≡ true) × (steps ≤ 9223372036854775807)
 IsInRange (Board mains link steps slice turns) = AreMainsInRange mains × IsLinkInRange link × (steps ≤ 9223372036854775807) × AreTurnsInRange slice turns

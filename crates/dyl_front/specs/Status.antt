@@ -5,7 +5,7 @@ use Rattle.spec_traces.specs.spec_hosts.declared.ran.RunEnd.{RunEnd}
 use Rattle.spec_traces.specs.spec_hosts.declared.ran.RunEnd.TheVariants as end
 use Rattle.spec_linking.specs.declared.fault.SetFault.TheVariants.{ReadFault}
 use Rattle.dyl_front.specs.declared.outcome.Outcome.{Outcome}
-use Rattle.dyl_front.specs.declared.outcome.Outcome.TheVariants.{Done, Ran, Board, Usage, Set, Link, Merge, Single, Gen, Trace, TooLong, WriteFault, Memory}
+use Rattle.dyl_front.specs.declared.outcome.Outcome.TheVariants.{Done, Ran, Board, Usage, Set, Link, Merge, Single, Gen, Trace, TooLong, Snap, WriteFault, Memory}
 
 abbrev pub end_status : RunEnd → ℕ
 end_status end.Return = 0
@@ -34,5 +34,6 @@ status_of (Single fault) = 65
 status_of (Gen fault) = 65
 status_of (Trace fault) = 65
 status_of (TooLong ran) = 65
+status_of (Snap fault) = 65
 status_of WriteFault = 74
 status_of Memory = 71

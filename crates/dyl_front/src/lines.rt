@@ -2,7 +2,8 @@
 ghost use Rattle.std.specs.Prelude.{◌≡◌, ◌++◌, [], codes, decimal, unwrap_or, true, false, Some, None, IsSome, IfOk, OnOk, string_bytes};
 ghost use Rattle.spec_linking.specs.declared.fault.LinkFault.TheVariants as link;
 ghost use Rattle.spec_traces.specs.dyl_print.Printed.{escaped};
-ghost use Rattle.dyl_front.specs.Lines.{option_text, usage_text, set_text, kind_text, link_text, merge_text, end_text, single_text, gen_text, trace_fault_text, outcome_text, line_with, line_of};
+ghost use Rattle.spec_snapshots.specs.declared.fault.SnapFault.TheVariants as snap;
+ghost use Rattle.dyl_front.specs.Lines.{option_text, usage_text, set_text, kind_text, link_text, long_text, merge_text, end_text, single_text, gen_text, trace_fault_text, snap_text, outcome_text, line_with, line_of};
 ghost use Rattle.std.specs.Option.{option_map};
 
 use crate::boards::{board_text, is_any_told, is_end_told};
@@ -12,7 +13,8 @@ use dyl_gen::GenFault;
 use spec_linking::spec_execution::SingleFault;
 use spec_linking::{Kind, LinkFault, SetFault};
 use spec_merging::MergeFault;
-use spec_merging::wasm_form::{Memory, Text};
+use spec_merging::wasm_form::{Memory, Text, Trap};
+use spec_snapshots::SnapFault;
 use spec_traces::TraceFault;
 use spec_traces::dyl_print::{put_escaped, put_number, put_text, put_trap};
 use spec_traces::spec_hosts::RunEnd;
@@ -190,15 +192,22 @@ fn put_link(alloc: Global, fault: &LinkFault, to: &mut Vec<u8>) -> Result<(), Me
     }
 }
 
-/// Why no merged module is written.
-fn merging_text(alloc: Global, fault: MergeFault) -> Result<String, Memory>
-    ensures { IfOk result (λ text. string_bytes text ≡ merge_text fault) }
+/// That the section of a number is too long to be written.
+fn section_text(alloc: Global, id: u8) -> Result<String, Memory>
+    ensures { IfOk result (λ text. string_bytes text ≡ long_text id) }
 {
-    let text = match fault {
-        MergeFault::SectionSize { id } => format!(in alloc; "section {id} too long")?,
-        MergeFault::Memory => format!(in alloc; "out of memory")?,
-    };
+    let text = format!(in alloc; "section {id} too long")?;
     Ok(text)
+}
+
+/// Puts why no merged module is written.
+fn put_merging(alloc: Global, fault: MergeFault, to: &mut Vec<u8>) -> Result<(), Memory>
+    ensures { OnOk result (to.new.items ≡ to.old.items ++ merge_text fault) }
+{
+    match fault {
+        MergeFault::SectionSize { id } => put_text(&section_text(alloc, id)?, to),
+        MergeFault::Memory => put_text("out of memory", to),
+    }
 }
 
 /// Puts how a run ended that neither returned nor exited.
@@ -274,6 +283,29 @@ fn put_trace(alloc: Global, fault: &TraceFault, to: &mut Vec<u8>) -> Result<(), 
     }
 }
 
+/// Puts that start-up trapped.
+fn put_startup_trap(trap: Trap, to: &mut Vec<u8>) -> Result<(), Memory>
+    ensures { OnOk result (to.new.items ≡ to.old.items ++ snap_text (snap.Trap trap)) }
+{
+    put_text("snapshot: ", to)?;
+    put_trap(trap, to)?;
+    put_text(" in start-up", to)
+}
+
+/// Puts why there is no snapshot of a set.
+fn put_snap(alloc: Global, fault: SnapFault, to: &mut Vec<u8>) -> Result<(), Memory>
+    ensures { OnOk result (to.new.items ≡ to.old.items ++ snap_text fault) }
+{
+    match fault {
+        SnapFault::HostCall => put_text("snapshot: host call in start-up", to),
+        SnapFault::Trap(trap) => put_startup_trap(trap, to),
+        SnapFault::Steps => put_text("snapshot: step limit in start-up", to),
+        SnapFault::Depth => put_text("snapshot: depth limit in start-up", to),
+        SnapFault::SectionSize { id } => put_text(&section_text(alloc, id)?, to),
+        SnapFault::Memory => put_text("out of memory", to),
+    }
+}
+
 /// Puts the text of an outcome, if there is one. A board has lines of its own.
 fn put_outcome(alloc: Global, outcome: &Outcome, to: &mut Vec<u8>) -> Result<(), Memory>
     ensures { OnOk result (to.new.items ≡ to.old.items ++ unwrap_or (outcome_text outcome.now) []) }
@@ -285,11 +317,12 @@ fn put_outcome(alloc: Global, outcome: &Outcome, to: &mut Vec<u8>) -> Result<(),
         Outcome::Usage(kind) => put_usage(*kind, to),
         Outcome::Set(fault) => put_set(alloc, fault, to),
         Outcome::Link(fault) => put_link(alloc, fault, to),
-        Outcome::Merge(fault) => put_text(&merging_text(alloc, *fault)?, to),
+        Outcome::Merge(fault) => put_merging(alloc, *fault, to),
         Outcome::Single(fault) => put_single(fault, to),
         Outcome::Gen(fault) => put_text(making_text(*fault), to),
         Outcome::Trace(fault) => put_trace(alloc, fault, to),
         Outcome::TooLong(_) => put_text("trace too long", to),
+        Outcome::Snap(fault) => put_snap(alloc, *fault, to),
         Outcome::WriteFault => put_text("write fault", to),
         Outcome::Memory => put_text("out of memory", to),
     }

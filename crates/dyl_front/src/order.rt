@@ -165,6 +165,14 @@ pub enum Order {
         link: LinkOptions,
         steps: u64,
     },
+    /// Runs the set of a main module up to the call of its entry, for at most so many steps, and writes the module that goes on from there at a
+    /// path.
+    Snap {
+        set: SetOptions,
+        link: LinkOptions,
+        steps: u64,
+        out: Text,
+    },
     /// Runs the sets of 1 to 64 main modules in turns, each set for at most so many steps, each turn for at most `slice` steps, and at most
     /// `turns` turns.
     Board {
@@ -225,6 +233,17 @@ impl Order {
                 is_whole(trace)
                     && is_set_in_range(set)
                     && is_link_in_range(link)
+                    && *steps <= MOST_STEPS
+            }
+            Order::Snap {
+                set,
+                link,
+                steps,
+                out,
+            } => {
+                is_set_in_range(set)
+                    && is_link_in_range(link)
+                    && is_whole(out)
                     && *steps <= MOST_STEPS
             }
             Order::Board {

@@ -8,6 +8,7 @@ use spec_linking::spec_execution::SingleFault;
 use spec_linking::{LinkFault, SetFault};
 use spec_merging::MergeFault;
 use spec_merging::wasm_form::List;
+use spec_snapshots::SnapFault;
 use spec_traces::TraceFault;
 use spec_traces::spec_hosts::{Ran, RunEnd};
 use std::alloc::Global;
@@ -73,6 +74,8 @@ pub enum Outcome {
     Trace(TraceFault),
     /// The module was run, and the text of the run's trace, which isn't written, would have more than 67,108,864 bytes.
     TooLong(Ran),
+    /// There is no snapshot of the set. The fault is never `Memory`.
+    Snap(SnapFault),
     /// The output could not be written.
     WriteFault,
     /// No memory could be had.
@@ -132,7 +135,8 @@ pub fn status(outcome: &Outcome) -> u8
         | Outcome::Single(_)
         | Outcome::Gen(_)
         | Outcome::Trace(_)
-        | Outcome::TooLong(_) => 65,
+        | Outcome::TooLong(_)
+        | Outcome::Snap(_) => 65,
         Outcome::Memory => 71,
         Outcome::WriteFault => 74,
     }

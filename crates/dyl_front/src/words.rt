@@ -5,7 +5,7 @@ ghost use Rattle.std.specs.Vec.Iter.{into_iter_items};
 ghost use Rattle.dyl_words.specs.Words.{asked};
 ghost use Rattle.dyl_words.specs.declared.names.CommandName.TheVariants as command;
 ghost use Rattle.dyl_words.specs.Shown.{shown};
-ghost use Rattle.dyl_front.specs.Orders.{Reads, word_fault, merge_order, run_order, exec_order, plan_order, gen_order, trace_order, replay_order, board_order, order_by, order_asked, order_of, refused_words, IsInRange};
+ghost use Rattle.dyl_front.specs.Orders.{Reads, word_fault, merge_order, run_order, exec_order, plan_order, gen_order, trace_order, replay_order, snap_order, board_order, order_by, order_asked, order_of, refused_words, IsInRange};
 ghost use Rattle.dyl_front.specs.declared.words.WordFault.TheVariants as word;
 
 use crate::options::{
@@ -237,6 +237,22 @@ fn replay_order(
     })
 }
 
+/// The order of `snap`.
+fn snap_order(alloc: Global, main: &str, out: &str, asked: &Asked<'_>) -> Result<Order, WordFault>
+    ensures { Reads result (snap_order main.now out.now (shown asked.now)) }
+{
+    let set = set_in(alloc, main, asked)?;
+    let link = link_in(asked)?;
+    let steps = steps_in(asked)?;
+    let out = Text::copied(alloc, out)?;
+    Ok(Order::Snap {
+        set,
+        link,
+        steps,
+        out,
+    })
+}
+
 /// The order of `board`.
 fn board_order(alloc: Global, mains: &[&str], asked: &Asked<'_>) -> Result<Order, WordFault>
     ensures { Reads result (board_order (map (λ x. x.now) mains.now) (shown asked.now)) }
@@ -267,6 +283,7 @@ fn order_by(alloc: Global, command: CommandName, asked: &Asked<'_>) -> Result<Or
         (CommandName::Gen, [number]) => gen_order(number, asked),
         (CommandName::Trace, words) => trace_words(alloc, words, asked),
         (CommandName::Replay, [trace, main]) => replay_order(alloc, trace, main, asked),
+        (CommandName::Snap, [main, out]) => snap_order(alloc, main, out, asked),
         (CommandName::Board, mains) => board_order(alloc, mains, asked),
         _ => Err(WordFault::Usage {
             kind: UsageKind::Words,

@@ -5,7 +5,7 @@ use Rattle.std.specs.Borrow.{Bor}
 use Rattle.std.specs.Str.{bytes_eq}
 use Rattle.dyl_words.specs.Forms.{Form, ends, option, stray, plain, form_of, after_hyphen}
 use Rattle.dyl_words.specs.declared.names.CommandName.{CommandName}
-use Rattle.dyl_words.specs.declared.names.CommandName.TheVariants.{Merge, Run, Exec, Plan, Gen, Trace, Replay, Board}
+use Rattle.dyl_words.specs.declared.names.CommandName.TheVariants.{Merge, Run, Exec, Plan, Gen, Trace, Replay, Snap, Board}
 use Rattle.dyl_words.specs.declared.names.OptionName.{OptionName}
 use Rattle.dyl_words.specs.declared.names.OptionName.TheVariants.{Dl, Path, Pages, Stack, NoDuplicates, Steps, Slice, Turns, One}
 use Rattle.dyl_words.specs.Words.{Given, options_of, option_named, is_flag, yes, with_plain, with_use, at_option, at_form, given, has_zero, values_of, takes_plain, asked_by, asked_in, asked}
@@ -44,6 +44,7 @@ none_taken Plan = refl
 none_taken Gen = refl
 none_taken Trace = refl
 none_taken Replay = refl
+none_taken Snap = refl
 none_taken Board = refl
 
 -- ---- stray hyphens

@@ -2,7 +2,7 @@
 use Rattle.std.proofs.Common.{◌≡◌, Bool, true, false, List, [], ◌∷◌, None, codes, refl, ap, ap₂, ◌∙◌, ◌||◌, ◌&&◌, not, cond, fold, map, ◌⊎◌, inl, inr, Result, Ok, Err, IfErr, IfOk, OnOk}
 use Rattle.std.specs.List.{list_any}
 use Rattle.dyl_words.specs.declared.names.CommandName.{CommandName}
-use Rattle.dyl_words.specs.declared.names.CommandName.TheVariants.{Merge, Run, Exec, Plan, Gen, Trace, Replay, Board}
+use Rattle.dyl_words.specs.declared.names.CommandName.TheVariants.{Merge, Run, Exec, Plan, Gen, Trace, Replay, Snap, Board}
 use Rattle.dyl_words.specs.declared.names.OptionName.{OptionName}
 use Rattle.dyl_words.specs.Words.{command_word, option_word, options_of, is_flag, given}
 use Rattle.dyl_words.specs.Clap.{app, no_kinds, has_stray}
@@ -79,6 +79,7 @@ module _ (name : Text) (ts : List Text) where
   kinds_are Gen = refl
   kinds_are Trace = refl
   kinds_are Replay = refl
+  kinds_are Snap = refl
   kinds_are Board = refl
 
   rows_are : (c : CommandName) → rows_of (built (app c)) (command_word c) (rules_of (options_of c)) (walk_at [] nothing false) ts ≡ matches_of (app c) (name ∷ ts)
@@ -89,6 +90,7 @@ module _ (name : Text) (ts : List Text) where
   rows_are Gen = refl
   rows_are Trace = refl
   rows_are Replay = refl
+  rows_are Snap = refl
   rows_are Board = refl
 
   pub answers : (c : CommandName) → has_stray ts ≡ false → Agrees (fault_of (app c) (name ∷ ts)) (matches_of (app c) (name ∷ ts)) [] (λ p. []) (given (options_of c) None ts)

@@ -3,7 +3,7 @@ use Rattle.std.proofs.Common.{◌≡◌, Bool, true, false, not, List, [], ◌�
 use lib.Pointwise.{bytes_decides}
 use Rattle.std.specs.Str.{bytes_eq}
 use Rattle.dyl_words.specs.declared.names.CommandName.{CommandName}
-use Rattle.dyl_words.specs.declared.names.CommandName.TheVariants.{Merge, Run, Exec, Plan, Gen, Trace, Replay, Board}
+use Rattle.dyl_words.specs.declared.names.CommandName.TheVariants.{Merge, Run, Exec, Plan, Gen, Trace, Replay, Snap, Board}
 use Rattle.dyl_words.specs.declared.names.OptionName.{OptionName}
 use Rattle.dyl_words.specs.declared.names.OptionName.TheVariants.{Dl, Path, Pages, Stack, NoDuplicates, Steps, Slice, Turns, One}
 use Rattle.dyl_words.specs.Words.{option_word, option_named, is_flag}
@@ -40,6 +40,7 @@ simple Plan = refl
 simple Gen = refl
 simple Trace = refl
 simple Replay = refl
+simple Snap = refl
 simple Board = refl
 
 pub simple_is : (c : CommandName) → is_simple (app c) ≡ true
@@ -50,6 +51,7 @@ simple_is Plan = refl
 simple_is Gen = refl
 simple_is Trace = refl
 simple_is Replay = refl
+simple_is Snap = refl
 simple_is Board = refl
 
 -- ---- the rule of an option

@@ -4,7 +4,7 @@ use Rattle.std.specs.List.{list_any, list_all, filter}
 use Rattle.std.specs.Str.{bytes_eq}
 use Rattle.dyl_words.specs.Forms.{Text, Form, ends, option, plain, stray, form_of, begins_with_hyphen}
 use Rattle.dyl_words.specs.declared.names.CommandName.{CommandName}
-use Rattle.dyl_words.specs.declared.names.CommandName.TheVariants.{Merge, Run, Exec, Plan, Gen, Trace, Replay, Board}
+use Rattle.dyl_words.specs.declared.names.CommandName.TheVariants.{Merge, Run, Exec, Plan, Gen, Trace, Replay, Snap, Board}
 use Rattle.dyl_words.specs.declared.names.OptionName.{OptionName}
 use Rattle.dyl_words.specs.declared.names.OptionName.TheVariants.{Dl, Path, Pages, Stack, NoDuplicates, Steps, Slice, Turns, One}
 
@@ -18,10 +18,11 @@ command_word Plan = codes "plan"
 command_word Gen = codes "gen"
 command_word Trace = codes "trace"
 command_word Replay = codes "replay"
+command_word Snap = codes "snap"
 command_word Board = codes "board"
 
 abbrev pub commands : List CommandName
-commands = Merge ∷ Run ∷ Exec ∷ Plan ∷ Gen ∷ Trace ∷ Replay ∷ Board ∷ []
+commands = Merge ∷ Run ∷ Exec ∷ Plan ∷ Gen ∷ Trace ∷ Replay ∷ Snap ∷ Board ∷ []
 
 abbrev pub command_named : Text → Option CommandName
 command_named word = find (λ c. bytes_eq word (command_word c)) commands
@@ -64,6 +65,7 @@ options_of Plan = set_options
 options_of Gen = Pages ∷ Steps ∷ []
 options_of Trace = trace_options
 options_of Replay = trace_options
+options_of Snap = run_options
 options_of Board = Pages ∷ Stack ∷ Steps ∷ Slice ∷ Turns ∷ []
 
 abbrev pub option_named : List OptionName → Text → Option OptionName
@@ -79,6 +81,7 @@ takes_plain Plan n = n == 1
 takes_plain Gen n = n == 1
 takes_plain Trace n = nat_le 2 n
 takes_plain Replay n = n == 2
+takes_plain Snap n = n == 2
 takes_plain Board n = nat_le 1 n && nat_le n 64
 
 -- ---- what words give

@@ -19,6 +19,8 @@ pub enum CommandName {
     Trace,
     /// Checks that a trace is that of a run.
     Replay,
+    /// Runs a set up to its entry, and writes the module that goes on from there.
+    Snap,
     /// Runs several sets in turns.
     Board,
 }
@@ -101,7 +103,7 @@ impl CommandName {
     {
         match self {
             CommandName::Merge | CommandName::Plan => &SET_OPTIONS,
-            CommandName::Run => &RUN_OPTIONS,
+            CommandName::Run | CommandName::Snap => &RUN_OPTIONS,
             CommandName::Exec => &EXEC_OPTIONS,
             CommandName::Gen => &GEN_OPTIONS,
             CommandName::Trace | CommandName::Replay => &TRACE_OPTIONS,
@@ -114,7 +116,7 @@ impl CommandName {
         ensures { result ≡ takes_plain self count }
     {
         match self {
-            CommandName::Merge | CommandName::Replay => count == 2,
+            CommandName::Merge | CommandName::Replay | CommandName::Snap => count == 2,
             CommandName::Run | CommandName::Exec => count >= 1,
             CommandName::Plan | CommandName::Gen => count == 1,
             CommandName::Trace => count >= 2,
@@ -134,6 +136,7 @@ impl CommandName {
             CommandName::Gen => "gen",
             CommandName::Trace => "trace",
             CommandName::Replay => "replay",
+            CommandName::Snap => "snap",
             CommandName::Board => "board",
         }
     }
@@ -150,6 +153,7 @@ impl CommandName {
             "gen" => Some(CommandName::Gen),
             "trace" => Some(CommandName::Trace),
             "replay" => Some(CommandName::Replay),
+            "snap" => Some(CommandName::Snap),
             "board" => Some(CommandName::Board),
             _ => None,
         }

@@ -9,7 +9,7 @@ use Rattle.dyl_commands.specs.Runs.{Does}
 use Rattle.dyl_commands.specs.Served.{Serves}
 use Rattle.dyl_commands.proofs.Writing.{can_write}
 use Rattle.dyl_commands.proofs.Dues.{laws_of, served_due, served_complete}
-use Rattle.dyl_commands.proofs.Performing.{at_merge, at_run, at_exec, at_plan, at_gen, at_trace, at_replay, at_board, range_of_merge, range_of_run, range_of_plan, range_of_gen, range_of_trace, range_of_replay, range_of_board, does_without_picks}
+use Rattle.dyl_commands.proofs.Performing.{at_merge, at_run, at_exec, at_plan, at_gen, at_trace, at_replay, at_snap, at_board, range_of_merge, range_of_run, range_of_plan, range_of_gen, range_of_trace, range_of_replay, range_of_snap, range_of_board, does_without_picks}
 use Rattle.dyl_app.proofs.service.perform.Goals as goal
 
 pub perform_merge-requires : goal.perform_merge-requires
@@ -30,12 +30,15 @@ perform_trace-requires g c = let r = range_of_trace c.args.order.now _ _ _ _ _ _
 pub perform_replay-requires : goal.perform_replay-requires
 perform_replay-requires g c = range_of_replay c.args.order.now _ _ _ _ _ c.in-Replay.is c.requires
 
+pub perform_snap-requires : goal.perform_snap-requires
+perform_snap-requires g c = let r = range_of_snap c.args.order.now _ _ _ _ c.in-Snap.is c.requires in record { link = r.0; steps = r.1 }
+
 pub perform_board-requires : goal.perform_board-requires
 perform_board-requires g c = let r = range_of_board c.args.order.now _ _ _ _ _ _ c.in-Board.is c.items-in-Board.ensures c.requires in record { link = r.0; steps = r.1; some = (let some = r.2 in omega arith); few = r.3 }
 
 pub returns-in-Merge : goal.returns-in-Merge
 returns-in-Merge g c =
-    let laws = laws_of c.reading_answers.ensures c.one_record_answer.ensures c.one_gathered.ensures c.generated_set_links.ensures.three c.texts_are_of_one_trace.ensures c.runs_agree_up_to_one_call.ensures.one in
+    let laws = laws_of c.reading_answers.ensures c.one_record_answer.ensures c.one_gathered.ensures c.generated_set_links.ensures.three c.texts_are_of_one_trace.ensures c.runs_agree_up_to_one_call.ensures.one c.first_states_are_one.ensures.one in
     let can = can_write (functions_of c.args.host.now) in
     let serves =
     at_merge (λ asked. Serves (names_of c.args.host.now) asked c.perform_merge.result (g.F.Files.seen c.args.files.now) (g.F.Files.seen c.perform_merge.new.files) (g.O.Sink.seen c.args.output.now).faults (g.O.Sink.seen c.args.output.now).faults)
@@ -59,7 +62,7 @@ returns-in-Merge g c =
 
 pub returns-in-Run : goal.returns-in-Run
 returns-in-Run g c =
-    let laws = laws_of c.reading_answers.ensures c.one_record_answer.ensures c.one_gathered.ensures c.generated_set_links.ensures.three c.texts_are_of_one_trace.ensures c.runs_agree_up_to_one_call.ensures.one in
+    let laws = laws_of c.reading_answers.ensures c.one_record_answer.ensures c.one_gathered.ensures c.generated_set_links.ensures.three c.texts_are_of_one_trace.ensures c.runs_agree_up_to_one_call.ensures.one c.first_states_are_one.ensures.one in
     let can = can_write (functions_of c.args.host.now) in
     let serves =
     at_run (λ asked. Serves (names_of c.args.host.now) asked c.perform_run.result (g.F.Files.seen c.args.files.now) (g.F.Files.seen c.perform_run.new.files) (g.O.Sink.seen c.args.output.now).faults (g.O.Sink.seen c.perform_run.new.output).faults)
@@ -85,7 +88,7 @@ returns-in-Run g c =
 
 pub returns-in-Exec : goal.returns-in-Exec
 returns-in-Exec g c =
-    let laws = laws_of c.reading_answers.ensures c.one_record_answer.ensures c.one_gathered.ensures c.generated_set_links.ensures.three c.texts_are_of_one_trace.ensures c.runs_agree_up_to_one_call.ensures.one in
+    let laws = laws_of c.reading_answers.ensures c.one_record_answer.ensures c.one_gathered.ensures c.generated_set_links.ensures.three c.texts_are_of_one_trace.ensures c.runs_agree_up_to_one_call.ensures.one c.first_states_are_one.ensures.one in
     let can = can_write (functions_of c.args.host.now) in
     let serves =
     at_exec (λ asked. Serves (names_of c.args.host.now) asked c.perform_exec.result (g.F.Files.seen c.args.files.now) (g.F.Files.seen c.perform_exec.new.files) (g.O.Sink.seen c.args.output.now).faults (g.O.Sink.seen c.perform_exec.new.output).faults)
@@ -111,7 +114,7 @@ returns-in-Exec g c =
 
 pub returns-in-Plan : goal.returns-in-Plan
 returns-in-Plan g c =
-    let laws = laws_of c.reading_answers.ensures c.one_record_answer.ensures c.one_gathered.ensures c.generated_set_links.ensures.three c.texts_are_of_one_trace.ensures c.runs_agree_up_to_one_call.ensures.one in
+    let laws = laws_of c.reading_answers.ensures c.one_record_answer.ensures c.one_gathered.ensures c.generated_set_links.ensures.three c.texts_are_of_one_trace.ensures c.runs_agree_up_to_one_call.ensures.one c.first_states_are_one.ensures.one in
     let can = can_write (functions_of c.args.host.now) in
     let serves =
     at_plan (λ asked. Serves (names_of c.args.host.now) asked c.perform_plan.result (g.F.Files.seen c.args.files.now) (g.F.Files.seen c.perform_plan.new.files) (g.O.Sink.seen c.args.output.now).faults (g.O.Sink.seen c.perform_plan.new.output).faults)
@@ -135,7 +138,7 @@ returns-in-Plan g c =
 
 pub returns-in-Gen : goal.returns-in-Gen
 returns-in-Gen g c =
-    let laws = laws_of c.reading_answers.ensures c.one_record_answer.ensures c.one_gathered.ensures c.generated_set_links.ensures.three c.texts_are_of_one_trace.ensures c.runs_agree_up_to_one_call.ensures.one in
+    let laws = laws_of c.reading_answers.ensures c.one_record_answer.ensures c.one_gathered.ensures c.generated_set_links.ensures.three c.texts_are_of_one_trace.ensures c.runs_agree_up_to_one_call.ensures.one c.first_states_are_one.ensures.one in
     let can = can_write (functions_of c.args.host.now) in
     let serves =
     at_gen (λ asked. Serves (names_of c.args.host.now) asked c.perform_gen.result (g.F.Files.seen c.args.files.now) (g.F.Files.seen c.args.files.now) (g.O.Sink.seen c.args.output.now).faults (g.O.Sink.seen c.perform_gen.new.output).faults)
@@ -159,7 +162,7 @@ returns-in-Gen g c =
 
 pub returns-in-Trace : goal.returns-in-Trace
 returns-in-Trace g c =
-    let laws = laws_of c.reading_answers.ensures c.one_record_answer.ensures c.one_gathered.ensures c.generated_set_links.ensures.three c.texts_are_of_one_trace.ensures c.runs_agree_up_to_one_call.ensures.one in
+    let laws = laws_of c.reading_answers.ensures c.one_record_answer.ensures c.one_gathered.ensures c.generated_set_links.ensures.three c.texts_are_of_one_trace.ensures c.runs_agree_up_to_one_call.ensures.one c.first_states_are_one.ensures.one in
     let can = can_write (functions_of c.args.host.now) in
     let serves =
     at_trace (λ asked. Serves (names_of c.args.host.now) asked c.perform_trace.result (g.F.Files.seen c.args.files.now) (g.F.Files.seen c.perform_trace.new.files) (g.O.Sink.seen c.args.output.now).faults (g.O.Sink.seen c.perform_trace.new.output).faults)
@@ -185,7 +188,7 @@ returns-in-Trace g c =
 
 pub returns-in-Replay : goal.returns-in-Replay
 returns-in-Replay g c =
-    let laws = laws_of c.reading_answers.ensures c.one_record_answer.ensures c.one_gathered.ensures c.generated_set_links.ensures.three c.texts_are_of_one_trace.ensures c.runs_agree_up_to_one_call.ensures.one in
+    let laws = laws_of c.reading_answers.ensures c.one_record_answer.ensures c.one_gathered.ensures c.generated_set_links.ensures.three c.texts_are_of_one_trace.ensures c.runs_agree_up_to_one_call.ensures.one c.first_states_are_one.ensures.one in
     let can = can_write (functions_of c.args.host.now) in
     let serves =
     at_replay (λ asked. Serves (names_of c.args.host.now) asked c.perform_replay.result (g.F.Files.seen c.args.files.now) (g.F.Files.seen c.perform_replay.new.files) (g.O.Sink.seen c.args.output.now).faults (g.O.Sink.seen c.args.output.now).faults)
@@ -207,9 +210,33 @@ returns-in-Replay g c =
       quiet = c.perform_replay.ensures.quiet;
     }
 
+pub returns-in-Snap : goal.returns-in-Snap
+returns-in-Snap g c =
+    let laws = laws_of c.reading_answers.ensures c.one_record_answer.ensures c.one_gathered.ensures c.generated_set_links.ensures.three c.texts_are_of_one_trace.ensures c.runs_agree_up_to_one_call.ensures.one c.first_states_are_one.ensures.one in
+    let can = can_write (functions_of c.args.host.now) in
+    let serves =
+    at_snap (λ asked. Serves (names_of c.args.host.now) asked c.perform_snap.result (g.F.Files.seen c.args.files.now) (g.F.Files.seen c.perform_snap.new.files) (g.O.Sink.seen c.args.output.now).faults (g.O.Sink.seen c.args.output.now).faults)
+    c.args.order.now _ _ _ _ _ c.in-Snap.is c.as_str-in-Snap.ensures (c.perform_snap.ensures.serves _ _) in
+    record {
+      due = served_due laws (names_of c.args.host.now) can _ _ _ _ _ _ serves;
+      tells = serves.tells;
+      files = serves.leaves;
+      complete = served_complete laws (names_of c.args.host.now) can _ _ _ _ _ _ serves;
+      caused = serves.caused;
+      inner = serves.inner;
+      counts = at_snap (λ asked. Counts asked c.perform_snap.result (g.F.Files.seen c.args.files.now) (g.F.Files.seen c.perform_snap.new.files))
+          c.args.order.now _ _ _ _ _ c.in-Snap.is c.as_str-in-Snap.ensures c.perform_snap.ensures.counts;
+      does = at_snap
+          (λ asked. Does (g.F.Files.seen c.args.files.now).told (λ texts. embedder_of texts c.args.host.now) (picks_of c.args.picker.now) asked c.perform_snap.result
+          (devices (g.I.Source.seen c.args.input.now) (g.O.Sink.seen c.args.output.now) (g.E.Sink.seen c.args.errors.now) (g.A.Ambient.seen c.args.ambient.now))
+          (devices (g.I.Source.seen c.args.input.now) (g.O.Sink.seen c.args.output.now) (g.E.Sink.seen c.perform_snap.new.errors) (g.A.Ambient.seen c.args.ambient.now)))
+          c.args.order.now _ _ _ _ _ c.in-Snap.is c.as_str-in-Snap.ensures (record { errors = g.E.Sink.seen c.args.errors.now; works = refl; line = c.perform_snap.ensures.told });
+      quiet = c.perform_snap.ensures.quiet;
+    }
+
 pub returns-in-Board : goal.returns-in-Board
 returns-in-Board g c =
-    let laws = laws_of c.reading_answers.ensures c.one_record_answer.ensures c.one_gathered.ensures c.generated_set_links.ensures.three c.texts_are_of_one_trace.ensures c.runs_agree_up_to_one_call.ensures.one in
+    let laws = laws_of c.reading_answers.ensures c.one_record_answer.ensures c.one_gathered.ensures c.generated_set_links.ensures.three c.texts_are_of_one_trace.ensures c.runs_agree_up_to_one_call.ensures.one c.first_states_are_one.ensures.one in
     let can = can_write (functions_of c.args.host.now) in
     let serves =
     at_board (λ asked. Serves (names_of c.args.host.now) asked c.perform_board.result (g.F.Files.seen c.args.files.now) (g.F.Files.seen c.perform_board.new.files) (g.O.Sink.seen c.args.output.now).faults (g.O.Sink.seen c.perform_board.new.output).faults)

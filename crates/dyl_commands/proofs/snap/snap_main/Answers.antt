@@ -1,0 +1,35 @@
+use Rattle.host_calls.specs.Embedders.{names_of}
+use Rattle.dyl_link.specs.dyl_search.Gathers.{options_of}
+use Rattle.dyl_link.specs.Kept as links
+use Rattle.dyl_commands.proofs.Linking.{hosts_supported}
+use Rattle.dyl_commands.proofs.Snapping.{snap_serves}
+use Rattle.dyl_commands.proofs.Refusing.{snap_refused}
+use Rattle.dyl_commands.proofs.Counting.{got_counts, then_stored, snapped_no_fault, unmerged_counts}
+use Rattle.dyl_commands.proofs.snap.snap_main.Goals as goal
+
+pub write_snapshot-outcome-requires-clause-hosts : goal.write_snapshot-outcome-requires-clause-hosts
+write_snapshot-outcome-requires-clause-hosts g c =
+    let got = c.in-Ok.ensures.got in
+    hosts_supported (links.options_of c.args.link.now) got.set (names_of c.args.host.now) c.in-Ok.linked got.linked got.integers
+
+pub returns-in-Ok-clause-serves : goal.returns-in-Ok-clause-serves
+returns-in-Ok-clause-serves g c = λ before now.
+    snap_serves (names_of c.args.host.now) c.args.set.now c.args.link.now c.args.steps c.args.out.now c.in-Ok.linked _ _ _ c.in-Ok.ensures c.write_snapshot-outcome.result
+    c.write_snapshot-outcome.ensures.written before now
+
+pub returns-in-Err-clause-serves : goal.returns-in-Err-clause-serves
+returns-in-Err-clause-serves g c = λ before now.
+    snap_refused (names_of c.args.host.now) c.args.set.now c.args.link.now _ _ before now c.in-Err.ensures.files c.args.steps c.args.out.now c.in-Err.outcome c.in-Err.ensures.fault
+
+pub returns-in-Ok-clause-counts : goal.returns-in-Ok-clause-counts
+returns-in-Ok-clause-counts g c =
+    let answer = c.write_snapshot-outcome.result in
+    then_stored (options_of c.args.set.now) answer _ _ _
+    (got_counts (names_of c.args.host.now) (options_of c.args.set.now) (links.options_of c.args.link.now) c.in-Ok.linked _ _ c.in-Ok.ensures answer
+    (snapped_no_fault c.in-Ok.linked c.args.steps c.args.out.now answer _ _ c.write_snapshot-outcome.ensures.written))
+    c.write_snapshot-outcome.ensures.counts
+
+pub returns-in-Err-clause-counts : goal.returns-in-Err-clause-counts
+returns-in-Err-clause-counts g c =
+    unmerged_counts (names_of c.args.host.now) (options_of c.args.set.now) (links.options_of c.args.link.now) _ _ c.in-Err.ensures.writes c.in-Err.ensures.absents c.in-Err.outcome
+    c.in-Err.ensures.fault c.in-Err.ensures.reads c.in-Err.ensures.tried
