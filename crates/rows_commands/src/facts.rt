@@ -1,5 +1,5 @@
 // What is told of a command, and what came of it.
-use crate::texts::shown;
+use rows_texts::shown;
 use spec_binary::wasm_form::Memory;
 use std::alloc::{AllocError, Global};
 

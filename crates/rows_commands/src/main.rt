@@ -5,13 +5,10 @@
 mod facts;
 mod hosts;
 mod lines;
-mod modules;
 mod orders;
 mod pickers;
 mod row;
 mod script;
-mod texts;
-mod words;
 mod world;
 
 use std::io;

@@ -50,7 +50,7 @@ fn one_shown(one: bool) -> &'static str {
     if one { "yes" } else { "no" }
 }
 
-/// The words of an order about a trace, that has a set.
+/// The words of an order about a trace or a snapshot, that has a set.
 fn trace_order_shown(alloc: Global, order: &Order, set: &str) -> Result<String, AllocError> {
     match order {
         Order::Trace {
@@ -75,6 +75,9 @@ fn trace_order_shown(alloc: Global, order: &Order, set: &str) -> Result<String, 
                 "replay one={one} trace={} {set} steps={steps}",
                 trace.as_str()
             )
+        }
+        Order::Snap { steps, out, .. } => {
+            format!(in alloc; "snap {set} out={} steps={steps}", out.as_str())
         }
         _ => format!(in alloc; "plan {set}"),
     }
@@ -112,7 +115,8 @@ fn order_shown(alloc: Global, order: &Order) -> Result<String, AllocError> {
         | Order::Run { set, link, .. }
         | Order::Plan { set, link }
         | Order::Trace { set, link, .. }
-        | Order::Replay { set, link, .. } => {
+        | Order::Replay { set, link, .. }
+        | Order::Snap { set, link, .. } => {
             let set = set_shown(alloc, set, link)?;
             set_order_shown(alloc, order, &set)
         }

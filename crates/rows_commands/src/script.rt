@@ -1,13 +1,11 @@
 // The lines of a text.
 use crate::facts::{Facts, is_told};
 use crate::lines::note_line;
-use crate::modules::Module;
 use crate::orders::note_words;
 use crate::pickers::perform;
 use crate::row::{Cut, Row};
-use crate::texts::{bytes_of, names_of, words_of};
-use crate::words::Words;
 use crate::world::add_generated;
+use rows_texts::{Module, Words, bytes_of, names_of, words_of};
 use spec_binary::wasm_form::Memory;
 use std::alloc::{AllocError, Global};
 
@@ -44,15 +42,21 @@ fn compare(
     Ok(told.compare(alloc, &came, &mut row.report)?)
 }
 
-/// A run of a set, and a run of what is merged of it, before which no bytes stand at the output's path.
-fn compare_both(alloc: Global, options: &str, told: &Facts, row: &mut Row) -> Result<(), Memory> {
+/// A run of a set, and a run of what a command makes of it, before which no bytes stand at the output's path.
+fn compare_both(
+    alloc: Global,
+    command: &str,
+    options: &str,
+    told: &Facts,
+    row: &mut Row,
+) -> Result<(), Memory> {
     let run = format!(in alloc; "wdyl run {options} main.wasm")?;
-    let merge = format!(in alloc; "wdyl merge {options} main.wasm out.wasm")?;
+    let made = format!(in alloc; "wdyl {command} {options} main.wasm out.wasm")?;
     let mut written = Facts::new(alloc);
     written.add("wrote", bytes_of(alloc, "out.wasm")?)?;
     let _ = row.changes(alloc, "out.wasm", Vec::new(alloc))?;
     compare(alloc, "run", &run, told, row)?;
-    compare(alloc, "merge", &merge, &written, row)?;
+    compare(alloc, command, &made, &written, row)?;
     compare(alloc, "exec", "wdyl exec out.wasm", told, row)
 }
 
@@ -65,7 +69,8 @@ fn perform_line(
     row: &mut Row,
 ) -> Result<(), Memory> {
     match key {
-        "both" => compare_both(alloc, text, told, row),
+        "both" => compare_both(alloc, "merge", text, told, row),
+        "snapped" => compare_both(alloc, "snap", text, told, row),
         "words" | "line" => compare(alloc, key, text, told, row),
         _ => compare(alloc, key, &format!(in alloc; "wdyl {text}")?, told, row),
     }
@@ -240,7 +245,7 @@ impl<'a> Script<'a> {
             "word" => self.words.add(alloc, text),
             "module" => begin_module(alloc, &mut self.modules, text),
             "row" => self.begin_row(alloc, text),
-            "wdyl" | "words" | "both" | "order" | "line" => {
+            "wdyl" | "words" | "both" | "snapped" | "order" | "line" => {
                 self.command = Some((key, text));
                 Ok(())
             }

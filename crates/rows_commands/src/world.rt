@@ -2,13 +2,13 @@
 use crate::facts::Facts;
 use crate::hosts::{perform_doubling, perform_knocking};
 use crate::row::Row;
-use crate::texts::words_of;
 use dyl_app::{Outcome, Picker, Ran, RunEnd, serve, status};
 use dyl_gen::make;
 use dyl_outside::{
     Ambient, FileFault, Files, IoFault, MemAmbient, MemFiles, MemSink, MemSource, Sink, Source,
 };
 use host_table::HostTable;
+use rows_texts::words_of;
 use spec_binary::wasm_form::Memory;
 use std::alloc::{AllocError, Global};
 

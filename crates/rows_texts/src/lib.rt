@@ -1,0 +1,10 @@
+//! What the text of a row stands for: names, bytes by words, and modules by their parts.
+#![tactic(auto)]
+
+mod modules;
+mod texts;
+mod words;
+
+pub use modules::Module;
+pub use texts::{bytes_of, names_of, shown, words_of};
+pub use words::Words;
