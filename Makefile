@@ -11,6 +11,7 @@
 # make compare  runs random modules and random sets by wdyl and by node, validates changed ones by wdyl and by wabt, and replays traces
 #               of runs and changed ones
 # make boards  runs random sets in turns, and sees that each does what it does alone
+# make snapshots  runs the snapshots of random sets by wdyl and by node, and sees that they do what the sets do
 # make adapters  runs wdyl over files, streams and a random source of the system that fail
 # make refused  refuses each request for memory in turn, of several orders, which have to end for want of memory or as if none was refused
 # make hostile  gives wdyl damaged files for MINUTES, from the seed SEED on, with a limit on memory and time
@@ -28,7 +29,7 @@ shared = $(DESTDIR)$(PREFIX)/share/wdyl
 # what programs are compiled with: the entry and its arguments, dlopen and its like, text out and in; and a merged file run by node
 SHARED := start.c dl.h io.h io.c heap.h heap.c start_cxx.cpp runtime.cpp wasi.mjs
 
-.PHONY: all demo guide docs install uninstall bench speed codec inner compare boards adapters refused hostile test clean
+.PHONY: all demo guide docs install uninstall bench speed codec inner compare boards snapshots adapters refused hostile test clean
 
 all: bin/wdyl
 
@@ -90,6 +91,9 @@ compare: bin/wdyl
 
 boards: bin/wdyl
 	python3 compare/boards.py bin/wdyl
+
+snapshots: bin/wdyl
+	python3 compare/snapshots.py bin/wdyl
 
 adapters: bin/wdyl
 	sh compare/adapters.sh bin/wdyl

@@ -48,7 +48,7 @@ class Body(modules.Body):
         return self.value(I64, depth) + CALL + unsigned(self.module.put)
 
     def yielded(self, depth):
-        return CALL + unsigned(2) + DROP
+        return CALL + unsigned(2) + DROP if self.module.yields else self.put(depth)
 
     def by_cell(self, depth):
         """A call of the function whose slot is in a cell, unless the cell is 0."""
@@ -120,7 +120,8 @@ class Member(modules.Module):
 
     `wanted` and `given` are pairs of a name and a type, `wanted_data` and `given_data` names. Other kinds of members may have more
     types, imported functions (pairs of a name and a type), cells, items of the part of the table (by their numbers from the last
-    imported function on, -1) and globals that bodies don't set; and bytes at the begin of the memory region.
+    imported function on, -1) and globals that bodies don't set; bytes at the begin of the memory region; other code that puts local 0;
+    code with which the entry begins; and no calls of `sched_yield`.
     """
 
     # the code of functions, and of those that the loader calls
@@ -128,7 +129,9 @@ class Member(modules.Module):
     # how many memories and tables have a small maximum
     bounded = 0.1
     more_types = more_functions = more_cells = more_items = more_globals = ()
-    texts = b""
+    texts = begins = b""
+    put_code = PUT
+    yields = True
 
     def __init__(self, rng, types, wanted, wanted_data, given, given_data, undefined, is_main):
         self.rng = rng
@@ -208,7 +211,7 @@ class Member(modules.Module):
         rng = self.rng
         nothing = self.types.index(NOTHING)
         code = [self.body(self, ty).code() for ty in self.functions[len(self.wanted):]]
-        put = vector([]) + PUT + END
+        put = vector([]) + self.put_code + END
         code.append(unsigned(len(put)) + put)
         self.further = [self.types.index(PUT_TYPE)]
         self.roles = {}
@@ -246,7 +249,7 @@ class Member(modules.Module):
         """Its locals: a number of 64 bits, which is put, an address or an index, and a bound."""
         rng = self.rng
         put = LOCAL_GET + unsigned(0) + CALL + unsigned(self.put)
-        code = VECTOR_SET
+        code = self.begins + VECTOR_SET
         for _ in range(rng.randint(2, 6)):
             code += self.further_code(0.7) + self.called_and_put(put)
         for size in (MEMORY_SIZE, TABLE_SIZE):
