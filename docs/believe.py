@@ -202,7 +202,7 @@ class Reach:
         source = CRATES / crate / "src"
         for path in sorted(source.rglob("*.rt")):
             text = re.sub(r"//.*", "", path.read_text(encoding="utf-8"))
-            declared = re.search(r"^ *pub (struct|enum|trait) " + kind + r"\b[^{;]*[{;]", text, re.M)
+            declared = re.search(r"^ *pub(?:\(crate\))? (struct|enum|trait) " + kind + r"\b[^{;]*[{;]", text, re.M)
             if declared:
                 if (crate, kind) not in self.types:
                     self.types[crate, kind] = why

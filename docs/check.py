@@ -16,7 +16,7 @@ PAGES = [path for path in [TOP / "README.md", TOP / "CONTRIBUTING.md", TOP / "CH
                            TOP / "examples/README.md", TOP / "bench/README.md"] if path.exists()]
 # crates of which pages tell that they were there
 PAST = {"test_commands", "test_hosts"}
-FRONTS = ("spec_", "wasm_", "host_", "dyl_", "merge_", "test_", "rows_", "run_", "replay_", "slice_")
+FRONTS = ("spec_", "wasm_", "host_", "dyl_", "merge_", "test_", "rows_", "run_", "replay_", "slice_", "snap_")
 COUNTS = {"one": 1, "two": 2, "three": 3, "four": 4, "five": 5, "six": 6}
 faults = []
 
