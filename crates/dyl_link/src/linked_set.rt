@@ -157,6 +157,7 @@ impl Linked {
     }
 
     /// The function that number f of member m names.
+    #[inline(always)]
     pub fn function(&self, m: u32, f: u32) -> Ref
         requires { IsTrue (is_some (function_in self.now m f)) }
         ensures { Some result ≡ function_in self.now m f }

@@ -15,20 +15,24 @@ impl<'m> View<'m> for World<'m> {
 
     ghost seen = { seen_of };
 
+    #[inline(always)]
     fn target(&self, unit: u32, f: u32) -> Ref {
         self.linked.function(unit, f)
     }
 
+    #[inline(always)]
     fn code(&self, unit: u32, f: u32) -> &'m Code {
         let member = self.unit(unit);
         code_of(member.checked, member.imported, f)
     }
 
+    #[inline(always)]
     fn room(&self, unit: u32, f: u32) -> u32 {
         let member = self.unit(unit);
         member.rooms[(f - member.imported) as usize]
     }
 
+    #[inline(always)]
     fn type_of(&self, r: Ref) -> &'m FuncType {
         match r {
             Ref::Own { unit, func } => self.unit(unit).checked.func_type(func),
@@ -38,23 +42,28 @@ impl<'m> View<'m> for World<'m> {
         }
     }
 
+    #[inline(always)]
     fn declared(&self, unit: u32, t: u32) -> &'m FuncType {
         &self.unit(unit).checked.module().types.items()[t as usize]
     }
 
+    #[inline(always)]
     fn global(&self, unit: u32, g: u32) -> Value {
         self.globals[self.global_address(unit, g)]
     }
 
+    #[inline(always)]
     fn set_global(&mut self, unit: u32, g: u32, v: Value) {
         let at = self.global_address(unit, g);
         self.globals[at] = v;
     }
 
+    #[inline(always)]
     fn memory(&self) -> &Space {
         &self.memory
     }
 
+    #[inline(always)]
     fn memory_store(&mut self, base: u32, offset: u32, len: u8, value: u64) -> Result<(), Trap> {
         self.memory.store(base, offset, len, value)
     }
@@ -75,6 +84,7 @@ impl<'m> View<'m> for World<'m> {
         self.memory.grow(alloc, delta)
     }
 
+    #[inline(always)]
     fn table(&self, unit: u32, t: u32) -> &Slots {
         &self.tables[self.table_address(unit, t)]
     }

@@ -46,6 +46,7 @@ impl Model for Checked {
 
 impl Checked {
     /// The module, which is well formed and has no fault.
+    #[inline(always)]
     pub fn module(&self) -> &Module
         ensures same { result.now ≡ self.now }
         ensures formed { IsWellFormed self.now }
@@ -64,6 +65,7 @@ impl Checked {
     }
 
     /// The type of a function, by its index.
+    #[inline(always)]
     pub fn func_type(&self, f: u32) -> &FuncType
         requires { f < length (function_space self.now) }
         ensures { Some result.now ≡ function_type self.now f }

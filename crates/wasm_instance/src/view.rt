@@ -15,18 +15,22 @@ impl<'m> View<'m> for Instance<'m> {
 
     ghost seen = { seen_of };
 
+    #[inline(always)]
     fn target(&self, _: u32, f: u32) -> Ref {
         named(self.imported, f)
     }
 
+    #[inline(always)]
     fn code(&self, _: u32, f: u32) -> &'m Code {
         &self.checked.module().codes.items()[(f - self.imported) as usize]
     }
 
+    #[inline(always)]
     fn room(&self, _: u32, f: u32) -> u32 {
         self.rooms[(f - self.imported) as usize]
     }
 
+    #[inline(always)]
     fn type_of(&self, r: Ref) -> &'m FuncType {
         match r {
             Ref::Own { func, .. } => self.checked.func_type(func),
@@ -38,22 +42,27 @@ impl<'m> View<'m> for Instance<'m> {
         }
     }
 
+    #[inline(always)]
     fn declared(&self, _: u32, t: u32) -> &'m FuncType {
         &self.checked.module().types.items()[t as usize]
     }
 
+    #[inline(always)]
     fn global(&self, _: u32, g: u32) -> Value {
         self.globals[g as usize]
     }
 
+    #[inline(always)]
     fn set_global(&mut self, _: u32, g: u32, v: Value) {
         self.globals[g as usize] = v;
     }
 
+    #[inline(always)]
     fn memory(&self) -> &Space {
         &self.memory
     }
 
+    #[inline(always)]
     fn memory_store(&mut self, base: u32, offset: u32, len: u8, value: u64) -> Result<(), Trap> {
         self.memory.store(base, offset, len, value)
     }
@@ -74,6 +83,7 @@ impl<'m> View<'m> for Instance<'m> {
         self.memory.grow(alloc, delta)
     }
 
+    #[inline(always)]
     fn table(&self, _: u32, t: u32) -> &Slots {
         &self.tables[t as usize]
     }

@@ -50,7 +50,7 @@ function_called : (x : Open.Instr-F Instr Expr) (f : ℕ) → callee_of x ≡ So
 function_called (Open.Index op g) f e = let h = form_called g f (index_form op) e in (op, ap (Open.Index op) h.0, h.1)
 function_called x f e = absurd cc
 
-entry_called : (x : Open.Instr-F Instr Expr) (ty table : ℕ) → callee_of x ≡ Some (callee.Entry ty table) → x ≡ Open.CallIndirect ty table
+pub entry_called : (x : Open.Instr-F Instr Expr) (ty table : ℕ) → callee_of x ≡ Some (callee.Entry ty table) → x ≡ Open.CallIndirect ty table
 entry_called (Open.Index op g) ty table e = absurd (form_no_entry g ty table (index_form op) e)
 entry_called (Open.CallIndirect uy uable) ty table e = cc
 entry_called x ty table e = absurd cc
@@ -101,7 +101,7 @@ module _ {Units : Type 0} (V : View Units) (us : Units) where
       let p : j ≡ i = cc in
       ap (λ (k : Instr). carried_out V us memory frames (instr_move (V.declared a.unit) (out-Instr k) (with_rest a is))) p
 
-  outside_at : (is : List Instr) (a : Activation) (i : Instr) → Some i ≡ first_of is → calls_outside V us (with_rest a is) ≡ calls_outside_here V us (with_rest a is) (out-Instr i)
+  pub outside_at : (is : List Instr) (a : Activation) (i : Instr) → Some i ≡ first_of is → calls_outside V us (with_rest a is) ≡ calls_outside_here V us (with_rest a is) (out-Instr i)
   outside_at [] a i e = absurd cc
   outside_at (j ∷ is) a i e =
       let p : j ≡ i = cc in

@@ -18,15 +18,17 @@ use Rattle.wasm_step.specs.Primitives.{first_of, with_rest}
 use Rattle.wasm_machine.specs.Stacks.{CallStack, most_blocks, is_live, under_of, joined, IsJoined}
 use Rattle.wasm_step.specs.Moves.{LeadsPast, Act, To, Ends, Nowhere, act_done, act_referred, acted, IsWithin, Changes, Acted}
 use Rattle.wasm_step.specs.Named.{is_call, is_growth}
-use Rattle.wasm_machine.specs.Machines.{indirect, RoomsAre, Led, StaysWithin, MayGrow, may_grow_at, next_of}
+use Rattle.wasm_machine.specs.Machines.{RoomsAre, Led, StaysWithin, MayGrow, may_grow_at, next_of}
 use Rattle.wasm_machine.specs.Outside.{callee_of}
-use Rattle.wasm_machine.specs.declared.calls.Callee.TheVariants as callee
+use Rattle.wasm_machine.specs.Callees.{callee_move}
+use Rattle.wasm_machine.specs.declared.calls.Callee.{Callee}
 use Rattle.wasm_machine.specs.declared.callers.Caller.{Caller}
 use Rattle.wasm_step.specs.declared.done.Done.{Done}
 use Rattle.wasm_step.specs.declared.done.Done.TheVariants as done
 use Rattle.wasm_machine.proofs.Joined.{frames_live, nesting_live, RoomsAre_live}
 use Rattle.wasm_machine.proofs.Staying.{StaysIn, instr-stays}
-use Rattle.wasm_machine.proofs.Coming.{none_called, some_called, step_is, entry_step}
+use Rattle.wasm_machine.proofs.Coming.{none_called, some_called, step_is}
+use Rattle.wasm_machine.proofs.Callees.{callee_step}
 
 -- an activation past its next instruction, which is put back
 pub put_back : (t u v : Top) (rest : List Instr) → u ≡ with_act t (with_rest t.act (drop 1 t.act.rest)) → rest ≡ t.act.rest → v ≡ with_act u (with_rest u.act rest) → v ≡ t
@@ -100,7 +102,7 @@ module _ {Units : Type 0} (V : View Units) (Wanting Wanted : Type 0) (old new : 
   widened d (Some runs.Ends) h = h
   widened d (Some (runs.Traps why)) h = h
 
-  led_step : (d : Done) (next other : Option (Next Units ℕ)) → next ≡ other → Led V d other Wanting old new c → Led V d next Wanted old new c
+  pub led_step : (d : Done) (next other : Option (Next Units ℕ)) → next ≡ other → Led V d other Wanting old new c → Led V d next Wanted old new c
   led_step d next other e h = subst (λ (n : Option (Next Units ℕ)). Led V d n Wanted old new c) (sym e) (widened d other h)
 
 -- ---- where memory may be wanting
@@ -150,6 +152,10 @@ module _ {Units : Type 0} (V : View Units) (us : Units) (memory : MemoryInstance
   next_live : next_of V us memory (joined cs t).frames ≡ next_of V us memory (Active t.act ∷ under_of cs t)
   next_live = ap (next_of V us memory) (frames_live cs t live)
 
+  -- a call isn't stuck
+  pub called_moves : (k : Callee) → callee_of (out-Instr i) ≡ Some k → next_of V us memory (joined cs t).frames ≢ None → carried_out V us memory (under_of cs t) (callee_move k t.act) ≢ None
+  called_moves k q m = λ n. m (next_live ∙ callee_step V us t.act i e k q memory (under_of cs t) ∙ n)
+
   -- an instruction that doesn't call
   module _ (u : Top) (q : callee_of (out-Instr i) ≡ None) (eu : u ≡ with_act t (with_rest t.act (drop 1 t.act.rest))) where
     past : Activation
@@ -166,12 +172,12 @@ module _ {Units : Type 0} (V : View Units) (us : Units) (memory : MemoryInstance
     within_plain j r w m = within V cs t i live e u past _ _ j r eu fits w m
 
 module _ {Units : Type 0} (V : View Units) (us : Units) (memory : MemoryInstance) (cs : List Caller) (t : Top) (i : Instr) (d : Done) (c : Changes Units) (live : is_live t ≡ true) (e : Some i ≡ first_of t.act.rest) where
-  -- the entry of a table is called
-  pub led_entry : (ds : List Caller) (new : Top) (ty table : ℕ) → callee_of (out-Instr i) ≡ Some (callee.Entry ty table) → Led V d (carried_out V us memory (under_of cs t) (indirect ty table t.act)) (Unit {0}) (joined cs t) (joined ds new) c
+  -- a function is called
+  pub led_called : (ds : List Caller) (new : Top) (k : Callee) (next : Option (Next Units ℕ)) → callee_of (out-Instr i) ≡ Some k → carried_out V us memory (under_of cs t) (callee_move k t.act) ≡ next → Led V d next (Unit {0}) (joined cs t) (joined ds new) c
       → Led V d (next_of V us memory (joined cs t).frames) (MayGrow (joined cs t).frames) (joined cs t) (joined ds new) c
-  led_entry ds new ty table q h =
-      led_step V (Unit {0}) (MayGrow (joined cs t).frames) (joined cs t) (joined ds new) c (λ _. call_may_grow V cs t i live e (some_called (out-Instr i) (callee.Entry ty table) q)) d _ _
-      (next_live V us memory cs t i live e ∙ entry_step V us t.act i e ty table q memory (under_of cs t)) h
+  led_called ds new k next q e' h =
+      led_step V (Unit {0}) (MayGrow (joined cs t).frames) (joined cs t) (joined ds new) c (λ _. call_may_grow V cs t i live e (some_called (out-Instr i) k q)) d _ _
+      (next_live V us memory cs t i live e ∙ callee_step V us t.act i e k q memory (under_of cs t) ∙ e') h
 
   -- an instruction that doesn't call
   module _ (u new : Top) (q : callee_of (out-Instr i) ≡ None) (eu : u ≡ with_act t (with_rest t.act (drop 1 t.act.rest))) (h : Acted d (acted V us memory (instr_move (V.declared u.act.unit) (out-Instr i) u.act)) (IsTrue (is_growth (out-Instr i))) u new c) where

@@ -3,6 +3,7 @@ pub mod Joined
 pub mod Called
 pub mod Indirect
 pub mod Coming
+pub mod Callees
 pub mod Staying
 pub mod Leading
 pub mod Locals

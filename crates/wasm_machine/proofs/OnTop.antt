@@ -1,13 +1,14 @@
 -- The whole call stack over the flat lists: what marks, parked activations and values on top change of it.
-use Rattle.std.proofs.Common.{arith, ◌≡◌, ℕ, ◌+◌, ◌≤◌, List, [], ◌∷◌, ◌++◌, length, take, drop, refl, ap, sym, ◌∙◌, subst, Bool, true, false}
+use Rattle.std.proofs.Common.{arith, ◌≡◌, ℕ, ◌+◌, ◌≤◌, List, [], ◌∷◌, ◌++◌, length, take, drop, refl, ap, sym, ◌∙◌, subst, Bool, true, false, Some}
 use Rattle.std.specs.Prelude.{reverse, if◌then◌else◌}
 use Rattle.std.proofs.lemmas.Bool.{le-ltb, lt-ltb}
 use Rattle.std.proofs.lemmas.List.{reverse-append, length-take}
+use Rattle.wasm_form.specs.declared.instr.Instr.{Instr}
 use Rattle.wasm_form.specs.declared.runtime.Value.{Value}
 use Rattle.spec_safety.specs.spec_execution.Activations.{Activation}
 use Rattle.spec_safety.specs.spec_execution.Runs.{Active, Marked}
 use Rattle.wasm_step.specs.Tops.{Top, with_act, below_count, height_of, levels_at, activation_at, IsLaidOut}
-use Rattle.wasm_step.specs.Primitives.{IsIdle, Parked, Widened, HasSpare, resumed}
+use Rattle.wasm_step.specs.Primitives.{first_of, IsIdle, Parked, Widened, HasSpare, resumed}
 use Rattle.wasm_machine.specs.Stacks.{CallStack, frames_at, rooms_at, most_blocks, LiesWell, LieWell, IsTopOf, is_live, IsBounded, IsJoined}
 use Rattle.wasm_step.specs.declared.current.Label.{Label}
 use Rattle.wasm_step.specs.declared.current.Place.{Place}
@@ -75,6 +76,14 @@ is_idle rs t h e = idle_of rs t (rw e at h.top)
 -- where nothing is on top, nothing remains to be run
 pub none_remain : (cs : List Caller) (t : Top) → IsJoined cs t → is_live t ≡ false → t.act.rest ≡ []
 none_remain cs t h e = (is_idle (reverse cs) t (from_joined cs (reverse cs) t refl h) e).rest
+
+-- where something remains to be run, an activation is on top
+pub rest_is_live : (cs : List Caller) (t : Top) (i : Instr) → IsJoined cs t → Some i ≡ first_of t.act.rest → is_live t ≡ true
+rest_is_live cs t i h e = go (is_live t) refl
+  where
+    go : (b : Bool) → is_live t ≡ b → is_live t ≡ true
+    go true q = q
+    go false q = absurd (let none : t.act.rest ≡ [] = none_remain cs t h q in let clash : Some i ≡ first_of [] = rw none at e in cc)
 
 pub stack_live : (rs : List Caller) (t : Top) → is_live t ≡ true → stack_on rs t ≡ record { frames = Active t.act ∷ frames_at rs t.under t.outer; rooms = t.room ∷ rooms_at rs }
 stack_live rs t e = rw e refl

@@ -3,7 +3,7 @@ use Rattle.std.proofs.Common.{arith, ◌<◌, ◌≡◌, ◌≢◌, ◌⊎◌, �
 use Rattle.std.specs.Prelude.{IfSome, reverse}
 use Rattle.wasm_form.specs.declared.runtime.Trap.{Trap}
 use Rattle.spec_safety.specs.spec_execution.Views.{View}
-use Rattle.spec_safety.specs.spec_execution.Runs.{is_running, Active, Next, Goes, Asks, Loads, Ends, Traps}
+use Rattle.spec_safety.specs.spec_execution.Runs.{is_running, Next, Goes, Asks, Loads, Ends, Traps}
 use Rattle.wasm_step.specs.Tops.{Top}
 use Rattle.wasm_view.specs.Seen.{Seen}
 use Rattle.wasm_step.specs.Moves.{Changes, between}

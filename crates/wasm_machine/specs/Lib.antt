@@ -5,3 +5,4 @@ pub mod Outside
 pub mod Marks
 pub mod Steps
 pub mod Iterated
+pub mod Callees

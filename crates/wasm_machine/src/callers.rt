@@ -53,6 +53,7 @@ impl<'m> Callers<'m> {
     }
 
     /// How many activations they are.
+    #[inline(always)]
     pub(crate) fn count(&self) -> usize
         ensures count { result ≡ length (rooms_at (reverse self.now)) }
         ensures most { result ≤ most_activations }
@@ -61,6 +62,7 @@ impl<'m> Callers<'m> {
     }
 
     /// How many values they took room for.
+    #[inline(always)]
     pub(crate) fn room(&self) -> usize
         ensures room { result ≡ total (rooms_at (reverse self.now)) }
         ensures most { result ≤ most_values }
@@ -69,6 +71,7 @@ impl<'m> Callers<'m> {
     }
 
     /// Adds an activation, with which no limit is passed.
+    #[inline(always)]
     pub(crate) fn push(&mut self, place: Place<'m>) -> Result<(), Memory>
         requires count { length (rooms_at (reverse self.old)) + 1 ≤ most_activations }
         requires room { total (rooms_at (reverse self.old)) + place.room ≤ most_values }
@@ -89,6 +92,7 @@ impl<'m> Callers<'m> {
     }
 
     /// The latest.
+    #[inline(always)]
     pub(crate) fn last(&self) -> Option<Caller<'m>>
         ensures { result ≡ latest (reverse self.now) }
     {
@@ -99,6 +103,7 @@ impl<'m> Callers<'m> {
     }
 
     /// Takes the latest away.
+    #[inline(always)]
     pub(crate) fn pop(&mut self) -> Option<Caller<'m>>
         ensures some { IfSome result (λ caller. self.old ≡ self.new ++ caller ∷ []) }
         ensures none { IfNone result (self.old ≡ []) }

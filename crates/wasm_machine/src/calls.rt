@@ -1,5 +1,5 @@
 // Calls and returns (section 4.4.10), and one step of the code on top.
-ghost use Rattle.std.specs.Prelude.{◌≡◌, ◌≢◌, ◌<◌, ◌≤◌, ◌+◌, [], drop, length, true, false, None, Some};
+ghost use Rattle.std.specs.Prelude.{◌≡◌, ◌≢◌, ◌<◌, ◌≤◌, ◌+◌, [], drop, length, true, false, None, Some, OnOk};
 ghost use Rattle.spec_safety.specs.spec_execution.Limits.{most_activations, most_values, passes_limit};
 ghost use Rattle.spec_safety.specs.spec_execution.Ranges.{HoldsAll, AreInRange, Exists};
 ghost use Rattle.spec_safety.specs.spec_execution.Views.{type_of as type_seen};
@@ -7,6 +7,8 @@ ghost use Rattle.wasm_form.specs.declared.instr.Instr.{out-Instr};
 ghost use Rattle.spec_safety.specs.spec_binary.Indices.{nullary};
 ghost use Rattle.spec_safety.specs.spec_binary.SameTypes.{same_function_type};
 ghost use Rattle.wasm_step.specs.Named.{NamesAreThere};
+ghost use Rattle.wasm_step.specs.Primitives.{first_of, Dropped, CanOpen, Spread};
+ghost use Rattle.wasm_machine.specs.Callees.{above_of, IsEntry, IsNamed, HasIndex, IsCalled};
 ghost use Rattle.wasm_machine.specs.Outside.{callee_of, IsOutsideCall};
 ghost use Rattle.wasm_machine.specs.Stacks.{joined, under_of, is_live, IsJoined, passes_over};
 ghost use Rattle.wasm_machine.specs.Machines.{Leads, Advances, StaysWithin, next_in, carried_in, called_from, called_over, direct, indirect, Finished, RoomsAre, is_outside, names_outside, entry_is_outside, calls_outside};
@@ -14,7 +16,7 @@ ghost use Rattle.wasm_machine.specs.Machines.{Leads, Advances, StaysWithin, next
 use crate::callers::{Caller, Callers};
 use std::alloc::Global;
 use std::mem;
-use wasm_form::{FuncType, Instr, Ref, Trap};
+use wasm_form::{FuncType, Instr, Memory, Ref, Trap};
 use wasm_step::{Current, Done, instruction};
 use wasm_view::View;
 
@@ -38,7 +40,7 @@ fn passes_over(count: usize, taken: usize, room: usize) -> bool
 
 /// Leaves the innermost block at its end, or the activation whose body is done.
 #[inline(always)]
-fn end<'m, V: View<'m>>(
+pub(crate) fn end<'m, V: View<'m>>(
     callers: &mut Callers<'m>,
     top: &mut Current<'m>,
     spare: &mut Current<'m>,
@@ -59,15 +61,12 @@ fn end<'m, V: View<'m>>(
     if top.height() != top.results() {
         return Done::Stuck;
     }
-    mem::swap(top, spare);
-    let done = finish(callers, spare);
-    mem::swap(top, spare);
-    done
+    finish(callers, top, spare)
 }
 
 /// Gives the values on top to what called.
-#[inline(never)]
-fn finish<'m>(callers: &mut Callers<'m>, top: &mut Current<'m>) -> Done
+#[inline(always)]
+fn finish<'m>(callers: &mut Callers<'m>, top: &mut Current<'m>, spare: &mut Current<'m>) -> Done
     requires joined { IsJoined callers.old top.old }
     requires live { is_live top.old ≡ true }
     requires done { top.old.act.levels ≡ [] }
@@ -76,11 +75,11 @@ fn finish<'m>(callers: &mut Callers<'m>, top: &mut Current<'m>) -> Done
 {
     match callers.last() {
         None => {
-            top.leave_all();
+            leave_all(top, spare);
             Done::Returned
         }
         Some(Caller::Mark(_)) => {
-            top.leave_all();
+            leave_all(top, spare);
             Done::Goes
         }
         Some(Caller::Active(place)) => {
@@ -91,10 +90,43 @@ fn finish<'m>(callers: &mut Callers<'m>, top: &mut Current<'m>) -> Done
     }
 }
 
+/// Takes what is on top away, and leaves nothing on top.
+#[inline(always)]
+fn leave_all<'m>(top: &mut Current<'m>, spare: &mut Current<'m>)
+    ensures { Dropped top.old top.new }
+{
+    mem::swap(top, spare);
+    spare.leave_all();
+    mem::swap(top, spare);
+}
+
+/// Takes room for an activation of so many values, unless it is there.
+#[inline(always)]
+fn make_room<'m>(
+    top: &mut Current<'m>,
+    spare: &mut Current<'m>,
+    alloc: Global,
+    room: usize,
+) -> Result<(), Memory>
+    requires most { room ≤ 4194304 }
+    ensures fits { OnOk result (CanOpen top.new room) }
+    ensures same { Spread top.old top.new }
+{
+    if top.fits(room) {
+        return Ok(());
+    }
+    mem::swap(top, spare);
+    let widened = spare.widen(alloc, room);
+    mem::swap(top, spare);
+    widened
+}
+
 /// Calls code that a unit defines, with the arguments under the topmost `above` values, which are dropped.
+#[inline(always)]
 fn call_own<'m, V: View<'m>>(
     callers: &mut Callers<'m>,
     top: &mut Current<'m>,
+    spare: &mut Current<'m>,
     alloc: Global,
     view: &V,
     above: usize,
@@ -107,37 +139,38 @@ fn call_own<'m, V: View<'m>>(
     requires some { 0 < length top.old.act.rest }
     requires above { above ≤ length top.old.act.values }
     requires exists { Exists (V.seen view.now).fixed (Ref.Own unit func) }
+    requires moves { called_from (V.seen view.now) top.old.act above (under_of callers.old top.old) (Ref.Own unit func) ≢ None }
     ensures led { Leads result (called_from (V.seen view.now) top.old.act above (under_of callers.old top.old) (Ref.Own unit func)) (Unit {0}) (joined callers.old top.old) (joined callers.new top.new) (V.seen view.now) (V.seen view.now) }
     ensures inside { result ≢ Done.Outside }
     ensures joined { result ≢ Done.NoMemory → IsJoined callers.new top.new }
     ensures rooms { result ≡ Done.Goes → RoomsAre (V.seen view.now).fixed (joined callers.new top.new) }
 {
     let ty = view.type_of(Ref::Own { unit, func });
-    let params = ty.params.items();
-    if !top.has_arguments(above, params) {
-        return Done::Stuck;
-    }
     let room = view.room(unit, func) as usize;
     if passes_over(callers.count() + 1, callers.room() + top.room(), room) {
         return Done::Deep;
     }
+    let params = ty.params.items().len();
     let results = ty.results.items().len();
     let code = view.code(unit, func);
     top.advance();
     top.drop_values(above);
-    match top.open(alloc, unit, func, room, params.len(), results, code) {
+    if make_room(top, spare, alloc, room).is_err() {
+        return Done::NoMemory;
+    }
+    let place = top.open(unit, func, room, params, results, code);
+    match callers.push(place) {
+        Ok(()) => Done::Goes,
         Err(_) => Done::NoMemory,
-        Ok(place) => match callers.push(place) {
-            Ok(()) => Done::Goes,
-            Err(_) => Done::NoMemory,
-        },
     }
 }
 
 /// Calls a function, with the arguments under the topmost `above` values.
-fn call_to<'m, V: View<'m>>(
+#[inline(always)]
+fn call<'m, V: View<'m>>(
     callers: &mut Callers<'m>,
     top: &mut Current<'m>,
+    spare: &mut Current<'m>,
     alloc: Global,
     view: &V,
     above: usize,
@@ -149,91 +182,25 @@ fn call_to<'m, V: View<'m>>(
     requires some { 0 < length top.old.act.rest }
     requires above { above ≤ length top.old.act.values }
     requires exists { Exists (V.seen view.now).fixed r }
+    requires moves { called_from (V.seen view.now) top.old.act above (under_of callers.old top.old) r ≢ None }
     ensures led { Leads result (called_from (V.seen view.now) top.old.act above (under_of callers.old top.old) r) (Unit {0}) (joined callers.old top.old) (joined callers.new top.new) (V.seen view.now) (V.seen view.now) }
     ensures outside { result ≡ Done.Outside → is_outside r ≡ true }
     ensures joined { result ≢ Done.NoMemory → IsJoined callers.new top.new }
     ensures rooms { result ≡ Done.Goes → RoomsAre (V.seen view.now).fixed (joined callers.new top.new) }
 {
     match r {
-        Ref::Own { unit, func } => call_own(callers, top, alloc, view, above, unit, func),
-        Ref::Stub { .. } => {
-            if !top.has_arguments(above, view.type_of(r).params.items()) {
-                return Done::Stuck;
-            }
-            Done::Trapped(Trap::Unreachable)
-        }
+        Ref::Own { unit, func } => call_own(callers, top, spare, alloc, view, above, unit, func),
+        Ref::Stub { .. } => Done::Trapped(Trap::Unreachable),
         Ref::Loader(_) | Ref::Host(_) => Done::Outside,
     }
 }
 
 /// Whether two types are one.
+#[inline(always)]
 fn is_same_type(one: &FuncType, other: &FuncType) -> bool
     ensures { result ≡ same_function_type one.now other.now }
 {
     one == other
-}
-
-/// Calls the function of a table at the index on top, which has to be of a type.
-#[inline(never)]
-fn call_indirect<'m, V: View<'m>>(
-    callers: &mut Callers<'m>,
-    top: &mut Current<'m>,
-    alloc: Global,
-    view: &V,
-    ty: u32,
-    table: u32,
-) -> Done
-    requires joined { IsJoined callers.old top.old }
-    requires live { is_live top.old ≡ true }
-    requires rooms { RoomsAre (V.seen view.now).fixed (joined callers.old top.old) }
-    requires some { 0 < length top.old.act.rest }
-    requires names { NamesAreThere (V.seen view.now).fixed }
-    requires holds { HoldsAll (V.seen view.now).fixed (V.seen view.now).units }
-    requires declared { ty < ((V.seen view.now).fixed.counts top.old.act.unit).types }
-    requires table { table < ((V.seen view.now).fixed.counts top.old.act.unit).tables }
-    ensures led { Leads result (carried_in (V.seen view.now) (under_of callers.old top.old) (indirect ty table top.old.act)) (Unit {0}) (joined callers.old top.old) (joined callers.new top.new) (V.seen view.now) (V.seen view.now) }
-    ensures outside { result ≡ Done.Outside → entry_is_outside (V.seen view.now).fixed (V.seen view.now).units top.old.act ty table ≡ true }
-    ensures joined { result ≢ Done.NoMemory → IsJoined callers.new top.new }
-    ensures rooms { result ≡ Done.Goes → RoomsAre (V.seen view.now).fixed (joined callers.new top.new) }
-{
-    let Some(n) = top.number() else {
-        return Done::Stuck;
-    };
-    let unit = top.unit();
-    match view.table(unit, table).get((n % (1 << 32)) as u32) {
-        Err(trap) => Done::Trapped(trap),
-        Ok(None) => Done::Trapped(Trap::NullEntry),
-        Ok(Some(r)) => {
-            if !is_same_type(view.type_of(r), view.declared(unit, ty)) {
-                return Done::Trapped(Trap::WrongType);
-            }
-            call_to(callers, top, alloc, view, 1, r)
-        }
-    }
-}
-
-/// Calls a function of the unit.
-#[inline(never)]
-fn call<'m, V: View<'m>>(
-    callers: &mut Callers<'m>,
-    top: &mut Current<'m>,
-    alloc: Global,
-    view: &V,
-    f: u32,
-) -> Done
-    requires joined { IsJoined callers.old top.old }
-    requires live { is_live top.old ≡ true }
-    requires rooms { RoomsAre (V.seen view.now).fixed (joined callers.old top.old) }
-    requires some { 0 < length top.old.act.rest }
-    requires names { NamesAreThere (V.seen view.now).fixed }
-    requires named { f < ((V.seen view.now).fixed.counts top.old.act.unit).functions }
-    ensures led { Leads result (carried_in (V.seen view.now) (under_of callers.old top.old) (direct f top.old.act)) (Unit {0}) (joined callers.old top.old) (joined callers.new top.new) (V.seen view.now) (V.seen view.now) }
-    ensures outside { result ≡ Done.Outside → names_outside (V.seen view.now).fixed top.old.act f ≡ true }
-    ensures joined { result ≢ Done.NoMemory → IsJoined callers.new top.new }
-    ensures rooms { result ≡ Done.Goes → RoomsAre (V.seen view.now).fixed (joined callers.new top.new) }
-{
-    let r = view.target(top.unit(), f);
-    call_to(callers, top, alloc, view, 0, r)
 }
 
 /// What an instruction calls: a function of the unit, or an entry of a table as one of a type.
@@ -258,7 +225,61 @@ fn named_callee(i: &Instr) -> Option<Callee>
     }
 }
 
-/// One step of the code on top. A function that isn't inlined works on it in `spare`, so that the fields of `top` may be kept in registers.
+/// How many values stand above the arguments of a call: the index of an entry does.
+#[inline(always)]
+fn above(callee: Callee) -> usize
+    ensures { result ≡ above_of callee }
+{
+    match callee {
+        Callee::Function(_) => 0,
+        Callee::Entry { .. } => 1,
+    }
+}
+
+/// The function of a table at an index, which has to be of a type.
+#[inline(always)]
+fn entry<'m, V: View<'m>>(view: &V, unit: u32, ty: u32, table: u32, n: u64) -> Result<Ref, Trap>
+    requires holds { HoldsAll (V.seen view.now).fixed (V.seen view.now).units }
+    requires declared { ty < ((V.seen view.now).fixed.counts unit).types }
+    requires table { table < ((V.seen view.now).fixed.counts unit).tables }
+    ensures { IsEntry (V.seen view.now).fixed (V.seen view.now).units unit ty table n result }
+{
+    let wanted = view.declared(unit, ty);
+    match view.table(unit, table).get((n % (1 << 32)) as u32) {
+        Err(trap) => Err(trap),
+        Ok(None) => Err(Trap::NullEntry),
+        Ok(Some(r)) => {
+            if is_same_type(view.type_of(r), wanted) {
+                Ok(r)
+            } else {
+                Err(Trap::WrongType)
+            }
+        }
+    }
+}
+
+/// The function that is called, or why none is.
+#[inline(always)]
+fn called<'m, V: View<'m>>(top: &Current<'m>, view: &V, callee: Callee) -> Result<Ref, Trap>
+    requires names { NamesAreThere (V.seen view.now).fixed }
+    requires holds { HoldsAll (V.seen view.now).fixed (V.seen view.now).units }
+    requires named { IsNamed ((V.seen view.now).fixed.counts top.now.act.unit) callee }
+    requires index { HasIndex top.now.act.values callee }
+    ensures { IsCalled (V.seen view.now).fixed (V.seen view.now).units (V.seen view.now).memory callee top.now.act result }
+{
+    match callee {
+        Callee::Function(f) => Ok(view.target(top.unit(), f)),
+        Callee::Entry { ty, table } => {
+            let Some(n) = top.number() else {
+                unreachable!();
+            };
+            entry(view, top.unit(), ty, table, n)
+        }
+    }
+}
+
+/// One step of the code on top, of this instruction. A function that isn't inlined works on it in `spare`, so that the fields of `top` may be
+/// kept in registers.
 #[inline(always)]
 pub(crate) fn advance<'m, V: View<'m>>(
     callers: &mut Callers<'m>,
@@ -266,9 +287,11 @@ pub(crate) fn advance<'m, V: View<'m>>(
     spare: &mut Current<'m>,
     alloc: Global,
     view: &mut V,
+    i: &'m Instr,
 ) -> Done
     requires joined { IsJoined callers.old top.old }
     requires live { is_live top.old ≡ true }
+    requires next { Some i.now ≡ first_of top.old.act.rest }
     requires rooms { RoomsAre (V.seen view.old).fixed (joined callers.old top.old) }
     requires names { NamesAreThere (V.seen view.old).fixed }
     requires holds { HoldsAll (V.seen view.old).fixed (V.seen view.old).units }
@@ -281,27 +304,15 @@ pub(crate) fn advance<'m, V: View<'m>>(
     ensures rooms { result ≡ Done.Goes → RoomsAre (V.seen view.old).fixed (joined callers.new top.new) }
     ensures fixed { (V.seen view.new).fixed ≡ (V.seen view.old).fixed }
 {
-    let rest = top.rest();
-    let Some(i) = top.peek() else {
-        return end(callers, top, spare, view);
-    };
-    top.advance();
     match named_callee(i) {
-        Some(Callee::Function(f)) => {
-            top.set_rest(rest);
-            mem::swap(top, spare);
-            let done = call(callers, spare, alloc, view, f);
-            mem::swap(top, spare);
-            done
+        Some(callee) => match called(top, view, callee) {
+            Ok(r) => call(callers, top, spare, alloc, view, above(callee), r),
+            Err(trap) => Done::Trapped(trap),
+        },
+        None => {
+            top.advance();
+            instruction(top, spare, alloc, view, i)
         }
-        Some(Callee::Entry { ty, table }) => {
-            top.set_rest(rest);
-            mem::swap(top, spare);
-            let done = call_indirect(callers, spare, alloc, view, ty, table);
-            mem::swap(top, spare);
-            done
-        }
-        None => instruction(top, spare, alloc, view, i),
     }
 }
 

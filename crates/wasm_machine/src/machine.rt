@@ -14,7 +14,7 @@ ghost use Rattle.wasm_machine.specs.Machines.{IsOver, IsReady, IsStart, Stepped,
 ghost use Rattle.wasm_machine.specs.Machines.{Begins, next_in, is_deep_next, is_deep_call, lost_machine, ended, going, settled, at_point, Runs, on_top};
 
 use crate::callers::{Caller, Callers};
-use crate::calls::{advance, begin_own, begin_passes, next_passes, outside_call};
+use crate::calls::{advance, begin_own, begin_passes, end, next_passes, outside_call};
 use crate::event::Event;
 use std::alloc::Global;
 use std::marker::Model;
@@ -441,13 +441,26 @@ impl<'m> Machine<'m> {
     }
 }
 
-/// Whether code is on top. Where none is, nothing remains to be run: so a test of that comes first, which a step makes in any case.
+/// A step where nothing remains to be run of the innermost block, or where nothing is on top, whose end or loss is still to be kept.
 #[inline(always)]
-fn has_code(top: &Current) -> bool
-    requires { is_live top.now ≡ false → top.now.act.rest ≡ [] }
-    ensures { result ≡ is_live top.now }
+fn step_at_end<'m, V: View<'m>>(
+    callers: &mut Callers<'m>,
+    top: &mut Current<'m>,
+    spare: &mut Current<'m>,
+    view: &V,
+) -> Done
+    requires joined { IsJoined callers.old top.old }
+    requires over { IsOver (V.seen view.now).fixed (V.seen view.now).units (V.seen view.now).memory (going (joined callers.old top.old)) }
+    requires some { (joined callers.old top.old).frames ≢ [] }
+    requires done { top.old.act.rest ≡ [] }
+    ensures stepped { QuickStepped (V.seen view.now).fixed result (going (joined callers.old top.old)) (settled result (joined callers.new top.new)) (between (V.seen view.now) (V.seen view.now)) }
+    ensures over { IsOver (V.seen view.now).fixed (V.seen view.now).units (V.seen view.now).memory (settled result (joined callers.new top.new)) }
+    ensures joined { result ≢ Done.NoMemory → IsJoined callers.new top.new }
 {
-    !top.rest().is_empty() || top.is_live()
+    if !top.is_live() {
+        return Done::Marked;
+    }
+    end(callers, top, spare, view)
 }
 
 /// One step of the code on top, whose end or loss is still to be kept.
@@ -467,10 +480,10 @@ fn step_code<'m, V: View<'m>>(
     ensures joined { result ≢ Done.NoMemory → IsJoined callers.new top.new }
     ensures fixed { (V.seen view.new).fixed ≡ (V.seen view.old).fixed }
 {
-    if !has_code(top) {
-        return Done::Marked;
+    match top.peek() {
+        None => step_at_end(callers, top, spare, view),
+        Some(i) => advance(callers, top, spare, alloc, view, i),
     }
-    advance(callers, top, spare, alloc, view)
 }
 
 /// Steps of the code on top while it goes on, so many or fewer: how many were made, and what the next one came to, whose end or loss is still
@@ -494,15 +507,14 @@ fn steps_of_code<'m, V: View<'m>>(
     ensures most { result.1 ≡ Done.Goes → result.0 ≡ most }
     ensures fewer { result.1 ≢ Done.Goes → result.0 < most }
 {
-    let mut made = 0;
-    'steps: while made < most {
-        let done = step_code(callers, top, spare, alloc, view);
-        if done != Done::Goes {
-            return (made, done);
+    let mut left = most;
+    'steps: while left > 0 {
+        match step_code(callers, top, spare, alloc, view) {
+            Done::Goes => left -= 1,
+            done => return (most - left, done),
         }
-        made += 1;
     }
-    (made, Done::Goes)
+    (most, Done::Goes)
 }
 
 /// Keeps the end that a step came to, or that no memory was found.

@@ -4,7 +4,7 @@ ghost use Rattle.spec_execution.specs.spec_binary.Indices.{declared_locals};
 ghost use Rattle.spec_execution.specs.Values.{take_values, numbers_of};
 ghost use Rattle.spec_execution.specs.Activations.{with_values, pushed};
 ghost use Rattle.wasm_step.specs.Tops.{with_act, IsTooHigh, IsTooNested, HasRoom, IsLaidOut};
-ghost use Rattle.wasm_step.specs.Primitives.{number_on, reference_on, with_rest, with_locals, in_block, closed, first_of, arity_of, again_of, first_label, first_level, body_done, Opened, Started, Parked, Dropped, IsIdle, Widened, HasSpare, idle_at, resumed};
+ghost use Rattle.wasm_step.specs.Primitives.{number_on, reference_on, with_rest, with_locals, in_block, closed, first_of, arity_of, again_of, first_label, first_level, body_done, Opened, Started, Parked, Dropped, IsIdle, Widened, HasSpare, CanOpen, Spread, idle_at, resumed};
 
 use crate::room::{number, of_kind, push_zeros, slide};
 use std::alloc::Global;
@@ -92,6 +92,7 @@ impl<'m> Current<'m> {
     }
 
     /// How many values it took room for.
+    #[inline(always)]
     pub fn room(&self) -> usize
         ensures { result ≡ self.now.room }
     {
@@ -404,6 +405,7 @@ impl<'m> Current<'m> {
     }
 
     /// Takes `n` values off the top.
+    #[inline(always)]
     pub fn drop_values(&mut self, n: usize)
         requires { n ≤ length self.old.act.values }
         ensures { self.new ≡ with_act self.old (with_values self.old.act (drop n self.old.act.values)) }
@@ -429,27 +431,45 @@ impl<'m> Current<'m> {
         self.values.push_reserved(v);
     }
 
-    /// Calls code with its `params` arguments off the top, and answers where the caller lies. It takes room for `room` values in
-    /// all.
+    /// Whether there is room for an activation of so many values over what is there.
+    #[inline(always)]
+    pub fn fits(&self, room: usize) -> bool
+        ensures { result ≡ true → CanOpen self.now room }
+    {
+        room <= self.values.capacity() - self.values.len()
+            && MOST_BLOCKS <= self.labels.capacity() - self.labels.len()
+    }
+
+    /// Takes room for an activation of so many values over what is there.
+    pub fn widen(&mut self, _alloc: Global, room: usize) -> Result<(), Memory>
+        requires most { room ≤ 4194304 }
+        ensures fits { OnOk result (CanOpen self.new room) }
+        ensures same { Spread self.old self.new }
+    {
+        self.labels.reserve(MOST_BLOCKS)?;
+        self.values.reserve(room)?;
+        Ok(())
+    }
+
+    /// Calls code with its `params` arguments off the top, and answers where the caller lies. It takes `room` values of what there is
+    /// room for.
+    #[inline(always)]
     pub fn open(
         &mut self,
-        _alloc: Global,
         unit: u32,
         func: u32,
         room: usize,
         params: usize,
         results: usize,
         code: &'m Code,
-    ) -> Result<Place<'m>, Memory>
+    ) -> Place<'m>
         requires arguments { params ≤ length self.old.act.values }
         requires room { params + length (declared_locals code.now.locals) ≤ room }
-        requires most { room ≤ 4194304 }
-        ensures { IfOk result (λ p. Opened self.old self.new unit func room params results code.now p) }
+        requires fits { CanOpen self.old room }
+        ensures { Opened self.old self.new unit func room params results code.now result }
     {
-        self.labels.reserve(MOST_BLOCKS)?;
         let len = self.values.len();
-        self.values.reserve(room)?;
-        push_zeros(&mut self.values, code.locals.items())?;
+        push_zeros(&mut self.values, code.locals.items());
         let floor = self.values.len();
         let caller = self.place;
         self.place = Place {
@@ -464,7 +484,7 @@ impl<'m> Current<'m> {
             outer: self.labels.len(),
             rest: code.body.list.items(),
         };
-        Ok(caller)
+        caller
     }
 
     /// Begins the first activation over what is there, of code without parameters.
@@ -482,11 +502,13 @@ impl<'m> Current<'m> {
         requires most { room ≤ 4194304 }
         ensures { OnOk result (Started self.old self.new unit func room results code.now) }
     {
-        self.open(alloc, unit, func, room, 0, results, code)?;
+        self.widen(alloc, room)?;
+        let _ = self.open(unit, func, room, 0, results, code);
         Ok(())
     }
 
     /// Goes back to what called, with the values that stand here.
+    #[inline(always)]
     pub fn resume(&mut self, caller: Place<'m>)
         requires laid { IsLaidOut caller self.old.under self.old.outer }
         requires done { self.old.act.levels ≡ [] }

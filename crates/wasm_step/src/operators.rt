@@ -23,7 +23,7 @@ pub(crate) fn low_word(n: u64) -> u64
 }
 
 /// A function of one number. The opcodes up to 69 are those of 32 bits.
-#[inline]
+#[inline(always)]
 fn unary_on(top: &mut Current, op: u8) -> Done
     requires operator { IsSome (unary_of op) }
     requires safe { IsSafe top.old (with_number top.old.act.values (λ n vs. unary_move (with_values top.old.act vs) n (unary_of op))) }
@@ -53,7 +53,7 @@ fn computed(op: u8, x: u64, y: u64) -> Result<u64, Trap>
 
 /// A function of two numbers.
 #[tactic(auto, using(crate::proofs::Outcomes::outcome_answered))]
-#[inline]
+#[inline(always)]
 fn binary_on(top: &mut Current, op: u8) -> Done
     requires operator { IsSome (binary_of op) }
     requires safe { IsSafe top.old (with_number top.old.act.values (λ y vs. with_number vs (λ x ws. binary_move (with_values top.old.act ws) x y (binary_of op)))) }
@@ -89,7 +89,7 @@ fn compared(op: u8, x: u64, y: u64) -> bool
 }
 
 /// Whether a number is zero.
-#[inline]
+#[inline(always)]
 fn test_on(top: &mut Current, op: u8) -> Done
     requires operator { IsSome (compare_of op) }
     requires safe { IsSafe top.old (with_number top.old.act.values (λ n vs. compare_move (with_values top.old.act vs) n 0 (compare_of op))) }
@@ -104,7 +104,7 @@ fn test_on(top: &mut Current, op: u8) -> Done
 }
 
 /// A comparison of two numbers.
-#[inline]
+#[inline(always)]
 fn compare_on(top: &mut Current, op: u8) -> Done
     requires operator { IsSome (compare_of op) }
     requires safe { IsSafe top.old (with_number top.old.act.values (λ y vs. with_number vs (λ x ws. compare_move (with_values top.old.act ws) x y (compare_of op)))) }
@@ -122,7 +122,7 @@ fn compare_on(top: &mut Current, op: u8) -> Done
 }
 
 /// A conversion of a number. Those of a number of 64 bits are A7 and C2 to C4.
-#[inline]
+#[inline(always)]
 fn convert_on(top: &mut Current, op: u8) -> Done
     requires operator { IsSome (convert_of op) }
     requires safe { IsSafe top.old (with_number top.old.act.values (λ n vs. convert_move (with_values top.old.act vs) n (convert_of op))) }

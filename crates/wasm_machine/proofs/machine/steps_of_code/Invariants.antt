@@ -11,9 +11,9 @@ invariant-steps g l = record {
   over : IsOver (g.V.View.seen l.view).fixed (g.V.View.seen l.view).units (g.V.View.seen l.view).memory (going (joined l.callers l.top));
   some : (joined l.callers l.top).frames ≢ [];
   fixed : (g.V.View.seen l.view).fixed ≡ (g.V.View.seen l.fn.view).fixed;
-  goes : Iterated (GoesOn (g.V.View.seen l.fn.view).fixed) l.made (at_point (going (joined l.fn.callers l.fn.top)) (g.V.View.seen l.fn.view)) (at_point (going (joined l.callers l.top)) (g.V.View.seen l.view));
-  few : l.made ≤ l.most;
+  goes : Iterated (GoesOn (g.V.View.seen l.fn.view).fixed) (l.most - l.left) (at_point (going (joined l.fn.callers l.fn.top)) (g.V.View.seen l.fn.view)) (at_point (going (joined l.callers l.top)) (g.V.View.seen l.view));
+  few : l.left ≤ l.most;
 }
 
 abbrev pub decreases-steps : goal.decreases-steps
-decreases-steps g l = l.most - l.made
+decreases-steps g l = l.left
