@@ -1,12 +1,13 @@
 -- The steps of what runs are those of the loaded set.
 use Rattle.std.proofs.Common.{◌≡◌, ℕ, ◌<◌, List, [], ◌∷◌, length, Option, Some, None, refl, ap, sym, ◌∙◌, subst}
-use Rattle.std.specs.Prelude.{OnOk, Result, Ok, Err}
+use Rattle.std.specs.Prelude.{OnOk, IfSome, Result, Ok, Err}
 use Rattle.wasm_machine.specs.declared.event.Event.{Event}
 use Rattle.wasm_view.specs.Seen.{Seen}
 use Rattle.spec_loading.specs.declared.task.Task.{Task}
 use Rattle.dyl_frames.specs.Cores.{first_of, StepsFrom}
 use Rattle.std.specs.Borrow.{Bor}
 use Rattle.std.proofs.lemmas.Option.{same_Some}
+use Rattle.wasm_form.specs.declared.runtime.Ref.{Ref}
 use Rattle.wasm_form.specs.declared.runtime.Ref.TheVariants.{Own}
 use Rattle.wasm_form.specs.declared.runtime.Trap.{Trap}
 use Rattle.spec_loading.specs.spec_binary.Options.{◌>>=◌}
@@ -29,7 +30,7 @@ use Rattle.dyl_addresses.proofs.Linked.{members_count}
 use Rattle.dyl_store.specs.Worlds.{WorldState, kept_view, seen_of}
 use Rattle.dyl_store.specs.Placements.{PlacesSo}
 use Rattle.dyl_store.specs.declared.running.Running.{Running}
-use Rattle.dyl_store.specs.Runs.{IsRunning, IsRunnable, IsSomewhere, ArePlacements, StepsTo}
+use Rattle.dyl_store.specs.Runs.{IsRunning, IsRunnable, IsSomewhere, ArePlacements, StepsTo, Serves}
 use Rattle.dyl_store.proofs.Views.{kept_view_is}
 use Rattle.dyl_store.proofs.Runnable.{few_pages}
 
@@ -55,13 +56,27 @@ running_after old new h linked placements fixed core members =
 pub entry_is : (L : LinkedSet) (k : Kept) → IsLinked L k → (set_loading L).entry ≡ Some (Own 0 k.entry)
 entry_is L k h = ap (λ (o : Option ℕ). o >>= λ f. Some (Own 0 f)) h.entry
 
-pub entry_nullary : EntryIsThere → (x : Running) → IsRunning x → type_of (kept_view x.world.linked) (Own 0 x.linked.now.entry) ≡ Some nullary
-entry_nullary law x h =
-    let L = h.set.0 in
-    let linked = h.set.1 in
+-- what is loaded is the set itself
+pub serves : (L : LinkedSet) (k : Kept) → IsLinked L k → (r : Ref) → r ≡ Own 0 k.entry → Serves L r (set_loading L)
+serves L k h r is = record {
+  entry = entry_is L k h ∙ ap (λ (q : Ref). Some q) (sym is);
+  callee = λ phase m. refl;
+  promote = refl;
+}
+
+pub entry_nullary : EntryIsThere → (k : Kept) → (L : LinkedSet) × IsLinked L k → type_of (kept_view k) (Own 0 k.entry) ≡ Some nullary
+entry_nullary law k set =
+    let L = set.0 in
+    let linked = set.1 in
     let there = law L linked.shape linked.links in
-    let same : Own 0 there.0 ≡ Own 0 x.linked.now.entry = same_Some (Own 0 there.0) (Own 0 x.linked.now.entry) (sym there.1 ∙ entry_is L x.linked.now linked) in
-    ap (λ (V : View ModuleParts). type_of V (Own 0 x.linked.now.entry)) (h.fixed ∙ kept_view_is L x.linked.now linked) ∙ ap (type_of (set_view L)) (sym same) ∙ there.2
+    let same : Own 0 there.0 ≡ Own 0 k.entry = same_Some (Own 0 there.0) (Own 0 k.entry) (sym there.1 ∙ entry_is L k linked) in
+    ap (λ (V : View ModuleParts). type_of V (Own 0 k.entry)) (kept_view_is L k linked) ∙ ap (type_of (set_view L)) (sym same) ∙ there.2
+
+-- functions of the same types over another view
+pub nullary_seen : {Units : Type 0} (V : View Units) (W : View ModuleParts) → ((r : Ref) → type_of V r ≡ type_of W r) → (o : Option Ref)
+    → IfSome o (λ r. type_of W r ≡ Some nullary) → IfSome o (λ r. type_of V r ≡ Some nullary)
+nullary_seen V W same None h = tt
+nullary_seen V W same (Some r) h = same r ∙ h
 
 -- ---- placing
 

@@ -1,13 +1,20 @@
 -- A loaded set in its run, without what is counted and recorded of it.
-use Rattle.std.specs.Prelude.{◌≡◌, ◌<◌, ℕ, List, length, slice_get, Some, Bool}
+use Rattle.std.specs.Prelude.{◌≡◌, ◌<◌, ℕ, List, length, slice_get, Some, IfSome, Bool, true, false}
+use Rattle.wasm_form.specs.declared.runtime.Ref.{Ref}
 use Rattle.spec_loading.specs.spec_validation.Faults.{most_pages}
 use Rattle.spec_loading.specs.spec_linking.LinkedSets.{LinkedSet}
+use Rattle.spec_loading.specs.declared.task.Phase.{Phase}
+use Rattle.spec_loading.specs.declared.task.Phase.TheVariants.{Place}
+use Rattle.spec_loading.specs.declared.task.Task.{Task}
+use Rattle.spec_loading.specs.Loading.{Loading}
+use Rattle.spec_loading.specs.LoaderAnswers.{promoted_with}
 use Rattle.spec_loading.specs.LoadedSet.{SetState, set_loading}
 use Rattle.spec_loading.specs.SoundSets.{HoldBytes, IsSoundState}
 use Rattle.wasm_step.specs.declared.done.Done.{Done}
 use Rattle.wasm_machine.specs.declared.event.Event.{Event}
 use Rattle.dyl_link.specs.Kept.{Kept, IsLinked}
-use Rattle.dyl_frames.specs.Cores.{IsCore, IsState, StepsFrom, RunsFrom, WantsFrom, TellsDeep, TellsStarted}
+use Rattle.dyl_frames.specs.declared.frames.Core.{Core}
+use Rattle.dyl_frames.specs.Cores.{IsCore, IsState, StepsFrom, RunsFrom, WantsFrom, TellsDeep, TellsStarted, top_frame, first_task, is_behind}
 use Rattle.dyl_addresses.specs.Sets.{IsOfSet}
 use Rattle.dyl_store.specs.Worlds.{set_in, kept_view, seen_of}
 use Rattle.dyl_store.specs.Placements.{IsPlacement}
@@ -60,3 +67,22 @@ pub record IsRunning (x : Running) : Type 0 where
   pub core : IsCore (kept_view x.world.linked) x.world.store x.world.memory x.core
   pub members : length x.core.stages ≡ length x.linked.now.set.members
   pub placements : ArePlacements x.linked.now x.placements.items
+
+-- ---- steps of the loader
+
+-- the next task places its member, which hasn't come so far
+pub record IsPlacing (c : Core) (t : Task) : Type 0 where
+  pub next : first_task (top_frame c) ≡ Some t
+  pub member : t.member < length c.stages
+  pub places : t.phase ≡ Place
+  pub behind : is_behind c t ≡ true
+
+-- it places none
+abbrev pub NonePlaces : Core → Type 0
+NonePlaces c = IfSome (first_task (top_frame c)) (λ t. t.phase ≡ Place → is_behind c t ≡ false)
+
+-- what is loaded is the set, whose entry is this function
+pub record Serves {Units : Type 0} (L : LinkedSet) (r : Ref) (D : Loading Units) : Type 0 where
+  pub entry : D.entry ≡ Some r
+  pub callee : (phase : Phase) (m : ℕ) → D.callee phase m ≡ (set_loading L).callee phase m
+  pub promote : D.promote ≡ promoted_with L.set

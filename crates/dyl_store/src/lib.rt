@@ -6,6 +6,7 @@ mod callees;
 mod cells;
 mod constants;
 mod contents;
+mod frames;
 mod loader;
 mod opened_members;
 mod opening;

@@ -1,21 +1,23 @@
 // A loaded set in its run, without what is counted and recorded of it.
-ghost use Rattle.std.specs.Prelude.{◌≡◌, ◌≢◌, ◌<◌, [], length, true, false, Some, IfOk, OnOk, OnErr};
-ghost use Rattle.spec_loading.specs.declared.task.Phase.TheVariants as phases;
-ghost use Rattle.spec_loading.specs.declared.task.After.TheVariants as follows;
+ghost use Rattle.std.specs.Prelude.{◌≡◌, ◌≢◌, ◌<◌, false, Some, IfOk, OnOk, OnErr};
 ghost use Rattle.spec_loading.specs.LoadedSet.{set_loading};
 ghost use Rattle.spec_loading.specs.spec_linking.LinkedSets.{LinkedSet};
 ghost use Rattle.spec_loading.specs.spec_safety.ValueTypes.{IsOfBytes};
 ghost use Rattle.wasm_machine.specs.Machines.{IsMarked};
+ghost use Rattle.spec_loading.specs.spec_binary.Indices.{nullary};
+ghost use Rattle.spec_loading.specs.spec_execution.Views.{type_of as type_seen};
+ghost use Rattle.wasm_form.specs.declared.runtime.Ref.TheVariants.{Own};
 ghost use Rattle.dyl_link.specs.Kept.{IsLinked};
-ghost use Rattle.dyl_frames.specs.Cores.{is_mark, first_task, top_frame, FitsHost, TakenFrom};
+ghost use Rattle.dyl_addresses.specs.Sets.{IsOfSet};
+ghost use Rattle.dyl_frames.specs.Cores.{is_mark, FitsHost, TakenFrom};
 ghost use Rattle.dyl_store.specs.Worlds.{kept_view, seen_of};
-ghost use Rattle.dyl_store.specs.Runs.{IsRunning, IsSomewhere, StepsTo, RunsTo, WantsTo, IsDeepTo, IsStartedTo};
+ghost use Rattle.dyl_store.specs.Runs.{IsRunning, IsSomewhere, IsPlacing, StepsTo, RunsTo, WantsTo, IsDeepTo, IsStartedTo};
 ghost use Rattle.dyl_store.specs.Calls.{is_loader};
 
-use crate::callees::callee;
+use crate::frames::{is_deep, placing, proceed};
 use crate::place_member::Placement;
 use crate::world::World;
-use dyl_frames::{After, Core, Task, is_place};
+use dyl_frames::{Core, Task};
 use dyl_link::Linked;
 use spec_loading::{linked_functions_are_typed, linked_sets_step_soundly};
 use std::alloc::Global;
@@ -29,6 +31,19 @@ pub(crate) struct Running<'m> {
     pub world: World<'m>,
     pub core: Core<'m>,
     pub placements: Vec<Placement>,
+}
+
+// The entry of a linked set.
+fn entry_of(linked: &Linked) -> Ref
+    requires { IsOfSet linked.now }
+    ensures is { result ≡ Own 0 linked.now.entry }
+    ensures nullary { type_seen (kept_view linked.now) result ≡ Some nullary }
+{
+    linked_functions_are_typed();
+    Ref::Own {
+        unit: 0,
+        func: linked.entry(),
+    }
 }
 
 // Whether a mark is on top.
@@ -113,89 +128,28 @@ impl<'m> Running<'m> {
         ensures running { OnOk result (IsRunning self.new) }
         ensures linked { self.new.linked ≡ self.old.linked }
     {
-        match self.core.next_task(&self.world) {
-            Some(task) => self.work(alloc, task),
-            None => self.follow(alloc),
+        match placing(&self.core, &self.world) {
+            Some(task) => Ok(self.place(task)),
+            None => proceed(
+                &mut self.core,
+                alloc,
+                &self.world,
+                self.linked,
+                entry_of(self.linked),
+            ),
         }
     }
 
-    // What follows the last task of the frame on top.
-    fn follow(&mut self, alloc: Global) -> Result<Event, Memory>
-        requires running { IsRunning self.old }
-        requires marked { IsMarked self.old.core.machine }
-        requires last { (top_frame self.old.core).tasks ≡ [] }
-        ensures stepped { IfOk result (λ e. (L : LinkedSet) → IsLinked L self.old.linked.now → StepsTo L e self.old self.new) }
-        ensures wanting { OnErr result (WantsTo self.old) }
-        ensures running { OnOk result (IsRunning self.new) }
-        ensures linked { self.new.linked ≡ self.old.linked }
-    {
-        match self.core.follows(&self.world) {
-            After::CallEntry => self.enter(alloc),
-            After::GiveHandle(m) => {
-                self.core.hand_over(&self.world, m);
-                Ok(Event::Moved)
-            }
-            After::GiveAndPromote(m) => {
-                self.core.promote(&self.world, self.linked, m);
-                Ok(Event::Moved)
-            }
-        }
-    }
-
-    // The entry is called.
-    fn enter(&mut self, alloc: Global) -> Result<Event, Memory>
-        requires running { IsRunning self.old }
-        requires marked { IsMarked self.old.core.machine }
-        requires last { (top_frame self.old.core).tasks ≡ [] }
-        requires entry { (top_frame self.old.core).after ≡ follows.CallEntry }
-        ensures stepped { IfOk result (λ e. (L : LinkedSet) → IsLinked L self.old.linked.now → StepsTo L e self.old self.new) }
-        ensures wanting { OnErr result (WantsTo self.old) }
-        ensures running { OnOk result (IsRunning self.new) }
-        ensures linked { self.new.linked ≡ self.old.linked }
-    {
-        linked_functions_are_typed();
-        let entry = Ref::Own {
-            unit: 0,
-            func: self.linked.entry(),
-        };
-        self.core.enter(alloc, &self.world, entry)
-    }
-
-    // The work of a task.
-    fn work(&mut self, alloc: Global, task: Task) -> Result<Event, Memory>
-        requires running { IsRunning self.old }
-        requires stands { IsSomewhere self.old }
-        requires marked { IsMarked self.old.core.machine }
-        requires task { first_task (top_frame self.old.core) ≡ Some task }
-        requires member { task.member < length self.old.core.stages }
-        ensures stepped { IfOk result (λ e. (L : LinkedSet) → IsLinked L self.old.linked.now → StepsTo L e self.old self.new) }
-        ensures wanting { OnErr result (WantsTo self.old) }
-        ensures running { OnOk result (IsRunning self.new) }
-        ensures linked { self.new.linked ≡ self.old.linked }
-    {
-        if is_place(task.phase) {
-            return Ok(self.place(task));
-        }
-        let called = callee(self.linked, task);
-        self.core.call_task(alloc, &self.world, task, called)
-    }
-
-    // A member is placed, unless it was before.
+    // The member of the next task is placed.
     fn place(&mut self, task: Task) -> Event
         requires running { IsRunning self.old }
         requires stands { IsSomewhere self.old }
         requires marked { IsMarked self.old.core.machine }
-        requires task { first_task (top_frame self.old.core) ≡ Some task }
-        requires member { task.member < length self.old.core.stages }
-        requires places { task.phase ≡ phases.Place }
+        requires placing { IsPlacing self.old.core task }
         ensures stepped { (L : LinkedSet) → IsLinked L self.old.linked.now → StepsTo L result self.old self.new }
         ensures running { IsRunning self.new }
         ensures linked { self.new.linked ≡ self.old.linked }
     {
-        if !self.core.is_behind(task) {
-            self.core.pass(&self.world, task);
-            return Event::Moved;
-        }
         linked_sets_step_soundly();
         let placement = &self.placements[task.member as usize];
         let outcome = self.world.place(self.linked, task.member, placement);
@@ -212,41 +166,7 @@ impl<'m> Running<'m> {
         requires moving { self.now.core.machine.standing ≡ Standing.Moving }
         ensures { (L : LinkedSet) → IsLinked L self.now.linked.now → IsDeepTo L result self.now }
     {
-        if self.core.is_marked() {
-            self.frame_deep()
-        } else {
-            self.core.code_deep(&self.world)
-        }
-    }
-
-    // The same of a step of the loader.
-    fn frame_deep(&self) -> bool
-        requires running { IsRunning self.now }
-        requires marked { IsMarked self.now.core.machine }
-        ensures { (L : LinkedSet) → IsLinked L self.now.linked.now → IsDeepTo L result self.now }
-    {
-        match self.core.next_task(&self.world) {
-            Some(task) => {
-                let called = callee(self.linked, task);
-                self.core.task_deep(&self.world, task, called)
-            }
-            None => self.follow_deep(),
-        }
-    }
-
-    // The same of what follows the last task of the frame on top.
-    fn follow_deep(&self) -> bool
-        requires running { IsRunning self.now }
-        requires marked { IsMarked self.now.core.machine }
-        requires last { (top_frame self.now.core).tasks ≡ [] }
-        ensures { (L : LinkedSet) → IsLinked L self.now.linked.now → IsDeepTo L result self.now }
-    {
-        linked_functions_are_typed();
-        let entry = Ref::Own {
-            unit: 0,
-            func: self.linked.entry(),
-        };
-        self.core.follow_deep(&self.world, entry)
+        is_deep(&self.core, &self.world, self.linked, entry_of(self.linked))
     }
 }
 

@@ -32,7 +32,7 @@ const NOSYS: u64 = 52;
 pub(crate) const SPIPE: u64 = 70;
 
 /// Bytes of the memory: so many from an address on.
-#[derive(Clone, Copy, Debug, PartialEq, Eq)]
+#[derive(Clone, Copy)]
 pub(crate) struct Buffer {
     pub at: u32,
     pub len: u32,

@@ -3,7 +3,7 @@ use Rattle.std.proofs.Common.{◌≡◌, ◌<◌, ◌≤◌, ℕ, zero, suc, ◌
 use Rattle.std.proofs.Math.Path.{fun_ext}
 use Rattle.std.proofs.lemmas.List.{drop_all, at_drop_more}
 use Rattle.std.specs.Prelude.{not}
-use Rattle.std.specs.List.{filter, range_with_len}
+use Rattle.std.specs.List.{filter, flat_map, range_with_len}
 use Rattle.wasm_form.specs.declared.types.FuncType.{FuncType}
 use Rattle.wasm_form.specs.declared.instr.Instr.{Instr, Plain, Index}
 use Rattle.wasm_form.specs.declared.module.Group.{Group}
@@ -54,6 +54,10 @@ texts_within L =
 
 -- ---- lists from a place on
 
+pub four_more : {A : Type 0} (xs : List A) (a b c d : A) → (((xs ++ a ∷ []) ++ b ∷ []) ++ c ∷ []) ++ d ∷ [] ≡ xs ++ a ∷ b ∷ c ∷ d ∷ []
+four_more [] a b c d = refl
+four_more (x ∷ xs) a b c d = ap (λ l. x ∷ l) (four_more xs a b c d)
+
 -- what a member has comes before what those behind it have
 pub member_next : {X : Type 0} (of : ℕ → Module → List X) (ms : List declared.Member) (j : ℕ) (x : declared.Member) → j < length ms
     → x ≡ get_or ms j x → (m next : ℕ) → next ≡ m + 1 → (to more all : List X) (wasm : Module) → wasm ≡ (member_of x).wasm
@@ -66,6 +70,18 @@ member_next {X} of ms j x lt item m next step to more all wasm same put before =
     ∙ append_assoc to (of m (member_of x).wasm) (from_members of (m + 1) (map member_of rest))
     ∙ ap (λ (y : declared.Member). from (y ∷ rest)) item
     ∙ sym (at_drop_more from ms j x lt)
+    ∙ before
+
+-- the same of items of a list
+pub flat_next : {X Y : Type 0} (of : X → List Y) (xs : List X) (j : ℕ) (x : X) → j < length xs → x ≡ get_or xs j x → (to more all : List Y)
+    → more ≡ to ++ of x → to ++ flat_map of (drop j xs) ≡ all → more ++ flat_map of (drop (j + 1) xs) ≡ all
+flat_next {X} {Y} of xs j x lt item to more all put before =
+    let rest = drop (j + 1) xs in
+    let from : List X → List Y = λ l. to ++ flat_map of l in
+    ap (λ (l : List Y). l ++ flat_map of rest) put
+    ∙ append_assoc to (of x) (flat_map of rest)
+    ∙ ap (λ (y : X). from (y ∷ rest)) item
+    ∙ sym (at_drop_more from xs j x lt)
     ∙ before
 
 -- no member is left

@@ -87,6 +87,18 @@ fn find_function(alloc: Global, linked: &Linked, m: u32, wasm: &Module) -> Resul
     Ok(part(ty, Vec::new(alloc), code))
 }
 
+fn put_finds(alloc: Global, to: &mut Vec<Part>, linked: &Linked) -> Result<(), Memory>
+    ensures { OnOk result ((L : LinkedSet) → IsLinked L linked.now → to.new.items ≡ to.old.items ++ from_members (find_parts L) 0 L.set.members) }
+{
+    linked.links();
+    let mut m: u32 = 0;
+    for member in linked.set().members.items() {
+        to.push(find_function(alloc, linked, m, member.checked.module())?)?;
+        m += 1;
+    }
+    Ok(())
+}
+
 /// The functions that search the names of the members of a linked set, one for each member. Each takes the address of a string and its length,
 /// and gives 2^32 with the slot of the function or the address of the data that the member defines by that name, or 0 where it defines none, in
 /// at most 200 steps for each byte of the string, and 1,600.
@@ -96,15 +108,15 @@ pub fn find_functions(alloc: Global, linked: &Linked, _n: &DlNumbers) -> Result<
     ensures works { IfOk result (λ parts. (L : LinkedSet) → IsLinked L linked.now → AreSearchParts L parts) }
     ensures quick { IfOk result (λ parts. (L : LinkedSet) → IsLinked L linked.now → AreQuick L parts) }
 {
-    linked.links();
     searches_find();
     searches_are_typed();
     exports_are_texts();
     let mut parts = Vec::new(alloc);
-    let mut m: u32 = 0;
-    for member in linked.set().members.items() {
-        parts.push(find_function(alloc, linked, m, member.checked.module())?)?;
-        m += 1;
+    match put_finds(alloc, &mut parts, linked) {
+        Ok(()) => Ok(List::of(parts)),
+        Err(memory) => {
+            drop(parts);
+            Err(memory)
+        }
     }
-    Ok(List::of(parts))
 }

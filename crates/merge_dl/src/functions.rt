@@ -1,7 +1,8 @@
 // The functions of the loader.
-ghost use Rattle.std.specs.Prelude.{◌≡◌, ◌<◌, ◌^◌, IfOk};
+ghost use Rattle.std.specs.Prelude.{◌≡◌, ◌++◌, ◌<◌, ◌^◌, IfOk, OnOk};
 ghost use Rattle.spec_loading.specs.spec_linking.LinkedSets.{LinkedSet};
 ghost use Rattle.dyl_link.specs.Kept.{IsLinked};
+ghost use Rattle.dyl_addresses.specs.Sets.{IsOfSet};
 ghost use Rattle.merge_start.specs.Words.{Starts};
 ghost use Rattle.merge_dl.specs.Words.{Finders};
 ghost use Rattle.merge_dl.specs.Listed.{AreDlNumbers, call_parts};
@@ -15,6 +16,26 @@ use dyl_link::Linked;
 use std::alloc::Global;
 use wasm_form::{List, Memory, Part};
 
+// The functions are put one after the other.
+fn put_functions(
+    alloc: Global,
+    to: &mut Vec<Part>,
+    linked: &Linked,
+    n: &DlNumbers,
+) -> Result<(), Memory>
+    requires set { IsOfSet linked.now }
+    requires guard { n.now.guard < 2 ^ 31 }
+    requires first { n.now.first_function < 2 ^ 31 }
+    requires promoted { n.now.promoted < 2 ^ 31 }
+    ensures { OnOk result ((L : LinkedSet) (x : Starts) (d : Finders) → IsLinked L linked.now → AreDlNumbers L n.now x d → to.new.items ≡ to.old.items ++ call_parts L x d) }
+{
+    to.push(open_function(alloc, linked, n)?)?;
+    to.push(symbol_function(alloc, linked, n)?)?;
+    to.push(close_function(alloc, linked, n)?)?;
+    to.push(error_function(alloc, linked, n)?)?;
+    Ok(())
+}
+
 /// The functions of the loader as code of the merged module of a linked set, in this order: `dlopen`, `dlsym`, `dlclose` and `dlerror`.
 /// `Memory` where no memory could be had.
 pub fn dl_functions(alloc: Global, linked: &Linked, n: &DlNumbers) -> Result<List<Part>, Memory>
@@ -24,9 +45,12 @@ pub fn dl_functions(alloc: Global, linked: &Linked, n: &DlNumbers) -> Result<Lis
     ensures { IfOk result (λ parts. (L : LinkedSet) (x : Starts) (d : Finders) → IsLinked L linked.now → AreDlNumbers L n.now x d → parts ≡ call_parts L x d) }
 {
     linked.links();
-    let opens = open_function(alloc, linked, n)?;
-    let symbols = symbol_function(alloc, linked, n)?;
-    let closes = close_function(alloc, linked, n)?;
-    let errors = error_function(alloc, linked, n)?;
-    Ok(List::of(vec![in alloc; opens, symbols, closes, errors]?))
+    let mut parts = Vec::new(alloc);
+    match put_functions(alloc, &mut parts, linked, n) {
+        Ok(()) => Ok(List::of(parts)),
+        Err(memory) => {
+            drop(parts);
+            Err(memory)
+        }
+    }
 }

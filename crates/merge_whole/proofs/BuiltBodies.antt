@@ -1,5 +1,5 @@
 -- Bodies one after the other, by their numbers and those of their members.
-use Rattle.std.proofs.Common.{◌≡◌, ◌<◌, ℕ, zero, suc, ◌+◌, List, [], ◌∷◌, ◌++◌, length, map, drop, slice_get, if◌then◌else◌, is_some, IsTrue, Option, Some, option_map, refl, sym, ap, ◌∙◌, arith, append_assoc}
+use Rattle.std.proofs.Common.{◌≡◌, ◌<◌, ℕ, zero, suc, ◌+◌, List, [], ◌∷◌, ◌++◌, length, map, drop, get_or, slice_get, if◌then◌else◌, is_some, IsTrue, Option, Some, option_map, refl, sym, ap, ◌∙◌, arith, append_assoc}
 use Rattle.wasm_form.specs.declared.module.Code.{Code}
 use Rattle.wasm_form.specs.declared.module.Module.{Module}
 use Rattle.spec_reading.specs.spec_binary.Options.{◌>>=◌}
@@ -7,6 +7,7 @@ use Rattle.dyl_link.specs.dyl_search.declared.set.Member.{Member}
 use Rattle.dyl_link.specs.Kept.{Kept, function_in}
 use Rattle.merge_index.specs.Numbering.{is_stub}
 use Rattle.dyl_addresses.specs.Sets.{module_of}
+use Rattle.dyl_addresses.proofs.Linked.{at_index}
 use Rattle.merge_module.specs.MergedModule.{trap_code}
 use Rattle.merge_whole.specs.Built.{joined, stubs_at, HasBodies}
 
@@ -25,6 +26,16 @@ some_same x y e = cc
 
 pub is_there : (codes : List Code) (b : ℕ) (o : Option Code) → o ≡ slice_get codes b → b < length codes → IsTrue (is_some o)
 is_there codes b o same lt = (let found = inside codes b lt in rw (same ∙ found.1) refl)
+
+-- what is made of an item comes before what is made of those behind it
+pub mapped_next : {X Y : Type 0} (f : X → Y) (xs : List X) (i : ℕ) (x : X) → i < length xs → x ≡ get_or xs i x → (to more all : List Y)
+    → more ≡ to ++ f x ∷ [] → to ++ map f (drop i xs) ≡ all → more ++ map f (drop (i + 1) xs) ≡ all
+mapped_next f xs i x lt item to more all put before =
+    let rest = map f (drop (i + 1) xs) in
+    ap (λ l. l ++ rest) put
+    ∙ append_assoc to (f x ∷ []) rest
+    ∙ ap (λ l. to ++ map f l) (sym (drop_next xs i x (at_index xs i x lt item)))
+    ∙ before
 
 pub body_next : (R : Code → Code) (codes : List Code) (b : ℕ) → b < length codes → (o : Option Code) → o ≡ slice_get codes b
     → (code : Code) → Some code ≡ option_map R o → (before now all : List Code) → before ++ map R (drop b codes) ≡ all

@@ -90,20 +90,21 @@ finds_are L = codes_are (find_parts L) _ (λ m wasm. refl) 0 L.set.members
 -- bodies of the functions of the loader are put one after the other
 pub loader_put : (L : LinkedSet) (n : Numbers) (x : Starts) (opens finds calls : List Part) (long : Code)
     → opens ≡ from_members (open_parts L n x) 0 L.set.members → long ≡ length_body → finds ≡ from_members (find_parts L) 0 L.set.members
-    → calls ≡ call_parts L x (finders_of L x) → (one two three all : List Code)
-    → one ≡ [] ++ map code_of opens → two ≡ one ++ long ∷ [] → three ≡ two ++ map code_of finds → all ≡ three ++ map code_of calls
-    → all ≡ loader_codes L n x
-loader_put L n x opens finds calls long o l f k one two three all a b c d =
+    → calls ≡ call_parts L x (finders_of L x) → (old one two three all : List Code)
+    → one ≡ old ++ map code_of opens → two ≡ one ++ long ∷ [] → three ≡ two ++ map code_of finds → all ≡ three ++ map code_of calls
+    → all ≡ old ++ loader_codes L n x
+loader_put L n x opens finds calls long o l f k old one two three all a b c d =
     let opening = open_codes L n x in
     let finding = find_codes L in
     let calling = call_codes L x in
-    let first : one ≡ opening = a ∙ ap (map code_of) o ∙ opens_are L n x in
-    let second : two ≡ opening ++ length_body ∷ [] = b ∙ ap₂ (λ u v. u ++ v ∷ []) first l in
-    let third : three ≡ (opening ++ length_body ∷ []) ++ finding = c ∙ ap₂ (λ u v. u ++ v) second (ap (map code_of) f ∙ finds_are L) in
+    let first : one ≡ old ++ opening = a ∙ ap (λ c. old ++ c) (ap (map code_of) o ∙ opens_are L n x) in
+    let second : two ≡ (old ++ opening) ++ length_body ∷ [] = b ∙ ap₂ (λ u v. u ++ v ∷ []) first l in
+    let third : three ≡ ((old ++ opening) ++ length_body ∷ []) ++ finding = c ∙ ap₂ (λ u v. u ++ v) second (ap (map code_of) f ∙ finds_are L) in
     d
     ∙ ap₂ (λ u v. u ++ v) third (ap (map code_of) k)
-    ∙ append_assoc (opening ++ length_body ∷ []) finding calling
-    ∙ append_assoc opening (length_body ∷ []) (finding ++ calling)
+    ∙ append_assoc ((old ++ opening) ++ length_body ∷ []) finding calling
+    ∙ append_assoc (old ++ opening) (length_body ∷ []) (finding ++ calling)
+    ∙ append_assoc old opening (length_body ∷ (finding ++ calling))
 
 -- they are put where the set uses the loader, and there alone
 pub unused_put : (L : LinkedSet) (n : Numbers) (x : Starts) (loader : Option DlNumbers) → loader ≡ None → HasLoader L x loader → (to : List Code)
@@ -113,11 +114,11 @@ unused_put L n x loader is has to =
     sym (ap (λ b. to ++ (if b then loader_codes L n x else [])) unused ∙ append-nil to)
 
 pub used_put : (L : LinkedSet) (n : Numbers) (x : Starts) (loader : Option DlNumbers) (d : DlNumbers) → loader ≡ Some d → HasLoader L x loader
-    → (to codes all : List Code) → (AreDlNumbers L d x (finders_of L x) → codes ≡ loader_codes L n x) → all ≡ to ++ codes
+    → (to all : List Code) → (AreDlNumbers L d x (finders_of L x) → all ≡ to ++ loader_codes L n x)
     → all ≡ to ++ with_loader L (loader_codes L n x)
-used_put L n x loader d is has to codes all made put =
+used_put L n x loader d is has to all put =
     let used = subst (HasLoader L x) is has in
-    put ∙ ap (λ l. to ++ l) (made used.1 ∙ sym (ap (λ b. if b then loader_codes L n x else []) used.0))
+    put used.1 ∙ sym (ap (λ b. to ++ (if b then loader_codes L n x else [])) used.0)
 
 -- and those of all that is generated
 pub generated_put : (L : LinkedSet) (n : Numbers) (x : Starts) (phases : List Part) (entry : Code)

@@ -5,7 +5,7 @@ ghost use Rattle.replay_text.specs.declared.unread.Unread.TheVariants as unread;
 use std::alloc::{AllocError, AllocFailed};
 
 /// Why a line isn't read.
-#[derive(Clone, Copy, Debug, PartialEq, Eq)]
+#[derive(Clone, Copy)]
 pub(crate) enum Unread {
     /// It says nothing, or nothing that is due.
     Malformed,

@@ -35,6 +35,20 @@ pub fn is_told(key: &str) -> bool {
     keys().iter().any(|(other, _)| *other == key)
 }
 
+/// Appends that one thing came otherwise than it is told, where it did: a star is told of all that may come.
+fn put_other(
+    alloc: Global,
+    key: &str,
+    told: &str,
+    came: &str,
+    to: &mut String,
+) -> Result<(), AllocError> {
+    if key == "has" || told == "*" || told == came {
+        return Ok(());
+    }
+    to.push_str(&format!(in alloc; " {key} told {told} came {came};")?)
+}
+
 impl<'a> Facts<'a> {
     /// None.
     pub fn new(alloc: Global) -> Facts<'a> {
@@ -84,8 +98,21 @@ impl<'a> Facts<'a> {
         Ok(())
     }
 
-    /// Appends one thing, if it is told, and otherwise than it came.
+    /// Appends one thing, if it is told, and otherwise than this.
     fn compare_one(
+        &self,
+        alloc: Global,
+        key: &str,
+        unnamed: &str,
+        came: &str,
+        to: &mut String,
+    ) -> Result<(), AllocError> {
+        let told = self.of(alloc, key, unnamed)?;
+        put_other(alloc, key, told.as_str(), came, to)
+    }
+
+    /// Appends one thing, if it is told otherwise than it came. Where texts are told to stand in the output, nothing else is told of that.
+    fn compare_came(
         &self,
         alloc: Global,
         key: &str,
@@ -93,25 +120,18 @@ impl<'a> Facts<'a> {
         came: &Facts,
         to: &mut String,
     ) -> Result<(), AllocError> {
-        let told = self.of(alloc, key, unnamed)?;
-        if key == "has" || told.as_str() == "*" {
-            return Ok(());
-        }
         let came = came.of(alloc, key, unnamed)?;
-        if told.as_str() != came.as_str() {
-            to.push_str(&format!(in alloc; " {key} told {told} came {came};")?)?;
+        if key == "out" && self.names("has") {
+            self.seek(alloc, came.as_str(), to)
+        } else {
+            self.compare_one(alloc, key, unnamed, came.as_str(), to)
         }
-        Ok(())
     }
 
     /// Appends each thing that is told otherwise than it came.
     pub fn compare(&self, alloc: Global, came: &Facts, to: &mut String) -> Result<(), AllocError> {
         for (key, unnamed) in keys() {
-            if *key == "out" && self.names("has") {
-                self.seek(alloc, &came.of(alloc, key, unnamed)?, to)?;
-            } else {
-                self.compare_one(alloc, key, unnamed, came, to)?;
-            }
+            self.compare_came(alloc, key, unnamed, came, to)?;
         }
         Ok(())
     }

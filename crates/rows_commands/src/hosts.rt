@@ -69,6 +69,31 @@ fn adds(
     }
 }
 
+/// Adds three host functions: one of the module `other`, and two of one module and name, of which the second isn't added. Tells whether all came
+/// so.
+fn adds_three(
+    alloc: Global,
+    host: &mut HostTable,
+    from: &str,
+    name: &str,
+    other: Callback,
+    call: Callback,
+    again: Callback,
+) -> bool
+    requires room { entry_count host.old < 4294967293 }
+    requires other { Keeps (Callback.pre other) (Callback.post other) (record { params = ValType.I32 ∷ []; results = ValType.I32 ∷ [] }) }
+    requires call { Keeps (Callback.pre call) (Callback.post call) (record { params = ValType.I32 ∷ []; results = ValType.I32 ∷ [] }) }
+    requires again { Keeps (Callback.pre again) (Callback.post again) (record { params = ValType.I32 ∷ []; results = ValType.I32 ∷ [] }) }
+{
+    let is_apart = adds(alloc, host, "other", name, other);
+    let is_added = adds(alloc, host, from, name, call);
+    let is_again = adds(alloc, host, from, name, again);
+    matches!(
+        (is_apart, is_added, is_again),
+        (Ok(true), Ok(true), Ok(false))
+    )
+}
+
 /// Performs a command of a row over a host function that answers the double: of the module `env`, or of another that
 /// is named before it. It stands behind one of another module and before one of the same module and name, which isn't
 /// added. These would answer 0.
@@ -85,12 +110,11 @@ pub fn perform_doubling(
     let call: Callback = Box::new(alloc, doubled)?;
     let again: Callback = Box::new(alloc, nothing)?;
     let mut host = HostTable::new(alloc);
-    let is_apart = adds(alloc, &mut host, "other", name, other);
-    let is_added = adds(alloc, &mut host, from, name, call);
-    let is_again = adds(alloc, &mut host, from, name, again);
-    let performed = match (is_apart, is_added, is_again) {
-        (Ok(true), Ok(true), Ok(false)) => perform_with(alloc, words, &host, picker, row, came),
-        _ => Err(Memory),
+    let are_added = adds_three(alloc, &mut host, from, name, other, call, again);
+    let performed = if are_added {
+        perform_with(alloc, words, &host, picker, row, came)
+    } else {
+        Err(Memory)
     };
     drop(host);
     performed

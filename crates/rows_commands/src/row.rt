@@ -62,12 +62,13 @@ impl<'a> Row<'a> {
 
     /// Adds the first bytes of the file at a path in its place.
     pub fn cut_file(&mut self, alloc: Global, path: &str, length: usize) -> Result<(), Memory> {
-        let mut bytes = Vec::new(alloc);
+        let mut found: &[u8] = &[];
         for (other, held) in &self.files {
             if other.as_str() == path {
-                bytes = held.clone()?;
+                found = held;
             }
         }
+        let mut bytes = Vec::from_slice(alloc, found)?;
         bytes.truncate(length);
         self.files.push((String::from_str(alloc, path)?, bytes))?;
         Ok(())

@@ -42,6 +42,14 @@ fn compare(
     Ok(told.compare(alloc, &came, &mut row.report)?)
 }
 
+/// What a command makes of a set, which is written as `out.wasm`.
+fn compare_made(alloc: Global, command: &str, options: &str, row: &mut Row) -> Result<(), Memory> {
+    let made = format!(in alloc; "wdyl {command} {options} main.wasm out.wasm")?;
+    let mut written = Facts::new(alloc);
+    written.add("wrote", bytes_of(alloc, "out.wasm")?)?;
+    compare(alloc, command, &made, &written, row)
+}
+
 /// A run of a set, and a run of what a command makes of it, before which no bytes stand at the output's path.
 fn compare_both(
     alloc: Global,
@@ -50,13 +58,10 @@ fn compare_both(
     told: &Facts,
     row: &mut Row,
 ) -> Result<(), Memory> {
-    let run = format!(in alloc; "wdyl run {options} main.wasm")?;
-    let made = format!(in alloc; "wdyl {command} {options} main.wasm out.wasm")?;
-    let mut written = Facts::new(alloc);
-    written.add("wrote", bytes_of(alloc, "out.wasm")?)?;
     let _ = row.changes(alloc, "out.wasm", Vec::new(alloc))?;
+    let run = format!(in alloc; "wdyl run {options} main.wasm")?;
     compare(alloc, "run", &run, told, row)?;
-    compare(alloc, command, &made, &written, row)?;
+    compare_made(alloc, command, options, row)?;
     compare(alloc, "exec", "wdyl exec out.wasm", told, row)
 }
 
@@ -119,13 +124,16 @@ fn add_files<'a>(
     word: &str,
 ) -> Result<(), Memory> {
     let (paths, name) = word.split_once('=').unwrap_or((word, word));
-    let mut bytes = Err(Memory);
+    let mut found = None;
     for other in modules {
         if other.name == name {
-            bytes = other.bytes(alloc, words);
+            found = Some(other);
         }
     }
-    let bytes = bytes?;
+    let Some(module) = found else {
+        return Err(Memory);
+    };
+    let bytes = module.bytes(alloc, words)?;
     for path in names_of(alloc, paths)? {
         row.files.push((path, bytes.clone()?))?;
     }
@@ -213,14 +221,18 @@ impl<'a> Script<'a> {
         Ok(())
     }
 
+    /// Adds the files of each word.
+    fn add_each(&mut self, alloc: Global, text: &str) -> Result<(), Memory> {
+        for word in text.split_ascii_whitespace() {
+            add_files(alloc, &self.words, &self.modules, &mut self.row, word)?;
+        }
+        Ok(())
+    }
+
     /// A line that says what the commands of a row find, or a part of a module.
     fn set(&mut self, alloc: Global, key: &'a str, text: &'a str) -> Result<(), Memory> {
         match key {
-            "files" => {
-                for word in text.split_ascii_whitespace() {
-                    add_files(alloc, &self.words, &self.modules, &mut self.row, word)?;
-                }
-            }
+            "files" => self.add_each(alloc, text)?,
             "generated" => {
                 add_generated(alloc, text.parse::<u32>().unwrap_or(0), &mut self.row)?;
             }

@@ -112,11 +112,16 @@ fn end_shown(alloc: Global, end: RunEnd) -> Result<String, AllocError> {
     }
 }
 
+/// How a run ended, behind this text.
+fn note_end(alloc: Global, end: RunEnd, space: &str, came: &mut Facts) -> Result<(), Memory> {
+    let end = end_shown(alloc, end)?;
+    came.add("end", format!(in alloc; "{space}{end}")?.into_bytes())
+}
+
 /// What came of a run, behind this text.
 fn note_run(alloc: Global, ran: &Ran, space: &str, came: &mut Facts) -> Result<(), Memory> {
-    let end = end_shown(alloc, ran.end)?;
+    note_end(alloc, ran.end, space, came)?;
     let answers = ran.answers.items().len();
-    came.add("end", format!(in alloc; "{space}{end}")?.into_bytes())?;
     came.add(
         "steps",
         format!(in alloc; "{space}{}", ran.steps)?.into_bytes(),
@@ -224,20 +229,24 @@ pub fn add_generated(alloc: Global, n: u32, row: &mut Row) -> Result<(), Memory>
     noted
 }
 
-/// Performs a command over all that it needs, and notes what came of it.
-fn perform_in(
+/// Adds the files of a row, and lets the calls fail that it names.
+fn set_up(alloc: Global, world: &mut World, row: &Row) -> Result<(), Memory> {
+    row.put_files(alloc, &mut world.files)?;
+    for text in &row.fails {
+        set_failing(alloc, world, text)?;
+    }
+    Ok(())
+}
+
+/// Performs a command, and notes its outcome.
+fn serve_in(
     alloc: Global,
     words: &[String],
     host: &HostTable,
     picker: &Picker,
     world: &mut World,
-    row: &mut Row,
     came: &mut Facts,
 ) -> Result<(), Memory> {
-    row.put_files(alloc, &mut world.files)?;
-    for text in &row.fails {
-        set_failing(alloc, world, text)?;
-    }
     let outcome = serve(
         alloc,
         words,
@@ -251,14 +260,44 @@ fn perform_in(
     );
     let noted = note_outcome(alloc, &outcome, came);
     drop(outcome);
-    noted?;
+    noted
+}
+
+/// Notes what a command put.
+fn note_put(alloc: Global, world: &World, came: &mut Facts) -> Result<(), Memory> {
     came.add("out", world.output.held().to_vec(alloc)?)?;
-    came.add("err", world.errors.held().to_vec(alloc)?)?;
+    came.add("err", world.errors.held().to_vec(alloc)?)
+}
+
+/// Notes what a command did to all that it is over.
+fn note_world(
+    alloc: Global,
+    words: &[String],
+    world: &mut World,
+    row: &mut Row,
+    came: &mut Facts,
+) -> Result<(), Memory> {
+    note_put(alloc, world, came)?;
     if row.counts_calls {
         note_calls(alloc, world, came)?;
     }
     let paths = row.paths(alloc, words)?;
     note_written(alloc, &paths, &mut world.files, row, came)
+}
+
+/// Performs a command over all that it needs, and notes what came of it.
+fn perform_in(
+    alloc: Global,
+    words: &[String],
+    host: &HostTable,
+    picker: &Picker,
+    world: &mut World,
+    row: &mut Row,
+    came: &mut Facts,
+) -> Result<(), Memory> {
+    set_up(alloc, world, row)?;
+    serve_in(alloc, words, host, picker, world, came)?;
+    note_world(alloc, words, world, row, came)
 }
 
 /// Performs a command over these host functions.

@@ -1,5 +1,5 @@
 // The bodies of the merged module.
-ghost use Rattle.std.specs.Prelude.{◌≡◌, ◌≤◌, ◌++◌, ◌<◌, ◌^◌, length, map, Some, IfOk, IfSome, OnOk};
+ghost use Rattle.std.specs.Prelude.{◌≡◌, ◌≤◌, ◌++◌, ◌<◌, ◌^◌, [], length, map, Some, IfOk, IfSome, OnOk};
 ghost use Rattle.spec_loading.specs.spec_linking.LinkedSets.{LinkedSet};
 ghost use Rattle.dyl_link.specs.Kept.{IsLinked};
 ghost use Rattle.merge_match.specs.Joined.{renumbered_code};
@@ -87,38 +87,35 @@ fn put_parts(alloc: Global, to: &mut Vec<Code>, parts: &[Part]) -> Result<(), Me
     Ok(())
 }
 
-// Those of the members and of the stubs.
-fn own_codes(alloc: Global, linked: &Linked, n: &Numbers) -> Result<Vec<Code>, Memory>
-    requires few { length linked.now.set.members ≤ 256 }
-    ensures { IfOk result (λ x. x.items ≡ joined (bodies_of (numbers_in n.now)) 0 linked.now.set.members ++ joined (traps_of linked.now) 0 linked.now.set.members) }
+fn put_owned(alloc: Global, to: &mut Vec<Code>, parts: List<Part>) -> Result<(), Memory>
+    ensures { OnOk result (to.new.items ≡ to.old.items ++ map code_of parts) }
 {
-    let mut codes = Vec::new(alloc);
-    put_members(alloc, &mut codes, linked, n)?;
-    put_stubs(alloc, &mut codes, linked, linked.set().members.items())?;
-    Ok(codes)
+    let told = put_parts(alloc, to, parts.items());
+    drop(parts);
+    told
 }
 
 // Those of the functions of the loader, and of what they call.
-fn loader_codes(
+fn put_calls(
     alloc: Global,
+    to: &mut Vec<Code>,
     linked: &Linked,
     s: &StartNumbers,
     d: &DlNumbers,
-) -> Result<Vec<Code>, Memory>
+) -> Result<(), Memory>
     requires set { IsOfSet linked.now }
     requires first { s.now.first_function < 2 ^ 31 }
     requires numbers { AreSmall d.now }
-    ensures { IfOk result (λ c. (L : LinkedSet) (N : renumbering.Numbers) (x : Starts) → IsLinked L linked.now → AreListed L s.now N x → AreDlNumbers L d.now x (finders_of L x) → c.items ≡ loader_codes L N x) }
+    ensures { OnOk result ((L : LinkedSet) (N : renumbering.Numbers) (x : Starts) → IsLinked L linked.now → AreListed L s.now N x → AreDlNumbers L d.now x (finders_of L x) → to.new.items ≡ to.old.items ++ loader_codes L N x) }
 {
-    let mut codes = Vec::new(alloc);
     let opens = open_functions(alloc, linked, s)?;
-    put_parts(alloc, &mut codes, opens.items())?;
-    codes.push(length_function(alloc)?.code)?;
+    put_owned(alloc, to, opens)?;
+    to.push(length_function(alloc)?.code)?;
     let finds = find_functions(alloc, linked, d)?;
-    put_parts(alloc, &mut codes, finds.items())?;
+    put_owned(alloc, to, finds)?;
     let calls = dl_functions(alloc, linked, d)?;
-    put_parts(alloc, &mut codes, calls.items())?;
-    Ok(codes)
+    put_owned(alloc, to, calls)?;
+    Ok(())
 }
 
 // The same, where a member uses the loader.
@@ -137,8 +134,7 @@ fn put_loader(
     match loader {
         None => Ok(()),
         Some(d) => {
-            let mut codes = loader_codes(alloc, linked, s, d)?;
-            to.append(&mut codes)?;
+            put_calls(alloc, to, linked, s, d)?;
             Ok(())
         }
     }
@@ -159,14 +155,36 @@ fn put_generated(
     ensures { OnOk result ((L : LinkedSet) (N : renumbering.Numbers) (x : Starts) → IsLinked L linked.now → AreListed L s.now N x → HasLoader L x loader.now → to.new.items ≡ to.old.items ++ generated_codes L N x) }
 {
     let phases = phase_functions(alloc, linked, s)?;
-    put_parts(alloc, to, phases.items())?;
-    let entry = entry_function(alloc, linked, s)?;
-    to.push(entry.code)?;
+    put_owned(alloc, to, phases)?;
+    to.push(entry_function(alloc, linked, s)?.code)?;
     put_loader(alloc, to, linked, s, loader)?;
     Ok(())
 }
 
 // Those of the members, of the stubs, and those that are generated.
+fn put_codes(
+    alloc: Global,
+    to: &mut Vec<Code>,
+    linked: &Linked,
+    n: &Numbers,
+    s: &StartNumbers,
+    loader: &Option<DlNumbers>,
+) -> Result<(), Memory>
+    requires set { IsOfSet linked.now }
+    requires few { length linked.now.set.members ≤ 256 }
+    requires guard { s.now.guard < 2 ^ 31 }
+    requires first { s.now.first_function < 2 ^ 31 }
+    requires numbers { IfSome loader.now AreSmall }
+    requires none { to.old.items ≡ [] }
+    ensures { OnOk result ((L : LinkedSet) (x : Starts) → IsLinked L linked.now → AreListed L s.now (numbers_in n.now) x → HasLoader L x loader.now → to.new.items ≡ merged_codes L (numbers_in n.now) x) }
+{
+    put_members(alloc, to, linked, n)?;
+    put_stubs(alloc, to, linked, linked.set().members.items())?;
+    put_generated(alloc, to, linked, s, loader)?;
+    Ok(())
+}
+
+// The bodies of the merged module.
 pub(crate) fn merged_codes(
     alloc: Global,
     linked: &Linked,
@@ -180,7 +198,12 @@ pub(crate) fn merged_codes(
     requires numbers { IfSome loader.now AreSmall }
     ensures { IfOk result (λ c. (L : LinkedSet) (x : Starts) → IsLinked L linked.now → AreListed L s.now (numbers_in n.now) x → HasLoader L x loader.now → c ≡ merged_codes L (numbers_in n.now) x) }
 {
-    let mut codes = own_codes(alloc, linked, n)?;
-    put_generated(alloc, &mut codes, linked, s, loader)?;
-    Ok(List::of(codes))
+    let mut codes = Vec::new(alloc);
+    match put_codes(alloc, &mut codes, linked, n, s, loader) {
+        Ok(()) => Ok(List::of(codes)),
+        Err(memory) => {
+            drop(codes);
+            Err(memory)
+        }
+    }
 }

@@ -92,23 +92,21 @@ fn put_passive(
 }
 
 // The segments of the members.
-fn passive_elems(alloc: Global, members: &[Member], n: &Numbers) -> Result<Vec<Elem>, Memory>
+fn put_members(
+    alloc: Global,
+    to: &mut Vec<Elem>,
+    members: &[Member],
+    n: &Numbers,
+) -> Result<(), Memory>
     requires few { length members.now ≤ 256 }
-    ensures { IfOk result (λ x. x.items ≡ from_members (passive_elems (numbers_in n.now)) 0 (members_of members.now)) }
+    ensures { OnOk result (to.new.items ≡ to.old.items ++ from_members (passive_elems (numbers_in n.now)) 0 (members_of members.now)) }
 {
-    let mut list = Vec::new(alloc);
     let mut m: u32 = 0;
     for member in members {
-        put_passive(
-            &mut list,
-            alloc,
-            n,
-            m,
-            member.checked.module().elems.items(),
-        )?;
+        put_passive(to, alloc, n, m, member.checked.module().elems.items())?;
         m += 1;
     }
-    Ok(list)
+    Ok(())
 }
 
 fn function_numbers(alloc: Global, n: &Numbers, refs: &[Ref]) -> Result<List<u32>, Memory>
@@ -157,18 +155,17 @@ fn fresh_of(linked: &Linked, m: u32) -> &[u32]
 }
 
 // The segments of fresh slots.
-fn slots_elems(alloc: Global, linked: &Linked, n: &Numbers) -> Result<Vec<Elem>, Memory>
+fn put_slots(alloc: Global, to: &mut Vec<Elem>, linked: &Linked, n: &Numbers) -> Result<(), Memory>
     requires set { IsOfSet linked.now }
     requires few { length linked.now.set.members ≤ 256 }
-    ensures { IfOk result (λ x. x.items ≡ from_members (slots_by linked.now (numbers_in n.now)) 0 (members_of linked.now.set.members)) }
+    ensures { OnOk result (to.new.items ≡ to.old.items ++ from_members (slots_by linked.now (numbers_in n.now)) 0 (members_of linked.now.set.members)) }
 {
-    let mut list = Vec::new(alloc);
     let mut m: u32 = 0;
     for _member in linked.set().members.items() {
-        list.push(fresh_elem(alloc, n, m, fresh_of(linked, m))?)?;
+        to.push(fresh_elem(alloc, n, m, fresh_of(linked, m))?)?;
         m += 1;
     }
-    Ok(list)
+    Ok(())
 }
 
 // How many fresh slots members have, beside so many.
@@ -244,19 +241,16 @@ fn declared_elem(alloc: Global, linked: &Linked, n: &Numbers) -> Result<Elem, Me
     })
 }
 
-fn elems_by(alloc: Global, linked: &Linked, n: &Numbers) -> Result<List<Elem>, Memory>
+fn put_elems(alloc: Global, to: &mut Vec<Elem>, linked: &Linked, n: &Numbers) -> Result<(), Memory>
     requires set { IsOfSet linked.now }
     requires few { length linked.now.set.members ≤ 256 }
-    ensures { IfOk result (λ x. x ≡ elems_by linked.now (numbers_in n.now)) }
+    ensures { OnOk result (to.new.items ≡ to.old.items ++ elems_by linked.now (numbers_in n.now)) }
 {
-    let mut list = passive_elems(alloc, linked.set().members.items(), n)?;
-    let mut slots = slots_elems(alloc, linked, n)?;
-    let outside = outside_elem(alloc, linked, n)?;
-    let declared = declared_elem(alloc, linked, n)?;
-    list.append(&mut slots)?;
-    list.push(outside)?;
-    list.push(declared)?;
-    Ok(List::of(list))
+    put_members(alloc, to, linked.set().members.items(), n)?;
+    put_slots(alloc, to, linked, n)?;
+    to.push(outside_elem(alloc, linked, n)?)?;
+    to.push(declared_elem(alloc, linked, n)?)?;
+    Ok(())
 }
 
 // The element segments of the merged module.
@@ -268,6 +262,12 @@ pub(crate) fn merged_elems(
     requires set { IsOfSet linked.now }
     ensures { IfOk result (λ x. (L : LinkedSet) → IsLinked L linked.now → numbers_in n.now ≡ numbers_of L → x ≡ merged_elems L (numbers_of L)) }
 {
-    let elems = elems_by(alloc, linked, n)?;
-    Ok(elems)
+    let mut list = Vec::new(alloc);
+    match put_elems(alloc, &mut list, linked, n) {
+        Ok(()) => Ok(List::of(list)),
+        Err(memory) => {
+            drop(list);
+            Err(memory)
+        }
+    }
 }

@@ -1,14 +1,7 @@
-use Rattle.std.proofs.Common.{[], ◌∷◌, ap₂, ◌∙◌}
-use Rattle.wasm_form.specs.declared.runtime.LoaderCall.TheVariants.{Dlopen, Dlsym}
+use Rattle.std.proofs.Common.{◌++◌, List, ap, ◌∙◌}
 use Rattle.wasm_form.specs.declared.module.Part.{Part}
-use Rattle.merge_dl.specs.Listed.{call_part}
+use Rattle.merge_dl.specs.Listed.{call_parts}
 use Rattle.merge_dl.proofs.functions.dl_functions.Goals as goal
 
-pub returns : goal.returns
-returns c = λ L x d h numbers.
-    c.of.ensures
-    ∙ c.in_ok-vec.ensures.items
-    ∙ ap₂ (λ (a b : Part). a ∷ b ∷ c.in_ok-closes.closes ∷ c.in_ok-errors.errors ∷ [])
-    (c.in_ok-opens.ensures L x d h numbers) (c.in_ok-symbols.ensures L x d h numbers)
-    ∙ ap₂ (λ (a b : Part). call_part L x d Dlopen ∷ call_part L x d Dlsym ∷ a ∷ b ∷ [])
-    (c.in_ok-closes.ensures L x d h numbers) (c.in_ok-errors.ensures L x d h numbers)
+pub returns-in-Ok : goal.returns-in-Ok
+returns-in-Ok c = λ L x d h numbers. c.of.ensures ∙ c.in-Ok.ensures L x d h numbers ∙ ap (λ (l : List Part). l ++ call_parts L x d) c.new-parts.ensures.items

@@ -1,12 +1,12 @@
-use Rattle.std.proofs.Common.{ap, ◌∙◌}
+use Rattle.std.proofs.Common.{ap}
 use Rattle.merge_whole.specs.Built.{code_of}
 use Rattle.merge_whole.proofs.BuiltParts.{generated_put}
 use Rattle.merge_whole.proofs.built.codes.put_generated.Goals as goal
 
 pub returns : goal.returns
 returns c = λ L n x h listed loader.
-    generated_put L n x c.items.result.now c.in_ok-entry.entry.code
-    (c.items.ensures ∙ c.in_ok-phases.ensures L n x h listed)
-    (ap code_of (c.in_ok-entry.ensures L n x h listed))
+    generated_put L n x c.in_ok-phases.phases c.in_ok-entry_function.field-0.code
+    (c.in_ok-phases.ensures L n x h listed)
+    (ap code_of (c.in_ok-entry_function.ensures L n x h listed))
     c.args.to.now.items _ _ _
-    c.in_ok-put_parts.ensures c.in_ok-push.ensures.items (c.in_ok-put_loader.ensures L n x h listed loader)
+    c.in_ok-put_owned.ensures c.in_ok-push.ensures.items (c.in_ok-put_loader.ensures L n x h listed loader)

@@ -4,7 +4,6 @@ use Rattle.merge_whole.proofs.built.codes.put_loader.Goals as goal
 pub returns-in-None : goal.returns-in-None
 returns-in-None c = λ L n x h listed has. unused_put L n x c.args.loader.now c.in-None.is has c.args.to.now.items
 
-pub returns-in_ok-append-in-Some : goal.returns-in_ok-append-in-Some
-returns-in_ok-append-in-Some c = λ L n x h listed has.
-    used_put L n x c.args.loader.now _ c.in-Some.is has c.args.to.now.items c.in_ok-codes-in-Some.codes.items _
-    (λ numbers. c.in_ok-codes-in-Some.ensures L n x h listed numbers) c.in_ok-append-in-Some.ensures.items
+pub returns-in_ok-put_calls-in-Some : goal.returns-in_ok-put_calls-in-Some
+returns-in_ok-put_calls-in-Some c = λ L n x h listed has.
+    used_put L n x c.args.loader.now _ c.in-Some.is has c.args.to.now.items _ (λ numbers. c.in_ok-put_calls-in-Some.ensures L n x h listed numbers)

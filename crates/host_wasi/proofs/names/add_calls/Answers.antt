@@ -4,7 +4,7 @@ use Rattle.spec_hosts.specs.Calls.{wasi_name}
 use Rattle.host_wasi.specs.declared.calls.TheConstants.{CALLS}
 use Rattle.host_wasi.specs.declared.calls.Call.TheVariants.{ArgsSizesGet}
 use Rattle.host_wasi.proofs.NamedCalls.{with_names_next, with_names_done}
-use Rattle.host_wasi.proofs.names.declare.Goals as goal
+use Rattle.host_wasi.proofs.names.add_calls.Goals as goal
 
 pub loop-call-preserved : goal.loop-call-preserved
 loop-call-preserved c =

@@ -1,0 +1,13 @@
+use Rattle.std.proofs.Common.{ap, arith, length, map, refl, ◌++◌, ◌+◌, ◌<◌, ◌∙◌}
+use Rattle.merge_module.specs.MergedModule.{passive_data}
+use Rattle.merge_whole.specs.Built.{datas_of}
+use Rattle.merge_dl.proofs.Making.{member_next}
+use Rattle.merge_whole.proofs.built.datas.put_members.Goals as goal
+
+pub loop-member-preserved : goal.loop-member-preserved
+loop-member-preserved c =
+    let lt : c.loop-member.member-index < length c.args.members.now = omega (arith, c.loop-member-test.true) in
+    member_next datas_of c.args.members.now c.loop-member.member-index c.member-item.result lt c.member-item.is
+    c.loop-member.member-index (c.loop-member.member-index + 1) refl c.loop-member.to.items _ _ _ c.module.ensures.same
+    (c.in_ok-put_datas.ensures ∙ ap (λ ds. c.loop-member.to.items ++ map passive_data ds) c.items.ensures)
+    c.loop-member.invariant
