@@ -242,7 +242,6 @@ module _ {Units : Type 0} (D : Loading Units) (c : Core) (n : MachineState) (us 
   pub quick_steps : (d : Done) → QuickStepped D.view d c.machine n (changes us us' memory memory') → IsOver D.view us' memory' n → QuickSteps D d s (with_machine c n) us' memory'
   quick_steps done.Goes t o = ((stepped_on D.view c.machine n (changes us us' memory memory') t).1, code_on_top event.Moved refl t, step_steps event.Moved t o refl)
   quick_steps (done.Trapped why) t o = (code_on_top (event.Trapped why) refl t, step_steps (event.Trapped why) t o refl)
-  quick_steps done.Stuck t o = t
   quick_steps done.Returned t o = (code_on_top event.Returned refl t, step_steps event.Returned t o refl)
   quick_steps done.Exited t o = subst IsExited moving t.0
   quick_steps done.Marked t o = stays_as (t.1, t.2) (marked_none t.0)
@@ -277,7 +276,6 @@ pub quick_core : {Units : Type 0} (w w' : Seen Units) (c : Core) (n : MachineSta
     → IsSound w.fixed w'.units w'.memory (with_machine c n)
 quick_core w w' c n core moving done.Goes t o found = step_core w.fixed c n w.units w'.units w.memory w'.memory core moving event.Moved t o
 quick_core w w' c n core moving (done.Trapped why) t o found = step_core w.fixed c n w.units w'.units w.memory w'.memory core moving (event.Trapped why) t o
-quick_core w w' c n core moving done.Stuck t o found = absurd t
 quick_core w w' c n core moving done.Returned t o found = step_core w.fixed c n w.units w'.units w.memory w'.memory core moving event.Returned t o
 quick_core w w' c n core moving done.Exited t o found = same_core w.fixed c n w.units w'.units w.memory w'.memory core t.1 t.2
 quick_core w w' c n core moving done.Marked t o found = same_core w.fixed c n w.units w'.units w.memory w'.memory core t.1 t.2

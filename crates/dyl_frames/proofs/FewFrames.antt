@@ -151,7 +151,6 @@ module _ (c : Core) (h : HasFewFrames c) where
   pub few_quick : {Units : Type 0} (V : View Units) (n : MachineState) (ch : Changes Units) (d : Done) → QuickStepped V d c.machine n ch → d ≢ done.NoMemory → HasFewFrames (with_machine c n)
   few_quick V n ch done.Goes t found = few_stepped V n ch event.Moved t
   few_quick V n ch (done.Trapped why) t found = few_stepped V n ch (event.Trapped why) t
-  few_quick V n ch done.Stuck t found = absurd t
   few_quick V n ch done.Returned t found = few_stepped V n ch event.Returned t
   few_quick V n ch done.Exited t found = few_same n t.1
   few_quick V n ch done.Marked t found = few_same n t.1

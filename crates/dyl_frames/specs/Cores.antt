@@ -187,7 +187,6 @@ abbrev pub QuickSteps : {Units : Type 0} → Loading Units → Done → LoadedSt
 QuickSteps D done.Goes s new us memory = (new.machine.standing ≡ standing.Moving) × HasCodeOnTop s × Steps D event.Moved s new us memory
 QuickSteps D done.Returned s new us memory = HasCodeOnTop s × Steps D event.Returned s new us memory
 QuickSteps D (done.Trapped why) s new us memory = HasCodeOnTop s × Steps D (event.Trapped why) s new us memory
-QuickSteps D done.Stuck s new us memory = ⊥
 QuickSteps D done.Exited s new us memory = ⊥
 QuickSteps D done.NoMemory s new us memory = MayWant s
 QuickSteps D _ s new us memory = (new.machine.standing ≡ standing.Moving) × IsState D new us memory s × (IsCodeNext D s → ⊥)

@@ -48,10 +48,9 @@ module _ (L : LinkedSet) (s : SetState) (new : Running) where
   -- none was made
   left_state : (d : Done) → IsLeft d → QuickSo d → RunsAt L new s × (IsCodeNext L s → ⊥)
   left_state d (inl e) q = absurd (subst QuickSo e q)
-  left_state d (inr (inl e)) q = absurd (subst QuickSo e q)
+  left_state d (inr (inl e)) q = let h = subst QuickSo e q in (h.1, h.2)
   left_state d (inr (inr (inl e))) q = let h = subst QuickSo e q in (h.1, h.2)
-  left_state d (inr (inr (inr (inl e)))) q = let h = subst QuickSo e q in (h.1, h.2)
-  left_state d (inr (inr (inr (inr e)))) q = let h = subst QuickSo e q in (h.1, h.2)
+  left_state d (inr (inr (inr e))) q = let h = subst QuickSo e q in (h.1, h.2)
 
 -- ---- what is counted after many steps
 

@@ -86,7 +86,7 @@ fn run_code(running: &mut Running, alloc: Global, most: u64, steps: &mut u64, lo
     match done {
         Done::Returned | Done::Trapped(_) => *steps += 1,
         Done::NoMemory => *lost = true,
-        Done::Goes | Done::Stuck | Done::Exited | Done::Marked | Done::Deep | Done::Outside => {}
+        Done::Goes | Done::Exited | Done::Marked | Done::Deep | Done::Outside => {}
     }
 }
 

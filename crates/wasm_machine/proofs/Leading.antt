@@ -1,5 +1,5 @@
 -- From an instruction that leaves its activation on top to the step of the call stack.
-use Rattle.std.proofs.Common.{arith, ◌≡◌, ◌≢◌, ℕ, ◌≤◌, ◌+◌, ◌⊎◌, true, List, [], ◌∷◌, length, drop, refl, sym, ap, subst, ◌∙◌, Option, None, Some, inl, inr}
+use Rattle.std.proofs.Common.{arith, ◌≡◌, ◌≢◌, ℕ, ◌≤◌, ◌+◌, true, List, [], ◌∷◌, length, drop, refl, sym, ap, subst, ◌∙◌, Option, None, Some, inl, inr}
 use Rattle.std.specs.Prelude.{IsTrue}
 use Rattle.std.proofs.Math.Bool.{or-true}
 use Rattle.wasm_form.specs.declared.instr.Instr.{Instr, out-Instr}
@@ -16,7 +16,7 @@ use Rattle.spec_safety.specs.spec_execution.Limits.{room_of}
 use Rattle.wasm_step.specs.Tops.{Top, with_act, height_of}
 use Rattle.wasm_step.specs.Primitives.{first_of, with_rest}
 use Rattle.wasm_machine.specs.Stacks.{CallStack, most_blocks, is_live, under_of, joined, IsJoined}
-use Rattle.wasm_step.specs.Moves.{LeadsPast, Act, To, Ends, Nowhere, act_done, act_referred, acted, IsWithin, Changes, Acted}
+use Rattle.wasm_step.specs.Moves.{Act, To, Ends, Nowhere, act_done, act_referred, acted, IsWithin, Changes, Acted}
 use Rattle.wasm_step.specs.Named.{is_call, is_growth}
 use Rattle.wasm_machine.specs.Machines.{RoomsAre, Led, StaysWithin, MayGrow, may_grow_at, next_of}
 use Rattle.wasm_machine.specs.Outside.{callee_of}
@@ -78,10 +78,9 @@ module _ {Units : Type 0} (V : View Units) (cs : List Caller) (t u new : Top) (b
       → Led V done.Goes next Wanted (joined cs t) (joined cs new) c
   went us memory a next e h = subst (λ (n : Option (Next Units ℕ)). Led V done.Goes n Wanted (joined cs t) (joined cs new) c) (sym e) (frames_kept cs t new a live (twice t u new b a eu h.0), h.1, h.2)
 
-  led_acted : (d : Done) (act : Act Units) (next : Option (Next Units ℕ)) (unit func : ℕ) → Fits unit func (under_of cs t) act next → (Grows ⊎ LeadsPast u act → Wanted) → Acted d act Grows u new c → Led V d next Wanted (joined cs t) (joined cs new) c
+  led_acted : (d : Done) (act : Act Units) (next : Option (Next Units ℕ)) (unit func : ℕ) → Fits unit func (under_of cs t) act next → (Grows → Wanted) → Acted d act Grows u new c → Led V d next Wanted (joined cs t) (joined cs new) c
   led_acted done.Goes (To us memory a) next unit func f k h = went us memory a next f.0 h
   led_acted (done.Trapped why) (Ends cause) next unit func f k h = subst (λ (n : Option (Next Units ℕ)). Led V (done.Trapped why) n Wanted (joined cs t) (joined cs new) c) (sym f) h
-  led_acted done.Stuck Nowhere next unit func f k h = subst (λ (n : Option (Next Units ℕ)). Led V done.Stuck n Wanted (joined cs t) (joined cs new) c) (sym f) h
   led_acted done.NoMemory act next unit func f k h = (k h.0, h.1)
   led_acted d act next unit func f k h = absurd h
 
@@ -126,9 +125,9 @@ module _ {Units : Type 0} (V : View Units) (cs : List Caller) (t : Top) (i : Ins
   growth_may_grow : is_growth (out-Instr i) ≡ true → MayGrow (joined cs t).frames
   growth_may_grow h = rw live (wants_growth t.act.rest i e h)
 
-  -- what stays within the room doesn't lead past it
-  not_past : (u : Top) (b : Activation) (act : Act Units) (next : Option (Next Units ℕ)) → IsJoined cs t → RoomsAre V (joined cs t) → u ≡ with_act t b → Fits t.act.unit t.act.func (under_of cs t) act next → StaysWithin V next → LeadsPast u act → ⊥
-  not_past u b (To us memory a) next j r eu f w k =
+  -- what moves and stays within the room is one of typed code
+  within : (u : Top) (b : Activation) (act : Act Units) (next : Option (Next Units ℕ)) → IsJoined cs t → RoomsAre V (joined cs t) → u ≡ with_act t b → Fits t.act.unit t.act.func (under_of cs t) act next → StaysWithin V next → next ≢ None → IsWithin u act
+  within u b (To us memory a) next j r eu f w m = λ k.
       let room : t.room ≡ room_of V t.act.unit t.act.func = head_of (RoomsAre_live cs t live V r) in
       let nesting : t.nesting ≡ most_blocks = nesting_live cs t live j in
       let w' : (length a.locals + height_of a ≤ room_of V t.act.unit t.act.func) × (length a.levels ≤ most_blocks) = rw (f.0, f.1, f.2) at w in
@@ -137,12 +136,6 @@ module _ {Units : Type 0} (V : View Units) (cs : List Caller) (t : Top) (i : Ins
     where
       head_of : {m n : ℕ} {ms ns : List ℕ} → m ∷ ms ≡ n ∷ ns → m ≡ n
       head_of q = cc
-  not_past u b (Ends why) next j r eu f w k = k
-  not_past u b Nowhere next j r eu f w k = k
-
-  -- what moves and stays within the room is one of typed code
-  within : (u : Top) (b : Activation) (act : Act Units) (next : Option (Next Units ℕ)) → IsJoined cs t → RoomsAre V (joined cs t) → u ≡ with_act t b → Fits t.act.unit t.act.func (under_of cs t) act next → StaysWithin V next → next ≢ None → IsWithin u act
-  within u b (To us memory a) next j r eu f w m = λ k. not_past u b (To us memory a) next j r eu f w k
   within u b (Ends why) next j r eu f w m = tt
   within u b Nowhere next j r eu f w m = m f
 
@@ -181,12 +174,8 @@ module _ {Units : Type 0} (V : View Units) (us : Units) (memory : MemoryInstance
 
   -- an instruction that doesn't call
   module _ (u new : Top) (q : callee_of (out-Instr i) ≡ None) (eu : u ≡ with_act t (with_rest t.act (drop 1 t.act.rest))) (h : Acted d (acted V us memory (instr_move (V.declared u.act.unit) (out-Instr i) u.act)) (IsTrue (is_growth (out-Instr i))) u new c) where
-    wants : IsJoined cs t → RoomsAre V (joined cs t) → StaysWithin V (next_of V us memory (joined cs t).frames) → IsTrue (is_growth (out-Instr i)) ⊎ LeadsPast u (acted V us memory (instr_move (V.declared u.act.unit) (out-Instr i) u.act)) → MayGrow (joined cs t).frames
-    wants j r w (inl g) = growth_may_grow V cs t i live e g
-    wants j r w (inr k) = absurd (not_past V cs t i live e u (with_rest t.act (drop 1 t.act.rest)) _ _ j r eu (fits V us memory cs t i live e u q eu) w k)
-
-    pub led_plain : IsJoined cs t → RoomsAre V (joined cs t) → StaysWithin V (next_of V us memory (joined cs t).frames) → Led V d (next_of V us memory (joined cs t).frames) (MayGrow (joined cs t).frames) (joined cs t) (joined cs new) c
-    led_plain j r w = led_acted V cs t u new (with_rest t.act (drop 1 t.act.rest)) c _ _ live eu d _ _ t.act.unit t.act.func (fits V us memory cs t i live e u q eu) (wants j r w) h
+    pub led_plain : Led V d (next_of V us memory (joined cs t).frames) (MayGrow (joined cs t).frames) (joined cs t) (joined cs new) c
+    led_plain = led_acted V cs t u new (with_rest t.act (drop 1 t.act.rest)) c _ _ live eu d _ _ t.act.unit t.act.func (fits V us memory cs t i live e u q eu) (growth_may_grow V cs t i live e) h
 
     pub rooms_plain : RoomsAre V (joined cs t) → new ≡ with_act u new.act → d ≡ done.Goes → RoomsAre V (joined cs new)
     rooms_plain r en goes =

@@ -19,7 +19,7 @@ use Rattle.wasm_step.specs.declared.done.Done.{Done}
 use Rattle.wasm_step.specs.declared.done.Done.TheVariants as done
 use Rattle.wasm_machine.specs.declared.event.Event.TheVariants as event
 use Rattle.wasm_machine.proofs.Sound.{ended_over}
-use Rattle.wasm_machine.proofs.Telling.{returned_same, trapped_same, never_stuck, here_sound, stays_stepped, stays_over}
+use Rattle.wasm_machine.proofs.Telling.{returned_same, trapped_same, stays_stepped, stays_over}
 use Rattle.wasm_machine.proofs.Under.{some_left}
 
 -- ---- ends
@@ -55,16 +55,12 @@ module _ {Units : Type 0} (V : View Units) (c : Changes Units) (cs cs' : List Ca
   code_runs : is_running (joined cs t).frames ≡ true
   code_runs = rw live refl
 
-  never : LedAs done.Stuck → ⊥
-  never l = never_stuck V (MayGrow (joined cs t).frames) (joined cs t) (joined cs' t') c next (here_sound V c.old_units c.old_memory cs t standing.Moving (going (joined cs t)) live refl refl over) l
-
   pub code_stepped : QuickStepped V d (going (joined cs t)) (settled d (joined cs' t')) c
   code_stepped = go d led (λ which. stays_stepped V c cs cs' t t' standing.Moving d (going (joined cs t)) live refl led refl over outside lies rooms which)
     where
       go : (e : Done) → LedAs e → ((e ≡ done.Goes) ⊎ ((e ≡ done.Deep) ⊎ (e ≡ done.Outside)) → QuickStepped V e (going (joined cs t)) (going (joined cs' t')) c) → QuickStepped V e (going (joined cs t)) (settled e (joined cs' t')) c
       go done.Goes l stays = stays (inl refl)
       go (done.Trapped why) l stays = inl (refl, code_runs, trapped_told V (MayGrow (joined cs t).frames) (joined cs t) (joined cs' t') c (going (joined cs t)) next why l)
-      go done.Stuck l stays = absurd (never l)
       go done.Returned l stays = inl (refl, code_runs, returned_told V (MayGrow (joined cs t).frames) (joined cs t) (joined cs' t') c (going (joined cs t)) next l)
       go done.Exited l stays = absurd l
       go done.Marked l stays = absurd l
@@ -79,7 +75,6 @@ module _ {Units : Type 0} (V : View Units) (c : Changes Units) (cs cs' : List Ca
       go done.Goes l stays = stays (inl refl)
       go (done.Trapped why) l stays =
           ended_over V (going (joined cs t)) (ended (standing.Trapped why)) c over (standing.Trapped why) (trapped_same V (MayGrow (joined cs t).frames) (joined cs t) (joined cs' t') c next why l) tt refl
-      go done.Stuck l stays = absurd (never l)
       go done.Returned l stays = ended_over V (going (joined cs t)) (ended standing.Returned) c over standing.Returned (returned_same V (MayGrow (joined cs t).frames) (joined cs t) (joined cs' t') c next l) tt refl
       go done.Exited l stays = absurd l
       go done.Marked l stays = absurd l

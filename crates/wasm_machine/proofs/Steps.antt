@@ -42,15 +42,14 @@ taken_goes (answer.Exit code) s = refl
 
 -- where no step was made in few bytes, code didn't go on, and memory wasn't wanting
 abbrev pub IsLeft : Done → Type 0
-IsLeft d = (d ≡ done.Stuck) ⊎ (d ≡ done.Exited) ⊎ (d ≡ done.Marked) ⊎ (d ≡ done.Deep) ⊎ (d ≡ done.Outside)
+IsLeft d = (d ≡ done.Exited) ⊎ (d ≡ done.Marked) ⊎ (d ≡ done.Deep) ⊎ (d ≡ done.Outside)
 
 module _ (d : Done) where
   pub left_more : IsLeft d → d ≢ done.Goes
   left_more (inl e) goes = cc
   left_more (inr (inl e)) goes = cc
   left_more (inr (inr (inl e))) goes = cc
-  left_more (inr (inr (inr (inl e)))) goes = cc
-  left_more (inr (inr (inr (inr e)))) goes = cc
+  left_more (inr (inr (inr e))) goes = cc
 
 pub one_told : (st : Standing) → steps_told (event_of st) ≡ 1
 one_told standing.Moving = refl

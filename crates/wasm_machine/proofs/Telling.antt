@@ -83,15 +83,6 @@ module _ {Units : Type 0} (V : View Units) (Wanting : Type 0) (old new : CallSta
   trapped_same (Some Ends) why l = absurd l
   trapped_same (Some (Traps cause)) why l = l.1
 
-  -- a sound step is there
-  pub never_stuck : (next : Option (Next Units ℕ)) → NextIsSound V next → Led V done.Stuck next Wanting old new c → ⊥
-  never_stuck None n l = n.0
-  never_stuck (Some (Goes us memory frames)) n l = l
-  never_stuck (Some (Asks entry args frames)) n l = l
-  never_stuck (Some (Loads which args frames)) n l = l
-  never_stuck (Some Ends) n l = l
-  never_stuck (Some (Traps why)) n l = l
-
   -- a step that would pass a limit changes nothing
   pub told_deep : (next : Option (Next Units ℕ)) (m n : MachineState) → n ≡ m → Led V done.Deep next Wanting old new c → Told V event.Deep next m n c × (new ≡ old) × AreSame c
   told_deep None m n e l = absurd l

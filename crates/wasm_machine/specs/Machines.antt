@@ -112,7 +112,6 @@ Led V done.Goes (Some (Goes us memory frames)) Wanting old new c = (new.frames �
 Led V done.Deep (Some (Goes us memory frames)) Wanting old new c = (is_deep V frames ≡ true) × (new ≡ old) × AreSame c
 Led V done.Returned (Some Ends) Wanting old new c = AreSame c
 Led V (done.Trapped why) (Some (Traps cause)) Wanting old new c = (why ≡ cause) × AreSame c
-Led V done.Stuck None Wanting old new c = AreSame c
 Led V done.Outside next Wanting old new c = (new ≡ old) × AreSame c × LeavesCode next
 Led V done.NoMemory next Wanting old new c = Wanting × AreSame c
 Led V _ next Wanting old new c = ⊥
@@ -410,7 +409,6 @@ IsExited _ = ⊥
 abbrev pub QuickStepped : {Units : Type 0} → View Units → Done → MachineState → MachineState → Changes Units → Type 0
 QuickStepped V done.Goes old new c = Stepped V event.Moved old new c
 QuickStepped V (done.Trapped why) old new c = Stepped V (event.Trapped why) old new c
-QuickStepped V done.Stuck old new c = ⊥
 QuickStepped V done.Returned old new c = Stepped V event.Returned old new c
 QuickStepped V done.Exited old new c = IsExited old.standing × (new ≡ old) × AreSame c
 QuickStepped V done.Marked old new c = IsMarked old × (new ≡ old) × AreSame c

@@ -1,5 +1,5 @@
 // What lies under the topmost activation.
-ghost use Rattle.std.specs.Prelude.{◌≡◌, ◌≤◌, ◌+◌, ◌++◌, ◌∷◌, [], ℕ, length, reverse, true, false, OnOk, OnErr, IfSome, IfNone, slice_get, Some};
+ghost use Rattle.std.specs.Prelude.{◌≡◌, ◌≤◌, ◌+◌, ◌++◌, ◌∷◌, [], length, reverse, OnOk, IfSome, IfNone, Some};
 ghost use Rattle.spec_safety.specs.spec_execution.Limits.{most_activations, most_values};
 ghost use Rattle.wasm_machine.specs.Stacks.{rooms_at, total, latest};
 

@@ -1,5 +1,5 @@
 // Calls and returns (section 4.4.10), and one step of the code on top.
-ghost use Rattle.std.specs.Prelude.{◌≡◌, ◌≢◌, ◌<◌, ◌≤◌, ◌+◌, [], drop, length, true, false, None, Some, OnOk};
+ghost use Rattle.std.specs.Prelude.{◌≡◌, ◌≢◌, ◌<◌, ◌≤◌, ◌+◌, [], length, true, false, None, Some, OnOk};
 ghost use Rattle.spec_safety.specs.spec_execution.Limits.{most_activations, most_values, passes_limit};
 ghost use Rattle.spec_safety.specs.spec_execution.Ranges.{HoldsAll, AreInRange, Exists};
 ghost use Rattle.spec_safety.specs.spec_execution.Views.{type_of as type_seen};
@@ -11,7 +11,7 @@ ghost use Rattle.wasm_step.specs.Primitives.{first_of, Dropped, CanOpen, Spread}
 ghost use Rattle.wasm_machine.specs.Callees.{above_of, IsEntry, IsNamed, HasIndex, IsCalled};
 ghost use Rattle.wasm_machine.specs.Outside.{callee_of, IsOutsideCall};
 ghost use Rattle.wasm_machine.specs.Stacks.{joined, under_of, is_live, IsJoined, passes_over};
-ghost use Rattle.wasm_machine.specs.Machines.{Leads, Advances, StaysWithin, next_in, carried_in, called_from, called_over, direct, indirect, Finished, RoomsAre, is_outside, names_outside, entry_is_outside, calls_outside};
+ghost use Rattle.wasm_machine.specs.Machines.{Leads, Advances, StaysWithin, next_in, carried_in, called_from, called_over, indirect, Finished, RoomsAre, is_outside, calls_outside};
 
 use crate::callers::{Caller, Callers};
 use std::alloc::Global;
@@ -50,6 +50,7 @@ pub(crate) fn end<'m, V: View<'m>>(
     requires live { is_live top.old ≡ true }
     requires done { top.old.act.rest ≡ [] }
     requires rooms { RoomsAre (V.seen view.now).fixed (joined callers.old top.old) }
+    requires moves { next_in (V.seen view.now) (joined callers.old top.old).frames ≢ None }
     ensures led { Leads result (next_in (V.seen view.now) (joined callers.old top.old).frames) ⊥ (joined callers.old top.old) (joined callers.new top.new) (V.seen view.now) (V.seen view.now) }
     ensures inside { result ≢ Done.Outside }
     ensures joined { IsJoined callers.new top.new }
@@ -59,7 +60,7 @@ pub(crate) fn end<'m, V: View<'m>>(
         return Done::Goes;
     }
     if top.height() != top.results() {
-        return Done::Stuck;
+        unreachable!();
     }
     finish(callers, top, spare)
 }

@@ -237,7 +237,6 @@ impl<'m> Machine<'m> {
         match self.quick(alloc, view) {
             Done::Goes => Ok(Event::Moved),
             Done::Trapped(trap) => Ok(Event::Trapped(trap)),
-            Done::Stuck => unreachable!(),
             Done::Returned => Ok(Event::Returned),
             Done::Exited => Ok(Event::Exited(self.exit_code())),
             Done::Marked => Ok(Event::Marked(self.mark_on_top())),

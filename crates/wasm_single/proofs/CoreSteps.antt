@@ -232,7 +232,6 @@ module _ (c : Core) (i : InstanceState) (n : MachineState) (h : IsCore c) (movin
       → (s : ModuleState) → IsState c s → QuickSteps d s (with_both c i n)
   quick_steps done.Goes t o s k = ((stepped_on (module_view c.instance.wasm) c.machine n (changes c.instance i) t).1, steps_after event.Moved t o refl s k)
   quick_steps (done.Trapped why) t o s k = steps_after (event.Trapped why) t o refl s k
-  quick_steps done.Stuck t o s k = t
   quick_steps done.Returned t o s k = steps_after event.Returned t o refl s k
   quick_steps done.Exited t o s k = subst IsExited moving t.0
   quick_steps done.Marked t o s k = stays_as (t.1, t.2) s k (marked_none s k t.0)
@@ -243,7 +242,6 @@ module _ (c : Core) (i : InstanceState) (n : MachineState) (h : IsCore c) (movin
   quick_core : (d : Done) → QuickStepped (module_view c.instance.wasm) d c.machine n (changes c.instance i) → IsOver (module_view c.instance.wasm) i.parts i.memory n → d ≢ done.NoMemory → IsCore (with_both c i n)
   quick_core done.Goes t o found = core_after event.Moved t o
   quick_core (done.Trapped why) t o found = core_after (event.Trapped why) t o
-  quick_core done.Stuck t o found = absurd t
   quick_core done.Returned t o found = core_after event.Returned t o
   quick_core done.Exited t o found = same_core c i n h fixed t.1 t.2
   quick_core done.Marked t o found = same_core c i n h fixed t.1 t.2

@@ -30,10 +30,9 @@ module _ (s : ModuleState) (new : Core) where
   -- none was made
   left_state : (d : Done) → IsLeft d → QuickSteps d s new → IsState new s × HasStopped new
   left_state d (inl e) q = absurd (subst (λ x. QuickSteps x s new) e q)
-  left_state d (inr (inl e)) q = absurd (subst (λ x. QuickSteps x s new) e q)
+  left_state d (inr (inl e)) q = let h = subst (λ x. QuickSteps x s new) e q in (h.1, stopped_at new s h.1 h.2)
   left_state d (inr (inr (inl e))) q = let h = subst (λ x. QuickSteps x s new) e q in (h.1, stopped_at new s h.1 h.2)
-  left_state d (inr (inr (inr (inl e)))) q = let h = subst (λ x. QuickSteps x s new) e q in (h.1, stopped_at new s h.1 h.2)
-  left_state d (inr (inr (inr (inr e)))) q = let h = subst (λ x. QuickSteps x s new) e q in (h.1, stopped_at new s h.1 h.2)
+  left_state d (inr (inr (inr e))) q = let h = subst (λ x. QuickSteps x s new) e q in (h.1, stopped_at new s h.1 h.2)
 
 -- ---- what is counted after many steps
 

@@ -107,7 +107,6 @@ abbrev pub QuickSteps : Done → ModuleState → Core → Type 0
 QuickSteps done.Goes s new = (new.machine.standing ≡ standing.Moving) × Steps event.Moved s new
 QuickSteps done.Returned s new = Steps event.Returned s new
 QuickSteps (done.Trapped why) s new = Steps (event.Trapped why) s new
-QuickSteps done.Stuck s new = ⊥
 QuickSteps done.Exited s new = ⊥
 QuickSteps done.NoMemory s new = MayWant s
 QuickSteps _ s new = (new.machine.standing ≡ standing.Moving) × IsState new s × (IsCodeNext new.checked.now s → ⊥)

@@ -61,7 +61,7 @@ fn run_code(core: &mut Core, alloc: Global, most: u64, steps: &mut u64, lost: &m
     match done {
         Done::Returned | Done::Trapped(_) => *steps += 1,
         Done::NoMemory => *lost = true,
-        Done::Goes | Done::Stuck | Done::Exited | Done::Marked | Done::Deep | Done::Outside => {}
+        Done::Goes | Done::Exited | Done::Marked | Done::Deep | Done::Outside => {}
     }
 }
 

@@ -39,19 +39,6 @@ pub(crate) fn give(top: &mut Current, v: Value) -> Done
     Done::Goes
 }
 
-/// Puts a value on top, where there is room for it.
-#[inline(always)]
-pub(crate) fn offer(top: &mut Current, v: Value) -> Done
-    ensures took { Took result (On (pushed top.old.act v)) top.old top.new }
-    ensures rest { top.new ≡ with_act top.old top.new.act }
-{
-    if top.push(v) {
-        Done::Goes
-    } else {
-        Done::NoMemory
-    }
-}
-
 #[inline]
 fn drop_one(top: &mut Current) -> Done
     requires { IsSafe top.old (with_top top.old.act.values (λ v vs. On (with_values top.old.act vs))) }
@@ -86,6 +73,7 @@ pub(crate) fn select(top: &mut Current) -> Done
 
 #[inline]
 fn is_null_on(top: &mut Current) -> Done
+    requires { IsSafe top.old (with_reference top.old.act.values (λ r vs. On (pushed (with_values top.old.act vs) (Value.Num (one_if (is_null r)))))) }
     ensures took { Took result (with_reference top.old.act.values (λ r vs. On (pushed (with_values top.old.act vs) (Value.Num (one_if (is_null r)))))) top.old top.new }
     ensures rest { top.new ≡ with_act top.old top.new.act }
 {
@@ -94,19 +82,20 @@ fn is_null_on(top: &mut Current) -> Done
             top.set_top(Value::Num(u64::from(r.is_none())));
             Done::Goes
         }
-        _ => Done::Stuck,
+        _ => unreachable!(),
     }
 }
 
 /// Makes the body done.
 #[inline(always)]
 fn give_back(top: &mut Current) -> Done
+    requires safe { IsSafe top.old (on_some (to_end top.old.act)) }
     ensures took { Took result (on_some (to_end top.old.act)) top.old top.new }
     ensures rest { top.new ≡ with_act top.old top.new.act }
 {
     let n = top.results();
     if top.height() < n {
-        return Done::Stuck;
+        unreachable!();
     }
     top.end_body(n);
     Done::Goes
@@ -153,18 +142,19 @@ fn land(top: &mut Current)
 /// Branches with so many blocks between.
 #[inline(always)]
 pub(crate) fn branch(top: &mut Current, k: u32) -> Done
+    requires safe { IsSafe top.old (branch_move top.old.act k) }
     ensures took { Took result (branch_move top.old.act k) top.old top.new }
     ensures rest { top.new ≡ with_act top.old top.new.act }
 {
     let height = top.height();
     for _between in 0..k {
         if !top.leave() {
-            return Done::Stuck;
+            unreachable!();
         }
     }
     let n = top.arity();
     if height < n {
-        return Done::Stuck;
+        unreachable!();
     }
     top.keep(n);
     land(top);
@@ -190,11 +180,12 @@ pub(crate) fn branch_if(top: &mut Current, k: u32) -> Done
 /// Branches by the number on top: to the block of that place in a list, or past its end to the last one.
 #[inline(never)]
 pub(crate) fn branch_by(top: &mut Current, blocks: &[u32], last: u32) -> Done
+    requires safe { IsSafe top.old (with_i32 top.old.act.values (λ n vs. branch_move (with_values top.old.act vs) (unwrap_or (slice_get blocks.now n) last))) }
     ensures took { Took result (with_i32 top.old.act.values (λ n vs. branch_move (with_values top.old.act vs) (unwrap_or (slice_get blocks.now n) last))) top.old top.new }
     ensures rest { top.new ≡ with_act top.old top.new.act }
 {
     let Some(n) = pop_i32(top) else {
-        return Done::Stuck;
+        unreachable!();
     };
     let k = match blocks.get(n as usize) {
         Some(k) => *k,
@@ -213,33 +204,33 @@ pub(crate) fn block<'m>(
     results: usize,
     body: &'m [Instr],
 ) -> Done
+    requires safe { IsSafe top.old (on_some (entered_block top.old.act params results None body.now)) }
     ensures took { Took result (on_some (entered_block top.old.act params results None body.now)) top.old top.new }
     ensures rest { top.new ≡ with_act top.old top.new.act }
 {
     if top.height() < params {
-        return Done::Stuck;
+        unreachable!();
     }
-    if top.enter(params, results, None, body) {
-        Done::Goes
-    } else {
-        Done::NoMemory
+    if !top.enter(params, results, None, body) {
+        unreachable!();
     }
+    Done::Goes
 }
 
 /// Opens a loop of a type with so many parameters.
 #[inline(always)]
 pub(crate) fn again<'m>(top: &mut Current<'m>, params: usize, body: &'m [Instr]) -> Done
+    requires safe { IsSafe top.old (on_some (entered_block top.old.act params params (Some body.now) body.now)) }
     ensures took { Took result (on_some (entered_block top.old.act params params (Some body.now) body.now)) top.old top.new }
     ensures rest { top.new ≡ with_act top.old top.new.act }
 {
     if top.height() < params {
-        return Done::Stuck;
+        unreachable!();
     }
-    if top.enter(params, params, Some(body), body) {
-        Done::Goes
-    } else {
-        Done::NoMemory
+    if !top.enter(params, params, Some(body), body) {
+        unreachable!();
     }
+    Done::Goes
 }
 
 /// Opens the first of two blocks where the number on top isn't 0, else the second.
@@ -251,11 +242,12 @@ pub(crate) fn either<'m>(
     body: &'m [Instr],
     other: &'m [Instr],
 ) -> Done
+    requires safe { IsSafe top.old (with_i32 top.old.act.values (λ n vs. on_some (entered_block (with_values top.old.act vs) params results None (either_of n body.now other.now)))) }
     ensures took { Took result (with_i32 top.old.act.values (λ n vs. on_some (entered_block (with_values top.old.act vs) params results None (either_of n body.now other.now)))) top.old top.new }
     ensures rest { top.new ≡ with_act top.old top.new.act }
 {
     let Some(n) = pop_i32(top) else {
-        return Done::Stuck;
+        unreachable!();
     };
     block(top, params, results, if n == 0 { other } else { body })
 }

@@ -1,5 +1,5 @@
 // The topmost activation over two flat lists, of values and of open blocks, that all activations share.
-ghost use Rattle.std.specs.Prelude.{◌≡◌, ◌≢◌, ◌≤◌, ◌<◌, ◌+◌, ℕ, List, [], ◌∷◌, length, take, drop, reverse, Some, None, true, false, option_map, slice_get, slice_set, is_some, nat_lt, if◌then◌else◌, IfSome, IfNone, IfOk, OnOk};
+ghost use Rattle.std.specs.Prelude.{◌≡◌, ◌≤◌, ◌<◌, ◌+◌, [], ◌∷◌, length, take, drop, reverse, Some, None, true, false, option_map, slice_get, slice_set, is_some, nat_lt, if◌then◌else◌, IfSome, IfNone, IfOk, OnOk};
 ghost use Rattle.spec_execution.specs.spec_binary.Indices.{declared_locals};
 ghost use Rattle.spec_execution.specs.Values.{take_values, numbers_of};
 ghost use Rattle.spec_execution.specs.Activations.{with_values, pushed};
@@ -244,14 +244,6 @@ impl<'m> Current<'m> {
         ensures { option_map (λ i. i.now) result ≡ first_of self.now.act.rest }
     {
         self.place.rest.first()
-    }
-
-    /// The instructions that remain in the innermost block.
-    #[inline(always)]
-    pub fn rest(&self) -> &'m [Instr]
-        ensures { result.now ≡ self.now.act.rest }
-    {
-        self.place.rest
     }
 
     /// Goes past the next instruction.

@@ -96,12 +96,13 @@ fn prefixed<'m, V: View<'m>>(
     requires named { IsTrue (second_in_range ((V.seen view.old).fixed.counts top.old.act.unit) a b (second_form_of op)) }
     requires names { NamesAreThere (V.seen view.old).fixed }
     requires holds { HoldsAll (V.seen view.old).fixed (V.seen view.old).units }
+    requires within { IsWithin top.old (acted (V.seen view.old).fixed (V.seen view.old).units (V.seen view.old).memory (second_move (second_form_of op) a b top.old.act)) }
     ensures acted { MakesMove result (second_move (second_form_of op) a b top.old.act) (IsTrue (is_table_growth (second_form_of op))) top.old top.new (V.seen view.old) (V.seen view.new) }
     ensures rest { top.new ≡ with_act top.old top.new.act }
     ensures fixed { (V.seen view.new).fixed ≡ (V.seen view.old).fixed }
 {
     match second_form(op) {
-        None => Done::Stuck,
+        None => unreachable!(),
         Some(SecondForm::MemoryInit) => memory_init(top, view, a),
         Some(SecondForm::DataDrop) => data_drop(top, view, a),
         Some(SecondForm::MemoryCopy) => memory_copy(top, view),

@@ -11,7 +11,7 @@ ghost use Rattle.wasm_step.specs.Tops.{with_act};
 ghost use Rattle.wasm_step.specs.Moves.{MakesMove, IsWithin, acted};
 ghost use Rattle.wasm_step.specs.Named.{NamesAreThere};
 
-use crate::control::{give, offer, pop_i32};
+use crate::control::{give, pop_i32};
 use crate::current::Current;
 use crate::done::Done;
 use std::alloc::Global;
@@ -37,10 +37,11 @@ fn changed(answer: Result<(), Trap>) -> Done
 pub(crate) fn refer<'m, V: View<'m>>(top: &mut Current<'m>, view: &V, f: u32) -> Done
     requires named { f < ((V.seen view.now).fixed.counts top.old.act.unit).functions }
     requires names { NamesAreThere (V.seen view.now).fixed }
+    requires within { IsWithin top.old (acted (V.seen view.now).fixed (V.seen view.now).units (V.seen view.now).memory (Refers f top.old.act)) }
     ensures acted { MakesMove result (Refers f top.old.act) ⊥ top.old top.new (V.seen view.now) (V.seen view.now) }
     ensures rest { top.new ≡ with_act top.old top.new.act }
 {
-    offer(top, Value::Func(Some(view.target(top.unit(), f))))
+    give(top, Value::Func(Some(view.target(top.unit(), f))))
 }
 
 /// The value of a global.
@@ -79,11 +80,12 @@ pub(crate) fn global_set<'m, V: View<'m>>(top: &mut Current<'m>, view: &mut V, g
 pub(crate) fn table_get<'m, V: View<'m>>(top: &mut Current<'m>, view: &V, t: u32) -> Done
     requires named { t < ((V.seen view.now).fixed.counts top.old.act.unit).tables }
     requires holds { HoldsAll (V.seen view.now).fixed (V.seen view.now).units }
+    requires within { IsWithin top.old (acted (V.seen view.now).fixed (V.seen view.now).units (V.seen view.now).memory (with_i32 top.old.act.values (λ i vs. Does (TableGet t i) (with_values top.old.act vs)))) }
     ensures acted { MakesMove result (with_i32 top.old.act.values (λ i vs. Does (TableGet t i) (with_values top.old.act vs))) ⊥ top.old top.new (V.seen view.now) (V.seen view.now) }
     ensures rest { top.new ≡ with_act top.old top.new.act }
 {
     let Some(n) = top.number() else {
-        return Done::Stuck;
+        unreachable!();
     };
     match view.table(top.unit(), t).get(low_index(n)) {
         Ok(r) => {
@@ -99,15 +101,16 @@ pub(crate) fn table_get<'m, V: View<'m>>(top: &mut Current<'m>, view: &V, t: u32
 pub(crate) fn table_set<'m, V: View<'m>>(top: &mut Current<'m>, view: &mut V, t: u32) -> Done
     requires named { t < ((V.seen view.old).fixed.counts top.old.act.unit).tables }
     requires holds { HoldsAll (V.seen view.old).fixed (V.seen view.old).units }
+    requires within { IsWithin top.old (acted (V.seen view.old).fixed (V.seen view.old).units (V.seen view.old).memory (with_reference top.old.act.values (λ r vs. with_i32 vs (λ i ws. Does (TableSet t i r) (with_values top.old.act ws))))) }
     ensures acted { MakesMove result (with_reference top.old.act.values (λ r vs. with_i32 vs (λ i ws. Does (TableSet t i r) (with_values top.old.act ws)))) ⊥ top.old top.new (V.seen view.old) (V.seen view.new) }
     ensures rest { top.new ≡ with_act top.old top.new.act }
     ensures fixed { (V.seen view.new).fixed ≡ (V.seen view.old).fixed }
 {
     let Some(r) = top.pop_reference() else {
-        return Done::Stuck;
+        unreachable!();
     };
     let Some(i) = pop_i32(top) else {
-        return Done::Stuck;
+        unreachable!();
     };
     changed(view.table_set(top.unit(), t, i, r))
 }
@@ -116,11 +119,12 @@ pub(crate) fn table_set<'m, V: View<'m>>(top: &mut Current<'m>, view: &mut V, t:
 pub(crate) fn table_size<'m, V: View<'m>>(top: &mut Current<'m>, view: &V, t: u32) -> Done
     requires named { t < ((V.seen view.now).fixed.counts top.old.act.unit).tables }
     requires holds { HoldsAll (V.seen view.now).fixed (V.seen view.now).units }
+    requires within { IsWithin top.old (acted (V.seen view.now).fixed (V.seen view.now).units (V.seen view.now).memory (Does (TableSize t) top.old.act)) }
     ensures acted { MakesMove result (Does (TableSize t) top.old.act) ⊥ top.old top.new (V.seen view.now) (V.seen view.now) }
     ensures rest { top.new ≡ with_act top.old top.new.act }
 {
     let size = view.table(top.unit(), t).size();
-    offer(top, Value::Num(u64::from(size)))
+    give(top, Value::Num(u64::from(size)))
 }
 
 /// Adds entries to a table.
@@ -132,15 +136,16 @@ pub(crate) fn table_grow<'m, V: View<'m>>(
 ) -> Done
     requires named { t < ((V.seen view.old).fixed.counts top.old.act.unit).tables }
     requires holds { HoldsAll (V.seen view.old).fixed (V.seen view.old).units }
+    requires within { IsWithin top.old (acted (V.seen view.old).fixed (V.seen view.old).units (V.seen view.old).memory (with_i32 top.old.act.values (λ n vs. with_reference vs (λ r ws. Does (TableGrow t r n) (with_values top.old.act ws))))) }
     ensures acted { MakesMove result (with_i32 top.old.act.values (λ n vs. with_reference vs (λ r ws. Does (TableGrow t r n) (with_values top.old.act ws)))) (Unit {0}) top.old top.new (V.seen view.old) (V.seen view.new) }
     ensures rest { top.new ≡ with_act top.old top.new.act }
     ensures fixed { (V.seen view.new).fixed ≡ (V.seen view.old).fixed }
 {
     let Some(n) = pop_i32(top) else {
-        return Done::Stuck;
+        unreachable!();
     };
     let Some(Value::Func(r)) = top.value() else {
-        return Done::Stuck;
+        unreachable!();
     };
     match view.table_grow(alloc, top.unit(), t, n, r) {
         Ok(size) => {
@@ -155,18 +160,19 @@ pub(crate) fn table_grow<'m, V: View<'m>>(
 pub(crate) fn table_fill<'m, V: View<'m>>(top: &mut Current<'m>, view: &mut V, t: u32) -> Done
     requires named { t < ((V.seen view.old).fixed.counts top.old.act.unit).tables }
     requires holds { HoldsAll (V.seen view.old).fixed (V.seen view.old).units }
+    requires within { IsWithin top.old (acted (V.seen view.old).fixed (V.seen view.old).units (V.seen view.old).memory (with_i32 top.old.act.values (λ n vs. with_reference vs (λ r ws. with_i32 ws (λ i us. Does (TableFill t i r n) (with_values top.old.act us)))))) }
     ensures acted { MakesMove result (with_i32 top.old.act.values (λ n vs. with_reference vs (λ r ws. with_i32 ws (λ i us. Does (TableFill t i r n) (with_values top.old.act us))))) ⊥ top.old top.new (V.seen view.old) (V.seen view.new) }
     ensures rest { top.new ≡ with_act top.old top.new.act }
     ensures fixed { (V.seen view.new).fixed ≡ (V.seen view.old).fixed }
 {
     let Some(n) = pop_i32(top) else {
-        return Done::Stuck;
+        unreachable!();
     };
     let Some(r) = top.pop_reference() else {
-        return Done::Stuck;
+        unreachable!();
     };
     let Some(i) = pop_i32(top) else {
-        return Done::Stuck;
+        unreachable!();
     };
     changed(view.table_fill(top.unit(), t, i, r, n))
 }
@@ -181,18 +187,19 @@ pub(crate) fn table_copy<'m, V: View<'m>>(
     requires named { t < ((V.seen view.old).fixed.counts top.old.act.unit).tables }
     requires other { u < ((V.seen view.old).fixed.counts top.old.act.unit).tables }
     requires holds { HoldsAll (V.seen view.old).fixed (V.seen view.old).units }
+    requires within { IsWithin top.old (acted (V.seen view.old).fixed (V.seen view.old).units (V.seen view.old).memory (with_three top.old.act (TableCopy t u))) }
     ensures acted { MakesMove result (with_three top.old.act (TableCopy t u)) ⊥ top.old top.new (V.seen view.old) (V.seen view.new) }
     ensures rest { top.new ≡ with_act top.old top.new.act }
     ensures fixed { (V.seen view.new).fixed ≡ (V.seen view.old).fixed }
 {
     let Some(n) = pop_i32(top) else {
-        return Done::Stuck;
+        unreachable!();
     };
     let Some(from) = pop_i32(top) else {
-        return Done::Stuck;
+        unreachable!();
     };
     let Some(to) = pop_i32(top) else {
-        return Done::Stuck;
+        unreachable!();
     };
     changed(view.table_copy(top.unit(), t, u, to, from, n))
 }
@@ -207,18 +214,19 @@ pub(crate) fn table_init<'m, V: View<'m>>(
     requires named { e < ((V.seen view.old).fixed.counts top.old.act.unit).elems }
     requires other { t < ((V.seen view.old).fixed.counts top.old.act.unit).tables }
     requires holds { HoldsAll (V.seen view.old).fixed (V.seen view.old).units }
+    requires within { IsWithin top.old (acted (V.seen view.old).fixed (V.seen view.old).units (V.seen view.old).memory (with_three top.old.act (TableInit e t))) }
     ensures acted { MakesMove result (with_three top.old.act (TableInit e t)) ⊥ top.old top.new (V.seen view.old) (V.seen view.new) }
     ensures rest { top.new ≡ with_act top.old top.new.act }
     ensures fixed { (V.seen view.new).fixed ≡ (V.seen view.old).fixed }
 {
     let Some(n) = pop_i32(top) else {
-        return Done::Stuck;
+        unreachable!();
     };
     let Some(from) = pop_i32(top) else {
-        return Done::Stuck;
+        unreachable!();
     };
     let Some(to) = pop_i32(top) else {
-        return Done::Stuck;
+        unreachable!();
     };
     changed(view.table_init(top.unit(), t, e, to, from, n))
 }
@@ -338,7 +346,7 @@ fn accessed<'m, V: View<'m>>(top: &mut Current<'m>, view: &mut V, op: u8, offset
     ensures fixed { (V.seen view.new).fixed ≡ (V.seen view.old).fixed }
 {
     match memory_access(op) {
-        None => Done::Stuck,
+        None => unreachable!(),
         Some(access) => {
             if access.writes {
                 store(top, view, op, access, offset)
@@ -389,11 +397,12 @@ pub(crate) fn access<'m, V: View<'m>>(
 /// The size of the memory.
 #[inline]
 pub(crate) fn memory_size<'m, V: View<'m>>(top: &mut Current<'m>, view: &V) -> Done
+    requires within { IsWithin top.old (acted (V.seen view.now).fixed (V.seen view.now).units (V.seen view.now).memory (Does MemorySize top.old.act)) }
     ensures acted { MakesMove result (Does MemorySize top.old.act) ⊥ top.old top.new (V.seen view.now) (V.seen view.now) }
     ensures rest { top.new ≡ with_act top.old top.new.act }
 {
     let size = view.memory().size();
-    offer(top, Value::Num(u64::from(size)))
+    give(top, Value::Num(u64::from(size)))
 }
 
 /// Adds pages to the memory.
@@ -404,12 +413,13 @@ pub(crate) fn memory_grow<'m, V: View<'m>>(
     alloc: Global,
     view: &mut V,
 ) -> Done
+    requires within { IsWithin top.old (acted (V.seen view.old).fixed (V.seen view.old).units (V.seen view.old).memory (with_i32 top.old.act.values (λ n vs. Does (MemoryGrow n) (with_values top.old.act vs)))) }
     ensures acted { MakesMove result (with_i32 top.old.act.values (λ n vs. Does (MemoryGrow n) (with_values top.old.act vs))) (Unit {0}) top.old top.new (V.seen view.old) (V.seen view.new) }
     ensures rest { top.new ≡ with_act top.old top.new.act }
     ensures fixed { (V.seen view.new).fixed ≡ (V.seen view.old).fixed }
 {
     let Some(n) = top.number() else {
-        return Done::Stuck;
+        unreachable!();
     };
     match view.memory_grow(alloc, low_index(n)) {
         Ok(size) => {
@@ -422,36 +432,38 @@ pub(crate) fn memory_grow<'m, V: View<'m>>(
 
 /// Copies bytes of the memory.
 pub(crate) fn memory_copy<'m, V: View<'m>>(top: &mut Current<'m>, view: &mut V) -> Done
+    requires within { IsWithin top.old (acted (V.seen view.old).fixed (V.seen view.old).units (V.seen view.old).memory (with_three top.old.act MemoryCopy)) }
     ensures acted { MakesMove result (with_three top.old.act MemoryCopy) ⊥ top.old top.new (V.seen view.old) (V.seen view.new) }
     ensures rest { top.new ≡ with_act top.old top.new.act }
     ensures fixed { (V.seen view.new).fixed ≡ (V.seen view.old).fixed }
 {
     let Some(n) = pop_i32(top) else {
-        return Done::Stuck;
+        unreachable!();
     };
     let Some(from) = pop_i32(top) else {
-        return Done::Stuck;
+        unreachable!();
     };
     let Some(to) = pop_i32(top) else {
-        return Done::Stuck;
+        unreachable!();
     };
     changed(view.memory_copy(to, from, n))
 }
 
 /// Sets bytes of the memory to one value.
 pub(crate) fn memory_fill<'m, V: View<'m>>(top: &mut Current<'m>, view: &mut V) -> Done
+    requires within { IsWithin top.old (acted (V.seen view.old).fixed (V.seen view.old).units (V.seen view.old).memory (with_three top.old.act (λ to byte n. MemoryFill to (byte % 256) n))) }
     ensures acted { MakesMove result (with_three top.old.act (λ to byte n. MemoryFill to (byte % 256) n)) ⊥ top.old top.new (V.seen view.old) (V.seen view.new) }
     ensures rest { top.new ≡ with_act top.old top.new.act }
     ensures fixed { (V.seen view.new).fixed ≡ (V.seen view.old).fixed }
 {
     let Some(n) = pop_i32(top) else {
-        return Done::Stuck;
+        unreachable!();
     };
     let Some(byte) = pop_i32(top) else {
-        return Done::Stuck;
+        unreachable!();
     };
     let Some(to) = pop_i32(top) else {
-        return Done::Stuck;
+        unreachable!();
     };
     changed(view.memory_fill(to, (byte % 256) as u8, n))
 }
@@ -460,18 +472,19 @@ pub(crate) fn memory_fill<'m, V: View<'m>>(top: &mut Current<'m>, view: &mut V) 
 pub(crate) fn memory_init<'m, V: View<'m>>(top: &mut Current<'m>, view: &mut V, d: u32) -> Done
     requires named { d < ((V.seen view.old).fixed.counts top.old.act.unit).datas }
     requires holds { HoldsAll (V.seen view.old).fixed (V.seen view.old).units }
+    requires within { IsWithin top.old (acted (V.seen view.old).fixed (V.seen view.old).units (V.seen view.old).memory (with_three top.old.act (MemoryInit d))) }
     ensures acted { MakesMove result (with_three top.old.act (MemoryInit d)) ⊥ top.old top.new (V.seen view.old) (V.seen view.new) }
     ensures rest { top.new ≡ with_act top.old top.new.act }
     ensures fixed { (V.seen view.new).fixed ≡ (V.seen view.old).fixed }
 {
     let Some(n) = pop_i32(top) else {
-        return Done::Stuck;
+        unreachable!();
     };
     let Some(from) = pop_i32(top) else {
-        return Done::Stuck;
+        unreachable!();
     };
     let Some(to) = pop_i32(top) else {
-        return Done::Stuck;
+        unreachable!();
     };
     changed(view.memory_init(top.unit(), d, to, from, n))
 }

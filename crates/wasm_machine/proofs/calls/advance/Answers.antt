@@ -66,7 +66,6 @@ pub returns-in-None-clause-led : goal.returns-in-None-clause-led
 returns-in-None-clause-led g c =
     let q : callee_of (out-Instr c.args.i.now) ≡ None = cc in
     led_plain (g.V.View.seen c.args.view.now).fixed _ _ c.args.callers.now c.args.top.now c.args.i.now c.instruction.result _ c.requires.live c.requires.next c.advance.new.self c.instruction.new.top q c.advance.ensures c.instruction.ensures.acted
-    c.requires.joined c.requires.rooms c.requires.within
 
 pub returns-in-None-clause-rooms : goal.returns-in-None-clause-rooms
 returns-in-None-clause-rooms g c =
