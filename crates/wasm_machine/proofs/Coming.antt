@@ -1,5 +1,5 @@
 -- The instruction that comes next: what it names and calls, and the step that it makes.
-use Rattle.std.proofs.Common.{arith, ◌≡◌, ℕ, ◌<◌, true, false, List, [], ◌∷◌, length, drop, refl, sym, ap, subst, ◌∙◌, Option, None, Some}
+use Rattle.std.proofs.Common.{arith, ◌≡◌, ℕ, ◌<◌, Bool, true, false, not, List, [], ◌∷◌, length, drop, refl, sym, ap, subst, ◌∙◌, Option, None, Some}
 use Rattle.std.specs.Prelude.{IsTrue, nat_lt}
 use Rattle.std.proofs.lemmas.Bool.{ltb-true}
 use Rattle.std.proofs.lemmas.List.Elements.{All-head}
@@ -23,6 +23,10 @@ use Rattle.wasm_machine.specs.declared.calls.Callee.{Callee}
 use Rattle.wasm_machine.specs.declared.calls.Callee.TheVariants as callee
 use Rattle.wasm_machine.proofs.InRange.{named_in_range, and_first, and_second}
 use Rattle.wasm_machine.proofs.Called.{target_exists}
+
+pub not_true : (b : Bool) → true ≡ not b → b ≡ false
+not_true true e = absurd cc
+not_true false e = refl
 
 pub rest_some : (is : List Instr) (i : Instr) → Some i ≡ first_of is → 0 < length is
 rest_some [] i e = absurd cc

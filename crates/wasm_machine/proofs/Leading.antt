@@ -1,5 +1,5 @@
 -- From an instruction that leaves its activation on top to the step of the call stack.
-use Rattle.std.proofs.Common.{arith, ◌≡◌, ◌≢◌, ℕ, ◌≤◌, ◌+◌, true, List, [], ◌∷◌, length, drop, refl, sym, ap, subst, ◌∙◌, Option, None, Some, inl, inr}
+use Rattle.std.proofs.Common.{arith, ◌≡◌, ◌≢◌, ℕ, ◌≤◌, ◌+◌, true, false, List, [], ◌∷◌, length, refl, sym, ap, subst, ◌∙◌, Option, None, Some, inl, inr}
 use Rattle.std.specs.Prelude.{IsTrue}
 use Rattle.std.proofs.Math.Bool.{or-true}
 use Rattle.wasm_form.specs.declared.instr.Instr.{Instr, out-Instr}
@@ -14,7 +14,7 @@ use Rattle.spec_safety.specs.spec_execution.Runs.{Frame, Active, Next, Goes, Ask
 use Rattle.spec_safety.specs.spec_execution.Runs as runs
 use Rattle.spec_safety.specs.spec_execution.Limits.{room_of}
 use Rattle.wasm_step.specs.Tops.{Top, with_act, height_of}
-use Rattle.wasm_step.specs.Primitives.{first_of, with_rest}
+use Rattle.wasm_step.specs.Primitives.{first_of, past}
 use Rattle.wasm_machine.specs.Stacks.{CallStack, most_blocks, is_live, under_of, joined, IsJoined}
 use Rattle.wasm_step.specs.Moves.{Act, To, Ends, Nowhere, act_done, act_referred, acted, IsWithin, Changes, Acted}
 use Rattle.wasm_step.specs.Named.{is_call, is_growth}
@@ -27,12 +27,8 @@ use Rattle.wasm_step.specs.declared.done.Done.{Done}
 use Rattle.wasm_step.specs.declared.done.Done.TheVariants as done
 use Rattle.wasm_machine.proofs.Joined.{frames_live, nesting_live, RoomsAre_live}
 use Rattle.wasm_machine.proofs.Staying.{StaysIn, instr-stays}
-use Rattle.wasm_machine.proofs.Coming.{none_called, some_called, step_is}
+use Rattle.wasm_machine.proofs.Coming.{some_called, step_is}
 use Rattle.wasm_machine.proofs.Callees.{callee_step}
-
--- an activation past its next instruction, which is put back
-pub put_back : (t u v : Top) (rest : List Instr) → u ≡ with_act t (with_rest t.act (drop 1 t.act.rest)) → rest ≡ t.act.rest → v ≡ with_act u (with_rest u.act rest) → v ≡ t
-put_back t u v rest e r f = rw (f, e, r) refl
 
 -- ---- what a move comes to, in the activation and on the call stack
 
@@ -150,19 +146,14 @@ module _ {Units : Type 0} (V : View Units) (us : Units) (memory : MemoryInstance
   called_moves k q m = λ n. m (next_live ∙ callee_step V us t.act i e k q memory (under_of cs t) ∙ n)
 
   -- an instruction that doesn't call
-  module _ (u : Top) (q : callee_of (out-Instr i) ≡ None) (eu : u ≡ with_act t (with_rest t.act (drop 1 t.act.rest))) where
-    past : Activation
-    past = with_rest t.act (drop 1 t.act.rest)
-
-    fits : Fits t.act.unit t.act.func (under_of cs t) (acted V us memory (instr_move (V.declared u.act.unit) (out-Instr i) u.act)) (next_of V us memory (joined cs t).frames)
-    unfolding past
+  module _ (q : is_call (out-Instr i) ≡ false) where
+    fits : Fits t.act.unit t.act.func (under_of cs t) (acted V us memory (instr_move (V.declared t.act.unit) (out-Instr i) (past t.act))) (next_of V us memory (joined cs t).frames)
     fits =
-        rw (eu, next_live, step_is V us t.act i e memory (under_of cs t)) (
-        acted-fits V us memory (under_of cs t) t.act.unit t.act.func (length t.act.locals) (instr_move (V.declared t.act.unit) (out-Instr i) past) (instr-stays (V.declared t.act.unit) (out-Instr i) past (none_called (out-Instr i) q)))
+        rw (next_live, step_is V us t.act i e memory (under_of cs t)) (
+        acted-fits V us memory (under_of cs t) t.act.unit t.act.func (length t.act.locals) (instr_move (V.declared t.act.unit) (out-Instr i) (past t.act)) (instr-stays (V.declared t.act.unit) (out-Instr i) (past t.act) q))
 
-    pub within_plain : IsJoined cs t → RoomsAre V (joined cs t) → StaysWithin V (next_of V us memory (joined cs t).frames) → next_of V us memory (joined cs t).frames ≢ None → IsWithin u (acted V us memory (instr_move (V.declared u.act.unit) (out-Instr i) u.act))
-    unfolding past
-    within_plain j r w m = within V cs t i live e u past _ _ j r eu fits w m
+    pub within_plain : IsJoined cs t → RoomsAre V (joined cs t) → StaysWithin V (next_of V us memory (joined cs t).frames) → next_of V us memory (joined cs t).frames ≢ None → IsWithin t (acted V us memory (instr_move (V.declared t.act.unit) (out-Instr i) (past t.act)))
+    within_plain j r w m = within V cs t i live e t t.act _ _ j r refl fits w m
 
 module _ {Units : Type 0} (V : View Units) (us : Units) (memory : MemoryInstance) (cs : List Caller) (t : Top) (i : Instr) (d : Done) (c : Changes Units) (live : is_live t ≡ true) (e : Some i ≡ first_of t.act.rest) where
   -- a function is called
@@ -173,11 +164,11 @@ module _ {Units : Type 0} (V : View Units) (us : Units) (memory : MemoryInstance
       (next_live V us memory cs t i live e ∙ callee_step V us t.act i e k q memory (under_of cs t) ∙ e') h
 
   -- an instruction that doesn't call
-  module _ (u new : Top) (q : callee_of (out-Instr i) ≡ None) (eu : u ≡ with_act t (with_rest t.act (drop 1 t.act.rest))) (h : Acted d (acted V us memory (instr_move (V.declared u.act.unit) (out-Instr i) u.act)) (IsTrue (is_growth (out-Instr i))) u new c) where
+  module _ (new : Top) (q : is_call (out-Instr i) ≡ false) (h : Acted d (acted V us memory (instr_move (V.declared t.act.unit) (out-Instr i) (past t.act))) (IsTrue (is_growth (out-Instr i))) t new c) where
     pub led_plain : Led V d (next_of V us memory (joined cs t).frames) (MayGrow (joined cs t).frames) (joined cs t) (joined cs new) c
-    led_plain = led_acted V cs t u new (with_rest t.act (drop 1 t.act.rest)) c _ _ live eu d _ _ t.act.unit t.act.func (fits V us memory cs t i live e u q eu) (growth_may_grow V cs t i live e) h
+    led_plain = led_acted V cs t t new t.act c _ _ live refl d _ _ t.act.unit t.act.func (fits V us memory cs t i live e q) (growth_may_grow V cs t i live e) h
 
-    pub rooms_plain : RoomsAre V (joined cs t) → new ≡ with_act u new.act → d ≡ done.Goes → RoomsAre V (joined cs new)
+    pub rooms_plain : RoomsAre V (joined cs t) → new ≡ with_act t new.act → d ≡ done.Goes → RoomsAre V (joined cs new)
     rooms_plain r en goes =
-        let w = act_within V cs t u new (with_rest t.act (drop 1 t.act.rest)) c (IsTrue (is_growth (out-Instr i))) (Unit {0}) live eu d _ _ t.act.unit t.act.func (fits V us memory cs t i live e u q eu) h goes in
-        rooms_kept cs t new new.act live (twice t u new _ _ eu en) V r w.0 w.1
+        let w = act_within V cs t t new t.act c (IsTrue (is_growth (out-Instr i))) (Unit {0}) live refl d _ _ t.act.unit t.act.func (fits V us memory cs t i live e q) h goes in
+        rooms_kept cs t new new.act live en V r w.0 w.1

@@ -6,7 +6,7 @@ ghost use Rattle.spec_safety.specs.spec_execution.Views.{type_of as type_seen};
 ghost use Rattle.wasm_form.specs.declared.instr.Instr.{out-Instr};
 ghost use Rattle.spec_safety.specs.spec_binary.Indices.{nullary};
 ghost use Rattle.spec_safety.specs.spec_binary.SameTypes.{same_function_type};
-ghost use Rattle.wasm_step.specs.Named.{NamesAreThere};
+ghost use Rattle.wasm_step.specs.Named.{NamesAreThere, is_call};
 ghost use Rattle.wasm_step.specs.Primitives.{first_of, Dropped, CanOpen, Spread};
 ghost use Rattle.wasm_machine.specs.Callees.{above_of, IsEntry, IsNamed, HasIndex, IsCalled};
 ghost use Rattle.wasm_machine.specs.Outside.{callee_of, IsOutsideCall};
@@ -56,11 +56,9 @@ pub(crate) fn end<'m, V: View<'m>>(
     ensures joined { IsJoined callers.new top.new }
     ensures rooms { result ≡ Done.Goes → RoomsAre (V.seen view.now).fixed (joined callers.new top.new) }
 {
-    if top.leave() {
+    if top.is_open() {
+        top.leave();
         return Done::Goes;
-    }
-    if top.height() != top.results() {
-        unreachable!();
     }
     finish(callers, top, spare)
 }
@@ -271,11 +269,42 @@ fn called<'m, V: View<'m>>(top: &Current<'m>, view: &V, callee: Callee) -> Resul
     match callee {
         Callee::Function(f) => Ok(view.target(top.unit(), f)),
         Callee::Entry { ty, table } => {
-            let Some(n) = top.number() else {
-                unreachable!();
-            };
+            let n = top.number();
             entry(view, top.unit(), ty, table, n)
         }
+    }
+}
+
+/// One step of the code on top, of this call.
+#[inline(always)]
+fn call_next<'m, V: View<'m>>(
+    callers: &mut Callers<'m>,
+    top: &mut Current<'m>,
+    spare: &mut Current<'m>,
+    alloc: Global,
+    view: &V,
+    i: &'m Instr,
+) -> Done
+    requires joined { IsJoined callers.old top.old }
+    requires live { is_live top.old ≡ true }
+    requires next { Some i.now ≡ first_of top.old.act.rest }
+    requires call { is_call (out-Instr i.now) ≡ true }
+    requires rooms { RoomsAre (V.seen view.now).fixed (joined callers.old top.old) }
+    requires names { NamesAreThere (V.seen view.now).fixed }
+    requires holds { HoldsAll (V.seen view.now).fixed (V.seen view.now).units }
+    requires rest { AreInRange ((V.seen view.now).fixed.counts top.old.act.unit) top.old.act.rest }
+    requires moves { next_in (V.seen view.now) (joined callers.old top.old).frames ≢ None }
+    ensures led { Advances result (joined callers.old top.old) (joined callers.new top.new) (V.seen view.now) (V.seen view.now) }
+    ensures outside { result ≡ Done.Outside → calls_outside (V.seen view.now).fixed (V.seen view.now).units top.old.act ≡ true }
+    ensures joined { result ≢ Done.NoMemory → IsJoined callers.new top.new }
+    ensures rooms { result ≡ Done.Goes → RoomsAre (V.seen view.now).fixed (joined callers.new top.new) }
+{
+    match named_callee(i) {
+        Some(callee) => match called(top, view, callee) {
+            Ok(r) => call(callers, top, spare, alloc, view, above(callee), r),
+            Err(trap) => Done::Trapped(trap),
+        },
+        None => unreachable!(),
     }
 }
 
@@ -305,15 +334,9 @@ pub(crate) fn advance<'m, V: View<'m>>(
     ensures rooms { result ≡ Done.Goes → RoomsAre (V.seen view.old).fixed (joined callers.new top.new) }
     ensures fixed { (V.seen view.new).fixed ≡ (V.seen view.old).fixed }
 {
-    match named_callee(i) {
-        Some(callee) => match called(top, view, callee) {
-            Ok(r) => call(callers, top, spare, alloc, view, above(callee), r),
-            Err(trap) => Done::Trapped(trap),
-        },
-        None => {
-            top.advance();
-            instruction(top, spare, alloc, view, i)
-        }
+    match instruction(top, spare, alloc, view, i) {
+        Some(done) => done,
+        None => call_next(callers, top, spare, alloc, view, i),
     }
 }
 
@@ -367,7 +390,7 @@ pub(crate) fn outside_call<'m, V: View<'m>>(top: &Current<'m>, view: &V) -> Outs
             target: view.target(top.unit(), f),
             above: 0,
         },
-        Some(Callee::Entry { table, .. }) => match top.number() {
+        Some(Callee::Entry { table, .. }) => match top.find_number() {
             Some(n) => match view.table(top.unit(), table).get((n % (1 << 32)) as u32) {
                 Ok(Some(target)) => OutsideCall { target, above: 1 },
                 _ => unreachable!(),
@@ -425,7 +448,7 @@ fn entry_passes<'m, V: View<'m>>(
     requires table { table < ((V.seen view.now).fixed.counts top.now.act.unit).tables }
     ensures { result ≡ passes_limit (V.seen view.now).fixed (carried_in (V.seen view.now) (under_of callers.now top.now) (indirect ty table top.now.act)) }
 {
-    let Some(n) = top.number() else {
+    let Some(n) = top.find_number() else {
         return false;
     };
     let unit = top.unit();

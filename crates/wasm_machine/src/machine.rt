@@ -2,6 +2,7 @@
 ghost use Rattle.std.specs.Prelude.{◌≡◌, ◌≢◌, ◌≤◌, ◌<◌, ◌^◌, [], ◌∷◌, ◌++◌, length, map, reverse, take, drop, is_some, true, false, slice_get, unwrap_or, All, IfOk, OnOk, OnErr, Some, IsTrue};
 ghost use Rattle.spec_safety.specs.spec_binary.Indices.{nullary};
 ghost use Rattle.spec_safety.specs.spec_runtime.Hosts.{writes_fit, all_written};
+ghost use Rattle.wasm_form.specs.declared.runtime.Value.TheVariants.{Num};
 ghost use Rattle.spec_safety.specs.spec_execution.Values.{take_values, numbers_of};
 ghost use Rattle.spec_safety.specs.spec_execution.Activations.{with_values};
 ghost use Rattle.spec_safety.specs.spec_execution.Views.{type_of as type_seen};
@@ -19,7 +20,7 @@ use crate::event::Event;
 use std::alloc::Global;
 use std::marker::Model;
 use std::mem;
-use wasm_form::{Answer, Asked, List, Memory, Ref, Trap, ValType, Value, Write};
+use wasm_form::{Answer, Asked, List, Memory, Ref, Trap, ValType, Write};
 use wasm_step::{Current, Done};
 use wasm_view::View;
 
@@ -414,7 +415,7 @@ impl<'m> Machine<'m> {
         ensures rooms { self.new.stack.rooms ≡ self.old.stack.rooms }
         ensures over { IsOver (V.seen view.now).fixed (V.seen view.now).units (V.seen view.now).memory self.new }
     {
-        self.top.push_spare(Value::Num(u64::from(value)));
+        self.top.push_spare(u64::from(value));
         self.standing = Standing::Moving;
     }
 
@@ -583,10 +584,10 @@ fn leave(
 /// Puts numbers on top, for which there is room.
 fn push_numbers(top: &mut Current, numbers: &[u64])
     requires { HasSpare top.old (length numbers.now) }
-    ensures { top.new ≡ with_act top.old (with_values top.old.act (reverse (map Value.Num numbers.now) ++ top.old.act.values)) }
+    ensures { top.new ≡ with_act top.old (with_values top.old.act (reverse (map Num numbers.now) ++ top.old.act.values)) }
 {
     for n in numbers {
-        top.push_spare(Value::Num(*n));
+        top.push_spare(*n);
     }
 }
 

@@ -1,41 +1,41 @@
 // Instructions without an index that stay in their activation, branches, blocks and locals (sections 4.4.1, 4.4.2, 4.4.4, 4.4.5
 // and 4.4.8).
-ghost use Rattle.std.specs.Prelude.{◌≡◌, ◌∷◌, ℕ, slice_get, slice_set, is_some, true, unwrap_or, Some, None, IfSome, IfNone};
+ghost use Rattle.std.specs.Prelude.{◌≡◌, ◌∷◌, ℕ, slice_get, is_some, true, unwrap_or, Some, None};
 ghost use Rattle.wasm_form.specs.Plain.{plain_form as plain_form_of};
+ghost use Rattle.wasm_form.specs.declared.runtime.Value.TheVariants.{Num};
 ghost use Rattle.spec_execution.specs.Activations.{with_values, pushed, with_top, with_i32, with_reference, on_some, to_end, branch_move, branch_if_move, select_move, is_null, one_if, plain_move, local_got, local_set, entered_block, On};
 ghost use Rattle.spec_execution.specs.Values.{low};
 ghost use Rattle.spec_execution.specs.spec_runtime.Numerics.{W32};
 ghost use Rattle.wasm_step.specs.Tops.{with_act};
-ghost use Rattle.wasm_step.specs.Primitives.{either_of, landed_on, number_on, with_locals};
+ghost use Rattle.wasm_step.specs.Primitives.{either_of, number_on};
 ghost use Rattle.wasm_step.specs.Moves.{Took, IsSafe};
 
 use crate::current::Current;
 use crate::done::Done;
 use crate::operators::narrow;
-use wasm_form::{Instr, Trap, Value};
+use wasm_cell::Cell;
+use wasm_form::{Instr, Trap};
+use wasm_view::View;
 
-/// Takes the low 32 bits of the topmost value, if it is a number.
+/// Takes the low 32 bits of the topmost value, which is a number.
 #[inline(always)]
-pub(crate) fn pop_i32(top: &mut Current) -> Option<u32>
-    ensures some { IfSome result (λ n. (m : ℕ) × (n ≡ low W32 m) × (top.old.act.values ≡ Value.Num m ∷ top.new.act.values)) }
-    ensures none { IfNone result (number_on top.old.act.values ≡ None) }
-    ensures same { IfNone result (top.new ≡ top.old) }
+pub(crate) fn pop_i32(top: &mut Current) -> u32
+    requires { is_some (number_on top.old.act.values) ≡ true }
+    ensures low { (m : ℕ) × (result ≡ low W32 m) × (top.old.act.values ≡ Num m ∷ top.new.act.values) }
     ensures rest { top.new ≡ with_act top.old (with_values top.old.act top.new.act.values) }
 {
-    let n = top.pop_number()?;
-    Some((n % (1 << 32)) as u32)
+    let n = top.pop_number();
+    (n % (1 << 32)) as u32
 }
 
 /// Puts a value on top.
 #[inline(always)]
-pub(crate) fn give(top: &mut Current, v: Value) -> Done
-    requires { IsSafe top.old (On (pushed top.old.act v)) }
-    ensures took { Took result (On (pushed top.old.act v)) top.old top.new }
+pub(crate) fn give(top: &mut Current, c: Cell) -> Done
+    requires { IsSafe top.old (On (pushed top.old.act c)) }
+    ensures took { Took result (On (pushed top.old.act c)) top.old top.new }
     ensures rest { top.new ≡ with_act top.old top.new.act }
 {
-    if !top.push(v) {
-        unreachable!();
-    }
+    top.push(c);
     Done::Goes
 }
 
@@ -45,10 +45,8 @@ fn drop_one(top: &mut Current) -> Done
     ensures took { Took result (with_top top.old.act.values (λ v vs. On (with_values top.old.act vs))) top.old top.new }
     ensures rest { top.new ≡ with_act top.old top.new.act }
 {
-    match top.pop() {
-        Some(_) => Done::Goes,
-        None => unreachable!(),
-    }
+    let _ = top.pop();
+    Done::Goes
 }
 
 /// The first of two values where the number on top isn't 0, else the second.
@@ -58,32 +56,23 @@ pub(crate) fn select(top: &mut Current) -> Done
     ensures took { Took result (select_move top.old.act) top.old top.new }
     ensures rest { top.new ≡ with_act top.old top.new.act }
 {
-    let Some(n) = pop_i32(top) else {
-        unreachable!();
-    };
-    let Some(y) = top.pop() else {
-        unreachable!();
-    };
-    let Some(x) = top.value() else {
-        unreachable!();
-    };
-    top.set_top(if n != 0 { x } else { y });
+    let n = pop_i32(top);
+    let y = top.pop();
+    if n == 0 {
+        top.set_top(y);
+    }
     Done::Goes
 }
 
 #[inline]
 fn is_null_on(top: &mut Current) -> Done
-    requires { IsSafe top.old (with_reference top.old.act.values (λ r vs. On (pushed (with_values top.old.act vs) (Value.Num (one_if (is_null r)))))) }
-    ensures took { Took result (with_reference top.old.act.values (λ r vs. On (pushed (with_values top.old.act vs) (Value.Num (one_if (is_null r)))))) top.old top.new }
+    requires { IsSafe top.old (with_reference top.old.act.values (λ r vs. On (pushed (with_values top.old.act vs) (Num (one_if (is_null r)))))) }
+    ensures took { Took result (with_reference top.old.act.values (λ r vs. On (pushed (with_values top.old.act vs) (Num (one_if (is_null r)))))) top.old top.new }
     ensures rest { top.new ≡ with_act top.old top.new.act }
 {
-    match top.value() {
-        Some(Value::Func(r)) => {
-            top.set_top(Value::Num(u64::from(r.is_none())));
-            Done::Goes
-        }
-        _ => unreachable!(),
-    }
+    let r = top.value().func();
+    top.set_top(Cell::number(u64::from(r.is_none())));
+    Done::Goes
 }
 
 /// Makes the body done.
@@ -94,16 +83,13 @@ fn give_back(top: &mut Current) -> Done
     ensures rest { top.new ≡ with_act top.old top.new.act }
 {
     let n = top.results();
-    if top.height() < n {
-        unreachable!();
-    }
     top.end_body(n);
     Done::Goes
 }
 
 /// An instruction without operands.
 #[inline(always)]
-pub(crate) fn plain(top: &mut Current, op: u8) -> Done
+pub(crate) fn plain<'m, V: View<'m>>(top: &mut Current<'m>, view: &V, op: u8) -> Done
     requires { IsSafe top.old (plain_move op (plain_form_of op) top.old.act) }
     ensures took { Took result (plain_move op (plain_form_of op) top.old.act) top.old top.new }
     ensures rest { top.new ≡ with_act top.old top.new.act }
@@ -115,28 +101,29 @@ pub(crate) fn plain(top: &mut Current, op: u8) -> Done
         0x1A => drop_one(top),
         0x1B => select(top),
         0xD1 => is_null_on(top),
-        _ => narrow(top, op),
+        _ => narrow(top, view, op),
     }
 }
 
 // ---- branches
 
-/// Goes to where a branch to the innermost block, or to the body, leads, with the values that stand there.
+/// Goes to where a branch to the innermost block, or to the body, leads.
 #[inline(always)]
-fn land(top: &mut Current)
-    ensures { top.new ≡ with_act top.old (landed_on top.old.act top.old.act.levels) }
+fn land(top: &mut Current) -> Done
+    requires safe { IsSafe top.old (branch_move top.old.act 0) }
+    ensures took { Took result (branch_move top.old.act 0) top.old top.new }
+    ensures rest { top.new ≡ with_act top.old top.new.act }
 {
     if !top.is_open() {
-        let n = top.height();
-        top.end_body(n);
-        return;
+        return give_back(top);
     }
+    let n = top.arity();
+    top.keep(n);
     match top.again() {
         Some(body) => top.set_rest(body),
-        None => {
-            let _ = top.leave();
-        }
+        None => top.leave(),
     }
+    Done::Goes
 }
 
 /// Branches with so many blocks between.
@@ -146,19 +133,10 @@ pub(crate) fn branch(top: &mut Current, k: u32) -> Done
     ensures took { Took result (branch_move top.old.act k) top.old top.new }
     ensures rest { top.new ≡ with_act top.old top.new.act }
 {
-    let height = top.height();
     for _between in 0..k {
-        if !top.leave() {
-            unreachable!();
-        }
+        top.leave();
     }
-    let n = top.arity();
-    if height < n {
-        unreachable!();
-    }
-    top.keep(n);
-    land(top);
-    Done::Goes
+    land(top)
 }
 
 /// Branches where the number on top isn't 0.
@@ -168,9 +146,7 @@ pub(crate) fn branch_if(top: &mut Current, k: u32) -> Done
     ensures took { Took result (with_i32 top.old.act.values (λ c vs. branch_if_move (with_values top.old.act vs) k c)) top.old top.new }
     ensures rest { top.new ≡ with_act top.old top.new.act }
 {
-    let Some(n) = pop_i32(top) else {
-        unreachable!();
-    };
+    let n = pop_i32(top);
     if n == 0 {
         return Done::Goes;
     }
@@ -184,9 +160,7 @@ pub(crate) fn branch_by(top: &mut Current, blocks: &[u32], last: u32) -> Done
     ensures took { Took result (with_i32 top.old.act.values (λ n vs. branch_move (with_values top.old.act vs) (unwrap_or (slice_get blocks.now n) last))) top.old top.new }
     ensures rest { top.new ≡ with_act top.old top.new.act }
 {
-    let Some(n) = pop_i32(top) else {
-        unreachable!();
-    };
+    let n = pop_i32(top);
     let k = match blocks.get(n as usize) {
         Some(k) => *k,
         None => last,
@@ -208,12 +182,7 @@ pub(crate) fn block<'m>(
     ensures took { Took result (on_some (entered_block top.old.act params results None body.now)) top.old top.new }
     ensures rest { top.new ≡ with_act top.old top.new.act }
 {
-    if top.height() < params {
-        unreachable!();
-    }
-    if !top.enter(params, results, None, body) {
-        unreachable!();
-    }
+    top.enter(params, results, None, body);
     Done::Goes
 }
 
@@ -224,12 +193,7 @@ pub(crate) fn again<'m>(top: &mut Current<'m>, params: usize, body: &'m [Instr])
     ensures took { Took result (on_some (entered_block top.old.act params params (Some body.now) body.now)) top.old top.new }
     ensures rest { top.new ≡ with_act top.old top.new.act }
 {
-    if top.height() < params {
-        unreachable!();
-    }
-    if !top.enter(params, params, Some(body), body) {
-        unreachable!();
-    }
+    top.enter(params, params, Some(body), body);
     Done::Goes
 }
 
@@ -246,26 +210,11 @@ pub(crate) fn either<'m>(
     ensures took { Took result (with_i32 top.old.act.values (λ n vs. on_some (entered_block (with_values top.old.act vs) params results None (either_of n body.now other.now)))) top.old top.new }
     ensures rest { top.new ≡ with_act top.old top.new.act }
 {
-    let Some(n) = pop_i32(top) else {
-        unreachable!();
-    };
+    let n = pop_i32(top);
     block(top, params, results, if n == 0 { other } else { body })
 }
 
-// ---- locals: numbers and references are moved apart, since a number is shorter
-
-/// Sets a local that is there.
-#[inline(always)]
-fn set_local(top: &mut Current, k: u32, v: Value) -> Done
-    requires { is_some (slice_get top.old.act.locals k) ≡ true }
-    ensures goes { result ≡ Done.Goes }
-    ensures set { top.new ≡ with_act top.old (with_locals top.old.act (slice_set top.old.act.locals k v)) }
-{
-    if !top.set_local(k, v) {
-        unreachable!();
-    }
-    Done::Goes
-}
+// ---- locals
 
 #[inline(always)]
 pub(crate) fn local_get(top: &mut Current, k: u32) -> Done
@@ -273,11 +222,8 @@ pub(crate) fn local_get(top: &mut Current, k: u32) -> Done
     ensures took { Took result (local_got top.old.act (slice_get top.old.act.locals k)) top.old top.new }
     ensures rest { top.new ≡ with_act top.old top.new.act }
 {
-    match top.local(k) {
-        Some(Value::Num(n)) => give(top, Value::Num(n)),
-        Some(Value::Func(r)) => give(top, Value::Func(r)),
-        None => unreachable!(),
-    }
+    let c = top.local(k);
+    give(top, c)
 }
 
 #[inline(always)]
@@ -286,11 +232,9 @@ pub(crate) fn local_set_to(top: &mut Current, k: u32) -> Done
     ensures took { Took result (with_top top.old.act.values (λ v vs. local_set top.old.act k v vs (slice_get top.old.act.locals k))) top.old top.new }
     ensures rest { top.new ≡ with_act top.old top.new.act }
 {
-    match top.pop() {
-        Some(Value::Num(n)) => set_local(top, k, Value::Num(n)),
-        Some(Value::Func(r)) => set_local(top, k, Value::Func(r)),
-        None => unreachable!(),
-    }
+    let c = top.pop();
+    top.set_local(k, c);
+    Done::Goes
 }
 
 #[inline(always)]
@@ -299,9 +243,7 @@ pub(crate) fn local_tee(top: &mut Current, k: u32) -> Done
     ensures took { Took result (with_top top.old.act.values (λ v vs. local_set top.old.act k v (v ∷ vs) (slice_get top.old.act.locals k))) top.old top.new }
     ensures rest { top.new ≡ with_act top.old top.new.act }
 {
-    match top.value() {
-        Some(Value::Num(n)) => set_local(top, k, Value::Num(n)),
-        Some(Value::Func(r)) => set_local(top, k, Value::Func(r)),
-        None => unreachable!(),
-    }
+    let c = top.value();
+    top.set_local(k, c);
+    Done::Goes
 }

@@ -1,5 +1,5 @@
 // The topmost activation over two flat lists, of values and of open blocks, that all activations share.
-ghost use Rattle.std.specs.Prelude.{◌≡◌, ◌≤◌, ◌<◌, ◌+◌, [], ◌∷◌, length, take, drop, reverse, Some, None, true, false, option_map, slice_get, slice_set, is_some, nat_lt, if◌then◌else◌, IfSome, IfNone, IfOk, OnOk};
+ghost use Rattle.std.specs.Prelude.{◌≡◌, ◌≤◌, ◌<◌, ◌+◌, [], ◌∷◌, length, take, drop, reverse, Some, true, option_map, slice_get, slice_set, is_some, nat_lt, IfOk, OnOk};
 ghost use Rattle.spec_execution.specs.spec_binary.Indices.{declared_locals};
 ghost use Rattle.spec_execution.specs.Values.{take_values, numbers_of};
 ghost use Rattle.spec_execution.specs.Activations.{with_values, pushed};
@@ -9,6 +9,7 @@ ghost use Rattle.wasm_step.specs.Primitives.{number_on, reference_on, with_rest,
 use crate::room::{number, of_kind, push_zeros, slide};
 use std::alloc::Global;
 use std::marker::Model;
+use wasm_cell::Cell;
 use wasm_form::{Code, Instr, Memory, Ref, ValType, Value};
 
 /// How many blocks may be open in one activation: those of a body, and one more.
@@ -43,7 +44,7 @@ pub struct Place<'m> {
 /// The topmost activation. Contracts see it as a `Top`.
 #[derive(Drop)]
 pub struct Current<'m> {
-    values: Vec<Value>,
+    values: Vec<Cell>,
     labels: Vec<Label<'m>>,
     place: Place<'m>,
 }
@@ -109,90 +110,90 @@ impl<'m> Current<'m> {
         self.values.len() - self.place.start
     }
 
-    /// Puts a value on top, where there is room for it.
+    /// Puts a value on top, within the room that was taken.
     #[inline(always)]
-    pub fn push(&mut self, v: Value) -> bool
-        ensures pushed { result ≡ true → self.new ≡ with_act self.old (pushed self.old.act v) }
-        ensures same { result ≡ false → self.new ≡ self.old }
-        ensures full { result ≡ false → IsTooHigh self.old (pushed self.old.act v) }
+    pub fn push(&mut self, c: Cell)
+        requires { IsTooHigh self.old (pushed self.old.act c) → ⊥ }
+        ensures { self.new ≡ with_act self.old (pushed self.old.act c) }
     {
-        if self.values.len() >= self.values.capacity() {
-            return false;
-        }
-        self.values.push_reserved(v);
-        true
+        self.values.push_reserved(c);
     }
 
-    /// Takes the topmost value above the innermost block.
+    /// Takes the topmost value.
     #[inline(always)]
-    pub fn pop(&mut self) -> Option<Value>
-        ensures some { IfSome result (λ v. self.old ≡ with_act self.new (pushed self.new.act v)) }
-        ensures none { IfNone result (self.old.act.values ≡ []) }
-        ensures same { IfNone result (self.new ≡ self.old) }
+    pub fn pop(&mut self) -> Cell
+        requires { 0 < length self.old.act.values }
+        ensures { self.old ≡ with_act self.new (pushed self.new.act result) }
     {
-        if self.values.len() <= self.place.start {
-            return None;
-        }
-        self.values.pop()
+        self.values.take_last().read()
     }
 
-    /// The topmost value above the innermost block.
+    /// The topmost value.
     #[inline(always)]
-    pub fn value(&self) -> Option<Value>
-        ensures { result ≡ slice_get self.now.act.values 0 }
+    pub fn value(&self) -> Cell
+        requires { 0 < length self.now.act.values }
+        ensures { Some result ≡ slice_get self.now.act.values 0 }
     {
-        if self.values.len() <= self.place.start {
-            return None;
-        }
-        Some(self.values[self.values.len() - 1])
+        self.values[self.values.len() - 1].read()
     }
 
     /// Puts a value in place of the topmost one.
     #[inline(always)]
-    pub fn set_top(&mut self, v: Value)
+    pub fn set_top(&mut self, c: Cell)
         requires { 0 < length self.old.act.values }
-        ensures { self.new ≡ with_act self.old (with_values self.old.act (v ∷ drop 1 self.old.act.values)) }
+        ensures { self.new ≡ with_act self.old (with_values self.old.act (c ∷ drop 1 self.old.act.values)) }
     {
         let last = self.values.len() - 1;
-        self.values[last] = v;
+        self.values[last] = c;
+    }
+
+    /// The topmost value, which is a number.
+    #[inline(always)]
+    pub fn number(&self) -> u64
+        requires { is_some (number_on self.now.act.values) ≡ true }
+        ensures { Some result ≡ number_on self.now.act.values }
+    {
+        self.value().bits()
+    }
+
+    /// Puts a number in place of the topmost value, which is one.
+    #[inline(always)]
+    pub fn set_number(&mut self, n: u64)
+        requires { is_some (number_on self.old.act.values) ≡ true }
+        ensures { self.new ≡ with_act self.old (with_values self.old.act (Value.Num n ∷ drop 1 self.old.act.values)) }
+    {
+        let last = self.values.len() - 1;
+        self.values[last].set_bits(n);
+    }
+
+    /// Takes the topmost value, which is a number.
+    #[inline(always)]
+    pub fn pop_number(&mut self) -> u64
+        requires { is_some (number_on self.old.act.values) ≡ true }
+        ensures { self.old ≡ with_act self.new (pushed self.new.act (Value.Num result)) }
+    {
+        self.pop().bits()
+    }
+
+    /// Takes the topmost value, which is a reference.
+    #[inline(always)]
+    pub fn pop_reference(&mut self) -> Option<Ref>
+        requires { is_some (reference_on self.old.act.values) ≡ true }
+        ensures { self.old ≡ with_act self.new (pushed self.new.act (Value.Func result)) }
+    {
+        self.pop().func()
     }
 
     /// The topmost value, if it is a number.
-    #[inline(always)]
-    pub fn number(&self) -> Option<u64>
+    pub fn find_number(&self) -> Option<u64>
         ensures { result ≡ number_on self.now.act.values }
     {
-        match self.value() {
-            Some(Value::Num(n)) => Some(n),
-            _ => None,
+        if self.height() == 0 {
+            return None;
         }
-    }
-
-    /// Takes the topmost value, if it is a number.
-    #[inline(always)]
-    pub fn pop_number(&mut self) -> Option<u64>
-        ensures some { IfSome result (λ n. self.old ≡ with_act self.new (pushed self.new.act (Value.Num n))) }
-        ensures none { IfNone result (number_on self.old.act.values ≡ None) }
-        ensures same { IfNone result (self.new ≡ self.old) }
-    {
-        let n = self.number()?;
-        let _ = self.pop();
-        Some(n)
-    }
-
-    /// Takes the topmost value, if it is a reference.
-    #[inline(always)]
-    pub fn pop_reference(&mut self) -> Option<Option<Ref>>
-        ensures some { IfSome result (λ r. self.old ≡ with_act self.new (pushed self.new.act (Value.Func r))) }
-        ensures none { IfNone result (reference_on self.old.act.values ≡ None) }
-        ensures same { IfNone result (self.new ≡ self.old) }
-    {
-        match self.value() {
-            Some(Value::Func(r)) => {
-                let _ = self.pop();
-                Some(r)
-            }
-            _ => None,
+        match self.value().value() {
+            Value::Num(n) => Some(n),
+            Value::Func(_) => None,
         }
     }
 
@@ -207,33 +208,23 @@ impl<'m> Current<'m> {
 
     // ---- locals
 
-    /// A local, if there is one of that number.
+    /// A local by its number.
     #[inline(always)]
-    pub fn local(&self, k: u32) -> Option<Value>
-        ensures { result ≡ slice_get self.now.act.locals k }
+    pub fn local(&self, k: u32) -> Cell
+        requires { is_some (slice_get self.now.act.locals k) ≡ true }
+        ensures { Some result ≡ slice_get self.now.act.locals k }
     {
-        let count = self.place.floor - self.place.base;
-        if (k as usize) < count {
-            Some(self.values[self.place.base + k as usize])
-        } else {
-            None
-        }
+        self.values[self.place.base + k as usize].read()
     }
 
-    /// Sets a local, if there is one of that number.
+    /// Sets a local by its number.
     #[inline(always)]
-    pub fn set_local(&mut self, k: u32, v: Value) -> bool
-        ensures there { result ≡ is_some (slice_get self.old.act.locals k) }
-        ensures set { result ≡ true → self.new ≡ with_act self.old (with_locals self.old.act (slice_set self.old.act.locals k v)) }
-        ensures same { result ≡ false → self.new ≡ self.old }
+    pub fn set_local(&mut self, k: u32, c: Cell)
+        requires { is_some (slice_get self.old.act.locals k) ≡ true }
+        ensures { self.new ≡ with_act self.old (with_locals self.old.act (slice_set self.old.act.locals k c)) }
     {
-        let count = self.place.floor - self.place.base;
-        if (k as usize) >= count {
-            return false;
-        }
         let at = self.place.base + k as usize;
-        self.values[at] = v;
-        true
+        self.values[at] = c;
     }
 
     // ---- instructions
@@ -265,23 +256,13 @@ impl<'m> Current<'m> {
 
     // ---- blocks
 
-    /// Opens a block with `n` values off the top, where there is room for it.
+    /// Opens a block with `n` values off the top, within the room that was taken.
     #[inline(always)]
-    pub fn enter(
-        &mut self,
-        n: usize,
-        arity: usize,
-        again: Option<&'m [Instr]>,
-        body: &'m [Instr],
-    ) -> bool
-        requires { n ≤ length self.old.act.values }
-        ensures entered { result ≡ true → self.new ≡ with_act self.old (in_block self.old.act n arity (option_map (λ b. b.now) again.entry) body.now) }
-        ensures same { result ≡ false → self.new ≡ self.old }
-        ensures full { result ≡ false → IsTooNested self.old (in_block self.old.act n arity (option_map (λ b. b.now) again.entry) body.now) }
+    pub fn enter(&mut self, n: usize, arity: usize, again: Option<&'m [Instr]>, body: &'m [Instr])
+        requires values { n ≤ length self.old.act.values }
+        requires room { IsTooNested self.old (in_block self.old.act n arity (option_map (λ b. b.now) again) body.now) → ⊥ }
+        ensures { self.new ≡ with_act self.old (in_block self.old.act n arity (option_map (λ b. b.now) again.entry) body.now) }
     {
-        if self.labels.len() >= self.labels.capacity() {
-            return false;
-        }
         let label = Label {
             start: self.place.start,
             arity,
@@ -291,27 +272,18 @@ impl<'m> Current<'m> {
         self.labels.push_reserved(label);
         self.place.start = self.values.len() - n;
         self.place.rest = body;
-        true
     }
 
-    /// Leaves the innermost block at its end, if one is open.
+    /// Leaves the innermost block at its end.
     #[inline(always)]
-    pub fn leave(&mut self) -> bool
-        ensures next { (if result then Some self.new.act else None) ≡ closed self.old.act self.old.act.levels }
+    pub fn leave(&mut self)
+        requires { is_some (first_level self.old.act.levels) ≡ true }
+        ensures next { Some self.new.act ≡ closed self.old.act self.old.act.levels }
         ensures rest { self.new ≡ with_act self.old self.new.act }
-        ensures same { result ≡ false → self.new ≡ self.old }
     {
-        if self.labels.len() <= self.place.outer {
-            return false;
-        }
-        match self.labels.pop() {
-            None => false,
-            Some(label) => {
-                self.place.start = label.start;
-                self.place.rest = label.after;
-                true
-            }
-        }
+        let label = self.labels.take_last();
+        self.place.start = label.start;
+        self.place.rest = label.after;
     }
 
     /// Whether a block is open.
@@ -322,26 +294,22 @@ impl<'m> Current<'m> {
         self.labels.len() > self.place.outer
     }
 
-    /// How many values a branch to the innermost block takes along, or else one to the body.
+    /// How many values a branch to the innermost block takes along.
     #[inline(always)]
     pub fn arity(&self) -> usize
+        requires { is_some (first_level self.now.act.levels) ≡ true }
         ensures { result ≡ arity_of self.now.act self.now.act.levels }
     {
-        match innermost(self.labels.as_slice(), self.place.outer) {
-            Some(label) => label.arity,
-            None => self.place.results,
-        }
+        innermost(self.labels.as_slice(), self.place.outer).arity
     }
 
     /// The instructions of the innermost block, if that is a loop.
     #[inline(always)]
     pub fn again(&self) -> Option<&'m [Instr]>
+        requires { is_some (first_level self.now.act.levels) ≡ true }
         ensures { option_map (λ b. b.now) result ≡ again_of self.now.act.levels }
     {
-        match innermost(self.labels.as_slice(), self.place.outer) {
-            Some(label) => label.again,
-            None => None,
-        }
+        innermost(self.labels.as_slice(), self.place.outer).again
     }
 
     /// Makes the body done, with the topmost `n` values as its results.
@@ -369,7 +337,7 @@ impl<'m> Current<'m> {
         }
         let base = self.values.len() - above - n;
         for i in 0..n {
-            if !of_kind(params[i], self.values[base + i]) {
+            if !of_kind(params[i], self.values[base + i].value()) {
                 return false;
             }
         }
@@ -389,7 +357,7 @@ impl<'m> Current<'m> {
         let mut args = Vec::new(alloc);
         let base = self.values.len() - above - params.len();
         for i in 0..params.len() {
-            if let Value::Num(n) = self.values[base + i] {
+            if let Value::Num(n) = self.values[base + i].value() {
                 args.push(number(params[i], n))?;
             }
         }
@@ -415,12 +383,12 @@ impl<'m> Current<'m> {
         Ok(())
     }
 
-    /// Puts a value on top, for which there is room.
-    pub fn push_spare(&mut self, v: Value)
+    /// Puts a number on top, for which there is room.
+    pub fn push_spare(&mut self, n: u64)
         requires { HasSpare self.old 1 }
-        ensures { self.new ≡ with_act self.old (pushed self.old.act v) }
+        ensures { self.new ≡ with_act self.old (pushed self.old.act (Value.Num n)) }
     {
-        self.values.push_reserved(v);
+        self.values.push_reserved(Cell::number(n));
     }
 
     /// Whether there is room for an activation of so many values over what is there.
@@ -569,13 +537,11 @@ fn idle_place<'m>(values: usize, labels: usize) -> Place<'m>
     }
 }
 
-/// The latest label beyond the first `outer`.
+/// The latest label, which lies beyond the first `outer`.
 #[inline(always)]
-fn innermost<'m>(labels: &[Label<'m>], outer: usize) -> Option<Label<'m>>
-    ensures { result ≡ first_label (reverse (drop outer labels.now)) }
+fn innermost<'m>(labels: &[Label<'m>], outer: usize) -> Label<'m>
+    requires { outer < length labels.now }
+    ensures { Some result ≡ first_label (reverse (drop outer labels.now)) }
 {
-    if labels.len() <= outer {
-        return None;
-    }
-    Some(labels[labels.len() - 1])
+    labels[labels.len() - 1]
 }

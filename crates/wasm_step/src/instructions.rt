@@ -1,11 +1,12 @@
 // One instruction that doesn't call.
-ghost use Rattle.std.specs.Prelude.{◌≡◌, Some, None, false, IsTrue, IsSome, IfSome, length};
+ghost use Rattle.std.specs.Prelude.{◌≡◌, ◌<◌, Some, None, false, not, is_some, IsTrue, IsSome, IfSome, IfNone, length};
 ghost use Rattle.wasm_form.specs.declared.instr.Instr.{out-Instr};
 ghost use Rattle.wasm_form.specs.Index.{index_form as index_form_of};
 ghost use Rattle.wasm_form.specs.Second.{second_form as second_form_of};
 ghost use Rattle.spec_execution.specs.Activations.{expanded, else_of, index_move, second_move, instr_move};
 ghost use Rattle.spec_execution.specs.Ranges.{HoldsAll, index_in_range, second_in_range, block_in_range};
 ghost use Rattle.wasm_step.specs.Tops.{with_act};
+ghost use Rattle.wasm_step.specs.Primitives.{past};
 ghost use Rattle.wasm_step.specs.Moves.{MakesMove, IsWithin, acted};
 ghost use Rattle.wasm_step.specs.Named.{NamesAreThere, named_here, is_call, is_call_form, is_growth, is_table_growth};
 
@@ -22,7 +23,8 @@ use crate::store::{
 };
 use std::alloc::Global;
 use std::mem;
-use wasm_form::{BlockType, Expr, Instr, SecondForm, Value, second_form};
+use wasm_cell::Cell;
+use wasm_form::{BlockType, Expr, Instr, SecondForm, second_form};
 use wasm_view::View;
 
 /// How many parameters and results a block has.
@@ -54,30 +56,62 @@ fn else_items<'m>(other: &'m Option<Expr>) -> &'m [Instr]
     }
 }
 
-/// An instruction with one index that is no call.
+/// An instruction with one index, unless it is a call.
 #[inline(always)]
-fn indexed<'m, V: View<'m>>(top: &mut Current<'m>, view: &mut V, op: u8, n: u32) -> Done
+fn indexed<'m, V: View<'m>>(top: &mut Current<'m>, view: &mut V, op: u8, n: u32) -> Option<Done>
+    requires some { 0 < length top.old.act.rest }
     requires named { IsTrue (index_in_range ((V.seen view.old).fixed.counts top.old.act.unit) n (index_form_of op)) }
-    requires no_call { is_call_form (index_form_of op) ≡ false }
     requires names { NamesAreThere (V.seen view.old).fixed }
     requires holds { HoldsAll (V.seen view.old).fixed (V.seen view.old).units }
-    requires within { IsWithin top.old (acted (V.seen view.old).fixed (V.seen view.old).units (V.seen view.old).memory (index_move n (index_form_of op) top.old.act)) }
-    ensures acted { MakesMove result (index_move n (index_form_of op) top.old.act) ⊥ top.old top.new (V.seen view.old) (V.seen view.new) }
+    requires within { is_call_form (index_form_of op) ≡ false → IsWithin top.old (acted (V.seen view.old).fixed (V.seen view.old).units (V.seen view.old).memory (index_move n (index_form_of op) (past top.old.act))) }
+    ensures call { is_some result ≡ not (is_call_form (index_form_of op)) }
+    ensures acted { IfSome result (λ done. MakesMove done (index_move n (index_form_of op) (past top.old.act)) ⊥ top.old top.new (V.seen view.old) (V.seen view.new)) }
+    ensures none { IfNone result ((top.new ≡ top.old) × (V.seen view.new ≡ V.seen view.old)) }
     ensures rest { top.new ≡ with_act top.old top.new.act }
     ensures fixed { (V.seen view.new).fixed ≡ (V.seen view.old).fixed }
 {
     match op {
-        0x0C => branch(top, n),
-        0x0D => branch_if(top, n),
-        0x10 => unreachable!(),
-        0x20 => local_get(top, n),
-        0x21 => local_set_to(top, n),
-        0x22 => local_tee(top, n),
-        0x23 => global_get(top, view, n),
-        0x24 => global_set(top, view, n),
-        0x25 => table_get(top, view, n),
-        0x26 => table_set(top, view, n),
-        0xD2 => refer(top, view, n),
+        0x0C => {
+            top.advance();
+            Some(branch(top, n))
+        }
+        0x0D => {
+            top.advance();
+            Some(branch_if(top, n))
+        }
+        0x10 => None,
+        0x20 => {
+            top.advance();
+            Some(local_get(top, n))
+        }
+        0x21 => {
+            top.advance();
+            Some(local_set_to(top, n))
+        }
+        0x22 => {
+            top.advance();
+            Some(local_tee(top, n))
+        }
+        0x23 => {
+            top.advance();
+            Some(global_get(top, view, n))
+        }
+        0x24 => {
+            top.advance();
+            Some(global_set(top, view, n))
+        }
+        0x25 => {
+            top.advance();
+            Some(table_get(top, view, n))
+        }
+        0x26 => {
+            top.advance();
+            Some(table_set(top, view, n))
+        }
+        0xD2 => {
+            top.advance();
+            Some(refer(top, view, n))
+        }
         _ => unreachable!(),
     }
 }
@@ -116,8 +150,7 @@ fn prefixed<'m, V: View<'m>>(
     }
 }
 
-/// One instruction that is no call, past which the activation stands. What isn't inlined runs on `spare`, so that `top` may lie in
-/// registers.
+/// The next instruction, unless it is a call. What isn't inlined runs on `spare`, so that `top` may lie in registers.
 #[inline(always)]
 pub fn instruction<'m, V: View<'m>>(
     top: &mut Current<'m>,
@@ -125,56 +158,85 @@ pub fn instruction<'m, V: View<'m>>(
     alloc: Global,
     view: &mut V,
     i: &'m Instr,
-) -> Done
+) -> Option<Done>
+    requires some { 0 < length top.old.act.rest }
     requires named { IsTrue (named_here ((V.seen view.old).fixed.counts top.old.act.unit) (out-Instr i.now)) }
-    requires no_call { is_call (out-Instr i.now) ≡ false }
     requires names { NamesAreThere (V.seen view.old).fixed }
     requires holds { HoldsAll (V.seen view.old).fixed (V.seen view.old).units }
-    requires within { IsWithin top.old (acted (V.seen view.old).fixed (V.seen view.old).units (V.seen view.old).memory (instr_move ((V.seen view.old).fixed.declared top.old.act.unit) (out-Instr i.now) top.old.act)) }
-    ensures acted { MakesMove result (instr_move ((V.seen view.old).fixed.declared top.old.act.unit) (out-Instr i.now) top.old.act) (IsTrue (is_growth (out-Instr i.now))) top.old top.new (V.seen view.old) (V.seen view.new) }
+    requires within { is_call (out-Instr i.now) ≡ false → IsWithin top.old (acted (V.seen view.old).fixed (V.seen view.old).units (V.seen view.old).memory (instr_move ((V.seen view.old).fixed.declared top.old.act.unit) (out-Instr i.now) (past top.old.act))) }
+    ensures call { is_some result ≡ not (is_call (out-Instr i.now)) }
+    ensures acted { IfSome result (λ done. MakesMove done (instr_move ((V.seen view.old).fixed.declared top.old.act.unit) (out-Instr i.now) (past top.old.act)) (IsTrue (is_growth (out-Instr i.now))) top.old top.new (V.seen view.old) (V.seen view.new)) }
+    ensures none { IfNone result ((top.new ≡ top.old) × (V.seen view.new ≡ V.seen view.old)) }
     ensures rest { top.new ≡ with_act top.old top.new.act }
     ensures fixed { (V.seen view.new).fixed ≡ (V.seen view.old).fixed }
 {
     match i {
-        Instr::Plain(op) => plain(top, *op),
+        Instr::Plain(op) => {
+            top.advance();
+            Some(plain(top, view, *op))
+        }
         Instr::Index(op, n) => indexed(top, view, *op, *n),
         Instr::Block(ty, body) => {
+            top.advance();
             let (params, results) = sizes(view, top.unit(), *ty);
-            block(top, params, results, body.list.items())
+            Some(block(top, params, results, body.list.items()))
         }
         Instr::Loop(ty, body) => {
+            top.advance();
             let (params, _) = sizes(view, top.unit(), *ty);
-            again(top, params, body.list.items())
+            Some(again(top, params, body.list.items()))
         }
         Instr::If(ty, body, other) => {
+            top.advance();
             let (params, results) = sizes(view, top.unit(), *ty);
-            either(top, params, results, body.list.items(), else_items(other))
+            Some(either(top, params, results, body.list.items(), else_items(other)))
         }
         Instr::BrTable(blocks, last) => {
+            top.advance();
             mem::swap(top, spare);
             let done = branch_by(spare, blocks.items(), *last);
             mem::swap(top, spare);
-            done
+            Some(done)
         }
-        Instr::CallIndirect { .. } => unreachable!(),
-        Instr::Select(_) => select(top),
-        Instr::Access { op, offset, .. } => access(top, view, *op, *offset),
-        Instr::MemorySize => memory_size(top, view),
+        Instr::CallIndirect { .. } => None,
+        Instr::Select(_) => {
+            top.advance();
+            Some(select(top))
+        }
+        Instr::Access { op, offset, .. } => {
+            top.advance();
+            Some(access(top, view, *op, *offset))
+        }
+        Instr::MemorySize => {
+            top.advance();
+            Some(memory_size(top, view))
+        }
         Instr::MemoryGrow => {
+            top.advance();
             mem::swap(top, spare);
             let done = memory_grow(spare, alloc, view);
             mem::swap(top, spare);
-            done
+            Some(done)
         }
-        Instr::I32Const(n) => give(top, Value::Num(u64::from(n.cast_unsigned()))),
-        Instr::I64Const(n) => give(top, Value::Num(n.cast_unsigned())),
+        Instr::I32Const(n) => {
+            top.advance();
+            Some(give(top, Cell::number(u64::from(n.cast_unsigned()))))
+        }
+        Instr::I64Const(n) => {
+            top.advance();
+            Some(give(top, Cell::number(n.cast_unsigned())))
+        }
         Instr::F32Const(_) | Instr::F64Const(_) => unreachable!(),
-        Instr::RefNull(_) => give(top, Value::Func(None)),
+        Instr::RefNull(_) => {
+            top.advance();
+            Some(give(top, Cell::reference(None)))
+        }
         Instr::Prefixed { op, a, b } => {
+            top.advance();
             mem::swap(top, spare);
             let done = prefixed(spare, alloc, view, *op, *a, *b);
             mem::swap(top, spare);
-            done
+            Some(done)
         }
     }
 }

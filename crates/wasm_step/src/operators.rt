@@ -11,8 +11,9 @@ ghost use Rattle.wasm_step.specs.Opcodes.{is_narrow, is_wide};
 
 use crate::current::Current;
 use crate::done::Done;
-use wasm_form::{Trap, Value};
+use wasm_form::Trap;
 use wasm_num::{binary, compare, convert, unary};
+use wasm_view::View;
 
 /// The low 32 bits of a number.
 #[inline(always)]
@@ -30,11 +31,9 @@ fn unary_on(top: &mut Current, op: u8) -> Done
     ensures took { Took result (with_number top.old.act.values (λ n vs. unary_move (with_values top.old.act vs) n (unary_of op))) top.old top.new }
     ensures rest { top.new ≡ with_act top.old top.new.act }
 {
-    let Some(n) = top.number() else {
-        unreachable!();
-    };
+    let n = top.number();
     let n = if op <= 0x69 { low_word(n) } else { n };
-    top.set_top(Value::Num(unary(op, n)));
+    top.set_number(unary(op, n));
     Done::Goes
 }
 
@@ -60,15 +59,11 @@ fn binary_on(top: &mut Current, op: u8) -> Done
     ensures took { Took result (with_number top.old.act.values (λ y vs. with_number vs (λ x ws. binary_move (with_values top.old.act ws) x y (binary_of op)))) top.old top.new }
     ensures rest { top.new ≡ with_act top.old top.new.act }
 {
-    let Some(y) = top.pop_number() else {
-        unreachable!();
-    };
-    let Some(x) = top.number() else {
-        unreachable!();
-    };
+    let y = top.pop_number();
+    let x = top.number();
     match computed(op, x, y) {
         Ok(n) => {
-            top.set_top(Value::Num(n));
+            top.set_number(n);
             Done::Goes
         }
         Err(trap) => Done::Trapped(trap),
@@ -96,10 +91,8 @@ fn test_on(top: &mut Current, op: u8) -> Done
     ensures took { Took result (with_number top.old.act.values (λ n vs. compare_move (with_values top.old.act vs) n 0 (compare_of op))) top.old top.new }
     ensures rest { top.new ≡ with_act top.old top.new.act }
 {
-    let Some(n) = top.number() else {
-        unreachable!();
-    };
-    top.set_top(Value::Num(u64::from(compared(op, n, 0))));
+    let n = top.number();
+    top.set_number(u64::from(compared(op, n, 0)));
     Done::Goes
 }
 
@@ -111,13 +104,9 @@ fn compare_on(top: &mut Current, op: u8) -> Done
     ensures took { Took result (with_number top.old.act.values (λ y vs. with_number vs (λ x ws. compare_move (with_values top.old.act ws) x y (compare_of op)))) top.old top.new }
     ensures rest { top.new ≡ with_act top.old top.new.act }
 {
-    let Some(y) = top.pop_number() else {
-        unreachable!();
-    };
-    let Some(x) = top.number() else {
-        unreachable!();
-    };
-    top.set_top(Value::Num(u64::from(compared(op, x, y))));
+    let y = top.pop_number();
+    let x = top.number();
+    top.set_number(u64::from(compared(op, x, y)));
     Done::Goes
 }
 
@@ -129,21 +118,20 @@ fn convert_on(top: &mut Current, op: u8) -> Done
     ensures took { Took result (with_number top.old.act.values (λ n vs. convert_move (with_values top.old.act vs) n (convert_of op))) top.old top.new }
     ensures rest { top.new ≡ with_act top.old top.new.act }
 {
-    let Some(n) = top.number() else {
-        unreachable!();
-    };
+    let n = top.number();
     let n = if op == 0xA7 || op >= 0xC2 {
         n
     } else {
         low_word(n)
     };
-    top.set_top(Value::Num(convert(op, n)));
+    top.set_number(convert(op, n));
     Done::Goes
 }
 
-/// An operator of i32 by its opcode, or one of the others.
+/// An operator of i32 by its opcode, or one of the others. The view is not looked at: a run over each view has this function for itself,
+/// which is called once, and so inlined whatever its size.
 #[inline(always)]
-pub(crate) fn narrow(top: &mut Current, op: u8) -> Done
+pub(crate) fn narrow<'m, V: View<'m>>(top: &mut Current<'m>, _view: &V, op: u8) -> Done
     requires safe { IsSafe top.old (plain_move op (as_plain (operator_of op)) top.old.act) }
     ensures took { Took result (plain_move op (as_plain (operator_of op)) top.old.act) top.old top.new }
     ensures rest { top.new ≡ with_act top.old top.new.act }

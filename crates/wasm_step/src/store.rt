@@ -15,7 +15,8 @@ use crate::control::{give, pop_i32};
 use crate::current::Current;
 use crate::done::Done;
 use std::alloc::Global;
-use wasm_form::{MemoryAccess, Trap, Value, memory_access};
+use wasm_cell::Cell;
+use wasm_form::{MemoryAccess, Trap, memory_access};
 use wasm_num::convert;
 use wasm_view::View;
 
@@ -41,7 +42,7 @@ pub(crate) fn refer<'m, V: View<'m>>(top: &mut Current<'m>, view: &V, f: u32) ->
     ensures acted { MakesMove result (Refers f top.old.act) ⊥ top.old top.new (V.seen view.now) (V.seen view.now) }
     ensures rest { top.new ≡ with_act top.old top.new.act }
 {
-    give(top, Value::Func(Some(view.target(top.unit(), f))))
+    give(top, Cell::reference(Some(view.target(top.unit(), f))))
 }
 
 /// The value of a global.
@@ -53,7 +54,7 @@ pub(crate) fn global_get<'m, V: View<'m>>(top: &mut Current<'m>, view: &V, g: u3
     ensures acted { MakesMove result (Does (GlobalGet g) top.old.act) ⊥ top.old top.new (V.seen view.now) (V.seen view.now) }
     ensures rest { top.new ≡ with_act top.old top.new.act }
 {
-    give(top, view.global(top.unit(), g))
+    give(top, Cell::of(view.global(top.unit(), g)))
 }
 
 /// Sets a global.
@@ -66,9 +67,7 @@ pub(crate) fn global_set<'m, V: View<'m>>(top: &mut Current<'m>, view: &mut V, g
     ensures rest { top.new ≡ with_act top.old top.new.act }
     ensures fixed { (V.seen view.new).fixed ≡ (V.seen view.old).fixed }
 {
-    let Some(v) = top.pop() else {
-        unreachable!();
-    };
+    let v = top.pop().value();
     view.set_global(top.unit(), g, v);
     Done::Goes
 }
@@ -84,12 +83,10 @@ pub(crate) fn table_get<'m, V: View<'m>>(top: &mut Current<'m>, view: &V, t: u32
     ensures acted { MakesMove result (with_i32 top.old.act.values (λ i vs. Does (TableGet t i) (with_values top.old.act vs))) ⊥ top.old top.new (V.seen view.now) (V.seen view.now) }
     ensures rest { top.new ≡ with_act top.old top.new.act }
 {
-    let Some(n) = top.number() else {
-        unreachable!();
-    };
+    let n = top.number();
     match view.table(top.unit(), t).get(low_index(n)) {
         Ok(r) => {
-            top.set_top(Value::Func(r));
+            top.set_top(Cell::reference(r));
             Done::Goes
         }
         Err(trap) => Done::Trapped(trap),
@@ -106,12 +103,8 @@ pub(crate) fn table_set<'m, V: View<'m>>(top: &mut Current<'m>, view: &mut V, t:
     ensures rest { top.new ≡ with_act top.old top.new.act }
     ensures fixed { (V.seen view.new).fixed ≡ (V.seen view.old).fixed }
 {
-    let Some(r) = top.pop_reference() else {
-        unreachable!();
-    };
-    let Some(i) = pop_i32(top) else {
-        unreachable!();
-    };
+    let r = top.pop_reference();
+    let i = pop_i32(top);
     changed(view.table_set(top.unit(), t, i, r))
 }
 
@@ -124,7 +117,7 @@ pub(crate) fn table_size<'m, V: View<'m>>(top: &mut Current<'m>, view: &V, t: u3
     ensures rest { top.new ≡ with_act top.old top.new.act }
 {
     let size = view.table(top.unit(), t).size();
-    give(top, Value::Num(u64::from(size)))
+    give(top, Cell::number(u64::from(size)))
 }
 
 /// Adds entries to a table.
@@ -141,15 +134,11 @@ pub(crate) fn table_grow<'m, V: View<'m>>(
     ensures rest { top.new ≡ with_act top.old top.new.act }
     ensures fixed { (V.seen view.new).fixed ≡ (V.seen view.old).fixed }
 {
-    let Some(n) = pop_i32(top) else {
-        unreachable!();
-    };
-    let Some(Value::Func(r)) = top.value() else {
-        unreachable!();
-    };
+    let n = pop_i32(top);
+    let r = top.value().func();
     match view.table_grow(alloc, top.unit(), t, n, r) {
         Ok(size) => {
-            top.set_top(Value::Num(u64::from(size)));
+            top.set_top(Cell::number(u64::from(size)));
             Done::Goes
         }
         Err(_) => Done::NoMemory,
@@ -165,15 +154,9 @@ pub(crate) fn table_fill<'m, V: View<'m>>(top: &mut Current<'m>, view: &mut V, t
     ensures rest { top.new ≡ with_act top.old top.new.act }
     ensures fixed { (V.seen view.new).fixed ≡ (V.seen view.old).fixed }
 {
-    let Some(n) = pop_i32(top) else {
-        unreachable!();
-    };
-    let Some(r) = top.pop_reference() else {
-        unreachable!();
-    };
-    let Some(i) = pop_i32(top) else {
-        unreachable!();
-    };
+    let n = pop_i32(top);
+    let r = top.pop_reference();
+    let i = pop_i32(top);
     changed(view.table_fill(top.unit(), t, i, r, n))
 }
 
@@ -192,15 +175,9 @@ pub(crate) fn table_copy<'m, V: View<'m>>(
     ensures rest { top.new ≡ with_act top.old top.new.act }
     ensures fixed { (V.seen view.new).fixed ≡ (V.seen view.old).fixed }
 {
-    let Some(n) = pop_i32(top) else {
-        unreachable!();
-    };
-    let Some(from) = pop_i32(top) else {
-        unreachable!();
-    };
-    let Some(to) = pop_i32(top) else {
-        unreachable!();
-    };
+    let n = pop_i32(top);
+    let from = pop_i32(top);
+    let to = pop_i32(top);
     changed(view.table_copy(top.unit(), t, u, to, from, n))
 }
 
@@ -219,15 +196,9 @@ pub(crate) fn table_init<'m, V: View<'m>>(
     ensures rest { top.new ≡ with_act top.old top.new.act }
     ensures fixed { (V.seen view.new).fixed ≡ (V.seen view.old).fixed }
 {
-    let Some(n) = pop_i32(top) else {
-        unreachable!();
-    };
-    let Some(from) = pop_i32(top) else {
-        unreachable!();
-    };
-    let Some(to) = pop_i32(top) else {
-        unreachable!();
-    };
+    let n = pop_i32(top);
+    let from = pop_i32(top);
+    let to = pop_i32(top);
     changed(view.table_init(top.unit(), t, e, to, from, n))
 }
 
@@ -300,12 +271,10 @@ pub(crate) fn load<'m, V: View<'m>>(
     ensures acted { MakesMove result (with_i32 top.old.act.values (λ at vs. Does (Load op access offset at) (with_values top.old.act vs))) ⊥ top.old top.new (V.seen view.now) (V.seen view.now) }
     ensures rest { top.new ≡ with_act top.old top.new.act }
 {
-    let Some(at) = top.number() else {
-        unreachable!();
-    };
+    let at = top.number();
     match view.memory().load(low_index(at), offset, length_of(access)) {
         Ok(n) => {
-            top.set_top(Value::Num(extended(op, n, access)));
+            top.set_number(extended(op, n, access));
             Done::Goes
         }
         Err(trap) => Done::Trapped(trap),
@@ -328,12 +297,8 @@ pub(crate) fn store<'m, V: View<'m>>(
     ensures rest { top.new ≡ with_act top.old top.new.act }
     ensures fixed { (V.seen view.new).fixed ≡ (V.seen view.old).fixed }
 {
-    let Some(v) = top.pop_number() else {
-        unreachable!();
-    };
-    let Some(at) = pop_i32(top) else {
-        unreachable!();
-    };
+    let v = top.pop_number();
+    let at = pop_i32(top);
     changed(view.memory_store(at, offset, length_of(access), v))
 }
 
@@ -402,7 +367,7 @@ pub(crate) fn memory_size<'m, V: View<'m>>(top: &mut Current<'m>, view: &V) -> D
     ensures rest { top.new ≡ with_act top.old top.new.act }
 {
     let size = view.memory().size();
-    give(top, Value::Num(u64::from(size)))
+    give(top, Cell::number(u64::from(size)))
 }
 
 /// Adds pages to the memory.
@@ -418,12 +383,10 @@ pub(crate) fn memory_grow<'m, V: View<'m>>(
     ensures rest { top.new ≡ with_act top.old top.new.act }
     ensures fixed { (V.seen view.new).fixed ≡ (V.seen view.old).fixed }
 {
-    let Some(n) = top.number() else {
-        unreachable!();
-    };
+    let n = top.number();
     match view.memory_grow(alloc, low_index(n)) {
         Ok(size) => {
-            top.set_top(Value::Num(u64::from(size)));
+            top.set_number(u64::from(size));
             Done::Goes
         }
         Err(_) => Done::NoMemory,
@@ -437,15 +400,9 @@ pub(crate) fn memory_copy<'m, V: View<'m>>(top: &mut Current<'m>, view: &mut V) 
     ensures rest { top.new ≡ with_act top.old top.new.act }
     ensures fixed { (V.seen view.new).fixed ≡ (V.seen view.old).fixed }
 {
-    let Some(n) = pop_i32(top) else {
-        unreachable!();
-    };
-    let Some(from) = pop_i32(top) else {
-        unreachable!();
-    };
-    let Some(to) = pop_i32(top) else {
-        unreachable!();
-    };
+    let n = pop_i32(top);
+    let from = pop_i32(top);
+    let to = pop_i32(top);
     changed(view.memory_copy(to, from, n))
 }
 
@@ -456,15 +413,9 @@ pub(crate) fn memory_fill<'m, V: View<'m>>(top: &mut Current<'m>, view: &mut V) 
     ensures rest { top.new ≡ with_act top.old top.new.act }
     ensures fixed { (V.seen view.new).fixed ≡ (V.seen view.old).fixed }
 {
-    let Some(n) = pop_i32(top) else {
-        unreachable!();
-    };
-    let Some(byte) = pop_i32(top) else {
-        unreachable!();
-    };
-    let Some(to) = pop_i32(top) else {
-        unreachable!();
-    };
+    let n = pop_i32(top);
+    let byte = pop_i32(top);
+    let to = pop_i32(top);
     changed(view.memory_fill(to, (byte % 256) as u8, n))
 }
 
@@ -477,15 +428,9 @@ pub(crate) fn memory_init<'m, V: View<'m>>(top: &mut Current<'m>, view: &mut V, 
     ensures rest { top.new ≡ with_act top.old top.new.act }
     ensures fixed { (V.seen view.new).fixed ≡ (V.seen view.old).fixed }
 {
-    let Some(n) = pop_i32(top) else {
-        unreachable!();
-    };
-    let Some(from) = pop_i32(top) else {
-        unreachable!();
-    };
-    let Some(to) = pop_i32(top) else {
-        unreachable!();
-    };
+    let n = pop_i32(top);
+    let from = pop_i32(top);
+    let to = pop_i32(top);
     changed(view.memory_init(top.unit(), d, to, from, n))
 }
 

@@ -13,7 +13,7 @@ target-requires g c κs =
 pub table-requires : goal.table-requires
 table-requires g c κs =
     let q : callee_of (out-Instr c.in-Some.i.now) ≡ Some (callee.Entry c.in-Some-Entry.field-0-0 c.in-Some-Entry.table) = cc in
-    ((refl, tt), rw c.unit-in-Some-number.ensures (table_in_range _ _ _ c.requires.rest (c.in-Some.ensures {u = tt}) _ _ q))
+    ((refl, tt), rw c.unit-in-Some-find_number.ensures (table_in_range _ _ _ c.requires.rest (c.in-Some.ensures {u = tt}) _ _ q))
 
 pub returns-in-Some-Function : goal.returns-in-Some-Function
 returns-in-Some-Function g c =
