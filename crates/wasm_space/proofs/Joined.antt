@@ -5,7 +5,7 @@ use Rattle.std.proofs.lemmas.List.Elements.{All-append, All-set, All-get_or, All
 use Rattle.std.proofs.Math.Seq.{drop-append-add}
 use Rattle.spec_runtime.specs.Memories.{zeros, overwritten}
 use Rattle.wasm_space.specs.Paged.{joined, IsPage, ArePages}
-use Rattle.wasm_space.proofs.Parts.{overwritten_inside, length-overwritten, overwritten_more, overwritten_nil, overwritten_all, part_more, part_before, drop-overwritten, overwritten_before}
+use Rattle.wasm_space.proofs.Parts.{overwritten_inside, length-overwritten, overwritten_more, overwritten_nil, overwritten_all, part_more}
 
 pub joined-append : (xs ys : List (List ℕ)) → joined (xs ++ ys) ≡ joined xs ++ joined ys
 joined-append [] ys = refl
@@ -116,45 +116,6 @@ all_read pages first at done whole within all =
     let size : length (joined pages) ≡ length pages * 65536 = length-joined pages whole in
     let full : length (take (length first) (drop at (joined pages))) ≡ length first = length-take-le (length first) (drop at (joined pages)) (rw (length-drop, size) (omega arith)) in
     rw all (overwritten_all first (take (length first) (drop at (joined pages))) full)
-
--- bytes that were moved down as far as `done`, and then some more
-pub moved_down : (old pages after : List (List ℕ)) (b : List ℕ) (to from done n : ℕ) → ArePages old → to ≤ from → from + done + n ≤ length old * 65536
-    → joined pages ≡ overwritten (joined old) to (take done (drop from (joined old))) → b ≡ take n (drop (from + done) (joined pages)) → joined after ≡ overwritten (joined pages) (to + done) b
-    → joined after ≡ overwritten (joined old) to (take (done + n) (drop from (joined old)))
-moved_down old pages after b to from done n whole lower fits was read is =
-    let J = joined old in
-    let a = take done (drop from J) in
-    let all : length J ≡ length old * 65536 = length-joined old whole in
-    let size : length a ≡ done = length-take-le done (drop from J) (rw (length-drop, all) (omega arith)) in
-    let within : to + length a ≤ length J = rw (size, all) (omega arith) in
-    let passed : to + length a ≤ from + done = rw size (omega arith) in
-    let b_is : b ≡ take n (drop (from + done) J) = read ∙ ap (λ xs. take n (drop (from + done) xs)) was ∙ ap (take n) (drop-overwritten J to a (from + done) within passed) in
-    let size' : length (take n (drop (from + done) J)) ≡ n = length-take-le n (drop (from + done) J) (rw (length-drop, all) (omega arith)) in
-    let room : to + done + length (take n (drop (from + done) J)) ≤ length J = rw (size', all) (omega arith) in
-    is ∙ rw (was, b_is) (overwritten_more J to a (take n (drop (from + done) J)) done size room ∙ ap (overwritten J to) (part_more J from done n))
-
--- bytes that were moved up from `left` on, and then some more
-pub moved_up : (old pages after : List (List ℕ)) (b : List ℕ) (to from count left n : ℕ) → ArePages old → from ≤ to → to + count ≤ length old * 65536 → left ≤ count → n ≤ left
-    → joined pages ≡ overwritten (joined old) (to + left) (take (count - left) (drop (from + left) (joined old))) → b ≡ take n (drop (from + (left - n)) (joined pages)) → joined after ≡ overwritten (joined pages) (to + (left - n)) b
-    → joined after ≡ overwritten (joined old) (to + (left - n)) (take (count - (left - n)) (drop (from + (left - n)) (joined old)))
-moved_up old pages after b to from count left n whole higher fits le few was read is =
-    let J = joined old in
-    let low = left - n in
-    let a = take (count - left) (drop (from + left) J) in
-    let all : length J ≡ length old * 65536 = length-joined old whole in
-    let size : length a ≡ count - left = length-take-le (count - left) (drop (from + left) J) (rw (length-drop, all) (omega arith)) in
-    let within : to + left + length a ≤ length J = rw (size, all) (omega arith) in
-    let passed : from + low + n ≤ to + left = omega arith in
-    let b_is : b ≡ take n (drop (from + low) J) = read ∙ ap (λ xs. take n (drop (from + low) xs)) was ∙ part_before J a (to + left) (from + low) n within passed in
-    let c = take n (drop (from + low) J) in
-    let size' : length c ≡ n = length-take-le n (drop (from + low) J) (rw (length-drop, all) (omega arith)) in
-    let place : to + left ≡ to + low + n = omega arith in
-    let place' : from + left ≡ from + low + n = omega arith in
-    let sum : n + (count - left) ≡ count - low = omega arith in
-    let room : to + low + n + length a ≤ length J = rw (size, all) (omega arith) in
-    is ∙ ap (λ xs. overwritten xs (to + low) b) was ∙ ap (λ k. overwritten (overwritten J k a) (to + low) b) place ∙ ap (overwritten (overwritten J (to + low + n) a) (to + low)) b_is
-    ∙ overwritten_before J (to + low) c a n size' room
-    ∙ ap (λ k. overwritten J (to + low) (c ++ take (count - left) (drop k J))) place' ∙ ap (overwritten J (to + low)) (part_more J (from + low) n (count - left) ∙ ap (λ k. take k (drop (from + low) J)) sum)
 
 -- one page was written
 pub page_wrote : (pages : List (List ℕ)) (page d new : List ℕ) (at : ℕ) → ArePages pages → at / 65536 < length pages → at % 65536 + length new ≤ 65536

@@ -4,6 +4,7 @@ ghost use Rattle.spec_runtime.specs.Memories.{page_size, zeros, overwritten, lit
 ghost use Rattle.wasm_space.specs.Access.{IsAccessLength};
 
 use crate::little::{read_little, write_little};
+use crate::shift::shift;
 use spec_runtime::wasm_form::Memory;
 use std::alloc::Global;
 use std::marker::Model;
@@ -82,12 +83,12 @@ impl Page {
         self.bytes[at..at + n].fill(byte);
     }
 
-    /// Copies bytes inside the page.
+    /// Copies bytes inside the page, as if all were read before the first is written.
     pub fn shift(&mut self, to: usize, from: usize, n: usize)
         requires from { from + n ≤ page_size }
         requires to { to + n ≤ page_size }
         ensures { self.new ≡ overwritten self.old to (take n (drop from self.old)) }
     {
-        self.bytes.copy_within(from..from + n, to);
+        shift(&mut *self.bytes, to, from, n);
     }
 }

@@ -4,11 +4,9 @@ ghost use Rattle.spec_runtime.specs.Memories.{page_size, zeros, overwritten};
 ghost use Rattle.wasm_space.specs.Paged.{joined, ArePages};
 
 use crate::page::{PAGE, Page};
+use crate::shift::BLOCK;
 use spec_runtime::wasm_form::Memory;
 use std::alloc::Global;
-
-/// How many bytes are moved at once between pages.
-const BLOCK: usize = 1024;
 
 /// So many pages of zeros.
 pub(crate) fn new_pages(alloc: Global, n: u32) -> Result<Vec<Page>, Memory>
