@@ -87,9 +87,9 @@ fn give_back(top: &mut Current) -> Done
     Done::Goes
 }
 
-/// An instruction without operands.
-#[inline(always)]
-pub(crate) fn plain<'m, V: View<'m>>(top: &mut Current<'m>, view: &V, op: u8) -> Done
+/// An instruction without operands. The view is not looked at: a run over each view has this function for itself, which is called once,
+/// and so inlined whatever its size.
+pub(crate) fn plain<'m, V: View<'m>>(top: &mut Current<'m>, _view: &V, op: u8) -> Done
     requires { IsSafe top.old (plain_move op (plain_form_of op) top.old.act) }
     ensures took { Took result (plain_move op (plain_form_of op) top.old.act) top.old top.new }
     ensures rest { top.new ≡ with_act top.old top.new.act }
@@ -101,7 +101,7 @@ pub(crate) fn plain<'m, V: View<'m>>(top: &mut Current<'m>, view: &V, op: u8) ->
         0x1A => drop_one(top),
         0x1B => select(top),
         0xD1 => is_null_on(top),
-        _ => narrow(top, view, op),
+        _ => narrow(top, op),
     }
 }
 

@@ -148,7 +148,6 @@ impl<'m> Current<'m> {
     }
 
     /// The topmost value, which is a number.
-    #[inline(always)]
     pub fn number(&self) -> u64
         requires { is_some (number_on self.now.act.values) ≡ true }
         ensures { Some result ≡ number_on self.now.act.values }
@@ -157,7 +156,6 @@ impl<'m> Current<'m> {
     }
 
     /// Puts a number in place of the topmost value, which is one.
-    #[inline(always)]
     pub fn set_number(&mut self, n: u64)
         requires { is_some (number_on self.old.act.values) ≡ true }
         ensures { self.new ≡ with_act self.old (with_values self.old.act (Value.Num n ∷ drop 1 self.old.act.values)) }
@@ -167,7 +165,6 @@ impl<'m> Current<'m> {
     }
 
     /// Takes the topmost value, which is a number.
-    #[inline(always)]
     pub fn pop_number(&mut self) -> u64
         requires { is_some (number_on self.old.act.values) ≡ true }
         ensures { self.old ≡ with_act self.new (pushed self.new.act (Value.Num result)) }

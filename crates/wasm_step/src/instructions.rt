@@ -8,7 +8,7 @@ ghost use Rattle.spec_execution.specs.Ranges.{HoldsAll, index_in_range, second_i
 ghost use Rattle.wasm_step.specs.Tops.{with_act};
 ghost use Rattle.wasm_step.specs.Primitives.{past};
 ghost use Rattle.wasm_step.specs.Moves.{MakesMove, IsWithin, acted};
-ghost use Rattle.wasm_step.specs.Named.{NamesAreThere, named_here, is_call, is_call_form, is_growth, is_table_growth};
+ghost use Rattle.wasm_step.specs.Named.{NamesAreThere, named_here, is_call, is_call_form, is_growth, is_table_growth, is_copy_or_fill};
 
 use crate::control::{
     again, block, branch, branch_by, branch_if, either, give, local_get, local_set_to, local_tee,
@@ -56,8 +56,7 @@ fn else_items<'m>(other: &'m Option<Expr>) -> &'m [Instr]
     }
 }
 
-/// An instruction with one index, unless it is a call.
-#[inline(always)]
+/// An instruction with one index, unless it is a call. A run over each view calls it once.
 fn indexed<'m, V: View<'m>>(top: &mut Current<'m>, view: &mut V, op: u8, n: u32) -> Option<Done>
     requires some { 0 < length top.old.act.rest }
     requires named { IsTrue (index_in_range ((V.seen view.old).fixed.counts top.old.act.unit) n (index_form_of op)) }
@@ -116,11 +115,44 @@ fn indexed<'m, V: View<'m>>(top: &mut Current<'m>, view: &mut V, op: u8, n: u32)
     }
 }
 
-/// An instruction with a second opcode.
+/// An instruction with a second opcode that neither copies nor fills bytes of the memory.
 #[cold]
 #[inline(never)]
+fn rare<'m, V: View<'m>>(
+    top: &mut Current<'m>,
+    alloc: Global,
+    view: &mut V,
+    op: u32,
+    a: u32,
+    b: u32,
+) -> Done
+    requires rare { is_copy_or_fill (second_form_of op) ≡ false }
+    requires named { IsTrue (second_in_range ((V.seen view.old).fixed.counts top.old.act.unit) a b (second_form_of op)) }
+    requires names { NamesAreThere (V.seen view.old).fixed }
+    requires holds { HoldsAll (V.seen view.old).fixed (V.seen view.old).units }
+    requires within { IsWithin top.old (acted (V.seen view.old).fixed (V.seen view.old).units (V.seen view.old).memory (second_move (second_form_of op) a b top.old.act)) }
+    ensures acted { MakesMove result (second_move (second_form_of op) a b top.old.act) (IsTrue (is_table_growth (second_form_of op))) top.old top.new (V.seen view.old) (V.seen view.new) }
+    ensures rest { top.new ≡ with_act top.old top.new.act }
+    ensures fixed { (V.seen view.new).fixed ≡ (V.seen view.old).fixed }
+{
+    match second_form(op) {
+        None | Some(SecondForm::MemoryCopy | SecondForm::MemoryFill) => unreachable!(),
+        Some(SecondForm::MemoryInit) => memory_init(top, view, a),
+        Some(SecondForm::DataDrop) => data_drop(top, view, a),
+        Some(SecondForm::TableInit) => table_init(top, view, a, b),
+        Some(SecondForm::ElemDrop) => elem_drop(top, view, a),
+        Some(SecondForm::TableCopy) => table_copy(top, view, a, b),
+        Some(SecondForm::TableGrow) => table_grow(top, alloc, view, a),
+        Some(SecondForm::TableSize) => table_size(top, view, a),
+        Some(SecondForm::TableFill) => table_fill(top, view, a),
+    }
+}
+
+/// An instruction with a second opcode. What isn't inlined runs on `spare`.
+#[inline(always)]
 fn prefixed<'m, V: View<'m>>(
     top: &mut Current<'m>,
+    spare: &mut Current<'m>,
     alloc: Global,
     view: &mut V,
     op: u32,
@@ -136,17 +168,14 @@ fn prefixed<'m, V: View<'m>>(
     ensures fixed { (V.seen view.new).fixed ≡ (V.seen view.old).fixed }
 {
     match second_form(op) {
-        None => unreachable!(),
-        Some(SecondForm::MemoryInit) => memory_init(top, view, a),
-        Some(SecondForm::DataDrop) => data_drop(top, view, a),
         Some(SecondForm::MemoryCopy) => memory_copy(top, view),
         Some(SecondForm::MemoryFill) => memory_fill(top, view),
-        Some(SecondForm::TableInit) => table_init(top, view, a, b),
-        Some(SecondForm::ElemDrop) => elem_drop(top, view, a),
-        Some(SecondForm::TableCopy) => table_copy(top, view, a, b),
-        Some(SecondForm::TableGrow) => table_grow(top, alloc, view, a),
-        Some(SecondForm::TableSize) => table_size(top, view, a),
-        Some(SecondForm::TableFill) => table_fill(top, view, a),
+        _ => {
+            mem::swap(top, spare);
+            let done = rare(spare, alloc, view, op, a, b);
+            mem::swap(top, spare);
+            done
+        }
     }
 }
 
@@ -233,10 +262,7 @@ pub fn instruction<'m, V: View<'m>>(
         }
         Instr::Prefixed { op, a, b } => {
             top.advance();
-            mem::swap(top, spare);
-            let done = prefixed(spare, alloc, view, *op, *a, *b);
-            mem::swap(top, spare);
-            Some(done)
+            Some(prefixed(top, spare, alloc, view, *op, *a, *b))
         }
     }
 }

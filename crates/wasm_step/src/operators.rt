@@ -13,7 +13,6 @@ use crate::current::Current;
 use crate::done::Done;
 use wasm_form::Trap;
 use wasm_num::{binary, compare, convert, unary};
-use wasm_view::View;
 
 /// The low 32 bits of a number.
 #[inline(always)]
@@ -38,7 +37,6 @@ fn unary_on(top: &mut Current, op: u8) -> Done
 }
 
 /// What an operator gives of two numbers. The opcodes up to 78 are those of 32 bits.
-#[inline(always)]
 fn computed(op: u8, x: u64, y: u64) -> Result<u64, Trap>
     requires { IsSome (binary_of op) }
     ensures { IfSome (binary_of op) (λ o. result ≡ answer (binary_outcome o.0 o.1 (low o.0 x) (low o.0 y))) }
@@ -71,7 +69,6 @@ fn binary_on(top: &mut Current, op: u8) -> Done
 }
 
 /// What a comparison says of two numbers. The opcodes up to 4F are those of 32 bits.
-#[inline(always)]
 fn compared(op: u8, x: u64, y: u64) -> bool
     requires { IsSome (compare_of op) }
     ensures { IfSome (compare_of op) (λ o. result ≡ compare_result o.0 o.1 (low o.0 x) (low o.0 y)) }
@@ -128,10 +125,9 @@ fn convert_on(top: &mut Current, op: u8) -> Done
     Done::Goes
 }
 
-/// An operator of i32 by its opcode, or one of the others. The view is not looked at: a run over each view has this function for itself,
-/// which is called once, and so inlined whatever its size.
+/// An operator of i32 by its opcode, or one of the others.
 #[inline(always)]
-pub(crate) fn narrow<'m, V: View<'m>>(top: &mut Current<'m>, _view: &V, op: u8) -> Done
+pub(crate) fn narrow(top: &mut Current, op: u8) -> Done
     requires safe { IsSafe top.old (plain_move op (as_plain (operator_of op)) top.old.act) }
     ensures took { Took result (plain_move op (as_plain (operator_of op)) top.old.act) top.old top.new }
     ensures rest { top.new ≡ with_act top.old top.new.act }

@@ -21,7 +21,6 @@ use wasm_num::convert;
 use wasm_view::View;
 
 /// What becomes of a change that may trap.
-#[inline(always)]
 fn changed(answer: Result<(), Trap>) -> Done
     ensures { MatchResult answer (λ _. result ≡ Done.Goes) (λ why. result ≡ Done.Trapped why) }
 {
@@ -322,8 +321,7 @@ fn accessed<'m, V: View<'m>>(top: &mut Current<'m>, view: &mut V, op: u8, offset
     }
 }
 
-/// A load or a store by its opcode.
-#[inline(always)]
+/// A load or a store by its opcode. A run over each view calls it once.
 pub(crate) fn access<'m, V: View<'m>>(
     top: &mut Current<'m>,
     view: &mut V,
@@ -394,6 +392,7 @@ pub(crate) fn memory_grow<'m, V: View<'m>>(
 }
 
 /// Copies bytes of the memory.
+#[inline(always)]
 pub(crate) fn memory_copy<'m, V: View<'m>>(top: &mut Current<'m>, view: &mut V) -> Done
     requires within { IsWithin top.old (acted (V.seen view.old).fixed (V.seen view.old).units (V.seen view.old).memory (with_three top.old.act MemoryCopy)) }
     ensures acted { MakesMove result (with_three top.old.act MemoryCopy) ⊥ top.old top.new (V.seen view.old) (V.seen view.new) }
@@ -407,6 +406,7 @@ pub(crate) fn memory_copy<'m, V: View<'m>>(top: &mut Current<'m>, view: &mut V) 
 }
 
 /// Sets bytes of the memory to one value.
+#[inline(always)]
 pub(crate) fn memory_fill<'m, V: View<'m>>(top: &mut Current<'m>, view: &mut V) -> Done
     requires within { IsWithin top.old (acted (V.seen view.old).fixed (V.seen view.old).units (V.seen view.old).memory (with_three top.old.act (λ to byte n. MemoryFill to (byte % 256) n))) }
     ensures acted { MakesMove result (with_three top.old.act (λ to byte n. MemoryFill to (byte % 256) n)) ⊥ top.old top.new (V.seen view.old) (V.seen view.new) }
