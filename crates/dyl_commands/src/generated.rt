@@ -1,5 +1,5 @@
 // Making a set, and running it loaded and merged.
-ghost use Rattle.std.specs.Prelude.{◌≡◌, ◌≤◌, ◌∷◌, [], ℕ, All, IfOk, None, Ok};
+ghost use Rattle.std.specs.Prelude.{◌≡◌, ◌≤◌, ◌∷◌, [], All, IfOk, None, Ok};
 ghost use Rattle.spec_hosts.specs.dyl_outside.Files.{FilesState};
 ghost use Rattle.spec_reading.specs.spec_binary.DecodeAnswers.{DecodeAnswer};
 ghost use Rattle.spec_reading.specs.spec_binary.WellFormed.{IsWellFormed};
@@ -13,7 +13,6 @@ ghost use Rattle.merge_whole.specs.Merges.{IsSupported};
 ghost use Rattle.dyl_link.specs.dyl_search.Gathers.{options_of};
 ghost use Rattle.dyl_link.specs.Kept as links;
 ghost use Rattle.dyl_link.specs.Kept.{IsLinked};
-ghost use Rattle.dyl_gen.specs.Laws.{set_options};
 ghost use Rattle.dyl_commands.specs.Generated.{with_pages};
 ghost use Rattle.dyl_commands.specs.Served.{Serves};
 ghost use Rattle.dyl_commands.specs.Runs.{guest_arguments, GenWorks};

@@ -1,5 +1,5 @@
 // Merging a set.
-ghost use Rattle.std.specs.Prelude.{◌≡◌, ◌≤◌, ℕ, All, Ok};
+ghost use Rattle.std.specs.Prelude.{◌≡◌, ℕ, All, Ok};
 ghost use Rattle.host_calls.specs.Embedders.{names_of};
 ghost use Rattle.spec_loading.specs.spec_linking.LinkedSets.{LinkedSet};
 ghost use Rattle.dyl_link.specs.Kept.{IsLinked};

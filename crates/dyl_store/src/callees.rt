@@ -1,5 +1,5 @@
 // The functions that phases call.
-ghost use Rattle.std.specs.Prelude.{◌≡◌, ◌≢◌, ◌<◌, length, Some, IfSome};
+ghost use Rattle.std.specs.Prelude.{◌≡◌, ◌<◌, length, Some, IfSome};
 ghost use Rattle.spec_loading.specs.spec_binary.Indices.{nullary};
 ghost use Rattle.spec_loading.specs.spec_execution.Views.{type_of as type_seen};
 ghost use Rattle.spec_loading.specs.spec_linking.LinkedSets.{LinkedSet};

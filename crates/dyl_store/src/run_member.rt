@@ -1,5 +1,5 @@
 // A member in a run: its code, and where what it has stands in the store.
-ghost use Rattle.std.specs.Prelude.{◌≡◌, ◌<◌, length, Some, IsSome, IfSome};
+ghost use Rattle.std.specs.Prelude.{◌≡◌, ◌<◌, IsSome, IfSome};
 ghost use Rattle.spec_loading.specs.spec_binary.IndexSpaces.{imported_count};
 ghost use Rattle.spec_loading.specs.spec_binary.Indices.{declared_locals, function_at};
 

@@ -1,5 +1,5 @@
 // A loaded program.
-ghost use Rattle.std.specs.Prelude.{◌≡◌, ◌<◌, ◌≤◌, false, true, map, slice_get, IfOk, OnOk, OnErr};
+ghost use Rattle.std.specs.Prelude.{◌≡◌, ◌<◌, ◌≤◌, false, map, slice_get, IfOk, OnOk, OnErr};
 ghost use Rattle.spec_hosts.specs.spec_runtime.Recorded as recorded;
 ghost use Rattle.dyl_link.specs.host_table.Names.{host_name_of};
 ghost use Rattle.spec_hosts.specs.spec_runtime.Courses.{status_at, memory_at, IsAt, is_waiting, with_answer, as_lost};

@@ -1,5 +1,5 @@
 // Data segments.
-ghost use Rattle.std.specs.Prelude.{◌≡◌, ◌≤◌, ◌<◌, ◌^◌, ◌++◌, ◌∷◌, [], length, map, IfOk, OnOk};
+ghost use Rattle.std.specs.Prelude.{◌≡◌, ◌≤◌, ◌<◌, ◌^◌, ◌++◌, [], length, map, IfOk, OnOk};
 ghost use Rattle.snap_module.specs.Held.{passive_data};
 ghost use Rattle.snap_parts.specs.Sections.{MemoryAlone, DatasHeld};
 

@@ -1,5 +1,5 @@
 // Element segments.
-ghost use Rattle.std.specs.Prelude.{◌≡◌, ◌≤◌, ◌<◌, ◌^◌, ◌++◌, ◌∷◌, [], length, map, IfOk, OnOk};
+ghost use Rattle.std.specs.Prelude.{◌≡◌, ◌≤◌, ◌<◌, ◌^◌, ◌++◌, length, map, IfOk, OnOk};
 ghost use Rattle.spec_loading.specs.spec_binary.IndexSpaces.{function_space};
 ghost use Rattle.merge_match.specs.Renumbering.{table_instance};
 ghost use Rattle.merge_index.specs.Kept.{numbers_in};

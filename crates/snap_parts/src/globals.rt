@@ -1,5 +1,5 @@
 // Globals, tables and the memory with what they hold.
-ghost use Rattle.std.specs.Prelude.{◌≡◌, ◌≤◌, ◌^◌, ◌++◌, ◌∷◌, [], length, map, IfOk, OnOk};
+ghost use Rattle.std.specs.Prelude.{◌≡◌, ◌≤◌, ◌^◌, ◌++◌, length, map, IfOk, OnOk};
 ghost use Rattle.wasm_form.specs.declared.runtime.Value.TheVariants.{Num};
 ghost use Rattle.merge_match.specs.Renumbering as renumbering;
 ghost use Rattle.merge_match.specs.Renumbering.{value, table_instance};

@@ -1,5 +1,5 @@
 // The module that holds what a run has.
-ghost use Rattle.std.specs.Prelude.{◌≡◌, IfOk, OnOk};
+ghost use Rattle.std.specs.Prelude.{IfOk, OnOk};
 ghost use Rattle.merge_index.specs.Kept.{numbers_in};
 ghost use Rattle.snap_parts.specs.Built.{store_in, IsBuilt};
 ghost use Rattle.snap_parts.specs.Made.{WithGlobals, WithTables, WithMemory, WithExports, WithElems, WithDatas};

@@ -10,7 +10,6 @@ ghost use Rattle.merge_index.specs.Kept.{numbers_in};
 ghost use Rattle.dyl_addresses.specs.Sets.{IsOfSet, module_of};
 ghost use Rattle.dyl_link.specs.dyl_search.declared.set.Member as declared;
 ghost use Rattle.merge_module.specs.MergedModule.{number_global, merged_globals};
-ghost use Rattle.merge_whole.specs.Counts.{members_of};
 ghost use Rattle.merge_whole.specs.Built.{where_used};
 ghost use Rattle.merge_whole.specs.GlobalDefs.{FitsIn, AreFit, bases_by, value_by, own_by, cells_by, globals_by, all_globals, zeros_for, loader_zeros};
 

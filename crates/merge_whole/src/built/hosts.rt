@@ -3,7 +3,6 @@ ghost use Rattle.std.specs.Prelude.{◌≡◌, ℕ, ◌+◌, ◌<◌, ◌≤◌,
 ghost use Rattle.std.specs.List.{list_any, position_or_len};
 ghost use Rattle.spec_reading.specs.spec_binary.SameTypes.{same_function_type};
 ghost use Rattle.spec_loading.specs.spec_linking.Definitions.{or_other};
-ghost use Rattle.dyl_link.specs.Kept.{function_in};
 ghost use Rattle.dyl_link.specs.host_table.Names.{host_name_of};
 ghost use Rattle.dyl_addresses.specs.Sets.{IsOfSet};
 ghost use Rattle.merge_index.specs.Kept.{numbers_in};

@@ -3,7 +3,7 @@ ghost use Rattle.std.specs.Prelude.{◌≡◌, ◌++◌, ◌∷◌, [], IfOk, On
 ghost use Rattle.spec_loading.specs.spec_linking.LinkedSets.{LinkedSet};
 ghost use Rattle.dyl_link.specs.Kept.{IsLinked};
 ghost use Rattle.merge_module.specs.MergedModule.{merged_tables, shared_memory_type};
-ghost use Rattle.merge_whole.specs.Built.{joined, tables_of, shared_table_in, tables_in, memory_in};
+ghost use Rattle.merge_whole.specs.Built.{joined, tables_of, shared_table_in, tables_in};
 
 use dyl_link::Linked;
 use dyl_link::dyl_search::Member;
