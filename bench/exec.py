@@ -1,23 +1,26 @@
 #!/usr/bin/env python3
 """Times `wdyl exec` beside other engines on whole programs.
 
-    python3 bench/exec.py bin/wdyl
+    python3 bench/exec.py bin/wdyl [OTHER]
 
-It compiles the programs of bench/exec by clang with wasm-ld, and runs each by wdyl, by wasm-interp of wabt and by node, of these
-as many as there are. Each run is made three times, and the best one counts: the processor time of the process in seconds. A
-program ends with a result as its exit code, modulo 256, which has to be the same for all; the exit status is 1 where it isn't.
+It compiles the programs of bench/exec by clang with wasm-ld, and runs each by wdyl, by another program of wdyl where one is
+given, by wasm-interp of wabt and by node, of these as many as there are. They run by turns, nine times each. Printed are the
+medians of the processor time of the process in seconds, and beside each but the first how many times as long it took: the median
+of the ratios within each turn. A program ends with a result as its exit code, modulo 256, which has to be the same for all; the
+exit status is 1 where it isn't.
 """
 
 import glob
 import os
 import re
 import shutil
+import statistics
 import subprocess
 import sys
 import tempfile
 
 HERE = os.path.dirname(os.path.abspath(__file__))
-RUNS = 3
+TURNS = 9
 CLANG = ["clang", "--target=wasm32", "-O2", "-mbulk-memory", "-nostdlib", "-Wl,--no-entry", "-Wl,--export=_start", "-o"]
 
 
@@ -51,35 +54,53 @@ def by_call(status, printed):
 
 def engines(wdyl):
     """The engines that are there: how each runs a module, and how its result is read."""
-    listed = [("wdyl", [wdyl, "exec"], by_status)]
+    listed = {"wdyl": ([wdyl, "exec"], by_status)}
     if shutil.which("wasm-interp"):
-        listed.append(("wasm-interp", ["wasm-interp", "--dummy-import-func", "--run-all-exports"], by_call))
+        listed["wasm-interp"] = (["wasm-interp", "--dummy-import-func", "--run-all-exports"], by_call)
     if shutil.which("node"):
-        listed.append(("node", ["node", os.path.join(HERE, "exec", "run.mjs")], by_status))
+        listed["node"] = (["node", os.path.join(HERE, "exec", "run.mjs")], by_status)
     return listed
 
 
-def measured(command, result_of):
-    """The best time, and the result."""
-    runs = [timed(command) for _ in range(RUNS)]
-    return min(seconds for seconds, _, _ in runs), result_of(*runs[0][1:])
+def turns(listed):
+    """The seconds of each command at each turn, by its name, and the results of all of the last turn."""
+    taken = {name: [] for name in listed}
+    for _ in range(TURNS):
+        results = set()
+        for name, (command, result_of) in listed.items():
+            seconds, status, printed = timed(command)
+            taken[name].append(seconds)
+            results.add(result_of(status, printed))
+    return taken, results
+
+
+def ratio(one, other):
+    """How many times as long the one took as the other: the median of the ratios within each turn."""
+    return statistics.median(a / max(b, 0.0005) for a, b in zip(one, other))
+
+
+def shown(results):
+    """The result, or those that differ."""
+    return "/".join(map(str, sorted(results, key=str))).rjust(6)
 
 
 def main():
-    if len(sys.argv) != 2:
-        sys.exit("usage: exec.py WDYL")
+    if len(sys.argv) not in (2, 3):
+        sys.exit("usage: exec.py WDYL [OTHER]")
     for tool in ["clang", "wasm-ld"]:
         if not shutil.which(tool):
             sys.exit(f"{tool} is missing: the programs can't be compiled")
-    listed = engines(os.path.abspath(sys.argv[1]))
-    print("program".ljust(10), "result", *(name.rjust(12) for name, _, _ in listed))
+    first, *others = engines(os.path.abspath(sys.argv[1])).items()
+    listed = dict([first, *(("other", ([os.path.abspath(path), "exec"], by_status)) for path in sys.argv[2:]), *others])
+    print("program".ljust(10), "result", *(name.rjust(8 if name == "wdyl" else 16) for name in listed))
     same = True
     with tempfile.TemporaryDirectory() as folder:
         for program, module in compiled(folder).items():
-            found = [measured([*command, module], result_of) for _, command, result_of in listed]
-            results = {result for _, result in found}
+            taken, results = turns({name: ([*command, module], result_of) for name, (command, result_of) in listed.items()})
             same = same and len(results) == 1
-            print(program.ljust(10), "/".join(map(str, sorted(results, key=str))).rjust(6), *(f"{seconds:12.3f}" for seconds, _ in found))
+            columns = [f"{statistics.median(taken['wdyl']):8.3f}"]
+            columns += [f"{statistics.median(taken[name]):9.3f} ({ratio(taken[name], taken['wdyl']):4.2f})" for name in listed if name != "wdyl"]
+            print(program.ljust(10), shown(results), *columns, flush=True)
     if not same:
         sys.exit("the results differ")
 

@@ -4,9 +4,10 @@
     python3 bench/programs.py bin/wdyl
 
 Each program of bench/exec is compiled twice: as one module, as exec.py does, and as position-independent code that is linked as the
-main module of a set, which `wdyl merge` then merges. Printed is processor time in seconds, the best of three: `exec` of the module,
-`run` of the set and `exec` of the merged module by wdyl, the module and the merged module by node, and the module by wasm-interp,
-where these are there. Results have to be the same; the exit status is 1 where they aren't.
+main module of a set, which `wdyl merge` then merges. Printed is processor time in seconds, the median of nine turns: `exec` of the
+module, `run` of the set and `exec` of the merged module by wdyl, the module and the merged module by node, and the module by
+wasm-interp, where these are there; and the medians of two ratios within each turn. Results have to be the same; the exit status is 1
+where they aren't.
 
 The aims: node takes at most 1.1 times as long for the merged module as for the module. `run` and `exec` of the merged module
 interpret the same code, and `run` may take 1.05 times as long.
@@ -15,11 +16,12 @@ interpret the same code, and `run` may take 1.05 times as long.
 import glob
 import os
 import shutil
+import statistics
 import subprocess
 import sys
 import tempfile
 
-from exec import HERE, compiled, engines, measured
+from exec import HERE, compiled, engines, ratio, shown, turns
 
 CLANG = ["clang", "--target=wasm32-unknown-emscripten", "-O2", "-fPIC", "-fvisibility=hidden", "-mbulk-memory", "-mmutable-globals"]
 LINK = ["wasm-ld", "--experimental-pic", "-pie", "--import-memory", "--import-table", "--no-entry", "--export=_start", "-o"]
@@ -41,7 +43,7 @@ def runs(wdyl, module, main, merged):
     """The commands with their names, and how the result of each is read."""
     subprocess.run([wdyl, "merge", main, merged], check=True)
     listed = {}
-    for name, command, result_of in engines(wdyl):
+    for name, (command, result_of) in engines(wdyl).items():
         if name == "wdyl":
             listed["exec"] = ([*command, module], result_of)
             listed["run"] = ([wdyl, "run", main], result_of)
@@ -53,12 +55,12 @@ def runs(wdyl, module, main, merged):
     return listed
 
 
-def told(seconds):
+def told(taken):
     """The seconds, and how many times as long `run` and the merged module take."""
-    parts = [f"{name} {time:.3f}" for name, time in seconds.items()]
-    parts.append(f"run by exec merged {seconds['run'] / seconds['exec merged']:.2f}")
-    if "node" in seconds:
-        parts.append(f"node merged by node {seconds['node merged'] / seconds['node']:.2f}")
+    parts = [f"{name} {statistics.median(seconds):.3f}" for name, seconds in taken.items()]
+    parts.append(f"run by exec merged {ratio(taken['run'], taken['exec merged']):.2f}")
+    if "node" in taken:
+        parts.append(f"node merged by node {ratio(taken['node merged'], taken['node']):.2f}")
     return ", ".join(parts)
 
 
@@ -74,11 +76,9 @@ def main():
         modules, mains = compiled(folder), linked(folder)
         for program, module in modules.items():
             listed = runs(wdyl, module, mains[program], os.path.join(folder, program + ".merged.wasm"))
-            found = {name: measured(*run) for name, run in listed.items()}
-            results = {result for _, result in found.values()}
+            taken, results = turns(listed)
             same = same and len(results) == 1
-            seconds = {name: time for name, (time, _) in found.items()}
-            print(program.ljust(10), "/".join(map(str, sorted(results, key=str))).rjust(6), told(seconds), flush=True)
+            print(program.ljust(10), shown(results), told(taken), flush=True)
     if not same:
         sys.exit("the results differ")
 
