@@ -63,10 +63,9 @@ def engines(wdyl):
 
 
 def turns(listed):
-    """The seconds of each command at each turn, by its name, and the results of all of the last turn."""
-    taken = {name: [] for name in listed}
+    """The seconds of each command at each turn, by its name, and the results of all."""
+    taken, results = {name: [] for name in listed}, set()
     for _ in range(TURNS):
-        results = set()
         for name, (command, result_of) in listed.items():
             seconds, status, printed = timed(command)
             taken[name].append(seconds)
