@@ -5,7 +5,7 @@
 # make install    puts the program, its manual page, and the headers and start files of the examples under PREFIX, which is
 #                 /usr/local if not given; make uninstall removes them
 # make bench  builds it and measures it
-# make speed  measures runs of whole programs beside other engines
+# make speed  measures runs of whole programs beside other engines, and beside another program of wdyl, OTHER, where one is given
 # make codec  measures decoding, encoding and checking beside wabt, and merging beside these
 # make inner  measures the memories and integer operators of a run beside C
 # make compare  runs random modules and random sets by wdyl and by node, validates changed ones by wdyl and by wabt, and replays traces
@@ -20,6 +20,7 @@
 SOURCES := crates.txt $(shell find crates -name out -prune -o -type f \( -name '*.rt' -o -name '*.antt' \) -print)
 
 PREFIX = /usr/local
+OTHER =
 MINUTES = 10
 SEED = 0
 programs = $(DESTDIR)$(PREFIX)/bin
@@ -74,7 +75,7 @@ bench: bin/wdyl
 	else echo "node is missing: the merged module that recurses for ever isn't run"; fi
 
 speed: bin/wdyl
-	python3 bench/exec.py bin/wdyl
+	python3 bench/exec.py bin/wdyl $(OTHER)
 	python3 bench/programs.py bin/wdyl
 
 codec: bin/wdyl
