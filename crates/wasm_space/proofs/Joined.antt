@@ -1,5 +1,5 @@
 -- Bytes in pages.
-use Rattle.std.proofs.Common.{◌≡◌, refl, ◌∙◌, sym, ap, subst, ℕ, suc, ◌+◌, ◌-◌, ◌*◌, ◌/◌, ◌%◌, ◌≤◌, ◌<◌, List, [], ◌∷◌, ◌++◌, length, take, drop, set, get_or, replicate, arith, append_assoc, append-nil, length-append}
+use Rattle.std.proofs.Common.{◌≡◌, refl, ◌∙◌, sym, ap, subst, ℕ, suc, ◌+◌, ◌*◌, ◌/◌, ◌%◌, ◌≤◌, ◌<◌, List, [], ◌∷◌, ◌++◌, length, take, drop, set, get_or, replicate, arith, append_assoc, append-nil, length-append}
 use Rattle.std.proofs.lemmas.List.{drop_more, set_split, take-append-drop, length-take-le, take-append-le, drop-append-le, replicate-append-replicate, length-drop, length-replicate}
 use Rattle.std.proofs.lemmas.List.Elements.{All-append, All-set, All-get_or, All-nil, All-take, All-head, All-tail, All-cons}
 use Rattle.std.proofs.Math.Seq.{drop-append-add}

@@ -118,11 +118,7 @@ pub(crate) fn move_bytes(pages: &mut [Page], to: usize, from: usize, count: usiz
     ensures bytes { joined pages.new ≡ overwritten (joined pages.old) to (take count (drop from (joined pages.old))) }
     ensures whole { ArePages pages.new }
 {
-    let page = to / PAGE;
-    let last = (to % PAGE).max(from % PAGE);
-    if page == from / PAGE && page < pages.len() && last + count <= PAGE {
-        pages[page].shift(to % PAGE, from % PAGE, count);
-    } else if to <= from {
+    if to <= from {
         move_down(pages, to, from, count);
     } else {
         move_up(pages, to, from, count);

@@ -158,7 +158,26 @@ impl Space {
 
     /// Copies `n` bytes from `from` to `to`, as if all were read before the first is written; `MemoryBounds` where
     /// either range passes the end, and nothing is written (section 4.4.7, memory.copy).
+    #[inline(never)]
     pub fn copy(&mut self, to: u32, from: u32, n: u32) -> Result<(), Trap>
+        ensures { ChangesOrTraps Trap.MemoryBounds self.old (copied self.old to from n) result self.new }
+    {
+        let page = to as usize / PAGE;
+        let (place, first) = (to as usize % PAGE, from as usize % PAGE);
+        if page == from as usize / PAGE
+            && page < self.pages.len()
+            && place.max(first) + n as usize <= PAGE
+        {
+            self.pages[page].shift(place, first, n as usize);
+            return Ok(());
+        }
+        self.copy_across(to, from, n)
+    }
+
+    /// The same where the bytes lie in several pages, or pass the end.
+    #[cold]
+    #[inline(never)]
+    fn copy_across(&mut self, to: u32, from: u32, n: u32) -> Result<(), Trap>
         ensures { ChangesOrTraps Trap.MemoryBounds self.old (copied self.old to from n) result self.new }
     {
         let (to, from, n) = (to as usize, from as usize, n as usize);

@@ -1,31 +1,38 @@
-use Rattle.std.proofs.Common.{◌∙◌, ap, ◌+◌, ◌*◌, ◌≤◌, length, take, drop, sym, arith}
-use Rattle.std.specs.Vec.{with_items}
-use Rattle.std.proofs.lemmas.List.{with_items_is}
+use Rattle.std.proofs.Common.{◌≡◌, ◌∙◌, ap, sym, ◌+◌, ◌*◌, ◌/◌, ◌%◌, ◌≤◌, ◌<◌, ℕ, List, length, set, take, drop, length-set, arith}
 use Rattle.spec_runtime.specs.Memories.{overwritten}
 use Rattle.wasm_space.specs.Paged.{joined}
+use Rattle.wasm_space.proofs.Joined.{page_shifted}
 use Rattle.wasm_space.proofs.Stored.{initial, size_is, bytes_are}
 use Rattle.wasm_space.proofs.space.Space.copy.Goals as goal
 
-pub returns : goal.returns
-returns c =
+pub invariant_of-self : goal.invariant_of-self
+invariant_of-self c =
     let s = c.self.inside in
-    let size = size_is c.args.self.now s.pages.items s.max c.self.view_is c.self.invariant.0 in
+    let to = c.args.to in
+    let from = c.args.from in
     let n = c.args.n in
-    let given : c.args.from + n ≤ length c.args.self.now.bytes = omega arith in
-    let fits : c.args.to + n ≤ length s.pages.items * 65536 = omega arith in
-    initial c.args.self.now s.pages.items s.max c.self.view_is c.self.invariant.0 (with_items s.pages c.move_bytes.new.pages).items c.args.self.now.bytes c.args.to c.args.from n given fits
-    (ap joined (with_items_is s.pages c.move_bytes.new.pages (c.move_bytes.auto.pages ∙ c.deref_mut.ensures.len)) ∙ c.move_bytes.ensures.bytes ∙ ap (λ xs. overwritten (joined xs) c.args.to (take n (drop c.args.from (joined xs)))) c.deref_mut.ensures.value ∙ ap (λ xs. overwritten (joined s.pages.items) c.args.to (take n (drop c.args.from xs))) (sym (bytes_are c.args.self.now s.pages.items s.max c.self.view_is c.self.invariant.0)))
+    let lt : to / 65536 < length s.pages.items = omega (arith, s.pages.ok.0) in
+    let same : to / 65536 ≡ from / 65536 = omega arith in
+    let fits_to : to % 65536 + n ≤ 65536 = omega (arith, c.max.ensures) in
+    let fits_from : from % 65536 + n ≤ 65536 = omega (arith, c.max.ensures) in
+    let new = c.shift.ensures ∙ ap (λ (p : List ℕ). overwritten p (to % 65536) (take n (drop (from % 65536) p))) c.index_mut.ensures.value in
+    let w = page_shifted s.pages.items c.index_mut.result.now c.shift.new.self to from n c.self.invariant.0 same lt fits_to fits_from new in
+    (w.1, rw length-set c.self.invariant.1, c.self.invariant.2)
 
-pub move_bytes-requires-clause-to : goal.move_bytes-requires-clause-to
-move_bytes-requires-clause-to c =
+pub returns-then-max-n-le-PAGE : goal.returns-then-max-n-le-PAGE
+returns-then-max-n-le-PAGE c =
     let s = c.self.inside in
+    let to = c.args.to in
+    let from = c.args.from in
+    let n = c.args.n in
     let size = size_is c.args.self.now s.pages.items s.max c.self.view_is c.self.invariant.0 in
-    let same = ap length c.deref_mut.ensures.value in
-    omega (arith, size, same)
-
-pub move_bytes-requires-clause-from : goal.move_bytes-requires-clause-from
-move_bytes-requires-clause-from c =
-    let s = c.self.inside in
-    let size = size_is c.args.self.now s.pages.items s.max c.self.view_is c.self.invariant.0 in
-    let same = ap length c.deref_mut.ensures.value in
-    omega (arith, size, same)
+    let lt : to / 65536 < length s.pages.items = omega (arith, s.pages.ok.0) in
+    let same : to / 65536 ≡ from / 65536 = omega arith in
+    let fits_to : to % 65536 + n ≤ 65536 = omega (arith, c.max.ensures) in
+    let fits_from : from % 65536 + n ≤ 65536 = omega (arith, c.max.ensures) in
+    let new = c.shift.ensures ∙ ap (λ (p : List ℕ). overwritten p (to % 65536) (take n (drop (from % 65536) p))) c.index_mut.ensures.value in
+    let w = page_shifted s.pages.items c.index_mut.result.now c.shift.new.self to from n c.self.invariant.0 same lt fits_to fits_from new in
+    let given : from + n ≤ length c.args.self.now.bytes = omega (arith, size) in
+    let fits : to + n ≤ length s.pages.items * 65536 = omega arith in
+    initial c.args.self.now s.pages.items s.max c.self.view_is c.self.invariant.0 (set s.pages.items (to / 65536) c.shift.new.self) c.args.self.now.bytes to from n given fits
+    (w.0 ∙ ap (λ xs. overwritten (joined s.pages.items) to (take n (drop from xs))) (sym (bytes_are c.args.self.now s.pages.items s.max c.self.view_is c.self.invariant.0)))
