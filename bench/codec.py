@@ -3,10 +3,11 @@
 
     python3 bench/codec.py
 
-It builds bench/codec/main.rattle over copies of the crates. Each work is done three times, and the best time counts: the
-processor time of the process, less that of one which reads the file alone; what `encode` and `check` take is less that of
-one which decodes. Figures are megabytes of the file in a second. The first build proves crates that weren't built before,
-which takes minutes.
+It builds bench/codec/main.rattle over copies of the crates. The works are done by turns, five times each, and the best time
+counts: the processor time of the process, less that of one which reads the file alone; what `encode` and `check` take is less
+that of one which decodes. Figures are megabytes of the file in a second, and how many times as long wasm-validate takes as
+decoding and checking together: the aim for code is 3. The first build proves crates that weren't built before, which takes
+minutes.
 """
 
 import os
@@ -19,7 +20,7 @@ import tempfile
 import crates
 
 USED = ["dyl_outside", "wasm_form", "wasm_decode", "wasm_encode", "wasm_check"]
-RUNS = 3
+RUNS = 5
 MIB = 1 << 20
 SIZES = [1, 4, 16]
 WABT = [("wasm-validate", ["wasm-validate"]), ("wasm-objdump -h", ["wasm-objdump", "-h"])]
@@ -77,16 +78,23 @@ def many_sections(size):
     return module([one] * (size // len(one)))
 
 
-def processor_time(words, runs=RUNS):
-    """The processor time of the best of some runs, and what the last one printed."""
-    best = None
-    for _ in range(runs):
-        before = resource.getrusage(resource.RUSAGE_CHILDREN)
-        run = subprocess.run(words, capture_output=True, check=False)
-        after = resource.getrusage(resource.RUSAGE_CHILDREN)
-        took = after.ru_utime + after.ru_stime - before.ru_utime - before.ru_stime
-        best = took if best is None else min(best, took)
-    return best, run.stdout.decode(errors="replace").strip()
+def processor_time(words):
+    """The processor time of a run, and what it printed."""
+    before = resource.getrusage(resource.RUSAGE_CHILDREN)
+    run = subprocess.run(words, capture_output=True, check=False)
+    after = resource.getrusage(resource.RUSAGE_CHILDREN)
+    took = after.ru_utime + after.ru_stime - before.ru_utime - before.ru_stime
+    return took, run.stdout.decode(errors="replace").strip()
+
+
+def by_turns(works):
+    """The best processor time of each work, and what it printed last."""
+    best, printed = {}, {}
+    for _ in range(RUNS):
+        for name, words in works.items():
+            took, printed[name] = processor_time(words)
+            best[name] = min(took, best.get(name, took))
+    return best, printed
 
 
 def rate(size, seconds):
@@ -97,19 +105,23 @@ def main():
     with tempfile.TemporaryDirectory() as folder:
         program = crates.build(folder, "codec", USED, [])
         tools = [(name, words) for name, words in WABT if shutil.which(words[0])]
-        print("MB per second".ljust(26), *(f"{name:>8}" for name in ["decode", "encode", "check"]), *(name for name, _ in tools))
+        names = [*(f"{name:>8}" for name in ["decode", "encode", "check"]), *(name for name, _ in tools)]
+        print("MB per second".ljust(26), *names)
         for kind, make in [("code", code_heavy), ("data", data_heavy), ("small sections", many_sections)]:
             for size in SIZES:
                 path = os.path.join(folder, "module.wasm")
                 data = make(size * MIB)
                 with open(path, "wb") as out:
                     out.write(data)
-                times = {work: processor_time([program, work, path]) for work in ["read", "decode", "encode", "check"]}
-                if times["encode"][1] == "0" or times["check"][1] == "":
+                works = {work: [program, work, path] for work in ["read", "decode", "encode", "check"]}
+                times, printed = by_turns(works | {name: words + [path] for name, words in tools})
+                if printed["encode"] == "0" or printed["check"] == "":
                     sys.exit(f"{kind}, {size} MiB: a work failed")
-                read, decoded = times["read"][0], times["decode"][0]
-                columns = [rate(len(data), decoded - read), rate(len(data), times["encode"][0] - decoded), rate(len(data), times["check"][0] - decoded)]
-                columns += [rate(len(data), processor_time(words + [path])[0]).rjust(len(name)) for name, words in tools]
+                read, decoded = times["read"], times["decode"]
+                columns = [rate(len(data), seconds) for seconds in [decoded - read, times["encode"] - decoded, times["check"] - decoded]]
+                columns += [rate(len(data), times[name]).rjust(len(name)) for name, _ in tools]
+                if "wasm-validate" in times:
+                    columns.append(f"wasm-validate takes {times['wasm-validate'] / max(times['check'] - read, 0.0005):.2f} times as long")
                 print(f"{kind}, {size} MiB".ljust(26), *columns, flush=True)
 
 

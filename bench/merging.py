@@ -46,7 +46,7 @@ def code_set(count):
 
 def worked(program, work, paths):
     """One work over some files, one after the other."""
-    times = [codec.processor_time([program, work, path], 1) for path in paths]
+    times = [codec.processor_time([program, work, path]) for path in paths]
     if "0" in (printed for _, printed in times):
         sys.exit(f"{work}: it failed")
     return sum(time for time, _ in times)

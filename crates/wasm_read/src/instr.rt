@@ -307,10 +307,11 @@ fn reference_of(opcode: u8, bytes: &[u8]) -> Result<(Instr, &[u8]), Break>
     }
 }
 
-// The expression of these instructions.
-fn ended(instrs: Vec<Instr>) -> Expr
+// The expression of these instructions. It keeps no room for more, which would be a quarter of a decoded module.
+fn ended(mut instrs: Vec<Instr>) -> Expr
     ensures { result ≡ expr_of instrs.items }
 {
+    instrs.shrink_to_fit();
     Expr {
         list: List::of(instrs),
     }

@@ -15,6 +15,12 @@ pub fn u32_of(bytes: &[u8]) -> Result<(u32, &[u8]), Break>
     ensures reads { Gives (λ x. (x.0, x.1.now)) result (number_at 32 bytes.now) }
     ensures shorter { IfOk result (λ x. length x.1.now ≤ length bytes.now) }
 {
+    // most numbers have one byte
+    if let [b, rest @ ..] = bytes
+        && *b < 0x80
+    {
+        return Ok((u32::from(*b), rest));
+    }
     match read_u32(bytes, 0) {
         Some((n, end)) => Ok((n, &bytes[end..])),
         None => Err(Break::Broken),
@@ -26,6 +32,12 @@ pub fn s32_of(bytes: &[u8]) -> Result<(i32, &[u8]), Break>
     ensures reads { Gives (λ x. (x.0, x.1.now)) result (signed_at 32 bytes.now) }
     ensures shorter { IfOk result (λ x. length x.1.now ≤ length bytes.now) }
 {
+    // most numbers have one byte
+    if let [b, rest @ ..] = bytes
+        && *b < 0x40
+    {
+        return Ok((i32::from(*b), rest));
+    }
     match read_s32(bytes, 0) {
         Some((n, end)) => Ok((n, &bytes[end..])),
         None => Err(Break::Broken),
@@ -49,6 +61,12 @@ pub fn s64_of(bytes: &[u8]) -> Result<(i64, &[u8]), Break>
     ensures reads { Gives (λ x. (x.0, x.1.now)) result (signed_at 64 bytes.now) }
     ensures shorter { IfOk result (λ x. length x.1.now ≤ length bytes.now) }
 {
+    // most numbers have one byte
+    if let [b, rest @ ..] = bytes
+        && *b < 0x40
+    {
+        return Ok((i64::from(*b), rest));
+    }
     match read_s64(bytes, 0) {
         Some((n, end)) => Ok((n, &bytes[end..])),
         None => Err(Break::Broken),
