@@ -182,7 +182,7 @@ impl<'m> Core<'m> {
         ensures fixed { (V.seen view.new).fixed ≡ (V.seen view.old).fixed }
         ensures members { length self.new.stages ≡ length self.old.stages }
     {
-        self.machine.step(alloc, view)
+        self.machine.step_apart(alloc, view)
     }
 
     /// Steps of code, so many or fewer, where the machine can tell them in few bytes: how many were made, and what the next one came to.
@@ -196,7 +196,7 @@ impl<'m> Core<'m> {
         ensures most { result.1 ≡ Done.Goes → result.0 ≡ most }
         ensures fewer { result.1 ≢ Done.Goes → result.0 < most }
     {
-        self.machine.run(alloc, view, most)
+        self.machine.run_apart(alloc, view, most)
     }
 
     /// Takes the answer of the host function that is waited for.

@@ -39,7 +39,6 @@ fn passes_over(count: usize, taken: usize, room: usize) -> bool
 }
 
 /// Leaves the innermost block at its end, or the activation whose body is done.
-#[inline(always)]
 pub(crate) fn end<'m, V: View<'m>>(
     callers: &mut Callers<'m>,
     top: &mut Current<'m>,
@@ -276,7 +275,6 @@ fn called<'m, V: View<'m>>(top: &Current<'m>, view: &V, callee: Callee) -> Resul
 }
 
 /// One step of the code on top, of this call.
-#[inline(always)]
 fn call_next<'m, V: View<'m>>(
     callers: &mut Callers<'m>,
     top: &mut Current<'m>,

@@ -198,6 +198,25 @@ impl<'m> Machine<'m> {
         self.run(alloc, view, 1).1
     }
 
+    /// The same for a set, over `run_apart`.
+    fn quick_apart<V: View<'m>>(&mut self, alloc: Global, view: &mut V) -> Done
+        requires over { IsOver (V.seen view.old).fixed (V.seen view.old).units (V.seen view.old).memory self.old }
+        requires ready { IsReady self.old }
+        ensures stepped { QuickStepped (V.seen view.old).fixed result self.old self.new (between (V.seen view.old) (V.seen view.new)) }
+        ensures over { IsOver (V.seen view.old).fixed (V.seen view.new).units (V.seen view.new).memory self.new }
+        ensures fixed { (V.seen view.new).fixed ≡ (V.seen view.old).fixed }
+    {
+        match self.standing {
+            Standing::Moving => {}
+            Standing::Returned => return Done::Returned,
+            Standing::Trapped(trap) => return Done::Trapped(trap),
+            Standing::Exited(_) => return Done::Exited,
+            Standing::Lost => return Done::NoMemory,
+            Standing::Asking(..) | Standing::Loading => unreachable!(),
+        }
+        self.run_apart(alloc, view, 1).1
+    }
+
     /// Makes steps of code, so many or fewer, while the code goes on: how many were made, and what the next one came to, or `Goes` where as
     /// many were made. What is said of `quick` holds of this next step.
     pub fn run<V: View<'m>>(&mut self, alloc: Global, view: &mut V, most: u64) -> (u64, Done)
@@ -224,6 +243,32 @@ impl<'m> Machine<'m> {
         (made, done)
     }
 
+    /// The same over steps that are a function of their own, before they are inlined as it is small: the compiler makes the better loop of
+    /// them for the run of a set, and the worse one for that of a module.
+    pub fn run_apart<V: View<'m>>(&mut self, alloc: Global, view: &mut V, most: u64) -> (u64, Done)
+        requires over { IsOver (V.seen view.old).fixed (V.seen view.old).units (V.seen view.old).memory self.old }
+        requires ready { IsReady self.old }
+        requires moving { self.old.standing ≡ Standing.Moving }
+        ensures ran { Runs (V.seen view.old).fixed result.0 result.1 (at_point self.old (V.seen view.old)) (at_point self.new (V.seen view.new)) }
+        ensures over { IsOver (V.seen view.old).fixed (V.seen view.new).units (V.seen view.new).memory self.new }
+        ensures fixed { (V.seen view.new).fixed ≡ (V.seen view.old).fixed }
+        ensures most { result.1 ≡ Done.Goes → result.0 ≡ most }
+        ensures fewer { result.1 ≢ Done.Goes → result.0 < most }
+    {
+        let mut top = mem::replace(&mut self.top, Current::new(alloc));
+        let (made, done) = steps_apart(
+            &mut self.callers,
+            &mut top,
+            &mut self.top,
+            alloc,
+            view,
+            most,
+        );
+        self.top = top;
+        settle(&mut self.callers, &mut self.top, &mut self.standing, done);
+        (made, done)
+    }
+
     /// Makes one step of the code on top, tells the mark on top, or answers the end again. Without memory `Memory`, from then on:
     /// that is only where code calls or grows.
     pub fn step<V: View<'m>>(&mut self, alloc: Global, view: &mut V) -> Result<Event, Memory>
@@ -236,6 +281,28 @@ impl<'m> Machine<'m> {
         ensures fixed { (V.seen view.new).fixed ≡ (V.seen view.old).fixed }
     {
         match self.quick(alloc, view) {
+            Done::Goes => Ok(Event::Moved),
+            Done::Trapped(trap) => Ok(Event::Trapped(trap)),
+            Done::Returned => Ok(Event::Returned),
+            Done::Exited => Ok(Event::Exited(self.exit_code())),
+            Done::Marked => Ok(Event::Marked(self.mark_on_top())),
+            Done::Deep => Ok(Event::Deep),
+            Done::NoMemory => Err(Memory),
+            Done::Outside => self.ask(alloc, view),
+        }
+    }
+
+    /// The same for a set, over `run_apart`.
+    pub fn step_apart<V: View<'m>>(&mut self, alloc: Global, view: &mut V) -> Result<Event, Memory>
+        requires over { IsOver (V.seen view.old).fixed (V.seen view.old).units (V.seen view.old).memory self.old }
+        requires ready { IsReady self.old }
+        ensures stepped { IfOk result (λ e. Stepped (V.seen view.old).fixed e self.old self.new (between (V.seen view.old) (V.seen view.new))) }
+        ensures wanting { OnErr result (IsWanting self.old) }
+        ensures lost { OnErr result ((self.new ≡ lost_machine) × AreSame (between (V.seen view.old) (V.seen view.new))) }
+        ensures over { IsOver (V.seen view.old).fixed (V.seen view.new).units (V.seen view.new).memory self.new }
+        ensures fixed { (V.seen view.new).fixed ≡ (V.seen view.old).fixed }
+    {
+        match self.quick_apart(alloc, view) {
             Done::Goes => Ok(Event::Moved),
             Done::Trapped(trap) => Ok(Event::Trapped(trap)),
             Done::Returned => Ok(Event::Returned),
@@ -515,6 +582,28 @@ fn steps_of_code<'m, V: View<'m>>(
         }
     }
     (most, Done::Goes)
+}
+
+/// The same, as a function of its own.
+fn steps_apart<'m, V: View<'m>>(
+    callers: &mut Callers<'m>,
+    top: &mut Current<'m>,
+    spare: &mut Current<'m>,
+    alloc: Global,
+    view: &mut V,
+    most: u64,
+) -> (u64, Done)
+    requires joined { IsJoined callers.old top.old }
+    requires over { IsOver (V.seen view.old).fixed (V.seen view.old).units (V.seen view.old).memory (going (joined callers.old top.old)) }
+    requires some { (joined callers.old top.old).frames ≢ [] }
+    ensures ran { Runs (V.seen view.old).fixed result.0 result.1 (at_point (going (joined callers.old top.old)) (V.seen view.old)) (at_point (settled result.1 (joined callers.new top.new)) (V.seen view.new)) }
+    ensures over { IsOver (V.seen view.old).fixed (V.seen view.new).units (V.seen view.new).memory (settled result.1 (joined callers.new top.new)) }
+    ensures joined { result.1 ≢ Done.NoMemory → IsJoined callers.new top.new }
+    ensures fixed { (V.seen view.new).fixed ≡ (V.seen view.old).fixed }
+    ensures most { result.1 ≡ Done.Goes → result.0 ≡ most }
+    ensures fewer { result.1 ≢ Done.Goes → result.0 < most }
+{
+    steps_of_code(callers, top, spare, alloc, view, most)
 }
 
 /// Keeps the end that a step came to, or that no memory was found.

@@ -235,7 +235,6 @@ impl<'m> Current<'m> {
     }
 
     /// Goes past the next instruction.
-    #[inline(always)]
     pub fn advance(&mut self)
         requires { 0 < length self.old.act.rest }
         ensures { self.new ≡ with_act self.old (with_rest self.old.act (drop 1 self.old.act.rest)) }
@@ -254,7 +253,6 @@ impl<'m> Current<'m> {
     // ---- blocks
 
     /// Opens a block with `n` values off the top, within the room that was taken.
-    #[inline(always)]
     pub fn enter(&mut self, n: usize, arity: usize, again: Option<&'m [Instr]>, body: &'m [Instr])
         requires values { n ≤ length self.old.act.values }
         requires room { IsTooNested self.old (in_block self.old.act n arity (option_map (λ b. b.now) again) body.now) → ⊥ }

@@ -107,11 +107,11 @@ fn indexed<'m, V: View<'m>>(top: &mut Current<'m>, view: &mut V, op: u8, n: u32)
             top.advance();
             Some(table_set(top, view, n))
         }
-        0xD2 => {
+        // ref.func: there is no other
+        _ => {
             top.advance();
             Some(refer(top, view, n))
         }
-        _ => unreachable!(),
     }
 }
 

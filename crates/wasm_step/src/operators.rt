@@ -225,7 +225,7 @@ fn conversion(top: &mut Current, op: u8) -> Done
         0xC1 => convert_on(top, 0xC1),
         0xC2 => convert_on(top, 0xC2),
         0xC3 => convert_on(top, 0xC3),
-        0xC4 => convert_on(top, 0xC4),
-        _ => unreachable!(),
+        // i64.extend32_s: there is no other
+        _ => convert_on(top, 0xC4),
     }
 }

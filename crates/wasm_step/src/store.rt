@@ -352,8 +352,8 @@ pub(crate) fn access<'m, V: View<'m>>(
         0x3B => accessed(top, view, 0x3B, offset),
         0x3C => accessed(top, view, 0x3C, offset),
         0x3D => accessed(top, view, 0x3D, offset),
-        0x3E => accessed(top, view, 0x3E, offset),
-        _ => unreachable!(),
+        // i64.store32: there is no other
+        _ => accessed(top, view, 0x3E, offset),
     }
 }
 

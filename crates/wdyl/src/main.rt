@@ -29,25 +29,22 @@ fn main(rt: HostRuntime) -> ExitCode {
     let mut errors = StreamSink::new(rt.stderr());
     let mut ambient = HostAmbient::new(&rt);
     let host = HostTable::new(alloc);
-    let outcome = match Box::new(alloc, in_turns) {
-        Ok(pick) => {
-            let picker = Picker::new(pick);
-            match collected(alloc, env::args(&rt)) {
-                Ok(words) => serve(
-                    alloc,
-                    &words,
-                    &mut files,
-                    &mut input,
-                    &mut output,
-                    &mut errors,
-                    &mut ambient,
-                    &host,
-                    &picker,
-                ),
-                Err(outcome) => tell(alloc, outcome, &mut errors),
-            }
-        }
-        Err(_) => tell(alloc, Outcome::Memory, &mut errors),
+    let outcome = match collected(alloc, env::args(&rt)) {
+        Ok(words) => match Box::new(alloc, in_turns) {
+            Ok(pick) => serve(
+                alloc,
+                &words,
+                &mut files,
+                &mut input,
+                &mut output,
+                &mut errors,
+                &mut ambient,
+                &host,
+                &Picker::new(pick),
+            ),
+            Err(_) => tell(alloc, Outcome::Memory, &mut errors),
+        },
+        Err(outcome) => tell(alloc, outcome, &mut errors),
     };
     ExitCode::from(status(&outcome))
 }

@@ -16,19 +16,19 @@ both V us memory c (Err e) sound few = tt
 
 pub returns-clause-stepped : goal.returns-clause-stepped
 returns-clause-stepped g c =
-    steps_after (g.V.View.seen c.args.view.now) (g.V.View.seen c.step.new.view) c.args.self.now c.step.new.self c.requires.core.sound c.requires.moving c.step.result c.step.ensures.stepped c.step.ensures.over
+    steps_after (g.V.View.seen c.args.view.now) (g.V.View.seen c.step_apart.new.view) c.args.self.now c.step_apart.new.self c.requires.core.sound c.requires.moving c.step_apart.result c.step_apart.ensures.stepped c.step_apart.ensures.over
 
 pub returns-clause-core : goal.returns-clause-core
 returns-clause-core g c =
     let w = g.V.View.seen c.args.view.now in
-    let w' = g.V.View.seen c.step.new.view in
-    both w.fixed w'.units w'.memory (with_machine c.args.self.now c.step.new.self) c.step.result
-    (core_after w w' c.args.self.now c.step.new.self c.requires.core.sound c.requires.moving c.step.result c.step.ensures.stepped c.step.ensures.over)
-    (few_after c.args.self.now c.requires.core.few w.fixed c.step.new.self (between w w') c.step.result c.step.ensures.stepped)
+    let w' = g.V.View.seen c.step_apart.new.view in
+    both w.fixed w'.units w'.memory (with_machine c.args.self.now c.step_apart.new.self) c.step_apart.result
+    (core_after w w' c.args.self.now c.step_apart.new.self c.requires.core.sound c.requires.moving c.step_apart.result c.step_apart.ensures.stepped c.step_apart.ensures.over)
+    (few_after c.args.self.now c.requires.core.few w.fixed c.step_apart.new.self (between w w') c.step_apart.result c.step_apart.ensures.stepped)
 
 pub returns-clause-marked : goal.returns-clause-marked
 returns-clause-marked g c =
-    mark_told (g.V.View.seen c.args.view.now) (g.V.View.seen c.step.new.view) c.args.self.now c.step.new.self c.step.ensures.fixed c.requires.moving c.step.result c.step.ensures.stepped
+    mark_told (g.V.View.seen c.args.view.now) (g.V.View.seen c.step_apart.new.view) c.args.self.now c.step_apart.new.self c.step_apart.ensures.fixed c.requires.moving c.step_apart.result c.step_apart.ensures.stepped
 
 pub returns-clause-wanting : goal.returns-clause-wanting
-returns-clause-wanting g c = wanting_after (g.V.View.seen c.args.view.now) c.args.self.now c.requires.moving c.step.result c.step.ensures.wanting
+returns-clause-wanting g c = wanting_after (g.V.View.seen c.args.view.now) c.args.self.now c.requires.moving c.step_apart.result c.step_apart.ensures.wanting
