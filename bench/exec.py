@@ -4,17 +4,16 @@
     python3 bench/exec.py bin/wdyl [OTHER]
 
 It compiles the programs of bench/exec by clang with wasm-ld, and runs each by wdyl, by another program of wdyl where one is
-given, by wasm-interp of wabt and by node, of these as many as there are. They run by turns, nine times each. Printed are the
-medians of the processor time of the process in seconds, and beside each but the first how many times as long it took: the median
-of the ratios within each turn. A program ends with a result as its exit code, modulo 256, which has to be the same for all; the
-exit status is 1 where it isn't.
+given, by wasm-interp of wabt and by node, of these as many as there are. They run by turns, nine times each. Printed are the least
+processor times of the process in seconds, and beside each but the first how many times as long it took: what else the machine, or
+the host below it, does only adds to a time. A program ends with a result as its exit code, modulo 256, which has to be the same for
+all; the exit status is 1 where it isn't.
 """
 
 import glob
 import os
 import re
 import shutil
-import statistics
 import subprocess
 import sys
 import tempfile
@@ -74,8 +73,8 @@ def turns(listed):
 
 
 def ratio(one, other):
-    """How many times as long the one took as the other: the median of the ratios within each turn."""
-    return statistics.median(a / max(b, 0.0005) for a, b in zip(one, other))
+    """How many times as long the one took as the other, by the least times of both."""
+    return min(one) / max(min(other), 0.0005)
 
 
 def shown(results):
@@ -97,8 +96,8 @@ def main():
         for program, module in compiled(folder).items():
             taken, results = turns({name: ([*command, module], result_of) for name, (command, result_of) in listed.items()})
             same = same and len(results) == 1
-            columns = [f"{statistics.median(taken['wdyl']):8.3f}"]
-            columns += [f"{statistics.median(taken[name]):9.3f} ({ratio(taken[name], taken['wdyl']):4.2f})" for name in listed if name != "wdyl"]
+            columns = [f"{min(taken['wdyl']):8.3f}"]
+            columns += [f"{min(taken[name]):9.3f} ({ratio(taken[name], taken['wdyl']):4.2f})" for name in listed if name != "wdyl"]
             print(program.ljust(10), shown(results), *columns, flush=True)
     if not same:
         sys.exit("the results differ")

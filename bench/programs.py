@@ -4,10 +4,9 @@
     python3 bench/programs.py bin/wdyl
 
 Each program of bench/exec is compiled twice: as one module, as exec.py does, and as position-independent code that is linked as the
-main module of a set, which `wdyl merge` then merges. Printed is processor time in seconds, the median of nine turns: `exec` of the
+main module of a set, which `wdyl merge` then merges. Printed is processor time in seconds, the least of nine turns: `exec` of the
 module, `run` of the set and `exec` of the merged module by wdyl, the module and the merged module by node, and the module by
-wasm-interp, where these are there; and the medians of two ratios within each turn. Results have to be the same; the exit status is 1
-where they aren't.
+wasm-interp, where these are there; and two ratios of these. Results have to be the same; the exit status is 1 where they aren't.
 
 The aims: node takes at most 1.1 times as long for the merged module as for the module. `run` and `exec` of the merged module
 interpret the same code, and `run` may take 1.05 times as long.
@@ -16,7 +15,6 @@ interpret the same code, and `run` may take 1.05 times as long.
 import glob
 import os
 import shutil
-import statistics
 import subprocess
 import sys
 import tempfile
@@ -57,7 +55,7 @@ def runs(wdyl, module, main, merged):
 
 def told(taken):
     """The seconds, and how many times as long `run` and the merged module take."""
-    parts = [f"{name} {statistics.median(seconds):.3f}" for name, seconds in taken.items()]
+    parts = [f"{name} {min(seconds):.3f}" for name, seconds in taken.items()]
     parts.append(f"run by exec merged {ratio(taken['run'], taken['exec merged']):.2f}")
     if "node" in taken:
         parts.append(f"node merged by node {ratio(taken['node merged'], taken['node']):.2f}")
