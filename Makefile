@@ -76,6 +76,7 @@ bench: bin/wdyl
 
 speed: bin/wdyl
 	python3 bench/exec.py bin/wdyl $(OTHER)
+	@if [ -n "$(OTHER)" ]; then python3 bench/short.py bin/wdyl $(OTHER); fi
 	python3 bench/programs.py bin/wdyl
 
 codec: bin/wdyl
