@@ -1,9 +1,8 @@
 -- The numbers of what the members of a set have are below 2^32.
-use Rattle.std.proofs.Common.{if◌then◌else◌, ◌≡◌, ℕ, zero, suc, ◌+◌, ◌*◌, ◌^◌, ◌<◌, ◌≤◌, Bool, true, false, List, [], ◌∷◌, ◌++◌, length, map, drop, get_or, slice_get, Some, option_map, sym, ap, ◌∙◌, arith, length-append}
+use Rattle.std.proofs.Common.{if◌then◌else◌, ◌≡◌, ℕ, zero, suc, ◌+◌, ◌*◌, ◌^◌, ◌<◌, ◌≤◌, Bool, true, false, List, [], ◌∷◌, ◌++◌, length, map, drop, get_or, slice_get, Some, sym, ap, ◌∙◌, arith, length-append}
 use Rattle.std.proofs.Math.Seq.{drop-cons}
 use Rattle.std.specs.List.{All, list_any}
 use Rattle.std.proofs.lemmas.List.Elements.{All-head, All-tail}
-use Rattle.std.proofs.lemmas.Option.{slice_get-map}
 use Rattle.spec_loading.proofs.of_spec_binary.Lists.{holds_at}
 use Rattle.spec_loading.proofs.of_spec_linking.FewParts.{member_few, total_cons}
 use Rattle.wasm_form.specs.declared.module.Import.{Import}
@@ -11,20 +10,15 @@ use Rattle.wasm_form.specs.declared.module.Module.{Module}
 use Rattle.spec_loading.specs.spec_linking.Sets as sets
 use Rattle.spec_loading.specs.spec_linking.Counts.{AreFew}
 use Rattle.spec_loading.specs.spec_linking.Imports.{ImportUse, DataCell, SlotCell, use_of}
-use Rattle.spec_loading.specs.spec_linking.Gathering.{total_size, IsMember}
+use Rattle.spec_loading.specs.spec_linking.Gathering.{total_size, IsMember, IsSet}
 use Rattle.spec_loading.specs.spec_linking.LinkedSets.{LinkedSet}
 use Rattle.spec_loading.specs.spec_linking.Slots.{CellName, same_cell, cell_as, cell_of_import, first_cells}
 use Rattle.dyl_link.specs.dyl_search.declared.set.Member.{Member}
-use Rattle.dyl_link.specs.dyl_search.Gathers.{member_of}
-use Rattle.dyl_link.specs.Kept.{Kept, IsLinked}
-use Rattle.dyl_addresses.specs.Sets.{module_of}
+use Rattle.dyl_addresses.specs.Sets.{module_of, wasms}
 use Rattle.dyl_addresses.specs.declared.lists.Space.{Space}
 use Rattle.dyl_addresses.specs.declared.lists.Space.TheVariants.{Types, Codes, Tables, Elems, Datas}
 use Rattle.dyl_addresses.specs.Lists.{size_in, numbers_end}
 use Rattle.dyl_addresses.specs.Globals.{with_cells, cells_from, globals_end, globals_ends}
-use Rattle.dyl_addresses.proofs.Items.{wasms}
-use Rattle.dyl_addresses.proofs.Linked.{members_are}
-use Rattle.dyl_addresses.proofs.Whole.{of_modules}
 
 -- ---- bytes
 
@@ -123,28 +117,24 @@ space_within Tables x is = (let few = (member_few x is).all in omega arith)
 space_within Elems x is = (let few = (member_few x is).all in omega arith)
 space_within Datas x is = (let few = (member_few x is).all in omega arith)
 
-module _ (L : LinkedSet) (k : Kept) (h : IsLinked L k) where
-  pub space_ends : (space : Space) (start : ℕ) → start ≤ 1 → numbers_end (size_in space) start (map module_of k.set.members) < 2 ^ 32
+module _ (L : LinkedSet) (shape : IsSet L.set) where
+  pub space_ends : (space : Space) (start : ℕ) → start ≤ 1 → numbers_end (size_in space) start (wasms L.set.members) < 2 ^ 32
   space_ends space start le =
-      let within = end_within (size_in space) (space_within space) start L.set.members h.shape.members in
-      let same = ap (numbers_end (size_in space) start) (of_modules L k h) in
-      let bytes = h.shape.few_bytes in
+      let within = end_within (size_in space) (space_within space) start L.set.members shape.members in
+      let bytes = shape.few_bytes in
       omega arith
 
-  pub globals_end_below : globals_ends 1 (map module_of k.set.members) < 2 ^ 32
+  pub globals_end_below : globals_ends 1 (wasms L.set.members) < 2 ^ 32
   globals_end_below =
-      let within = globals_within 1 L.set.members h.shape.members in
-      let same = ap (globals_ends 1) (of_modules L k h) in
-      let bytes = h.shape.few_bytes in
-      let few = h.shape.few in
+      let within = globals_within 1 L.set.members shape.members in
+      let bytes = shape.few_bytes in
+      let few = shape.few in
       omega arith
 
   -- a member has no more of anything than all bytes
-  pub member_within : (m : ℕ) (x : Member) → slice_get k.set.members m ≡ Some x → AreFew (module_of x) 16777216
-  member_within m x e =
-      let found : slice_get L.set.members m ≡ Some (member_of x) =
-      ap (λ (ms : List sets.Member). slice_get ms m) (sym (members_are L k h)) ∙ slice_get-map member_of k.set.members m ∙ ap (option_map member_of) e in
-      let few = (member_few (member_of x) (holds_at IsMember L.set.members m (member_of x) h.shape.members found)).all in
-      let within = size_within L.set.members m (member_of x) found in
-      let bytes = h.shape.few_bytes in
+  pub member_within : (m : ℕ) (x : sets.Member) → slice_get L.set.members m ≡ Some x → AreFew x.wasm 16777216
+  member_within m x found =
+      let few = (member_few x (holds_at IsMember L.set.members m x shape.members found)).all in
+      let within = size_within L.set.members m x found in
+      let bytes = shape.few_bytes in
       record { all = omega arith }

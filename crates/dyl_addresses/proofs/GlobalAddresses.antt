@@ -14,7 +14,8 @@ use Rattle.spec_loading.specs.spec_linking.Slots.{cells_of}
 use Rattle.spec_loading.proofs.of_spec_linking.Importing.{importing_length}
 use Rattle.spec_loading.specs.Addresses.{sum_before, globals_size, memory_base_address, import_address, address_with, global_address, item_address}
 use Rattle.dyl_addresses.specs.Globals.{global_as, globals_from, cells_from, global_list, globals_end, global_lists, address_at, global_item}
-use Rattle.dyl_addresses.proofs.Items.{wasms, range_item, with_wasm}
+use Rattle.dyl_addresses.specs.Sets.{wasms}
+use Rattle.dyl_addresses.proofs.Items.{range_item, with_wasm}
 use Rattle.dyl_addresses.proofs.Cells.{cells_are, globals_item, globals_length}
 
 none_past : {X : Type 0} (xs : List X) (i : ℕ) → slice_get xs i ≡ None → length xs ≤ i

@@ -9,11 +9,8 @@ use Rattle.spec_loading.specs.spec_binary.Options.{◌>>=◌}
 use Rattle.spec_loading.specs.spec_linking.Sets.{Member}
 use Rattle.spec_loading.specs.spec_linking.LinkedSets.{LinkedSet, wasm_of}
 use Rattle.spec_loading.specs.Addresses.{sum_before, item_address}
+use Rattle.dyl_addresses.specs.Sets.{wasms}
 use Rattle.dyl_addresses.specs.Lists.{listed_item, numbered}
-
--- the modules of members
-abbrev pub wasms : List Member → List Module
-wasms xs = map (λ x. x.wasm) xs
 
 range_within : (a n i : ℕ) → i < n → slice_get (range_with_len a n) i ≡ Some (a + i)
 range_within a zero i lt = absurd (omega arith)

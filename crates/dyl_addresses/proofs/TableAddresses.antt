@@ -12,7 +12,8 @@ use Rattle.spec_loading.specs.spec_linking.Sets.{Member}
 use Rattle.spec_loading.specs.spec_linking.LinkedSets.{LinkedSet}
 use Rattle.spec_loading.specs.Addresses.{sum_before, item_address, shared_table_address, table_address}
 use Rattle.dyl_addresses.specs.Lists.{listed_item, shared_tables, table_lists}
-use Rattle.dyl_addresses.proofs.Items.{wasms, range_item, with_wasm}
+use Rattle.dyl_addresses.specs.Sets.{wasms}
+use Rattle.dyl_addresses.proofs.Items.{range_item, with_wasm}
 
 zeros : (ts : List TableType) (t : ℕ) → t < length ts → slice_get {X = ℕ} (map (λ x. 0) ts) t ≡ Some 0
 zeros [] t lt = absurd (omega arith)

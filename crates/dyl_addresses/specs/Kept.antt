@@ -1,10 +1,9 @@
 -- The addresses that are kept of a linked set, and when they are those of the set (WebAssembly Core 2.0, section 4.2.5).
-use Rattle.std.specs.Prelude.{◌≡◌, ℕ, List, map, Option}
+use Rattle.std.specs.Prelude.{◌≡◌, ℕ, List, Option}
 use Rattle.wasm_form.specs.declared.module.Module.{Module}
 use Rattle.spec_loading.specs.spec_linking.LinkedSets.{LinkedSet}
 use Rattle.spec_loading.specs.Addresses.{global_address, table_address, elem_address, data_address}
-use Rattle.dyl_link.specs.Kept.{Kept, IsLinked}
-use Rattle.dyl_addresses.specs.Sets.{module_of}
+use Rattle.dyl_addresses.specs.Sets.{wasms}
 use Rattle.dyl_addresses.specs.declared.lists.Space.TheVariants.{Elems, Datas}
 use Rattle.dyl_addresses.specs.Lists.{listed_item, size_in, numbered, table_lists}
 use Rattle.dyl_addresses.specs.Globals.{global_lists, global_item}
@@ -36,10 +35,6 @@ pub record AreAddressesOf (L : LinkedSet) (a : KeptAddresses) : Type 0 where
   pub elems : (m e : ℕ) → kept_elem a m e ≡ elem_address L m e
   pub datas : (m d : ℕ) → kept_data a m d ≡ data_address L m d
 
--- the same of each set that this is kept of
-abbrev pub AreAddresses : Kept → KeptAddresses → Type 0
-AreAddresses k a = (L : LinkedSet) → IsLinked L k → AreAddressesOf L a
-
 -- ---- how they are made
 
 -- by the modules of the members; the stack pointer and the shared table come first
@@ -51,5 +46,5 @@ addresses_with wasms = record {
   datas = numbered (size_in Datas) 0 wasms;
 }
 
-abbrev pub addresses_of : Kept → KeptAddresses
-addresses_of k = addresses_with (map module_of k.set.members)
+abbrev pub addresses_of : LinkedSet → KeptAddresses
+addresses_of L = addresses_with (wasms L.set.members)

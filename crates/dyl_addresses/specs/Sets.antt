@@ -1,10 +1,14 @@
 -- The members of a linked set.
-use Rattle.std.specs.Prelude.{◌<◌, List, [], ◌∷◌, length}
+use Rattle.std.specs.Prelude.{◌<◌, List, [], ◌∷◌, length, map}
 use Rattle.wasm_form.specs.declared.module.Module.{Module}
+use Rattle.spec_loading.specs.spec_linking.Sets as sets
 use Rattle.spec_loading.specs.spec_linking.LinkedSets.{LinkedSet}
 use Rattle.spec_loading.specs.declared.task.Task.{Task}
 use Rattle.dyl_link.specs.dyl_search.declared.set.Member.{Member}
-pub use Rattle.dyl_link.specs.Kept.{IsOfSet}
+
+-- the modules of members
+abbrev pub wasms : List sets.Member → List Module
+wasms xs = map (λ x. x.wasm) xs
 
 abbrev pub module_of : Member → Module
 module_of x = x.checked

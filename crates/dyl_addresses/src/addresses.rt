@@ -1,9 +1,9 @@
 // The addresses of what members have.
 ghost use Rattle.std.specs.Prelude.{◌≡◌, IfOk};
+ghost use Rattle.spec_loading.specs.spec_linking.Gathering.{IsSet};
 ghost use Rattle.dyl_addresses.specs.Lists.{listed_item};
 ghost use Rattle.dyl_addresses.specs.Globals.{address_at};
-ghost use Rattle.dyl_addresses.specs.Sets.{IsOfSet};
-ghost use Rattle.dyl_addresses.specs.Kept.{kept_global, kept_table, kept_elem, kept_data, AreAddresses, addresses_of};
+ghost use Rattle.dyl_addresses.specs.Kept.{kept_global, kept_table, kept_elem, kept_data, AreAddressesOf, addresses_of};
 
 use crate::globals::global_lists;
 use crate::lists::{Space, numbered, table_lists};
@@ -36,10 +36,10 @@ impl Model for Addresses {
 
 // The addresses of what the members have, member by member.
 fn kept(alloc: Global, linked: &Linked) -> Result<Addresses, Memory>
-    requires { IsOfSet linked.now }
+    requires { IsSet linked.now.set }
     ensures { IfOk result (λ a. a ≡ addresses_of linked.now) }
 {
-    let members = linked.set().members.items();
+    let members = linked.members();
     let globals = global_lists(alloc, members, 1)?;
     let tables = table_lists(alloc, members, 1)?;
     let elems = numbered(alloc, members, Space::Elems, 0)?;
@@ -78,7 +78,7 @@ fn item_of(lists: &[List<u32>], m: u32, i: u32) -> Option<u32>
 impl Addresses {
     /// The addresses of what the members of a linked set have. `Memory` where no memory could be had.
     pub fn of(alloc: Global, linked: &Linked) -> Result<Addresses, Memory>
-        ensures { IfOk result (λ a. AreAddresses linked.now a) }
+        ensures { IfOk result (λ a. AreAddressesOf linked.now a) }
     {
         linked.links();
         let addresses = kept(alloc, linked)?;

@@ -2,9 +2,7 @@
 ghost use Rattle.std.specs.Prelude.{◌≡◌, ◌++◌, ◌<◌, length, map, IfOk, OnOk};
 ghost use Rattle.spec_loading.specs.spec_binary.IndexSpaces.{globals_in};
 ghost use Rattle.spec_loading.specs.spec_linking.Imports as imports;
-ghost use Rattle.spec_loading.specs.spec_linking.LinkedSets.{LinkedSet};
 ghost use Rattle.dyl_link.specs.dyl_imports.Uses.{use_value};
-ghost use Rattle.dyl_link.specs.Kept.{IsLinked};
 ghost use Rattle.dyl_addresses.specs.Bases.{AreBases, base_of, bases_from};
 
 use dyl_link::Linked;
@@ -50,14 +48,11 @@ pub fn bases_from(
 /// The bases that the imported globals of a member are, by their numbers. `Memory` where no memory could be had.
 pub fn bases_of(alloc: Global, linked: &Linked, m: u32) -> Result<Vec<Option<u32>>, Memory>
     requires member { m < length linked.now.set.members }
-    ensures { IfOk result (λ v. (L : LinkedSet) → IsLinked L linked.now → AreBases L m v.items) }
+    ensures { IfOk result (λ v. AreBases linked.now m v.items) }
 {
-    linked.links();
-    let member = &linked.set().members.items()[m as usize];
-    let imports = member.checked.module().imports.items();
-    let plan = linked.plan();
-    let memory = plan.base(m);
-    let table = plan.table_base(m);
+    let imports = linked.module(m).imports.items();
+    let memory = linked.memory_base(m);
+    let table = linked.table_base(m);
     let bases = bases_from(alloc, imports, memory, table)?;
     Ok(bases)
 }

@@ -4,8 +4,8 @@ ghost use Rattle.wasm_form.specs.declared.types.ValType.TheVariants.{I32};
 ghost use Rattle.wasm_form.specs.declared.module.Module.{Module};
 ghost use Rattle.spec_loading.specs.spec_validation.Faults.{is_constant};
 ghost use Rattle.spec_loading.specs.spec_runtime.Constants.{constant_of};
+ghost use Rattle.spec_loading.specs.spec_linking.LinkedSets.{function_ref};
 ghost use Rattle.wasm_check.specs.Constants.{StandsFor, IsOfType, value_of};
-ghost use Rattle.dyl_link.specs.Kept.{function_in};
 ghost use Rattle.dyl_addresses.specs.Offsets.{IsOffset, based, number_with};
 
 use dyl_link::Linked;
@@ -15,7 +15,7 @@ use wasm_form::{Expr, Memory, Ref, Value};
 
 /// The functions that the numbers of member m name.
 pub fn functions_of(linked: &Linked, m: u32) -> &[Ref]
-    ensures { (f : ℕ) → slice_get result.now f ≡ function_in linked.now m f }
+    ensures { (f : ℕ) → slice_get result.now f ≡ function_ref linked.now m f }
 {
     match linked.functions().get(m as usize) {
         Some(refs) => refs.items(),

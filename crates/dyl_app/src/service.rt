@@ -5,7 +5,7 @@ ghost use Rattle.std.specs.FinMap.{get};
 ghost use Rattle.spec_hosts.specs.dyl_outside.Files.{FilesState};
 ghost use Rattle.host_calls.specs.Embedders.{names_of, embedder_of};
 ghost use Rattle.dyl_link.specs.dyl_search.Gathers.{options_of};
-ghost use Rattle.dyl_link.specs.Kept as links;
+ghost use Rattle.dyl_link.specs.Sets as links;
 ghost use Rattle.slice_board.specs.Taken.{picks_of};
 ghost use Rattle.dyl_front.specs.Orders.{order_of, IsLinkInRange, IsInRange};
 ghost use Rattle.dyl_commands.specs.Due.{DueFor, TellsFor, is_done, Yields, IsComplete};

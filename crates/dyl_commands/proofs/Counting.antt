@@ -11,12 +11,12 @@ use Rattle.spec_hosts.specs.spec_runtime.Names.{HostNames}
 use Rattle.spec_loading.specs.spec_linking.Sets.{Files, Member, ClosedSet, SetOptions, default_options}
 use Rattle.spec_loading.specs.spec_linking.Gathering.{first_in, Reaches, start, Fails, too_many, missing, too_long, not_decoded, not_recorded, not_valid, gathered, failed, Gathers, gathers, tried_from, tried_next, tried_last}
 use Rattle.spec_loading.specs.spec_linking.Plans.{LinkOptions}
+use Rattle.spec_loading.specs.spec_linking.LinkedSets.{LinkedSet}
 use Rattle.spec_loading.specs.spec_linking.declared.fault.SetFault.{SetFault}
 use Rattle.spec_loading.specs.spec_linking.declared.fault.SetFault.TheVariants.{Missing, ReadFault}
 use Rattle.spec_loading.specs.spec_linking.declared.fault.SetFault.TheVariants as set
 use Rattle.dyl_link.specs.dyl_search.Absents.{CountsTried, BreaksOff, TriedFor, CountsFor}
 use Rattle.dyl_link.specs.dyl_search.Gathers.{options_of}
-use Rattle.dyl_link.specs.Kept.{Kept}
 use Rattle.spec_merging.specs.declared.fault.MergeFault.{MergeFault}
 use Rattle.spec_merging.specs.declared.fault.MergeFault.TheVariants as merge
 use Rattle.dyl_front.specs.declared.outcome.UsageKind.{UsageKind}
@@ -224,7 +224,7 @@ abbrev pub is_set_fault : Outcome → Bool
 is_set_fault (Set fault) = true
 is_set_fault _ = false
 
-module _ (names : HostNames) (o : SetOptions) (l : LinkOptions) (k : Kept) (old new : FilesState) (gets : Gets names o l (Ok k) old new) where
+module _ (names : HostNames) (o : SetOptions) (l : LinkOptions) (L : LinkedSet) (old new : FilesState) (gets : Gets names o l (Ok L) old new) where
   pub got_counts : (answer : Outcome) → is_set_fault answer ≡ false → SetCounts Stays o answer old new
   got_counts (Set fault) other = absurd cc
   got_counts Memory other = record {
@@ -262,31 +262,31 @@ module _ (path : List ℕ) (old new : FilesState) where
 
 -- ---- no fault of a set comes after it
 
-pub written_no_fault : (k : Kept) (out : List ℕ) (answer : Outcome) (old new : FilesState) → WritesMerged k out answer old new → is_set_fault answer ≡ false
-written_no_fault k out (Done []) old new h = refl
-written_no_fault k out WriteFault old new h = refl
-written_no_fault k out (Merge merge.Memory) old new h = absurd h
-written_no_fault k out (Merge (merge.SectionSize id)) old new h = refl
-written_no_fault k out Memory old new h = refl
-written_no_fault k out _ old new h = absurd h
+pub written_no_fault : (L : LinkedSet) (out : List ℕ) (answer : Outcome) (old new : FilesState) → WritesMerged L out answer old new → is_set_fault answer ≡ false
+written_no_fault L out (Done []) old new h = refl
+written_no_fault L out WriteFault old new h = refl
+written_no_fault L out (Merge merge.Memory) old new h = absurd h
+written_no_fault L out (Merge (merge.SectionSize id)) old new h = refl
+written_no_fault L out Memory old new h = refl
+written_no_fault L out _ old new h = absurd h
 
-pub snapped_no_fault : (k : Kept) (most : ℕ) (out : List ℕ) (answer : Outcome) (old new : FilesState) → WritesSnapshot k most out answer old new → is_set_fault answer ≡ false
-snapped_no_fault k most out (Done []) old new h = refl
-snapped_no_fault k most out WriteFault old new h = refl
-snapped_no_fault k most out (Snap why) old new h = refl
-snapped_no_fault k most out Memory old new h = refl
-snapped_no_fault k most out _ old new h = absurd h
+pub snapped_no_fault : (L : LinkedSet) (most : ℕ) (out : List ℕ) (answer : Outcome) (old new : FilesState) → WritesSnapshot L most out answer old new → is_set_fault answer ≡ false
+snapped_no_fault L most out (Done []) old new h = refl
+snapped_no_fault L most out WriteFault old new h = refl
+snapped_no_fault L most out (Snap why) old new h = refl
+snapped_no_fault L most out Memory old new h = refl
+snapped_no_fault L most out _ old new h = absurd h
 
-pub listed_no_fault : (k : Kept) (answer : Outcome) (old new : SinkState) → Lists k answer old new → is_set_fault answer ≡ false
-listed_no_fault k (Done []) old new h = refl
-listed_no_fault k WriteFault old new h = refl
-listed_no_fault k Memory old new h = refl
-listed_no_fault k _ old new h = absurd h
+pub listed_no_fault : (L : LinkedSet) (answer : Outcome) (old new : SinkState) → Lists L answer old new → is_set_fault answer ≡ false
+listed_no_fault L (Done []) old new h = refl
+listed_no_fault L WriteFault old new h = refl
+listed_no_fault L Memory old new h = refl
+listed_no_fault L _ old new h = absurd h
 
-pub run_no_fault : (k : Kept) (embedder : Embedder) (steps : ℕ) (answer : Outcome) (old new : Devices) → ExecutesSet k embedder steps answer old new → is_set_fault answer ≡ false
-run_no_fault k embedder steps (Ran r) old new h = refl
-run_no_fault k embedder steps Memory old new h = refl
-run_no_fault k embedder steps _ old new h = absurd h
+pub run_no_fault : (L : LinkedSet) (embedder : Embedder) (steps : ℕ) (answer : Outcome) (old new : Devices) → ExecutesSet L embedder steps answer old new → is_set_fault answer ≡ false
+run_no_fault L embedder steps (Ran r) old new h = refl
+run_no_fault L embedder steps Memory old new h = refl
+run_no_fault L embedder steps _ old new h = absurd h
 
 pub executed_no_fault : (wasm : Module) (embedder : Embedder) (steps : ℕ) (answer : Outcome) (old new : Devices) → ExecutesModule wasm embedder steps answer old new → is_set_fault answer ≡ false
 executed_no_fault wasm embedder steps (Ran r) old new h = refl

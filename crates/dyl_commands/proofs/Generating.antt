@@ -9,7 +9,7 @@ use Rattle.spec_hosts.specs.dyl_outside.declared.fault.IoFault.TheVariants as io
 use Rattle.spec_hosts.specs.dyl_outside.Faults.{Rises}
 use Rattle.spec_hosts.specs.dyl_outside.FileMap.{FileMap}
 use Rattle.spec_hosts.specs.dyl_outside.Files.{FilesState}
-use Rattle.spec_hosts.specs.dyl_outside.Sink.{SinkState}
+use Rattle.spec_hosts.specs.dyl_outside.Sink.{SinkState, Puts}
 use Rattle.spec_hosts.specs.dyl_outside.MemAmbient.{MemAmbientState}
 use Rattle.spec_hosts.specs.spec_runtime.Names.{HostNames}
 use Rattle.spec_loading.specs.spec_execution.declared.fault.SingleFault.{SingleFault}
@@ -18,30 +18,29 @@ use Rattle.spec_loading.specs.spec_linking.declared.fault.SetFault.{SetFault}
 use Rattle.spec_loading.specs.spec_linking.declared.fault.SetFault.TheVariants.{ReadFault}
 use Rattle.spec_loading.specs.spec_linking.declared.fault.LinkFault.{LinkFault}
 use Rattle.spec_loading.specs.spec_linking.declared.fault.LinkFault.TheVariants.{MemoryLimit}
-use Rattle.spec_loading.specs.spec_linking.Sets.{ClosedSet}
 use Rattle.spec_loading.specs.spec_linking.Gathering.{IsGathered}
 use Rattle.spec_loading.specs.spec_linking.LinkedSets.{LinkedSet}
 use Rattle.spec_hosts.specs.declared.ran.Ran.{Ran}
 use Rattle.spec_hosts.specs.Devices.{Devices, devices}
 use Rattle.spec_hosts.specs.Hosted.{Embedder}
 use Rattle.wasm_exec.specs.Executed as executed
-use Rattle.wasm_exec.specs.Executed.{IsSetRun, IsModuleRun, ExecutesKept}
+use Rattle.wasm_exec.specs.Executed.{IsModuleRun}
 use Rattle.spec_reading.specs.spec_binary.DecodeAnswers.{DecodeAnswer}
 use Rattle.wasm_form.specs.declared.memory.Memory as wanting
 use Rattle.merge_whole.specs.Merges as whole
 use Rattle.merge_whole.specs.Merges.{bulk}
 use Rattle.dyl_gen.specs.declared.fault.GenFault.TheVariants.{Range}
 use Rattle.dyl_gen.specs.Laws.{set_options, GathersNoFault, GathersLittle, CanWrite, NeedsThreePages}
-use Rattle.dyl_link.specs.Kept.{Kept, IsLinked}
+use Rattle.dyl_front.specs.Summary.{summary_of}
 use Rattle.dyl_front.specs.declared.order.Order.TheVariants as order
 use Rattle.dyl_front.specs.declared.reports.Report.{Report}
 use Rattle.dyl_front.specs.declared.outcome.Outcome.{Outcome}
 use Rattle.dyl_front.specs.declared.outcome.Outcome.TheVariants.{Done, Set, Link, Gen, WriteFault, Memory}
-use Rattle.dyl_commands.specs.Linking.{linked, HasLinkFault}
+use Rattle.dyl_commands.specs.Linking.{HasLinkFault}
 use Rattle.dyl_commands.specs.Generated.{with_pages, AreMade, MadeLinks, GenDue}
-use Rattle.dyl_commands.specs.Runs.{nothing, IsRunInside, PutsSummary, GenWorks}
+use Rattle.dyl_commands.specs.Runs.{nothing, IsRunInside, AreBothRun, PutsSummary, GenWorks}
 use Rattle.dyl_commands.specs.Served.{Serves, Gets, IsNotGot}
-use Rattle.dyl_commands.specs.GeneratedRuns.{IsNotMade, IsMade, MakesSet, IsLittle, RunsLoaded, IsMergedModule, MergesTo, RunsModule, PutsReports, SumsUp, PutsBoth, RunsBoth, RunsKept}
+use Rattle.dyl_commands.specs.GeneratedRuns.{IsNotMade, IsMade, MakesSet, IsLittle, RunsLoaded, MergesTo, RunsModule, SumsUp, PutsBoth, RunsBoth}
 
 -- ---- making a set
 
@@ -78,22 +77,31 @@ module _ (names : HostNames) (can : CanWrite names) (n pages : ℕ) (files : Fil
     no_set_fault (ReadFault at) h = no_read_fault h.caused
     no_set_fault fault h = gathers n files fault made.some made.few made.generated (h.tells files told)
 
-    pub made_from : (r : Result Kept Outcome) → Gets names set_options (with_pages pages) r old new → MakesSet names n pages r
-    made_from (Ok k) h = record { files = files; made = made; set = h.got.set; gathered = h.got.gathered files told; linked = h.got.linked; integers = h.got.integers }
+    pub made_from : (r : Result LinkedSet Outcome) → Gets names set_options (with_pages pages) r old new → MakesSet names n pages r
+    made_from (Ok L) h = record {
+      files = files;
+      made = made;
+      set = h.got.set;
+      gathered = h.got.gathered files told;
+      shape = h.got.shape;
+      links = h.got.links;
+      is = h.got.is;
+      integers = h.got.integers;
+    }
     made_from (Err Memory) h = tt
     made_from (Err (Set fault)) h = absurd (no_set_fault fault h.fault)
     made_from (Err (Link fault)) h = unlinked fault (h.fault.tells files told)
     made_from (Err _) h = absurd h.fault.caused
 
 -- there is little of it
-pub little : (names : HostNames) (n pages : ℕ) (k : Kept) → GathersLittle → IsMade names n pages k → IsLittle k
-little names n pages k law h = λ L is.
+pub little : (names : HostNames) (n pages : ℕ) (L : LinkedSet) → GathersLittle → IsMade names n pages L → IsLittle L
+little names n pages L law h =
     let small = law n h.files h.set h.made.some h.made.few h.made.generated h.gathered in
-    subst (λ (S : ClosedSet). bulk (record { set = S; options = with_pages pages; names = names }) < 2 ^ 32) (sym h.linked.set ∙ is.set) small.little
+    subst IsLittle (sym h.is) small.little
 
 -- so no section of its merged module is too long
-pub never_big : (k : Kept) (L : LinkedSet) → IsLinked L k → IsLittle k → 2 ^ 32 ≤ bulk L → ⊥
-never_big k L is few big = apart (bulk L) (few L is) big
+pub never_big : (L : LinkedSet) → IsLittle L → 2 ^ 32 ≤ bulk L → ⊥
+never_big L few big = apart (bulk L) few big
   where
     apart : (n : ℕ) → n < 2 ^ 32 → 2 ^ 32 ≤ n → ⊥
     apart n low high = omega arith
@@ -115,12 +123,12 @@ begins output errors ambient out err is =
     (record { times = Some a.times; words = Some a.words; faults = a.faults })) is
 
 -- a run of a set, over these
-pub set_inside : (k : Kept) (embedder : List (List ℕ) → Embedder) (texts args : List (List ℕ)) → texts ≡ args → (steps : ℕ) (r : Report) (begun after : Devices) → begun ≡ nothing
-    → ExecutesKept k (embedder texts) steps (Ok r.ran) begun after → after.output.held ≡ Some r.output → after.input.faults ≡ 0 → after.output.faults ≡ 0 → after.errors.faults ≡ 0
-    → RunsLoaded k (embedder args) steps r
-set_inside k embedder texts args same steps r begun after is run put input out err = λ L linked. record {
+pub set_inside : (L : LinkedSet) (embedder : List (List ℕ) → Embedder) (texts args : List (List ℕ)) → texts ≡ args → (steps : ℕ) (r : Report) (begun after : Devices) → begun ≡ nothing
+    → executed.ExecutesSet L (embedder texts) steps (Ok r.ran) begun after → after.output.held ≡ Some r.output → after.input.faults ≡ 0 → after.output.faults ≡ 0 → after.errors.faults ≡ 0
+    → RunsLoaded L (embedder args) steps r
+set_inside L embedder texts args same steps r begun after is run put input out err = record {
   after = after;
-  run = subst (λ t. IsSetRun L (embedder t) steps r.ran nothing after) same (subst (λ d. IsSetRun L (embedder texts) steps r.ran d after) is (run L linked));
+  run = subst (λ t. executed.IsSetRun L (embedder t) steps r.ran nothing after) same (subst (λ d. executed.IsSetRun L (embedder texts) steps r.ran d after) is run);
   put = put;
   input = input;
   outputs = (out, err);
@@ -139,78 +147,67 @@ module_inside wasm embedder texts args same steps r begun after is run put input
 -- ---- the summary
 
 -- what is decoded of the merged bytes is the merged module, and opens
-pub merged_to : (k : Kept) (wasm : Module) (r : Result Module wanting.Memory) → IfOk r (λ m. m ≡ wasm) → MergesTo k wasm → IfOk r (MergesTo k)
-merged_to k wasm (Ok m) same merges = subst (MergesTo k) (sym same) merges
-merged_to k wasm (Err why) same merges = tt
+pub merged_to : (L : LinkedSet) (wasm : Module) (r : Result Module wanting.Memory) → IfOk r (λ m. m ≡ wasm) → MergesTo L wasm → IfOk r (MergesTo L)
+merged_to L wasm (Ok m) same merges = subst (MergesTo L) (sym same) merges
+merged_to L wasm (Err why) same merges = tt
 
-pub merges_to : (k : Kept) (wasm : Module) (bytes : List ℕ) → ((L : LinkedSet) → IsLinked L k → whole.Merges L bytes) → ((m : Module) → DecodeAnswer bytes (Ok m) → m ≡ wasm) → MergesTo k wasm
-merges_to k wasm bytes merges told = λ L is. (let m = merges L is in record { bytes = bytes; merges = m.merged; is = told m.merged.wasm m.decoded })
+pub merges_to : (L : LinkedSet) (wasm : Module) (bytes : List ℕ) → whole.Merges L bytes → ((m : Module) → DecodeAnswer bytes (Ok m) → m ≡ wasm) → MergesTo L wasm
+merges_to L wasm bytes merges told = record { bytes = bytes; merges = merges.merged; is = told merges.merged.wasm merges.decoded }
 
-pub opens_of : (k : Kept) (names : HostNames) (L : LinkedSet) → IsLinked L k → L.names ≡ names → (wasm : Module) → MergesTo k wasm → (opening : ModuleState) × (module_opening wasm names ≡ Ok opening)
-opens_of k names L is same wasm merges =
-    let has = merges L is in
+pub opens_of : (names : HostNames) (L : LinkedSet) → L.names ≡ names → (wasm : Module) → MergesTo L wasm → (opening : ModuleState) × (module_opening wasm names ≡ Ok opening)
+opens_of names L same wasm has =
     (has.merges.opening, ap (λ w. module_opening w names) (sym has.is) ∙ ap (module_opening has.merges.wasm) (sym same) ∙ has.merges.opens)
 
 -- a run of the module that was merged
-pub merged_runs : (k : Kept) (embedder : Embedder) (steps : ℕ) (wasm : Module) (r : Result Report wanting.Memory) → MergesTo k wasm → IfOk r (RunsModule wasm embedder steps)
-    → IfOk r (λ report. (wasm : Module) × MergesTo k wasm × RunsModule wasm embedder steps report)
-merged_runs k embedder steps wasm (Ok report) merges runs = (wasm, merges, runs)
-merged_runs k embedder steps wasm (Err why) merges runs = tt
+pub merged_runs : (L : LinkedSet) (embedder : Embedder) (steps : ℕ) (wasm : Module) (r : Result Report wanting.Memory) → MergesTo L wasm → IfOk r (RunsModule wasm embedder steps)
+    → IfOk r (λ report. (wasm : Module) × MergesTo L wasm × RunsModule wasm embedder steps report)
+merged_runs L embedder steps wasm (Ok report) merges runs = (wasm, merges, runs)
+merged_runs L embedder steps wasm (Err why) merges runs = tt
 
 one_opening : (r : Result ModuleState SingleFault) (a b : ModuleState) → r ≡ Ok a → r ≡ Ok b → a ≡ b
 one_opening r a b is also = cc
 
-module _ (k : Kept) (embedder : Embedder) (steps : ℕ) (wasm : Module) (loaded merged : Report) (old new : SinkState) (runs : RunsLoaded k embedder steps loaded) (merges : MergesTo k wasm)
-    (executes : RunsModule wasm embedder steps merged) where
-  module _ (L : LinkedSet) (is : IsLinked L k) (names : L.names ≡ embedder.names) where
-    has : IsMergedModule L wasm
-    has = merges L is
+module _ (L : LinkedSet) (embedder : Embedder) (names : L.names ≡ embedder.names) (steps : ℕ) (wasm : Module) (loaded merged : Report) (old new : SinkState) (runs : RunsLoaded L embedder steps loaded)
+    (has : MergesTo L wasm) (executes : RunsModule wasm embedder steps merged) where
+  -- the run of the module, as one of what merges the set
+  same_opening : (m : Module) → m ≡ wasm → (opening : ModuleState) → module_opening m L.names ≡ Ok opening → executes.opening ≡ opening
+  same_opening m same opening opens =
+      let one : module_opening wasm embedder.names ≡ Ok opening = sym (ap (λ w. module_opening w embedder.names) same) ∙ sym (ap (module_opening m) names) ∙ opens in
+      one_opening (module_opening wasm embedder.names) executes.opening opening executes.opens one
 
-    -- the run of the module, as one of what merges the set
-    same_opening : (m : Module) → m ≡ wasm → (opening : ModuleState) → module_opening m L.names ≡ Ok opening → executes.opening ≡ opening
-    same_opening m same opening opens =
-        let one : module_opening wasm embedder.names ≡ Ok opening = sym (ap (λ w. module_opening w embedder.names) same) ∙ sym (ap (module_opening m) names) ∙ opens in
-        one_opening (module_opening wasm embedder.names) executes.opening opening executes.opens one
+  run_of : (m : Module) → m ≡ wasm → (opening : ModuleState) → executes.opening ≡ opening → IsRunInside (IsModuleRun m embedder opening steps merged.ran) merged.output
+  run_of m same opening also =
+      subst (λ o. IsRunInside (IsModuleRun m embedder o steps merged.ran) merged.output) also
+      (subst (λ w. IsRunInside (IsModuleRun w embedder executes.opening steps merged.ran) merged.output) (sym same) executes.run)
 
-    run_of : (m : Module) → m ≡ wasm → (opening : ModuleState) → executes.opening ≡ opening → IsRunInside (IsModuleRun m embedder opening steps merged.ran) merged.output
-    run_of m same opening also =
-        subst (λ o. IsRunInside (IsModuleRun m embedder o steps merged.ran) merged.output) also
-        (subst (λ w. IsRunInside (IsModuleRun w embedder executes.opening steps merged.ran) merged.output) (sym same) executes.run)
-
-    puts : (rs : List Ran) → rs ≡ loaded.ran ∷ merged.ran ∷ [] → (result : Result (Unit {0}) IoFault) → PutsReports k loaded merged result old new → PutsBoth L embedder steps rs result old new
-    puts rs two result h = record {
-      summary = h.summary;
-      both = record {
-        loaded = loaded;
-        loaded_run = runs L is;
-        bytes = has.bytes;
-        merges = has.merges;
-        merged = merged;
-        merged_run = run_of has.merges.wasm has.is has.merges.opening (same_opening has.merges.wasm has.is has.merges.opening has.merges.opens);
-        two = two;
-        sums = h.sums L is;
-      };
-      put = h.put;
-    }
-
-    of_set : (answer : Outcome) → SumsUp k loaded merged answer old new → RunsBoth L embedder steps answer old new
-    of_set (Done rs) h = puts rs h.0 (Ok tt) h.1
-    of_set WriteFault h = (loaded.ran ∷ merged.ran ∷ [], puts (loaded.ran ∷ merged.ran ∷ []) refl (Err io.Failed) h)
-    of_set Memory (inl same) = inl same
-    of_set Memory (inr put) = inr (loaded.ran ∷ merged.ran ∷ [], puts (loaded.ran ∷ merged.ran ∷ []) refl (Err io.Memory) put)
-    of_set _ h = absurd h
+  puts : (rs : List Ran) → rs ≡ loaded.ran ∷ merged.ran ∷ [] → (result : Result (Unit {0}) IoFault) → Puts (summary_of L loaded merged) result old new → PutsBoth L embedder steps rs result old new
+  puts rs two result put = record {
+    summary = summary_of L loaded merged;
+    both = record {
+      loaded = loaded;
+      loaded_run = runs;
+      bytes = has.bytes;
+      merges = has.merges;
+      merged = merged;
+      merged_run = run_of has.merges.wasm has.is has.merges.opening (same_opening has.merges.wasm has.is has.merges.opening has.merges.opens);
+      two = two;
+      sums = refl;
+    };
+    put = put;
+  }
 
   -- both runs were made, of the set and of its merged module
-  pub both_put : (answer : Outcome) → SumsUp k loaded merged answer old new → RunsKept k embedder steps answer old new
-  both_put answer sums = λ L is names. of_set L is names answer sums
+  pub both_put : (answer : Outcome) → SumsUp L loaded merged answer old new → RunsBoth L embedder steps answer old new
+  both_put (Done rs) h = puts rs h.0 (Ok tt) h.1
+  both_put WriteFault h = (loaded.ran ∷ merged.ran ∷ [], puts (loaded.ran ∷ merged.ran ∷ []) refl (Err io.Failed) h)
+  both_put Memory (inl same) = inl same
+  both_put Memory (inr put) = inr (loaded.ran ∷ merged.ran ∷ [], puts (loaded.ran ∷ merged.ran ∷ []) refl (Err io.Memory) put)
+  both_put _ h = absurd h
 
 -- ---- what is asked
 
 module _ (embedder : Embedder) (n pages steps : ℕ) where
-  module _ (k : Kept) (made : IsMade embedder.names n pages k) (old new : SinkState) where
-    abbrev L : LinkedSet
-    L = linked embedder.names (with_pages pages) made.set
-
+  module _ (L : LinkedSet) (made : IsMade embedder.names n pages L) (old new : SinkState) where
     puts_summary : (rs : List Ran) (result : Result (Unit {0}) IoFault) → PutsBoth L embedder steps rs result old new → PutsSummary embedder n pages steps rs result old new
     puts_summary rs result h = record {
       files = made.files;
@@ -218,39 +215,32 @@ module _ (embedder : Embedder) (n pages steps : ℕ) where
       set = made.set;
       there = record {
         gathered = λ files same. subst (λ (f : FileMap). IsGathered (get f) set_options (Ok made.set)) (only files same) made.gathered;
-        shape = made.linked.shape;
-        links = made.linked.links;
+        shape = made.shape;
+        links = made.links;
       };
       summary = h.summary;
-      both = h.both;
+      both = subst (λ (M : LinkedSet). AreBothRun M embedder steps rs h.summary) made.is h.both;
       put = h.put;
     }
       where
         only : (files : FileMap) → Some made.files ≡ Some files → made.files ≡ files
         only files same = cc
 
-    pub gen_works : (answer : Outcome) → RunsKept k embedder steps answer old new → GenWorks embedder n pages steps answer old new
-    gen_works answer h = go answer (h L made.linked refl)
-      where
-        go : (answer : Outcome) → RunsBoth L embedder steps answer old new → GenWorks embedder n pages steps answer old new
-        go (Done rs) h = puts_summary rs (Ok tt) h
-        go WriteFault h = (h.0, puts_summary h.0 (Err io.Failed) h.1)
-        go Memory (inl same) = inl same
-        go Memory (inr put) = inr (put.0, io.Memory, puts_summary put.0 (Err io.Memory) put.1)
-        go _ h = absurd h
+    pub gen_works : (answer : Outcome) → RunsBoth L embedder steps answer old new → GenWorks embedder n pages steps answer old new
+    gen_works (Done rs) h = puts_summary rs (Ok tt) h
+    gen_works WriteFault h = (h.0, puts_summary h.0 (Err io.Failed) h.1)
+    gen_works Memory (inl same) = inl same
+    gen_works Memory (inr put) = inr (put.0, io.Memory, puts_summary put.0 (Err io.Memory) put.1)
+    gen_works _ h = absurd h
 
     made_links : MadeLinks embedder.names n pages
-    made_links = record { files = made.files; made = made.made; links = record { set = made.set; gathered = made.gathered; links = made.linked.links } }
+    made_links = record { files = made.files; made = made.made; links = record { set = made.set; gathered = made.gathered; links = made.links } }
 
-    pub gen_serves : (answer : Outcome) (files : FilesState) → RunsKept k embedder steps answer old new
-        → Serves embedder.names (Ok (order.Gen n pages steps)) answer files files old.faults new.faults
-    gen_serves answer files h = go answer (h L made.linked refl)
-      where
-        go : (answer : Outcome) → RunsBoth L embedder steps answer old new → Serves embedder.names (Ok (order.Gen n pages steps)) answer files files old.faults new.faults
-        go (Done rs) h = record { tells = λ f told. made_links; leaves = λ f told. told; caused = tt; inner = refl }
-        go WriteFault h = record { tells = λ f told. made_links; leaves = λ f told. told; caused = h.1.put.count; inner = refl }
-        go Memory h = record { tells = λ f told. tt; leaves = λ f told. told; caused = tt; inner = refl }
-        go _ h = absurd h
+    pub gen_serves : (answer : Outcome) (files : FilesState) → RunsBoth L embedder steps answer old new → Serves embedder.names (Ok (order.Gen n pages steps)) answer files files old.faults new.faults
+    gen_serves (Done rs) files h = record { tells = λ f told. made_links; leaves = λ f told. told; caused = tt; inner = refl }
+    gen_serves WriteFault files h = record { tells = λ f told. made_links; leaves = λ f told. told; caused = h.1.put.count; inner = refl }
+    gen_serves Memory files h = record { tells = λ f told. tt; leaves = λ f told. told; caused = tt; inner = refl }
+    gen_serves _ files h = absurd h
 
   -- where there is no set
   pub gen_refused : (answer : Outcome) (files : FilesState) (before now : ℕ) → IsNotMade embedder.names n pages answer

@@ -1,5 +1,5 @@
 -- What comes of several sets that run in turns.
-use Rattle.std.proofs.Common.{◌≡◌, ◌<◌, ◌≤◌, ℕ, List, [], ◌∷◌, map, length, false, Option, Some, Ok, Err, refl, sym, subst, ◌∙◌, inl, inr, arith}
+use Rattle.std.proofs.Common.{◌≡◌, ◌<◌, ◌≤◌, ℕ, List, [], ◌∷◌, map, length, false, Option, Some, Ok, Err, refl, ap, subst, ◌∙◌, inl, inr, arith}
 use Rattle.std.specs.List.{All}
 use Rattle.std.proofs.lemmas.List.Elements.{All-nil, All-cons}
 use Rattle.std.specs.FinMap.{get}
@@ -12,11 +12,12 @@ use Rattle.spec_loading.specs.spec_linking.declared.fault.SetFault.{SetFault}
 use Rattle.spec_loading.specs.spec_linking.declared.fault.SetFault.TheVariants.{ReadFault}
 use Rattle.spec_loading.specs.spec_linking.Sets.{ClosedSet}
 use Rattle.spec_loading.specs.spec_linking.Plans as plans
+use Rattle.spec_loading.specs.spec_linking.LinkedSets.{LinkedSet}
+use Rattle.spec_boards.specs.BoardRuns.{IsBoardRun, IsBoardCut}
 use Rattle.dyl_link.specs.declared.options.LinkOptions.{LinkOptions}
-use Rattle.dyl_link.specs.Kept as links
-use Rattle.dyl_link.specs.Kept.{Kept}
-use Rattle.wasm_exec.specs.Executed.{HaveIntegers, IsLinkedOver}
-use Rattle.slice_exec.specs.Executed.{AreKept}
+use Rattle.dyl_link.specs.Sets as links
+use Rattle.wasm_exec.specs.Executed.{HaveIntegers}
+use Rattle.dyl_store.specs.Stores.{set_course}
 use Rattle.dyl_front.specs.declared.order.Order.TheVariants as order
 use Rattle.dyl_front.specs.declared.outcome.Outcome.{Outcome}
 use Rattle.dyl_front.specs.declared.outcome.Outcome.TheVariants.{Board, Set, Link, Memory}
@@ -30,78 +31,83 @@ use Rattle.dyl_commands.specs.Served.{Serves, AreGot, AreNotGot, MayFollowAll, G
 -- ---- the sets
 
 module _ (names : HostNames) (l : plans.LinkOptions) (old : FilesState) where
-  as_many : (mains : List (List ℕ)) (ks : List Kept) → AreGot names mains l ks old → length ks ≡ length mains
+  as_many : (mains : List (List ℕ)) (Ls : List LinkedSet) → AreGot names mains l Ls old → length Ls ≡ length mains
   as_many [] [] h = refl
-  as_many (main ∷ mains) (k ∷ ks) h = (let rest = as_many mains ks h.1 in omega arith)
-  as_many [] (k ∷ ks) h = absurd h
+  as_many (main ∷ mains) (L ∷ Ls) h = (let rest = as_many mains Ls h.1 in omega arith)
+  as_many [] (L ∷ Ls) h = absurd h
   as_many (main ∷ mains) [] h = absurd h
 
-  pub some_sets : (mains : List (List ℕ)) (ks : List Kept) → AreGot names mains l ks old → 0 < length mains → 0 < length ks
-  some_sets mains ks h some = (let same = as_many mains ks h in omega arith)
+  pub some_sets : (mains : List (List ℕ)) (Ls : List LinkedSet) → AreGot names mains l Ls old → 0 < length mains → 0 < length Ls
+  some_sets mains Ls h some = (let same = as_many mains Ls h in omega arith)
 
-  pub few_sets : (mains : List (List ℕ)) (ks : List Kept) → AreGot names mains l ks old → length mains ≤ 64 → length ks ≤ 64
-  few_sets mains ks h few = (let same = as_many mains ks h in omega arith)
+  pub few_sets : (mains : List (List ℕ)) (Ls : List LinkedSet) → AreGot names mains l Ls old → length mains ≤ 64 → length Ls ≤ 64
+  few_sets mains Ls h few = (let same = as_many mains Ls h in omega arith)
 
   -- each is linked over these host functions
-  pub all_over : (mains : List (List ℕ)) (ks : List Kept) → AreGot names mains l ks old → All (λ k. IsLinkedOver k names) ks
-  all_over [] [] h = All-nil (λ k. IsLinkedOver k names)
-  all_over (main ∷ mains) (k ∷ ks) h = All-cons (λ k. IsLinkedOver k names) k ks (linked names l h.0.set, h.0.linked, refl) (all_over mains ks h.1)
-  all_over [] (k ∷ ks) h = absurd h
+  pub all_over : (mains : List (List ℕ)) (Ls : List LinkedSet) → AreGot names mains l Ls old → All (λ (M : LinkedSet). M.names ≡ names) Ls
+  all_over [] [] h = All-nil (λ (M : LinkedSet). M.names ≡ names)
+  all_over (main ∷ mains) (L ∷ Ls) h = All-cons (λ (M : LinkedSet). M.names ≡ names) L Ls (ap (λ (M : LinkedSet). M.names) h.0.is) (all_over mains Ls h.1)
+  all_over [] (L ∷ Ls) h = absurd h
   all_over (main ∷ mains) [] h = absurd h
 
-  pub declared_integers : (mains : List (List ℕ)) (ks : List Kept) → AreGot names mains l ks old → 0 < length mains → HaveIntegers names
-  declared_integers [] ks h some = absurd (omega arith)
-  declared_integers (main ∷ mains) (k ∷ ks) h some = h.0.integers
+  pub declared_integers : (mains : List (List ℕ)) (Ls : List LinkedSet) → AreGot names mains l Ls old → 0 < length mains → HaveIntegers names
+  declared_integers [] Ls h some = absurd (omega arith)
+  declared_integers (main ∷ mains) (L ∷ Ls) h some = h.0.integers
   declared_integers (main ∷ mains) [] h some = absurd h
 
-  abbrev sets_of : (mains : List (List ℕ)) (ks : List Kept) → AreGot names mains l ks old → List ClosedSet
-  sets_of [] ks h = []
-  sets_of (main ∷ mains) (k ∷ ks) h = h.0.set ∷ sets_of mains ks h.1
+  abbrev sets_of : (mains : List (List ℕ)) (Ls : List LinkedSet) → AreGot names mains l Ls old → List ClosedSet
+  sets_of [] Ls h = []
+  sets_of (main ∷ mains) (L ∷ Ls) h = h.0.set ∷ sets_of mains Ls h.1
   sets_of (main ∷ mains) [] h = absurd h
 
-  are_kept : (mains : List (List ℕ)) (ks : List Kept) (h : AreGot names mains l ks old) → AreKept (map (linked names l) (sets_of mains ks h)) ks
-  are_kept [] [] h = tt
-  are_kept (main ∷ mains) (k ∷ ks) h = (h.0.linked, are_kept mains ks h.1)
-  are_kept [] (k ∷ ks) h = absurd h
-  are_kept (main ∷ mains) [] h = absurd h
+  -- they are these sets, linked
+  are_linked : (mains : List (List ℕ)) (Ls : List LinkedSet) (h : AreGot names mains l Ls old) → Ls ≡ map (linked names l) (sets_of mains Ls h)
+  are_linked [] [] h = refl
+  are_linked (main ∷ mains) (L ∷ Ls) h = ap (λ M. M ∷ Ls) h.0.is ∙ ap (λ Ms. linked names l h.0.set ∷ Ms) (are_linked mains Ls h.1)
+  are_linked [] (L ∷ Ls) h = absurd h
+  are_linked (main ∷ mains) [] h = absurd h
 
-  are_there : (mains : List (List ℕ)) (ks : List Kept) (h : AreGot names mains l ks old) → AreThere old.told names mains l (sets_of mains ks h)
-  are_there [] ks h = tt
-  are_there (main ∷ mains) (k ∷ ks) h = (record { gathered = h.0.gathered; shape = h.0.linked.shape; links = h.0.linked.links }, are_there mains ks h.1)
+  are_there : (mains : List (List ℕ)) (Ls : List LinkedSet) (h : AreGot names mains l Ls old) → AreThere old.told names mains l (sets_of mains Ls h)
+  are_there [] Ls h = tt
+  are_there (main ∷ mains) (L ∷ Ls) h = (record { gathered = h.0.gathered; shape = h.0.shape; links = h.0.links }, are_there mains Ls h.1)
   are_there (main ∷ mains) [] h = absurd h
 
-  all_link : (mains : List (List ℕ)) (ks : List Kept) → AreGot names mains l ks old → (files : FileMap) → old.told ≡ Some files → AllLink names (get files) mains l
-  all_link [] ks h files told = tt
-  all_link (main ∷ mains) (k ∷ ks) h files told = (record { set = h.0.set; gathered = h.0.gathered files told; links = h.0.linked.links }, all_link mains ks h.1 files told)
+  all_link : (mains : List (List ℕ)) (Ls : List LinkedSet) → AreGot names mains l Ls old → (files : FileMap) → old.told ≡ Some files → AllLink names (get files) mains l
+  all_link [] Ls h files told = tt
+  all_link (main ∷ mains) (L ∷ Ls) h files told = (record { set = h.0.set; gathered = h.0.gathered files told; links = h.0.links }, all_link mains Ls h.1 files told)
   all_link (main ∷ mains) [] h files told = absurd h
 
 -- ---- their run
 
 -- of these, which are those that were linked
-module _ (embedder : Embedder) (mains : List (List ℕ)) (o : LinkOptions) (ks items : List Kept) (same : items ≡ ks) (old new : FilesState)
-    (gets : GetsAll embedder.names mains (links.options_of o) (Ok ks) old new) (steps slice turns : ℕ) (pick : Picks) (begun now : Devices) where
+module _ (embedder : Embedder) (mains : List (List ℕ)) (o : LinkOptions) (Ls items : List LinkedSet) (same : items ≡ Ls) (old new : FilesState)
+    (gets : GetsAll embedder.names mains (links.options_of o) (Ok Ls) old new) (steps slice turns : ℕ) (pick : Picks) (begun now : Devices) where
   abbrev l : plans.LinkOptions
   l = links.options_of o
 
-  kept : AreKept (map (linked embedder.names l) (sets_of embedder.names l old mains ks gets.got)) items
-  kept = subst (AreKept (map (linked embedder.names l) (sets_of embedder.names l old mains ks gets.got))) (sym same) (are_kept embedder.names l old mains ks gets.got)
+  -- the sets, which these are once they are linked
+  abbrev sets : List ClosedSet
+  sets = sets_of embedder.names l old mains Ls gets.got
+
+  these : items ≡ map (linked embedder.names l) sets
+  these = same ∙ are_linked embedder.names l old mains Ls gets.got
 
   pub turns_serve : (answer : Outcome) → RunsInTurns items embedder steps slice turns pick answer begun now → (before after : ℕ)
       → Serves embedder.names (Ok (order.Board mains o steps slice turns)) answer old new before after
-  turns_serve (Board r) h before after = record { tells = all_link embedder.names l old mains ks gets.got; leaves = λ files told. gets.files ∙ told; caused = tt; inner = refl }
+  turns_serve (Board r) h before after = record { tells = all_link embedder.names l old mains Ls gets.got; leaves = λ files told. gets.files ∙ told; caused = tt; inner = refl }
   turns_serve Memory h before after = record { tells = λ files told. tt; leaves = λ files told. gets.files ∙ told; caused = tt; inner = refl }
   turns_serve _ h before after = absurd h
 
   pub turns_work : (answer : Outcome) → RunsInTurns items embedder steps slice turns pick answer begun now → BoardWorks old.told mains l steps slice turns pick embedder answer begun now
   turns_work (Board r) h = record {
-    sets = sets_of embedder.names l old mains ks gets.got;
-    there = are_there embedder.names l old mains ks gets.got;
-    run = h (map (linked embedder.names l) (sets_of embedder.names l old mains ks gets.got)) kept;
+    sets = sets;
+    there = are_there embedder.names l old mains Ls gets.got;
+    run = subst (λ (Ms : List LinkedSet). IsBoardRun set_course Ms steps slice turns pick embedder r begun now) these h;
   }
   turns_work Memory h = inr (record {
-    sets = sets_of embedder.names l old mains ks gets.got;
-    there = are_there embedder.names l old mains ks gets.got;
-    cut = h (map (linked embedder.names l) (sets_of embedder.names l old mains ks gets.got)) kept;
+    sets = sets;
+    there = are_there embedder.names l old mains Ls gets.got;
+    cut = subst (λ (Ms : List LinkedSet). IsBoardCut set_course Ms steps slice turns pick embedder begun now) these h;
   })
   turns_work _ h = absurd h
 

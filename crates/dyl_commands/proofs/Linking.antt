@@ -20,15 +20,14 @@ use Rattle.spec_loading.specs.spec_linking.declared.fault.SetFault.TheVariants a
 use Rattle.spec_loading.specs.spec_linking.declared.fault.LinkFault.{LinkFault}
 use Rattle.spec_loading.specs.spec_linking.declared.fault.LinkFault.TheVariants as link
 use Rattle.spec_loading.specs.spec_linking.Sets.{ClosedSet, SetOptions}
-use Rattle.spec_loading.specs.spec_linking.Gathering.{IsGathered}
+use Rattle.spec_loading.specs.spec_linking.Gathering.{IsGathered, IsSet}
 use Rattle.spec_loading.specs.spec_linking.Plans.{LinkOptions}
 use Rattle.spec_loading.specs.spec_linking.LinkedSets.{LinkedSet, hosts_of}
-use Rattle.spec_loading.specs.spec_linking.Links.{link_fault}
+use Rattle.spec_loading.specs.spec_linking.Links.{Links, link_fault}
 use Rattle.dyl_link.specs.dyl_search.Absents.{CountsFor}
 use Rattle.dyl_link.specs.dyl_search.Found.{ReadsOf}
 use Rattle.dyl_link.specs.dyl_search.Gathers.{Stops, IsWhole}
 use Rattle.dyl_link.specs.Answers.{IsFirst}
-use Rattle.dyl_link.specs.Kept.{Kept, IsLinked}
 use Rattle.wasm_exec.specs.Executed.{HaveIntegers}
 use Rattle.wasm_exec.proofs.SetHosts.{IsDeclared, set_declared}
 use Rattle.merge_whole.specs.Merges.{IsSupported}
@@ -40,8 +39,10 @@ use Rattle.dyl_commands.specs.Served.{IsNotGot, Gets, LinksTo, set_outcome, link
 use Rattle.dyl_commands.proofs.Counting.{at_least, tried_wanting}
 
 -- a set that links, by the names that were declared
-pub links_to : (l : LinkOptions) (S : ClosedSet) (names also : HostNames) (k : Kept) → names ≡ also → IsLinked (linked names l S) k → HaveIntegers also → LinksTo (linked also l S) (Ok k)
-links_to l S names also k same h integers = (subst (λ n. IsLinked (linked n l S) k) same h, integers)
+pub links_to : (l : LinkOptions) (S : ClosedSet) (names also : HostNames) (L : LinkedSet) → names ≡ also → L ≡ linked names l S → Links L → HaveIntegers also → LinksTo (linked also l S) (Ok L)
+links_to l S names also L same is links integers =
+    let here : L ≡ linked also l S = subst (λ n. L ≡ linked n l S) same is in
+    (here, subst Links here links, integers)
 
 -- one that doesn't
 first_fault_to : (L : LinkedSet) (fault : LinkFault) → IsFirst fault (link_fault L) → LinksTo L (Err (link_outcome fault))
@@ -68,12 +69,12 @@ function_supported ty h =
     let both = and_parts (list_all is_integer ty.params) (list_all is_integer ty.results) h in
     and_from (list_all is_supported ty.params) (list_all is_supported ty.results) (integers_supported ty.params both.0) (integers_supported ty.results both.1)
 
-pub hosts_supported : (l : LinkOptions) (S : ClosedSet) (names : HostNames) (k : Kept) → IsLinked (linked names l S) k → HaveIntegers names → All IsSupported k.hosts
-hosts_supported l S names k h integers =
-    let L = linked names l S in
-    let supported : All IsSupported (hosts_of L) =
-    All-weaker (IsDeclared L) IsSupported (λ host declared. function_supported host.ty (integers host.module_name host.name host.ty declared)) (hosts_of L) (set_declared L h.links) in
-    subst (All IsSupported) (sym h.hosts) supported
+pub hosts_supported : (l : LinkOptions) (S : ClosedSet) (names : HostNames) (L : LinkedSet) → L ≡ linked names l S → Links (linked names l S) → HaveIntegers names → All IsSupported (hosts_of L)
+hosts_supported l S names L is links integers =
+    let M = linked names l S in
+    let supported : All IsSupported (hosts_of M) =
+    All-weaker (IsDeclared M) IsSupported (λ host declared. function_supported host.ty (integers host.module_name host.name host.ty declared)) (hosts_of M) (set_declared M links) in
+    subst (λ (N : LinkedSet). All IsSupported (hosts_of N)) (sym is) supported
 
 pub links_not : (l : LinkOptions) (S : ClosedSet) (names also : HostNames) (fault : LinkFault) → names ≡ also → IsFirst fault (link_fault (linked names l S)) → LinksTo (linked also l S) (Err (link_outcome fault))
 links_not l S names also fault same h = first_fault_to (linked also l S) fault (subst (λ n. IsFirst fault (link_fault (linked n l S))) same h)
@@ -87,10 +88,10 @@ module _ (names : HostNames) (o : SetOptions) (l : LinkOptions) (old new : Files
   none answer h reads tried = record { got = tt; fault = h; files = files; reads = reads; writes = writes; absents = absents; tried = tried }
 
   -- a set was gathered
-  pub got : (S : ClosedSet) (r : Result Kept Outcome) → ForSome old.told (λ m. IsGathered (get m) o (Ok S)) → new.read_faults ≡ old.read_faults → CountsFor old.told o (Ok S) old.absents new.absents
-      → LinksTo (linked names l S) r → Gets names o l r old new
-  got S (Ok k) gathered reads tried links = record {
-    got = record { set = S; gathered = gathered; linked = links.0; integers = links.1 };
+  pub got : (S : ClosedSet) (r : Result LinkedSet Outcome) → ForSome old.told (λ m. IsGathered (get m) o (Ok S)) → IsSet S → new.read_faults ≡ old.read_faults
+      → CountsFor old.told o (Ok S) old.absents new.absents → LinksTo (linked names l S) r → Gets names o l r old new
+  got S (Ok L) gathered shape reads tried links = record {
+    got = record { set = S; gathered = gathered; shape = shape; links = links.1; is = links.0; integers = links.2 };
     fault = tt;
     files = files;
     reads = reads;
@@ -98,12 +99,12 @@ module _ (names : HostNames) (o : SetOptions) (l : LinkOptions) (old new : Files
     absents = absents;
     tried = (S, tried);
   }
-  got S (Err Memory) gathered reads tried links =
+  got S (Err Memory) gathered shape reads tried links =
       none Memory (record { tells = λ m told. tt; caused = tt; inner = refl }) (at_least old.read_faults new.read_faults reads) (tried_wanting old.told o (Ok S) old.absents new.absents tried)
-  got S (Err (Link link.Memory)) gathered reads tried links = absurd links
-  got S (Err (Link fault)) gathered reads tried links =
+  got S (Err (Link link.Memory)) gathered shape reads tried links = absurd links
+  got S (Err (Link fault)) gathered shape reads tried links =
       none (Link fault) (record { tells = λ m told. record { set = S; gathered = gathered m told; found = links }; caused = tt; inner = refl }) reads (S, tried)
-  got S (Err _) gathered reads tried links = absurd links
+  got S (Err _) gathered shape reads tried links = absurd links
 
   -- none was
   pub not_got : (fault : SetFault) → ForSome old.told (λ m. Stops (get m) o fault) → IsWhole fault → ReadsOf {A = ClosedSet} (Err fault) old.read_faults new.read_faults

@@ -13,8 +13,7 @@ use Rattle.spec_merging.specs.declared.fault.MergeFault.TheVariants as merge
 use Rattle.dyl_link.specs.dyl_search.declared.set.SetOptions.{SetOptions}
 use Rattle.dyl_link.specs.dyl_search.Gathers.{options_of}
 use Rattle.dyl_link.specs.declared.options.LinkOptions.{LinkOptions}
-use Rattle.dyl_link.specs.Kept as links
-use Rattle.dyl_link.specs.Kept.{Kept, IsLinked}
+use Rattle.dyl_link.specs.Sets as links
 use Rattle.dyl_front.specs.declared.order.Order.TheVariants as order
 use Rattle.dyl_front.specs.declared.outcome.Outcome.{Outcome}
 use Rattle.dyl_front.specs.declared.outcome.Outcome.TheVariants.{Done, Merge, WriteFault, Memory}
@@ -24,36 +23,35 @@ use Rattle.dyl_commands.specs.Files.{IsMerged}
 use Rattle.dyl_commands.specs.Served.{Serves, Gets, HoldsMerged, StoresOutput, WritesMerged, merge_outcome}
 
 -- what is stored is what was merged
-pub stored_merged : (k : Kept) (out bytes : List ℕ) (old new : FilesState) → ((L : LinkedSet) → IsLinked L k → whole.Merges L bytes) → StoresOutput out bytes (Ok tt) old new → WritesMerged k out (Done []) old new
-stored_merged k out bytes old new merges h = λ files told. subst (λ after. IsSomeAnd after (HoldsMerged k out files)) (sym (h files told)) (record { output = bytes; merges = merges; written = refl })
+pub stored_merged : (L : LinkedSet) (out bytes : List ℕ) (old new : FilesState) → whole.Merges L bytes → StoresOutput out bytes (Ok tt) old new → WritesMerged L out (Done []) old new
+stored_merged L out bytes old new merges h = λ files told. subst (λ after. IsSomeAnd after (HoldsMerged L out files)) (sym (h files told)) (record { output = bytes; merges = merges; written = refl })
 
 -- nothing is merged
-pub not_merged : (k : Kept) (out : List ℕ) (fault : MergeFault) (old : FilesState)
-    → ((id : ℕ) → fault ≡ merge.SectionSize id → (L : LinkedSet) → IsLinked L k → IsTooLongFor L id) → WritesMerged k out (merge_outcome fault) old old
-not_merged k out merge.Memory old long = λ files told. told
-not_merged k out (merge.SectionSize id) old long = (long id refl, refl)
+pub not_merged : (L : LinkedSet) (out : List ℕ) (fault : MergeFault) (old : FilesState) → ((id : ℕ) → fault ≡ merge.SectionSize id → IsTooLongFor L id) → WritesMerged L out (merge_outcome fault) old old
+not_merged L out merge.Memory old long = λ files told. told
+not_merged L out (merge.SectionSize id) old long = (long id refl, refl)
 
-module _ (names : HostNames) (o : SetOptions) (l : LinkOptions) (out : List ℕ) (k : Kept) (old mid new : FilesState) (gets : Gets names (options_of o) (links.options_of l) (Ok k) old mid) where
-  abbrev L : LinkedSet
-  L = linked names (links.options_of l) gets.got.set
-
+module _ (names : HostNames) (o : SetOptions) (l : LinkOptions) (out : List ℕ) (L : LinkedSet) (old mid new : FilesState) (gets : Gets names (options_of o) (links.options_of l) (Ok L) old mid) where
   links_at : (files : FileMap) → old.told ≡ Some files → LinksAt names (get files) (options_of o) (links.options_of l)
-  links_at files told = record { set = gets.got.set; gathered = gets.got.gathered files told; links = gets.got.linked.links }
+  links_at files told = record { set = gets.got.set; gathered = gets.got.gathered files told; links = gets.got.links }
 
-  merged_at : (files : FileMap) → old.told ≡ Some files → (after : Option FileMap) → IsSomeAnd after (HoldsMerged k out files)
+  merged_at : (files : FileMap) → old.told ≡ Some files → (after : Option FileMap) → IsSomeAnd after (HoldsMerged L out files)
       → IsSomeAnd after (IsMerged names (options_of o) (links.options_of l) out files)
   merged_at files told None h = h
-  merged_at files told (Some after) h = record {
-    set = gets.got.set;
-    gathered = gets.got.gathered files told;
-    links = gets.got.linked.links;
-    output = h.output;
-    merged = (h.merges L gets.got.linked).merged;
-    shape = (h.merges L gets.got.linked).shape;
-    written = h.written;
-  }
+  merged_at files told (Some after) h =
+      let merges : whole.Merges (linked names (links.options_of l) gets.got.set) h.output = subst (λ (M : LinkedSet). whole.Merges M h.output) gets.got.is h.merges in
+      record {
+        set = gets.got.set;
+        gathered = gets.got.gathered files told;
+        links = gets.got.links;
+        output = h.output;
+        merged = merges.merged;
+        shape = merges.shape;
+        written = h.written;
+      }
 
-  pub merge_serves : (answer : Outcome) → WritesMerged k out answer mid new → (before now : ℕ) → Serves names (Ok (order.Merge o l out)) answer old new before now
+  pub merge_serves : (answer : Outcome) → WritesMerged L out answer mid new → (before now : ℕ) → Serves names (Ok (order.Merge o l out)) answer old new before now
+  unfolding links_at
   merge_serves (Done []) h before now = record {
     tells = links_at;
     leaves = λ files told. merged_at files told new.told (h files (gets.files ∙ told));
@@ -69,8 +67,8 @@ module _ (names : HostNames) (o : SetOptions) (l : LinkOptions) (out : List ℕ)
   merge_serves (Merge merge.Memory) h before now = absurd h
   merge_serves (Merge (merge.SectionSize id)) h before now = record {
     tells = λ files told. record {
-      merges = record { set = gets.got.set; gathered = gets.got.gathered files told; links = gets.got.linked.links };
-      long = h.0 L gets.got.linked;
+      merges = links_at files told;
+      long = subst (λ (M : LinkedSet). IsTooLongFor M id) gets.got.is h.0;
     };
     leaves = λ files told. h.1 ∙ gets.files ∙ told;
     caused = tt;

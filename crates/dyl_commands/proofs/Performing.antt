@@ -13,7 +13,7 @@ use Rattle.spec_loading.specs.spec_linking.Plans as plans
 use Rattle.dyl_link.specs.dyl_search.declared.set.SetOptions.{SetOptions}
 use Rattle.dyl_link.specs.dyl_search.Gathers.{options_of}
 use Rattle.dyl_link.specs.declared.options.LinkOptions.{LinkOptions}
-use Rattle.dyl_link.specs.Kept as links
+use Rattle.dyl_link.specs.Sets as links
 use Rattle.dyl_front.specs.Orders.{IsLinkInRange, AreArgumentsInRange, IsInRange}
 use Rattle.dyl_front.specs.declared.order.Order.{Order}
 use Rattle.dyl_front.specs.declared.order.Order.TheVariants.{Merge, Run, Exec, Plan, Gen, Trace, Replay, Snap, Board}

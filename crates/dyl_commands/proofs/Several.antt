@@ -9,7 +9,7 @@ use Rattle.spec_loading.specs.spec_linking.declared.fault.SetFault.{SetFault}
 use Rattle.spec_loading.specs.spec_linking.declared.fault.SetFault.TheVariants.{Missing, ReadFault}
 use Rattle.spec_loading.specs.spec_linking.Sets.{Files, SetOptions, default_options}
 use Rattle.spec_loading.specs.spec_linking.Plans.{LinkOptions}
-use Rattle.dyl_link.specs.Kept.{Kept}
+use Rattle.spec_loading.specs.spec_linking.LinkedSets.{LinkedSet}
 use Rattle.dyl_front.specs.declared.outcome.Outcome.{Outcome}
 use Rattle.dyl_front.specs.declared.outcome.Outcome.TheVariants.{Done, Board, Set, Link, Memory}
 use Rattle.dyl_commands.specs.Linking.{LinksAt, FaultTells}
@@ -39,13 +39,20 @@ rises_after before mid now first h = record { later = (let rises = h.later in om
 -- ---- what is so of what comes after it is so from its beginning
 
 module _ (names : HostNames) (l : LinkOptions) (old mid : FilesState) (same : mid.told ≡ old.told) where
-  got_before : (o : SetOptions) (k : Kept) → IsGot names o l k mid → IsGot names o l k old
-  got_before o k h = record { set = h.set; gathered = λ files told. h.gathered files (same ∙ told); linked = h.linked; integers = h.integers }
+  got_before : (o : SetOptions) (L : LinkedSet) → IsGot names o l L mid → IsGot names o l L old
+  got_before o L h = record {
+    set = h.set;
+    gathered = λ files told. h.gathered files (same ∙ told);
+    shape = h.shape;
+    links = h.links;
+    is = h.is;
+    integers = h.integers;
+  }
 
-  are_got_before : (mains : List (List ℕ)) (ks : List Kept) → AreGot names mains l ks mid → AreGot names mains l ks old
+  are_got_before : (mains : List (List ℕ)) (Ls : List LinkedSet) → AreGot names mains l Ls mid → AreGot names mains l Ls old
   are_got_before [] [] h = tt
-  are_got_before (main ∷ mains) (k ∷ ks) h = (got_before (default_options main) k h.0, are_got_before mains ks h.1)
-  are_got_before [] (k ∷ ks) h = absurd h
+  are_got_before (main ∷ mains) (L ∷ Ls) h = (got_before (default_options main) L h.0, are_got_before mains Ls h.1)
+  are_got_before [] (L ∷ Ls) h = absurd h
   are_got_before (main ∷ mains) [] h = absurd h
 
 cause_before : (old mid new : FilesState) → mid.read_faults ≡ old.read_faults → old.absents ≤ mid.absents → (answer : Outcome) → GotCause answer mid new → GotCause answer old new
@@ -85,10 +92,10 @@ stops_at o answer old new caused h = h
 
 -- ---- all of them
 
--- what is kept of some, and then what comes of those after them
-abbrev pub behind : List Kept → Result (List Kept) Outcome → Result (List Kept) Outcome
-behind ks (Ok more) = Ok (ks ++ more)
-behind ks (Err outcome) = Err outcome
+-- some that are linked, and then what comes of those after them
+abbrev pub behind : List LinkedSet → Result (List LinkedSet) Outcome → Result (List LinkedSet) Outcome
+behind Ls (Ok more) = Ok (Ls ++ more)
+behind Ls (Err outcome) = Err outcome
 
 module _ (names : HostNames) (l : LinkOptions) where
   none_left : (old : FilesState) → GetsAll names [] l (Ok []) old old
@@ -113,13 +120,13 @@ module _ (names : HostNames) (l : LinkOptions) where
   }
 
   -- it is, and this comes of those after it
-  module _ (main : List ℕ) (mains : List (List ℕ)) (k : Kept) (old mid new : FilesState) (gets : Gets names (default_options main) l (Ok k) old mid) where
+  module _ (main : List ℕ) (mains : List (List ℕ)) (L : LinkedSet) (old mid new : FilesState) (gets : Gets names (default_options main) l (Ok L) old mid) where
     counts_after : (answer : Outcome) → BoardCounts mains answer mid new → BoardCounts (main ∷ mains) answer old new
-    counts_after answer h = inr (mid, got_counts names (default_options main) l k old mid gets (Done []) refl, gets.files, h)
+    counts_after answer h = inr (mid, got_counts names (default_options main) l L old mid gets (Done []) refl, gets.files, h)
 
-    linked_first : (r : Result (List Kept) Outcome) → GetsAll names mains l r mid new → GetsAll names (main ∷ mains) l (behind (k ∷ []) r) old new
-    linked_first (Ok ks) h = record {
-      got = (gets.got, are_got_before names l old mid gets.files mains ks h.got);
+    linked_first : (r : Result (List LinkedSet) Outcome) → GetsAll names mains l r mid new → GetsAll names (main ∷ mains) l (behind (L ∷ []) r) old new
+    linked_first (Ok Ls) h = record {
+      got = (gets.got, are_got_before names l old mid gets.files mains Ls h.got);
       fault = tt;
       files = h.files ∙ gets.files;
       counts = λ answer follows. counts_after answer (h.counts answer follows);
@@ -128,7 +135,7 @@ module _ (names : HostNames) (l : LinkOptions) where
       got = tt;
       fault = record {
         tells = λ files told.
-            tells_after names (get files) main mains l (record { set = gets.got.set; gathered = gets.got.gathered files told; links = gets.got.linked.links }) outcome (h.fault.tells files (gets.files ∙ told));
+            tells_after names (get files) main mains l (record { set = gets.got.set; gathered = gets.got.gathered files told; links = gets.got.links }) outcome (h.fault.tells files (gets.files ∙ told));
         caused = cause_before old mid new gets.reads gets.absents outcome h.fault.caused;
         inner = h.fault.inner;
       };
@@ -139,33 +146,33 @@ module _ (names : HostNames) (l : LinkOptions) where
   -- ---- step by step
 
   -- Some are linked: what comes of those that are left comes of all.
-  abbrev pub GoesOn : List (List ℕ) → List (List ℕ) → List Kept → FilesState → FilesState → Type 0
-  GoesOn mains left ks old now = (r : Result (List Kept) Outcome) (new : FilesState) → GetsAll names left l r now new → GetsAll names mains l (behind ks r) old new
+  abbrev pub GoesOn : List (List ℕ) → List (List ℕ) → List LinkedSet → FilesState → FilesState → Type 0
+  GoesOn mains left Ls old now = (r : Result (List LinkedSet) Outcome) (new : FilesState) → GetsAll names left l r now new → GetsAll names mains l (behind Ls r) old new
 
-  none_behind : (r : Result (List Kept) Outcome) → behind [] r ≡ r
-  none_behind (Ok ks) = refl
+  none_behind : (r : Result (List LinkedSet) Outcome) → behind [] r ≡ r
+  none_behind (Ok Ls) = refl
   none_behind (Err outcome) = refl
 
-  pub begins : (mains : List (List ℕ)) (ks : List Kept) (old : FilesState) → ks ≡ [] → GoesOn mains mains ks old old
-  begins mains ks old none r new h = subst (λ x. GetsAll names mains l x old new) (sym (ap (λ x. behind x r) none ∙ none_behind r)) h
+  pub begins : (mains : List (List ℕ)) (Ls : List LinkedSet) (old : FilesState) → Ls ≡ [] → GoesOn mains mains Ls old old
+  begins mains Ls old none r new h = subst (λ x. GetsAll names mains l x old new) (sym (ap (λ x. behind x r) none ∙ none_behind r)) h
 
-  pub goes_on : (mains left rest : List (List ℕ)) (main : List ℕ) (ks news : List Kept) (old now new : FilesState) (done : Unit {0}) → left ≡ main ∷ rest → GoesOn mains left ks old now
-      → GetsNext names main l (Ok done) ks news now new → GoesOn mains rest news old new
-  goes_on mains left rest main ks news old now new done is go gets r last h =
+  pub goes_on : (mains left rest : List (List ℕ)) (main : List ℕ) (Ls news : List LinkedSet) (old now new : FilesState) (done : Unit {0}) → left ≡ main ∷ rest → GoesOn mains left Ls old now
+      → GetsNext names main l (Ok done) Ls news now new → GoesOn mains rest news old new
+  goes_on mains left rest main Ls news old now new done is go gets r last h =
       subst (λ x. GetsAll names mains l x old last) (shifted r)
       (go (behind (gets.0 ∷ []) r) last (subst (λ x. GetsAll names x l (behind (gets.0 ∷ []) r) now last) (sym is) (linked_first main rest gets.0 now new last gets.2 r h)))
     where
-      shifted : (r : Result (List Kept) Outcome) → behind ks (behind (gets.0 ∷ []) r) ≡ behind news r
-      shifted (Ok more) = ap Ok (sym (append_assoc ks (gets.0 ∷ []) more) ∙ ap (λ x. x ++ more) (sym gets.1))
+      shifted : (r : Result (List LinkedSet) Outcome) → behind Ls (behind (gets.0 ∷ []) r) ≡ behind news r
+      shifted (Ok more) = ap Ok (sym (append_assoc Ls (gets.0 ∷ []) more) ∙ ap (λ x. x ++ more) (sym gets.1))
       shifted (Err outcome) = refl
 
-  pub breaks : (mains left rest : List (List ℕ)) (main : List ℕ) (ks olds news : List Kept) (answer : Outcome) (old now new : FilesState) → left ≡ main ∷ rest → GoesOn mains left ks old now
+  pub breaks : (mains left rest : List (List ℕ)) (main : List ℕ) (Ls olds news : List LinkedSet) (answer : Outcome) (old now new : FilesState) → left ≡ main ∷ rest → GoesOn mains left Ls old now
       → GetsNext names main l (Err answer) olds news now new → GetsAll names mains l (Err answer) old new
-  breaks mains left rest main ks olds news answer old now new is go gets = go (Err answer) new (subst (λ x. GetsAll names x l (Err answer) now new) (sym is) (fault_first main rest answer now new gets))
+  breaks mains left rest main Ls olds news answer old now new is go gets = go (Err answer) new (subst (λ x. GetsAll names x l (Err answer) now new) (sym is) (fault_first main rest answer now new gets))
 
-  pub ends : (mains left : List (List ℕ)) (ks : List Kept) (old now : FilesState) → left ≡ [] → GoesOn mains left ks old now → GetsAll names mains l (Ok ks) old now
-  ends mains left ks old now none go =
-      subst (λ x. GetsAll names mains l (Ok x) old now) (append-nil ks) (go (Ok []) now (subst (λ x. GetsAll names x l (Ok []) now now) (sym none) (none_left now)))
+  pub ends : (mains left : List (List ℕ)) (Ls : List LinkedSet) (old now : FilesState) → left ≡ [] → GoesOn mains left Ls old now → GetsAll names mains l (Ok Ls) old now
+  ends mains left Ls old now none go =
+      subst (λ x. GetsAll names mains l (Ok x) old now) (append-nil Ls) (go (Ok []) now (subst (λ x. GetsAll names x l (Ok []) now now) (sym none) (none_left now)))
 
 -- of a list that is gone through, what is left begins with the item that is next
 pub left_more : {A : Type 0} (xs : List A) (i : ℕ) (x y : A) → i < length xs → x ≡ get_or xs i x → y ≡ x → drop i xs ≡ y ∷ drop (i + 1) xs

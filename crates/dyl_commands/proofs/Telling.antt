@@ -18,10 +18,8 @@ use Rattle.spec_loading.specs.spec_linking.Plans as plans
 use Rattle.spec_loading.specs.LoadedSet.{set_system, set_opening}
 use Rattle.spec_hosts.specs.dyl_outside.declared.fault.IoFault.TheVariants as io
 use Rattle.spec_hosts.specs.dyl_outside.Sink.{SinkState}
-use Rattle.dyl_link.specs.dyl_search.declared.set.SetOptions.{SetOptions}
 use Rattle.dyl_link.specs.dyl_search.Gathers.{options_of}
-use Rattle.dyl_link.specs.declared.options.LinkOptions.{LinkOptions}
-use Rattle.dyl_link.specs.Kept as links
+use Rattle.dyl_link.specs.Sets as links
 use Rattle.dyl_front.specs.declared.outcome.UsageKind.{UsageKind}
 use Rattle.dyl_front.specs.declared.outcome.Outcome.{Outcome}
 use Rattle.dyl_front.specs.declared.outcome.Outcome.TheVariants.{Done, Ran, Board, Usage, Set, Link, Merge, Single, Gen, Trace, TooLong, Snap, WriteFault, Memory}

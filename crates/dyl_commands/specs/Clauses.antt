@@ -2,6 +2,7 @@
 -- Cited by the clause `does` of `serve`.
 use Rattle.std.specs.Prelude.{ℕ, List, [], Bool, Result, Ok}
 use Rattle.wasm_form.specs.declared.module.Module.{Module}
+use Rattle.spec_loading.specs.spec_linking.LinkedSets.{LinkedSet}
 use Rattle.spec_hosts.specs.dyl_outside.Files.{FilesState}
 use Rattle.spec_hosts.specs.dyl_outside.Source.{SourceState}
 use Rattle.spec_hosts.specs.dyl_outside.Sink.{SinkState}
@@ -11,7 +12,6 @@ use Rattle.dyl_link.specs.host_table.declared.entry.HostTable.{HostTable}
 use Rattle.host_calls.specs.Embedders.{embedder_of}
 use Rattle.dyl_link.specs.dyl_search.declared.set.SetOptions.{SetOptions}
 use Rattle.dyl_link.specs.declared.options.LinkOptions.{LinkOptions}
-use Rattle.dyl_link.specs.Kept.{Kept}
 use Rattle.dyl_front.specs.declared.order.Order.{Order}
 use Rattle.dyl_front.specs.declared.order.Order.TheVariants.{Run, Exec, Trace, Board}
 use Rattle.dyl_front.specs.declared.outcome.UsageKind.{UsageKind}
@@ -62,14 +62,14 @@ module _ {X : Type 0} {F : X → Type 0} {g : _} where
   BoardWorksBy host pick files mains link steps slice turns = WorksBy host pick files (Board mains link steps slice turns)
 
   -- what running a linked set does
-  abbrev pub SetRuns : HostTable X F g → Kept → List (List ℕ) → ℕ → Outcome → OfParts
-  SetRuns host k args steps answer i o e a input output errors ambient =
-      ExecutesSet k (embedder_of (guest_arguments args) host) steps answer (devices i o e a) (devices input output errors ambient)
+  abbrev pub SetRuns : HostTable X F g → LinkedSet → List (List ℕ) → ℕ → Outcome → OfParts
+  SetRuns host L args steps answer i o e a input output errors ambient =
+      ExecutesSet L (embedder_of (guest_arguments args) host) steps answer (devices i o e a) (devices input output errors ambient)
 
   -- what running linked sets in turns does
-  abbrev pub SetsRun : HostTable X F g → Picks → List Kept → ℕ → ℕ → ℕ → Outcome → OfParts
-  SetsRun host pick ks steps slice turns answer i o e a input output errors ambient =
-      RunsInTurns ks (embedder_of (guest_arguments []) host) steps slice turns pick answer (devices i o e a) (devices input output errors ambient)
+  abbrev pub SetsRun : HostTable X F g → Picks → List LinkedSet → ℕ → ℕ → ℕ → Outcome → OfParts
+  SetsRun host pick Ls steps slice turns answer i o e a input output errors ambient =
+      RunsInTurns Ls (embedder_of (guest_arguments []) host) steps slice turns pick answer (devices i o e a) (devices input output errors ambient)
 
   -- what running a module that was read does
   abbrev pub ModuleDoes : HostTable X F g → Module → List (List ℕ) → ℕ → Outcome → OfParts

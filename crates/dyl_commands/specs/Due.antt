@@ -18,7 +18,7 @@ use Rattle.spec_snapshots.specs.declared.fault.SnapFault.TheVariants as snap
 use Rattle.snap_set.specs.Causes.{state_after}
 use Rattle.snap_merge.specs.Answers.{amount}
 use Rattle.dyl_link.specs.dyl_search.Gathers.{options_of}
-use Rattle.dyl_link.specs.Kept as links
+use Rattle.dyl_link.specs.Sets as links
 use Rattle.run_loaded.specs.Courses.{Origin}
 use Rattle.dyl_front.specs.declared.outcome.UsageKind.{UsageKind}
 use Rattle.dyl_front.specs.declared.outcome.Outcome.{Outcome}

@@ -20,7 +20,7 @@ use Rattle.spec_traces.specs.Texts.{IsTextOf}
 use Rattle.spec_traces.specs.Traces.{Traces, IsTraceOf}
 use Rattle.run_loaded.specs.Courses.{Origin, course_of}
 use Rattle.dyl_link.specs.dyl_search.Gathers.{options_of}
-use Rattle.dyl_link.specs.Kept as links
+use Rattle.dyl_link.specs.Sets as links
 use Rattle.dyl_front.specs.declared.outcome.UsageKind.{UsageKind}
 use Rattle.dyl_front.specs.declared.outcome.Outcome.{Outcome}
 use Rattle.dyl_front.specs.declared.outcome.Outcome.TheVariants.{Done, Ran, WriteFault, Memory}

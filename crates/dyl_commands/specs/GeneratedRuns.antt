@@ -11,8 +11,9 @@ use Rattle.spec_hosts.specs.dyl_outside.Sink.{SinkState, Puts}
 use Rattle.spec_hosts.specs.spec_runtime.Names.{HostNames}
 use Rattle.spec_loading.specs.spec_execution.OneModule.{ModuleState, module_opening}
 use Rattle.spec_loading.specs.spec_linking.Sets.{ClosedSet}
-use Rattle.spec_loading.specs.spec_linking.Gathering.{IsGathered}
+use Rattle.spec_loading.specs.spec_linking.Gathering.{IsGathered, IsSet}
 use Rattle.spec_loading.specs.spec_linking.LinkedSets.{LinkedSet}
+use Rattle.spec_loading.specs.spec_linking.Links.{Links}
 use Rattle.spec_loading.specs.Merged.{Merged}
 use Rattle.spec_hosts.specs.declared.ran.Ran.{Ran}
 use Rattle.spec_hosts.specs.Hosted.{Embedder}
@@ -20,7 +21,6 @@ use Rattle.wasm_exec.specs.Executed.{HaveIntegers, IsSetRun, IsModuleRun}
 use Rattle.merge_whole.specs.Merges.{bulk}
 use Rattle.dyl_gen.specs.declared.fault.GenFault.TheVariants.{Range}
 use Rattle.dyl_gen.specs.Laws.{set_options}
-use Rattle.dyl_link.specs.Kept.{Kept, IsLinked}
 use Rattle.dyl_front.specs.Summary.{summary_of}
 use Rattle.dyl_front.specs.declared.reports.Report.{Report}
 use Rattle.dyl_front.specs.declared.outcome.Outcome.{Outcome}
@@ -42,35 +42,34 @@ IsNotMade names n pages Memory = Unit {0}
 IsNotMade names n pages (Done runs) = ⊥
 IsNotMade names n pages answer = GenDue names n pages answer
 
--- what is kept of the set of n members that is linked
-pub record IsMade (names : HostNames) (n pages : ℕ) (k : Kept) : Type 0 where
+-- the set of n members, which is generated and links
+pub record IsMade (names : HostNames) (n pages : ℕ) (L : LinkedSet) : Type 0 where
   pub files : FileMap
   pub made : AreMade n files
   pub set : ClosedSet
   pub gathered : IsGathered (get files) set_options (Ok set)
-  pub linked : IsLinked (linked names (with_pages pages) set) k
+  pub shape : IsSet set
+  pub links : Links (linked names (with_pages pages) set)
+  pub is : L ≡ linked names (with_pages pages) set
   pub integers : HaveIntegers names
 
-abbrev pub MakesSet : HostNames → ℕ → ℕ → Result Kept Outcome → Type 0
-MakesSet names n pages (Ok k) = IsMade names n pages k
+abbrev pub MakesSet : HostNames → ℕ → ℕ → Result LinkedSet Outcome → Type 0
+MakesSet names n pages (Ok L) = IsMade names n pages L
 MakesSet names n pages (Err answer) = IsNotMade names n pages answer
 
 -- there is little of it
-abbrev pub IsLittle : Kept → Type 0
-IsLittle k = (L : LinkedSet) → IsLinked L k → bulk L < 2 ^ 32
+abbrev pub IsLittle : LinkedSet → Type 0
+IsLittle L = bulk L < 2 ^ 32
 
--- a run of the set of which this is kept, as loaded
-abbrev pub RunsLoaded : Kept → Embedder → ℕ → Report → Type 0
-RunsLoaded k embedder steps r = (L : LinkedSet) → IsLinked L k → IsRunInside (IsSetRun L embedder steps r.ran) r.output
+-- a run of a linked set, as loaded
+abbrev pub RunsLoaded : LinkedSet → Embedder → ℕ → Report → Type 0
+RunsLoaded L embedder steps r = IsRunInside (IsSetRun L embedder steps r.ran) r.output
 
 -- a module that some bytes spell which merge the set
-pub record IsMergedModule (L : LinkedSet) (wasm : Module) : Type 0 where
+pub record MergesTo (L : LinkedSet) (wasm : Module) : Type 0 where
   pub bytes : List ℕ
   pub merges : Merged L bytes
   pub is : merges.wasm ≡ wasm
-
-abbrev pub MergesTo : Kept → Module → Type 0
-MergesTo k wasm = (L : LinkedSet) → IsLinked L k → IsMergedModule L wasm
 
 -- a run of a module from its opening state
 pub record RunsModule (wasm : Module) (embedder : Embedder) (steps : ℕ) (r : Report) : Type 0 where
@@ -78,19 +77,14 @@ pub record RunsModule (wasm : Module) (embedder : Embedder) (steps : ℕ) (r : R
   pub opens : module_opening wasm embedder.names ≡ Ok opening
   pub run : IsRunInside (IsModuleRun wasm embedder opening steps r.ran) r.output
 
--- the summary of these runs of the set of which this is kept was put, with this result
-pub record PutsReports (k : Kept) (loaded merged : Report) (result : Result (Unit {0}) IoFault) (old new : SinkState) : Type 0 where
-  pub summary : List ℕ
-  pub sums : (L : LinkedSet) → IsLinked L k → summary ≡ summary_of L loaded merged
-  pub put : Puts summary result old new
+-- the summary of these runs of a linked set was put
+abbrev pub SumsUp : LinkedSet → Report → Report → Outcome → SinkState → SinkState → Type 0
+SumsUp L loaded merged (Done runs) old new = (runs ≡ loaded.ran ∷ merged.ran ∷ []) × Puts (summary_of L loaded merged) (Ok tt) old new
+SumsUp L loaded merged WriteFault old new = Puts (summary_of L loaded merged) (Err io.Failed) old new
+SumsUp L loaded merged Memory old new = (new ≡ old) ⊎ Puts (summary_of L loaded merged) (Err io.Memory) old new
+SumsUp L loaded merged _ old new = ⊥
 
-abbrev pub SumsUp : Kept → Report → Report → Outcome → SinkState → SinkState → Type 0
-SumsUp k loaded merged (Done runs) old new = (runs ≡ loaded.ran ∷ merged.ran ∷ []) × PutsReports k loaded merged (Ok tt) old new
-SumsUp k loaded merged WriteFault old new = PutsReports k loaded merged (Err io.Failed) old new
-SumsUp k loaded merged Memory old new = (new ≡ old) ⊎ PutsReports k loaded merged (Err io.Memory) old new
-SumsUp k loaded merged _ old new = ⊥
-
--- both runs of the set of which this is kept were made, and their summary was put, with this result
+-- both runs of a linked set were made, and their summary was put, with this result
 pub record PutsBoth (L : LinkedSet) (embedder : Embedder) (steps : ℕ) (runs : List Ran) (result : Result (Unit {0}) IoFault) (old new : SinkState) : Type 0 where
   pub summary : List ℕ
   pub both : AreBothRun L embedder steps runs summary
@@ -102,7 +96,3 @@ RunsBoth L embedder steps (Done runs) old new = PutsBoth L embedder steps runs (
 RunsBoth L embedder steps WriteFault old new = (runs : List Ran) × PutsBoth L embedder steps runs (Err io.Failed) old new
 RunsBoth L embedder steps Memory old new = (new ≡ old) ⊎ ((runs : List Ran) × PutsBoth L embedder steps runs (Err io.Memory) old new)
 RunsBoth L embedder steps _ old new = ⊥
-
--- of each set of which this is kept, over these host functions
-abbrev pub RunsKept : Kept → Embedder → ℕ → Outcome → SinkState → SinkState → Type 0
-RunsKept k embedder steps answer old new = (L : LinkedSet) → IsLinked L k → L.names ≡ embedder.names → RunsBoth L embedder steps answer old new

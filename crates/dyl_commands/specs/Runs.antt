@@ -26,7 +26,7 @@ use Rattle.spec_hosts.specs.Hosted.{Embedder}
 use Rattle.wasm_exec.specs.Executed.{IsModuleRun, IsModuleCut, IsSetRun}
 use Rattle.dyl_gen.specs.Laws.{set_options}
 use Rattle.dyl_link.specs.dyl_search.Gathers.{options_of}
-use Rattle.dyl_link.specs.Kept as links
+use Rattle.dyl_link.specs.Sets as links
 use Rattle.dyl_front.specs.Listing.{listing_of}
 use Rattle.dyl_front.specs.Summary.{summary_of}
 use Rattle.dyl_front.specs.declared.reports.Report.{Report}

@@ -8,7 +8,6 @@ use Rattle.spec_hosts.specs.dyl_outside.Faults.{Rises}
 use Rattle.spec_hosts.specs.dyl_outside.FileMap.{FileMap, SameBut}
 use Rattle.spec_hosts.specs.dyl_outside.Files.{FilesState}
 use Rattle.spec_hosts.specs.dyl_outside.Sink.{SinkState, Puts}
-use Rattle.spec_hosts.specs.dyl_outside.declared.fault.IoFault.{IoFault}
 use Rattle.spec_hosts.specs.dyl_outside.declared.fault.IoFault.TheVariants as io
 use Rattle.spec_hosts.specs.spec_runtime.Names.{HostNames}
 use Rattle.spec_loading.specs.spec_execution.declared.fault.SingleFault.TheVariants as single
@@ -20,10 +19,10 @@ use Rattle.spec_loading.specs.spec_linking.declared.fault.SetFault.TheVariants a
 use Rattle.spec_loading.specs.spec_linking.declared.fault.LinkFault.{LinkFault}
 use Rattle.spec_loading.specs.spec_linking.declared.fault.LinkFault.TheVariants as link
 use Rattle.spec_loading.specs.spec_linking.Sets.{ClosedSet, SetOptions, default_options}
-use Rattle.spec_loading.specs.spec_linking.Gathering.{IsGathered}
+use Rattle.spec_loading.specs.spec_linking.Gathering.{IsGathered, IsSet}
 use Rattle.spec_loading.specs.spec_linking.Plans.{LinkOptions}
 use Rattle.spec_loading.specs.spec_linking.LinkedSets.{LinkedSet}
-use Rattle.spec_loading.specs.spec_linking.Links.{link_fault}
+use Rattle.spec_loading.specs.spec_linking.Links.{Links, link_fault}
 use Rattle.spec_merging.specs.declared.fault.MergeFault.{MergeFault}
 use Rattle.spec_merging.specs.declared.fault.MergeFault.TheVariants as merge
 use Rattle.spec_snapshots.specs.declared.fault.SnapFault.{SnapFault}
@@ -32,13 +31,11 @@ use Rattle.snap_set.specs.Causes.{Takes, IsFirst, state_after}
 use Rattle.snap_merge.specs.Answers.{Snapped, SnapTells}
 use Rattle.spec_boards.specs.BoardRuns.{IsBoardRun, IsBoardCut}
 use Rattle.dyl_store.specs.Stores.{set_course}
-use Rattle.slice_exec.specs.Executed.{AreKept}
 use Rattle.wasm_exec.specs.Executed as executed
 use Rattle.wasm_exec.specs.Executed.{HaveIntegers, IsModuleRun, IsModuleCut}
 use Rattle.merge_whole.specs.Merges.{IsTooLongFor}
 use Rattle.merge_whole.specs.Merges as whole
 use Rattle.dyl_link.specs.dyl_search.Absents.{CountsFor}
-use Rattle.dyl_link.specs.Kept.{Kept, IsLinked}
 use Rattle.run_loaded.specs.Courses.{Origin, OfModule, OfSet, course_of, TakesAll}
 use Rattle.dyl_front.specs.Listing.{listing_of}
 use Rattle.dyl_front.specs.declared.order.Order.{Order}
@@ -61,11 +58,13 @@ pub record Serves (names : HostNames) (asked : Result Order UsageKind) (answer :
 
 -- ---- a set that is gathered and linked
 
--- what is kept of a linked set, which the files give where they are told
-pub record IsGot (names : HostNames) (o : SetOptions) (l : LinkOptions) (k : Kept) (old : FilesState) : Type 0 where
+-- a linked set, which the files give where they are told
+pub record IsGot (names : HostNames) (o : SetOptions) (l : LinkOptions) (L : LinkedSet) (old : FilesState) : Type 0 where
   pub set : ClosedSet
   pub gathered : ForSome old.told (λ files. IsGathered (get files) o (Ok set))
-  pub linked : IsLinked (linked names l set) k
+  pub shape : IsSet set
+  pub links : Links (linked names l set)
+  pub is : L ≡ linked names l set
   pub integers : HaveIntegers names
 
 -- an outcome where there is none: a fault of the set, a link fault, or want of memory
@@ -81,18 +80,18 @@ pub record IsNotGot (names : HostNames) (o : SetOptions) (l : LinkOptions) (answ
   pub inner : has_inner_memory answer ≡ false
 
 -- a fetch failed exactly where that is answered
-abbrev pub GotReads : Result Kept Outcome → ℕ → ℕ → Type 0
-GotReads (Ok k) before now = now ≡ before
+abbrev pub GotReads : Result LinkedSet Outcome → ℕ → ℕ → Type 0
+GotReads (Ok L) before now = now ≡ before
 GotReads (Err answer) before now = ReadsFor answer before now
 
 -- and these paths were tried, where the files are told
-abbrev pub GotTried : Option FileMap → SetOptions → Result Kept Outcome → ℕ → ℕ → Type 0
-GotTried told o (Ok k) before now = (S : ClosedSet) × CountsFor told o (Ok S) before now
+abbrev pub GotTried : Option FileMap → SetOptions → Result LinkedSet Outcome → ℕ → ℕ → Type 0
+GotTried told o (Ok L) before now = (S : ClosedSet) × CountsFor told o (Ok S) before now
 GotTried told o (Err answer) before now = TriedForSet told o answer before now
 
 -- What comes of gathering and linking: no file changes.
-pub record Gets (names : HostNames) (o : SetOptions) (l : LinkOptions) (result : Result Kept Outcome) (old new : FilesState) : Type 0 where
-  pub got : IfOk result (λ k. IsGot names o l k old)
+pub record Gets (names : HostNames) (o : SetOptions) (l : LinkOptions) (result : Result LinkedSet Outcome) (old new : FilesState) : Type 0 where
+  pub got : IfOk result (λ L. IsGot names o l L old)
   pub fault : IfErr result (λ answer. IsNotGot names o l answer old new)
   pub files : new.told ≡ old.told
   pub reads : GotReads result old.read_faults new.read_faults
@@ -102,10 +101,10 @@ pub record Gets (names : HostNames) (o : SetOptions) (l : LinkOptions) (result :
 
 -- ---- several sets, each of a main module alone, one after the other
 
--- what is kept of them, which the files give where they are told
-abbrev pub AreGot : HostNames → List (List ℕ) → LinkOptions → List Kept → FilesState → Type 0
+-- they are linked, and the files give them where these are told
+abbrev pub AreGot : HostNames → List (List ℕ) → LinkOptions → List LinkedSet → FilesState → Type 0
 AreGot names [] l [] old = Unit {0}
-AreGot names (main ∷ mains) l (k ∷ ks) old = IsGot names (default_options main) l k old × AreGot names mains l ks old
+AreGot names (main ∷ mains) l (L ∷ Ls) old = IsGot names (default_options main) l L old × AreGot names mains l Ls old
 AreGot names _ l _ old = ⊥
 
 -- an outcome where the first of them that isn't linked isn't
@@ -121,32 +120,32 @@ MayFollowAll Memory = Unit {0}
 MayFollowAll _ = ⊥
 
 -- and where one isn't: the outcome
-abbrev pub MayFollow : Result (List Kept) Outcome → Outcome → Type 0
-MayFollow (Ok ks) answer = MayFollowAll answer
+abbrev pub MayFollow : Result (List LinkedSet) Outcome → Outcome → Type 0
+MayFollow (Ok Ls) answer = MayFollowAll answer
 MayFollow (Err outcome) answer = answer ≡ outcome
 
 -- What comes of gathering and linking them: no file changes.
-pub record GetsAll (names : HostNames) (mains : List (List ℕ)) (l : LinkOptions) (result : Result (List Kept) Outcome) (old new : FilesState) : Type 0 where
-  pub got : IfOk result (λ ks. AreGot names mains l ks old)
+pub record GetsAll (names : HostNames) (mains : List (List ℕ)) (l : LinkOptions) (result : Result (List LinkedSet) Outcome) (old new : FilesState) : Type 0 where
+  pub got : IfOk result (λ Ls. AreGot names mains l Ls old)
   pub fault : IfErr result (λ answer. AreNotGot names mains l answer old new)
   pub files : new.told ≡ old.told
   pub counts : (answer : Outcome) → MayFollow result answer → BoardCounts mains answer old new
 
 -- of one more, behind those that are linked
-abbrev pub GetsNext : HostNames → List ℕ → LinkOptions → Result (Unit {0}) Outcome → List Kept → List Kept → FilesState → FilesState → Type 0
-GetsNext names main l (Ok done) olds news old new = (k : Kept) × (news ≡ olds ++ k ∷ []) × Gets names (default_options main) l (Ok k) old new
+abbrev pub GetsNext : HostNames → List ℕ → LinkOptions → Result (Unit {0}) Outcome → List LinkedSet → List LinkedSet → FilesState → FilesState → Type 0
+GetsNext names main l (Ok done) olds news old new = (L : LinkedSet) × (news ≡ olds ++ L ∷ []) × Gets names (default_options main) l (Ok L) old new
 GetsNext names main l (Err answer) olds news old new = Gets names (default_options main) l (Err answer) old new
 
 -- these, where all are
-abbrev pub all_linked : Result (Unit {0}) Outcome → List Kept → Result (List Kept) Outcome
-all_linked (Ok done) ks = Ok ks
-all_linked (Err outcome) ks = Err outcome
+abbrev pub all_linked : Result (Unit {0}) Outcome → List LinkedSet → Result (List LinkedSet) Outcome
+all_linked (Ok done) Ls = Ok Ls
+all_linked (Err outcome) Ls = Err outcome
 
 -- ---- one set that was gathered
 
--- what linking a set comes to
-abbrev pub LinksTo : LinkedSet → Result Kept Outcome → Type 0
-LinksTo L (Ok k) = IsLinked L k × HaveIntegers L.names
+-- What linking a set comes to: this very set where it links, or why it doesn't.
+abbrev pub LinksTo : LinkedSet → Result LinkedSet Outcome → Type 0
+LinksTo L (Ok M) = (M ≡ L) × Links L × HaveIntegers L.names
 LinksTo L (Err (Link link.Memory)) = ⊥
 LinksTo L (Err (Link fault)) = link_fault L ≡ Some fault
 LinksTo L (Err Memory) = Unit {0}
@@ -173,71 +172,68 @@ pub record StoreCounts (Stores : ℕ → ℕ → Type 0) (old new : FilesState) 
 
 -- ---- merging a linked set
 
--- the path of the output holds what merges the set of which this is kept, and every other path is as it was
-pub record HoldsMerged (k : Kept) (out : List ℕ) (files after : FileMap) : Type 0 where
+-- the path of the output holds what merges the set, and every other path is as it was
+pub record HoldsMerged (L : LinkedSet) (out : List ℕ) (files after : FileMap) : Type 0 where
   pub output : List ℕ
-  pub merges : (L : LinkedSet) → IsLinked L k → whole.Merges L output
+  pub merges : whole.Merges L output
   pub written : after ≡ insert files out output
 
 -- what each outcome of merging leaves of the files
-abbrev pub WritesMerged : Kept → List ℕ → Outcome → FilesState → FilesState → Type 0
-WritesMerged k out (Done []) old new = ForSome old.told (λ files. IsSomeAnd new.told (HoldsMerged k out files))
-WritesMerged k out WriteFault old new = ForSome old.told (λ files. IsSomeAnd new.told (SameBut out files)) × Rises old.write_faults new.write_faults
-WritesMerged k out (Merge merge.Memory) old new = ⊥
-WritesMerged k out (Merge (merge.SectionSize id)) old new = ((L : LinkedSet) → IsLinked L k → IsTooLongFor L id) × (new.told ≡ old.told)
-WritesMerged k out Memory old new = ForSome old.told (λ files. new.told ≡ Some files)
-WritesMerged k out _ old new = ⊥
+abbrev pub WritesMerged : LinkedSet → List ℕ → Outcome → FilesState → FilesState → Type 0
+WritesMerged L out (Done []) old new = ForSome old.told (λ files. IsSomeAnd new.told (HoldsMerged L out files))
+WritesMerged L out WriteFault old new = ForSome old.told (λ files. IsSomeAnd new.told (SameBut out files)) × Rises old.write_faults new.write_faults
+WritesMerged L out (Merge merge.Memory) old new = ⊥
+WritesMerged L out (Merge (merge.SectionSize id)) old new = IsTooLongFor L id × (new.told ≡ old.told)
+WritesMerged L out Memory old new = ForSome old.told (λ files. new.told ≡ Some files)
+WritesMerged L out _ old new = ⊥
 
 -- ---- writing the snapshot of a linked set
 
--- the set of which this is kept comes to the call of its entry, after at most so many steps
-abbrev pub Starts : Kept → ℕ → Type 0
-Starts k most = (L : LinkedSet) → IsLinked L k → (n : ℕ) × IsFirst L most n Takes
+-- the set comes to the call of its entry, after at most so many steps
+abbrev pub Starts : LinkedSet → ℕ → Type 0
+Starts L most = (n : ℕ) × IsFirst L most n Takes
 
--- the path of the output holds a snapshot of it, and every other path is as it was
-pub record HoldsSnapshot (k : Kept) (most : ℕ) (out : List ℕ) (files after : FileMap) : Type 0 where
+-- the path of the output holds a snapshot of it, as it stands then, and every other path is as it was
+pub record HoldsSnapshot (L : LinkedSet) (most : ℕ) (out : List ℕ) (files after : FileMap) : Type 0 where
+  pub steps : ℕ
+  pub first : IsFirst L most steps Takes
   pub output : List ℕ
-  pub snapped : (L : LinkedSet) → IsLinked L k → (n : ℕ) × IsFirst L most n Takes × Snapped L output (state_after L n)
+  pub snapped : Snapped L output (state_after L steps)
   pub written : after ≡ insert files out output
 
 -- what each outcome leaves of the files
-abbrev pub WritesSnapshot : Kept → ℕ → List ℕ → Outcome → FilesState → FilesState → Type 0
-WritesSnapshot k most out (Done []) old new = Starts k most × ForSome old.told (λ files. IsSomeAnd new.told (HoldsSnapshot k most out files))
-WritesSnapshot k most out WriteFault old new = Starts k most × ForSome old.told (λ files. IsSomeAnd new.told (SameBut out files)) × Rises old.write_faults new.write_faults
-WritesSnapshot k most out (Snap snap.Memory) old new = ⊥
-WritesSnapshot k most out (Snap why) old new = ((L : LinkedSet) → IsLinked L k → SnapTells L most why) × (new.told ≡ old.told)
-WritesSnapshot k most out Memory old new = ForSome old.told (λ files. new.told ≡ Some files)
-WritesSnapshot k most out _ old new = ⊥
+abbrev pub WritesSnapshot : LinkedSet → ℕ → List ℕ → Outcome → FilesState → FilesState → Type 0
+WritesSnapshot L most out (Done []) old new = Starts L most × ForSome old.told (λ files. IsSomeAnd new.told (HoldsSnapshot L most out files))
+WritesSnapshot L most out WriteFault old new = Starts L most × ForSome old.told (λ files. IsSomeAnd new.told (SameBut out files)) × Rises old.write_faults new.write_faults
+WritesSnapshot L most out (Snap snap.Memory) old new = ⊥
+WritesSnapshot L most out (Snap why) old new = SnapTells L most why × (new.told ≡ old.told)
+WritesSnapshot L most out Memory old new = ForSome old.told (λ files. new.told ≡ Some files)
+WritesSnapshot L most out _ old new = ⊥
 
 -- ---- listing a linked set
 
--- its listing was put, with this result
-pub record PutsKept (k : Kept) (result : Result (Unit {0}) IoFault) (old new : SinkState) : Type 0 where
-  pub text : List ℕ
-  pub lists : (L : LinkedSet) → IsLinked L k → text ≡ listing_of L
-  pub put : Puts text result old new
-
-abbrev pub Lists : Kept → Outcome → SinkState → SinkState → Type 0
-Lists k (Done []) old new = PutsKept k (Ok tt) old new
-Lists k WriteFault old new = PutsKept k (Err io.Failed) old new
-Lists k Memory old new = (new ≡ old) ⊎ PutsKept k (Err io.Memory) old new
-Lists k _ old new = ⊥
+-- its listing was put
+abbrev pub Lists : LinkedSet → Outcome → SinkState → SinkState → Type 0
+Lists L (Done []) old new = Puts (listing_of L) (Ok tt) old new
+Lists L WriteFault old new = Puts (listing_of L) (Err io.Failed) old new
+Lists L Memory old new = (new ≡ old) ⊎ Puts (listing_of L) (Err io.Memory) old new
+Lists L _ old new = ⊥
 
 -- ---- running a linked set
 
--- What each outcome does to the devices, for the set of which this is kept.
-abbrev pub ExecutesSet : Kept → Embedder → ℕ → Outcome → Devices → Devices → Type 0
-ExecutesSet k embedder steps (Ran r) old new = (L : LinkedSet) → IsLinked L k → executed.IsSetRun L embedder steps r old new
-ExecutesSet k embedder steps Memory old new = (new ≡ old) ⊎ ((L : LinkedSet) → IsLinked L k → executed.IsSetCut L embedder steps old new)
-ExecutesSet k embedder steps _ old new = ⊥
+-- what each outcome does to the devices
+abbrev pub ExecutesSet : LinkedSet → Embedder → ℕ → Outcome → Devices → Devices → Type 0
+ExecutesSet L embedder steps (Ran r) old new = executed.IsSetRun L embedder steps r old new
+ExecutesSet L embedder steps Memory old new = (new ≡ old) ⊎ executed.IsSetCut L embedder steps old new
+ExecutesSet L embedder steps _ old new = ⊥
 
 -- ---- running linked sets in turns
 
--- what each outcome does to the devices, for the sets of which these are kept
-abbrev pub RunsInTurns : List Kept → Embedder → ℕ → ℕ → ℕ → (ℕ → ℕ → ℕ → Type 0) → Outcome → Devices → Devices → Type 0
-RunsInTurns ks embedder steps slice turns pick (Board r) old new = (Ls : List LinkedSet) → AreKept Ls ks → IsBoardRun set_course Ls steps slice turns pick embedder r old new
-RunsInTurns ks embedder steps slice turns pick Memory old new = (Ls : List LinkedSet) → AreKept Ls ks → IsBoardCut set_course Ls steps slice turns pick embedder old new
-RunsInTurns ks embedder steps slice turns pick _ old new = ⊥
+-- what each outcome does to the devices
+abbrev pub RunsInTurns : List LinkedSet → Embedder → ℕ → ℕ → ℕ → (ℕ → ℕ → ℕ → Type 0) → Outcome → Devices → Devices → Type 0
+RunsInTurns Ls embedder steps slice turns pick (Board r) old new = IsBoardRun set_course Ls steps slice turns pick embedder r old new
+RunsInTurns Ls embedder steps slice turns pick Memory old new = IsBoardCut set_course Ls steps slice turns pick embedder old new
+RunsInTurns Ls embedder steps slice turns pick _ old new = ⊥
 
 -- ---- running a module that was read
 
@@ -269,9 +265,9 @@ snap_outcome why = Snap why
 
 -- ---- the runs of a program: it may be said to have each that begins so
 
-abbrev pub BeginsAsSet : Kept → Origin → Type 0
-BeginsAsSet k (OfSet L) = IsLinked L k
-BeginsAsSet k (OfModule m opening) = ⊥
+abbrev pub BeginsAsSet : LinkedSet → Origin → Type 0
+BeginsAsSet L (OfSet M) = L ≡ M
+BeginsAsSet L (OfModule m opening) = ⊥
 
 abbrev pub BeginsAsModule : Module → HostNames → Origin → Type 0
 BeginsAsModule wasm names (OfSet L) = ⊥

@@ -6,17 +6,16 @@ ghost use Rattle.spec_reading.specs.spec_binary.WellFormed.{IsWellFormed};
 ghost use Rattle.spec_loading.specs.spec_validation.Faults as validation;
 ghost use Rattle.spec_loading.specs.spec_execution.OneModule.{ModuleState, module_opening};
 ghost use Rattle.spec_loading.specs.spec_safety.SoundModules.{HoldsNumbers};
-ghost use Rattle.spec_loading.specs.spec_linking.LinkedSets.{LinkedSet};
+ghost use Rattle.spec_loading.specs.spec_linking.LinkedSets.{hosts_of};
 ghost use Rattle.host_calls.specs.Embedders.{names_of, embedder_of};
-ghost use Rattle.wasm_exec.specs.Executed.{HaveIntegers, IsLinkedOver};
+ghost use Rattle.wasm_exec.specs.Executed.{HaveIntegers};
 ghost use Rattle.merge_whole.specs.Merges.{IsSupported};
 ghost use Rattle.dyl_link.specs.dyl_search.Gathers.{options_of};
-ghost use Rattle.dyl_link.specs.Kept as links;
-ghost use Rattle.dyl_link.specs.Kept.{IsLinked};
+ghost use Rattle.dyl_link.specs.Sets as links;
 ghost use Rattle.dyl_commands.specs.Generated.{with_pages};
 ghost use Rattle.dyl_commands.specs.Served.{Serves};
 ghost use Rattle.dyl_commands.specs.Runs.{guest_arguments, GenWorks};
-ghost use Rattle.dyl_commands.specs.GeneratedRuns.{MakesFiles, MakesSet, IsLittle, RunsLoaded, MergesTo, RunsModule, SumsUp, RunsKept};
+ghost use Rattle.dyl_commands.specs.GeneratedRuns.{MakesFiles, MakesSet, IsLittle, RunsLoaded, MergesTo, RunsModule, SumsUp, RunsBoth};
 
 use crate::exec::guest_arguments;
 use crate::sets::{linked_set, main_alone};
@@ -90,7 +89,7 @@ fn loaded_report(
     steps: u64,
     host: &HostTable,
 ) -> Result<Report, Memory>
-    requires names { IsLinkedOver linked.now (names_of host.now) }
+    requires names { linked.now.names ≡ names_of host.now }
     requires integers { HaveIntegers (names_of host.now) }
     requires steps { steps ≤ 9223372036854775807 }
     ensures { IfOk result (RunsLoaded linked.now (embedder_of (guest_arguments []) host.now) steps) }
@@ -151,8 +150,7 @@ fn checked(alloc: Global, wasm: Module) -> Result<Checked, Memory>
 
 /// The merged module of a linked set of which there is little, read from its bytes.
 fn merged_module(alloc: Global, linked: &Linked) -> Result<Checked, Memory>
-    requires set { (L : LinkedSet) × IsLinked L linked.now }
-    requires hosts { All IsSupported linked.now.hosts }
+    requires hosts { All IsSupported (hosts_of linked.now) }
     requires little { IsLittle linked.now }
     ensures { IfOk result (MergesTo linked.now) }
 {
@@ -208,8 +206,8 @@ fn merged_run(
     steps: u64,
     host: &HostTable,
 ) -> Result<Report, Memory>
-    requires names { IsLinkedOver linked.now (names_of host.now) }
-    requires hosts { All IsSupported linked.now.hosts }
+    requires names { linked.now.names ≡ names_of host.now }
+    requires hosts { All IsSupported (hosts_of linked.now) }
     requires little { IsLittle linked.now }
     requires steps { steps ≤ 9223372036854775807 }
     ensures { IfOk result (λ report. (wasm : Module) × MergesTo linked.now wasm × RunsModule wasm (embedder_of (guest_arguments []) host.now) steps report) }
@@ -265,12 +263,12 @@ fn run_both<O: Sink>(
     output: &mut O,
     host: &HostTable,
 ) -> Outcome
-    requires names { IsLinkedOver linked.now (names_of host.now) }
+    requires names { linked.now.names ≡ names_of host.now }
     requires integers { HaveIntegers (names_of host.now) }
-    requires hosts { All IsSupported linked.now.hosts }
+    requires hosts { All IsSupported (hosts_of linked.now) }
     requires little { IsLittle linked.now }
     requires steps { steps ≤ 9223372036854775807 }
-    ensures { RunsKept linked.now (embedder_of (guest_arguments []) host.now) steps result (O.seen output.old) (O.seen output.new) }
+    ensures { RunsBoth linked.now (embedder_of (guest_arguments []) host.now) steps result (O.seen output.old) (O.seen output.new) }
 {
     let Ok(loaded) = loaded_report(alloc, linked, steps, host) else {
         return Outcome::Memory;

@@ -1,10 +1,8 @@
 // Listing a set.
 ghost use Rattle.std.specs.Prelude.{Ok};
-ghost use Rattle.spec_loading.specs.spec_linking.LinkedSets.{LinkedSet};
 ghost use Rattle.host_calls.specs.Embedders.{names_of};
 ghost use Rattle.dyl_link.specs.dyl_search.Gathers.{options_of};
-ghost use Rattle.dyl_link.specs.Kept as links;
-ghost use Rattle.dyl_link.specs.Kept.{IsLinked};
+ghost use Rattle.dyl_link.specs.Sets as links;
 ghost use Rattle.dyl_front.specs.Orders.{IsLinkInRange};
 ghost use Rattle.dyl_commands.specs.Runs.{PlanWorks};
 ghost use Rattle.dyl_commands.specs.Counts.{Counts};
@@ -20,7 +18,6 @@ use std::alloc::Global;
 
 /// Puts the listing of a linked set.
 fn put_listing<O: Sink>(alloc: Global, linked: &Linked, output: &mut O) -> Outcome
-    requires { (L : LinkedSet) × IsLinked L linked.now }
     ensures { Lists linked.now result (O.seen output.old) (O.seen output.new) }
 {
     let Ok(text) = listing(alloc, linked) else {

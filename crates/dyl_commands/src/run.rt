@@ -2,7 +2,7 @@
 ghost use Rattle.std.specs.Prelude.{◌≡◌, ◌≤◌, false, Ok};
 ghost use Rattle.host_calls.specs.Embedders.{names_of};
 ghost use Rattle.dyl_front.specs.Orders.{IsLinkInRange};
-ghost use Rattle.wasm_exec.specs.Executed.{HaveIntegers, IsLinkedOver};
+ghost use Rattle.wasm_exec.specs.Executed.{HaveIntegers};
 ghost use Rattle.dyl_commands.specs.Due.{is_done};
 ghost use Rattle.dyl_commands.specs.Counts.{Counts};
 ghost use Rattle.dyl_commands.specs.Served.{Serves, BeginsAsSet, TakesAnswers};
@@ -31,7 +31,7 @@ pub fn run_linked<I: Source, O: Sink, E: Sink, A: Ambient>(
     ambient: &mut A,
     host: &HostTable,
 ) -> Outcome
-    requires names { IsLinkedOver linked.now (names_of host.now) }
+    requires names { linked.now.names ≡ names_of host.now }
     requires integers { HaveIntegers (names_of host.now) }
     requires steps { steps ≤ 9223372036854775807 }
     ensures taken { TakesAnswers (BeginsAsSet linked.now) result }

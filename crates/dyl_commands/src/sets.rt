@@ -4,7 +4,7 @@ ghost use Rattle.spec_loading.specs.spec_linking.Sets.{default_options};
 ghost use Rattle.spec_loading.specs.spec_linking.Gathering.{IsSet};
 ghost use Rattle.host_calls.specs.Embedders.{names_of};
 ghost use Rattle.dyl_link.specs.dyl_search.Gathers.{options_of, set_of};
-ghost use Rattle.dyl_link.specs.Kept as links;
+ghost use Rattle.dyl_link.specs.Sets as links;
 ghost use Rattle.dyl_front.specs.Orders.{IsLinkInRange};
 ghost use Rattle.dyl_commands.specs.Linking.{linked};
 ghost use Rattle.dyl_commands.specs.Served.{Gets, GetsNext, GetsAll, all_linked, LinksTo, set_outcome, link_outcome};

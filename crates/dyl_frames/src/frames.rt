@@ -13,9 +13,7 @@ ghost use Rattle.spec_loading.specs.declared.task.After.TheVariants as follows;
 ghost use Rattle.spec_loading.specs.Loading.{Loading};
 ghost use Rattle.spec_loading.specs.Loading as loading;
 ghost use Rattle.dyl_frames.specs.Cores.{IsCore, StepsFrom, RunsFrom, TakenFrom, PlacesFrom, OpensAt, IsMarkTold, IsLoaded, is_deep_event};
-ghost use Rattle.spec_loading.specs.spec_linking.LinkedSets.{LinkedSet};
 ghost use Rattle.spec_loading.specs.LoaderAnswers.{promoted_with};
-ghost use Rattle.dyl_link.specs.Kept.{IsLinked};
 ghost use Rattle.dyl_frames.specs.Cores.{IsHandle, GivesHandle, AreFrames, first_task, top_frame, TakesTask, Finishes, is_behind, raised_stages, is_mark, IsOwn, FitsHost};
 ghost use Rattle.dyl_frames.specs.Cores.{AnsweredFrom, WantsFrom, TellsDeep, TellsStarted, first_calls, gives_number, opens_member, Drops};
 ghost use Rattle.spec_keeping.specs.Started.{calls_entry};
@@ -505,7 +503,7 @@ impl<'m> Core<'m> {
         requires last { (top_frame self.old).tasks ≡ [] }
         requires handle { (top_frame self.old).after ≡ follows.GiveAndPromote member }
         requires linked { length self.old.stages ≡ length linked.now.set.members }
-        ensures stepped { (D : Loading V.Units) (L : LinkedSet) → IsLinked L linked.now → D.promote ≡ promoted_with L.set → StepsFrom D Event.Moved self.old (V.seen view.now) self.new (V.seen view.now) }
+        ensures stepped { (D : Loading V.Units) → D.promote ≡ promoted_with linked.now.set → StepsFrom D Event.Moved self.old (V.seen view.now) self.new (V.seen view.now) }
         ensures core { IsCore (V.seen view.now).fixed (V.seen view.now).units (V.seen view.now).memory self.new }
         ensures members { length self.new.stages ≡ length self.old.stages }
     {

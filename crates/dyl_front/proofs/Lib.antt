@@ -5,3 +5,4 @@ pub mod Ranges
 pub mod Listings
 pub mod SlotLines
 pub mod FirstNames
+pub mod MemberFunctions

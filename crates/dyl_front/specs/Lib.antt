@@ -2,5 +2,5 @@ pub mod Orders
 pub mod Status
 pub mod Lines
 pub mod Listing
-pub mod KeptListing
+pub mod Named
 pub mod Summary

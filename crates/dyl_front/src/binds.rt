@@ -2,10 +2,9 @@
 ghost use Rattle.std.specs.Prelude.{◌≡◌, ◌++◌, ◌<◌, ◌≤◌, ◌^◌, codes, decimal, length, IfOk, OnOk, string_bytes};
 ghost use Rattle.spec_traces.specs.spec_hosts.spec_binary.IndexSpaces.{functions_in, globals_in};
 ghost use Rattle.spec_linking.specs.Imports as imports;
-ghost use Rattle.dyl_link.specs.dyl_search.Gathers.{set_of};
-ghost use Rattle.dyl_link.specs.Kept.{function_in, cell_in};
+ghost use Rattle.spec_linking.specs.LinkedSets.{function_ref};
+ghost use Rattle.spec_linking.specs.Slots.{imported_number};
 ghost use Rattle.dyl_front.specs.Listing.{space, line_end, bind_line, function_bind, cell_bind, bind_as, import_lines, bind_lines};
-ghost use Rattle.dyl_front.specs.KeptListing.{HasMembers};
 
 use crate::lines::put_around;
 use crate::slots::place_text;
@@ -137,7 +136,7 @@ fn put_imports(
     to: &mut Vec<u8>,
 ) -> Result<(), Memory>
     requires { length imports.now < 2 ^ 32 }
-    ensures { OnOk result (to.new.items ≡ to.old.items ++ import_lines (function_in linked.now) (cell_in linked.now) m 0 0 imports.now) }
+    ensures { OnOk result (to.new.items ≡ to.old.items ++ import_lines (function_ref linked.now) (imported_number linked.now) m 0 0 imports.now) }
 {
     let (mut f, mut g) = (0, 0);
     for i in imports {
@@ -157,14 +156,11 @@ fn put_imports(
 
 /// Puts the lines of the imports of all members.
 pub(crate) fn put_binds(alloc: Global, linked: &Linked, to: &mut Vec<u8>) -> Result<(), Memory>
-    requires { HasMembers linked.now }
-    ensures { OnOk result (to.new.items ≡ to.old.items ++ bind_lines (function_in linked.now) (cell_in linked.now) 0 (set_of linked.now.set).members) }
+    ensures { OnOk result (to.new.items ≡ to.old.items ++ bind_lines (function_ref linked.now) (imported_number linked.now) 0 linked.now.set.members) }
 {
-    let mut m = 0;
-    for member in linked.set().members.items() {
-        let wasm = member.checked.module();
+    for m in 0..linked.member_count() {
+        let wasm = linked.member(m).checked.module();
         put_imports(alloc, linked, m, wasm.imports.items(), to)?;
-        m += 1;
     }
     Ok(())
 }

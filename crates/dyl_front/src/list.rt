@@ -1,16 +1,15 @@
 // The listing of a linked set.
 ghost use Rattle.std.specs.Prelude.{◌≡◌, ◌++◌, ◌*◌, codes, decimal, IfOk, OnOk, string_bytes};
 ghost use Rattle.spec_traces.specs.spec_hosts.spec_runtime.Memories.{page_size};
-ghost use Rattle.spec_linking.specs.LinkedSets.{LinkedSet};
-ghost use Rattle.dyl_link.specs.dyl_search.Gathers.{member_of, set_of};
-ghost use Rattle.dyl_link.specs.Kept.{IsLinked};
-ghost use Rattle.dyl_front.specs.Listing.{space, line_end, range_line, plan_lines, module_line, module_lines, lines_of, listing_of};
-ghost use Rattle.dyl_front.specs.KeptListing.{listed_in, HasMembers};
+ghost use Rattle.spec_linking.specs.Slots.{linked_plan, heap_end, table_entries, table_most};
+ghost use Rattle.dyl_link.specs.dyl_search.Gathers.{member_of};
+ghost use Rattle.dyl_front.specs.Listing.{space, line_end, range_line, plan_lines, module_line, module_lines, listing_of};
 
 use crate::binds::put_binds;
 use crate::lines::put_around;
 use crate::slots::put_all_slots;
 use dyl_link::Linked;
+use dyl_link::dyl_plan::Plan;
 use dyl_link::dyl_search::Member;
 use spec_merging::wasm_form::Memory;
 use spec_traces::dyl_print::put_text;
@@ -37,20 +36,19 @@ pub(crate) fn put_range(
     put_text(&range_text(alloc, name, lower, upper)?, to)
 }
 
-/// Puts the lines of the plan.
-fn put_plan(alloc: Global, linked: &Linked, to: &mut Vec<u8>) -> Result<(), Memory>
-    ensures { OnOk result (to.new.items ≡ to.old.items ++ plan_lines linked.now.plan (linked.now.plan.pages * page_size) linked.now.table_entries linked.now.table_max) }
+/// Puts the lines of a plan, by the entries of the table and the most.
+fn put_plan_lines(
+    alloc: Global,
+    plan: &Plan,
+    entries: u32,
+    most: u32,
+    to: &mut Vec<u8>,
+) -> Result<(), Memory>
+    ensures { OnOk result (to.new.items ≡ to.old.items ++ plan_lines plan.now (plan.now.pages * page_size) entries most) }
 {
-    let plan = linked.plan();
     let (pages, top) = (u64::from(plan.pages()), u64::from(plan.stack_top()));
     put_range(alloc, "memory", pages, u64::from(plan.pages_max()), to)?;
-    put_range(
-        alloc,
-        "table",
-        u64::from(linked.table_entries()),
-        u64::from(linked.table_max()),
-        to,
-    )?;
+    put_range(alloc, "table", u64::from(entries), u64::from(most), to)?;
     put_range(alloc, "stack", 1_024, top, to)?;
     put_range(alloc, "texts", top, top + 101, to)?;
     put_range(
@@ -60,6 +58,14 @@ fn put_plan(alloc: Global, linked: &Linked, to: &mut Vec<u8>) -> Result<(), Memo
         pages * 65_536,
         to,
     )
+}
+
+/// Puts the lines of the plan.
+fn put_plan(alloc: Global, linked: &Linked, to: &mut Vec<u8>) -> Result<(), Memory>
+    ensures { OnOk result (to.new.items ≡ to.old.items ++ plan_lines (linked_plan linked.now) (heap_end linked.now) (table_entries linked.now) (table_most linked.now)) }
+{
+    let (entries, most) = (linked.table_entries(), linked.table_max());
+    put_plan_lines(alloc, linked.plan(), entries, most, to)
 }
 
 /// The line of a member up to its name.
@@ -103,22 +109,18 @@ fn put_module(
 
 /// Puts the lines of the members.
 fn put_modules(alloc: Global, linked: &Linked, to: &mut Vec<u8>) -> Result<(), Memory>
-    requires { HasMembers linked.now }
-    ensures { OnOk result (to.new.items ≡ to.old.items ++ module_lines linked.now.plan 0 (set_of linked.now.set).members) }
+    ensures { OnOk result (to.new.items ≡ to.old.items ++ module_lines (linked_plan linked.now) 0 linked.now.set.members) }
 {
-    let plan = linked.plan();
-    let mut m = 0;
-    for member in linked.set().members.items() {
-        put_module(alloc, m, member, plan.base(m), plan.table_base(m), to)?;
-        m += 1;
+    for m in 0..linked.member_count() {
+        let (memory, table) = (linked.memory_base(m), linked.table_base(m));
+        put_module(alloc, m, linked.member(m), memory, table, to)?;
     }
     Ok(())
 }
 
 /// Puts the whole listing.
 fn put_listing(alloc: Global, linked: &Linked, to: &mut Vec<u8>) -> Result<(), Memory>
-    requires { HasMembers linked.now }
-    ensures { OnOk result (to.new.items ≡ to.old.items ++ lines_of (listed_in linked.now)) }
+    ensures { OnOk result (to.new.items ≡ to.old.items ++ listing_of linked.now) }
 {
     put_plan(alloc, linked, to)?;
     put_modules(alloc, linked, to)?;
@@ -128,9 +130,8 @@ fn put_listing(alloc: Global, linked: &Linked, to: &mut Vec<u8>) -> Result<(), M
 
 /// The listing of a linked set: its plan, its members, the fresh slots, and what each import is, a line for each.
 pub fn listing(alloc: Global, linked: &Linked) -> Result<Vec<u8>, Memory>
-    ensures { IfOk result (λ bytes. (L : LinkedSet) → IsLinked L linked.now → bytes.items ≡ listing_of L) }
+    ensures { IfOk result (λ bytes. bytes.items ≡ listing_of linked.now) }
 {
-    linked.links();
     let mut bytes = Vec::new(alloc);
     put_listing(alloc, linked, &mut bytes)?;
     Ok(bytes)

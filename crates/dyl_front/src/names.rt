@@ -4,7 +4,7 @@ ghost use Rattle.std.specs.List.{find, position_from};
 ghost use Rattle.std.specs.Option.{option_map};
 ghost use Rattle.spec_linking.specs.Definitions.{or_other};
 ghost use Rattle.dyl_front.specs.Listing.{is_name_of};
-ghost use Rattle.dyl_front.specs.KeptListing.{is_same_number, name_placed, AreFirst};
+ghost use Rattle.dyl_front.specs.Named.{is_same_number, name_placed, AreFirst};
 
 use dyl_link::dyl_scope::is_reserved;
 use spec_merging::wasm_form::{Export, ExportDesc, Memory};

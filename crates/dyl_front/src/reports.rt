@@ -1,12 +1,11 @@
 // The summary of a set that was run as loaded and as merged.
 ghost use Rattle.std.specs.Prelude.{◌≡◌, ◌++◌, length, decimal, IfOk, OnOk, string_bytes};
-ghost use Rattle.spec_linking.specs.LinkedSets.{LinkedSet};
-ghost use Rattle.dyl_link.specs.Kept.{IsLinked};
 ghost use Rattle.dyl_front.specs.Listing.{space};
-ghost use Rattle.dyl_front.specs.Summary.{run_line, modules_line, sizes_lines, summary_of};
+ghost use Rattle.dyl_front.specs.Summary.{run_line, modules_line, sizes_lines, set_lines, summary_of};
 
 use crate::list::put_range;
 use dyl_link::Linked;
+use dyl_link::dyl_plan::Plan;
 use spec_merging::wasm_form::{List, Memory};
 use spec_traces::dyl_print::{put_bytes, put_end, put_text};
 use spec_traces::spec_hosts::Ran;
@@ -40,27 +39,42 @@ fn put_run(alloc: Global, name: &str, report: &Report, to: &mut Vec<u8>) -> Resu
 }
 
 /// The line of the number of members.
-fn modules_text(alloc: Global, count: usize) -> Result<String, Memory>
+fn modules_text(alloc: Global, count: u32) -> Result<String, Memory>
     ensures { IfOk result (λ text. string_bytes text ≡ modules_line count) }
 {
     let text = format!(in alloc; "modules {count}\n")?;
     Ok(text)
 }
 
-/// Puts the number of members, and the sizes of the memory and of the table.
-fn put_sizes(alloc: Global, linked: &Linked, to: &mut Vec<u8>) -> Result<(), Memory>
-    ensures { OnOk result (to.new.items ≡ to.old.items ++ sizes_lines (length linked.now.set.members) linked.now.plan.pages linked.now.plan.pages_max linked.now.table_entries linked.now.table_max) }
+/// Puts a number of members, and the sizes of a memory and of a table.
+fn put_sizes_lines(
+    alloc: Global,
+    count: u32,
+    plan: &Plan,
+    entries: u32,
+    entries_most: u32,
+    to: &mut Vec<u8>,
+) -> Result<(), Memory>
+    ensures { OnOk result (to.new.items ≡ to.old.items ++ sizes_lines count plan.now.pages plan.now.pages_max entries entries_most) }
 {
-    let plan = linked.plan();
-    let count = linked.set().members.items().len();
     put_text(&modules_text(alloc, count)?, to)?;
     let (pages, most) = (u64::from(plan.pages()), u64::from(plan.pages_max()));
     put_range(alloc, "memory", pages, most, to)?;
-    put_range(
+    let (entries, entries_most) = (u64::from(entries), u64::from(entries_most));
+    put_range(alloc, "table", entries, entries_most, to)
+}
+
+/// Puts the number of members, and the sizes of the memory and of the table.
+fn put_sizes(alloc: Global, linked: &Linked, to: &mut Vec<u8>) -> Result<(), Memory>
+    ensures { OnOk result (to.new.items ≡ to.old.items ++ set_lines linked.now) }
+{
+    let (entries, most) = (linked.table_entries(), linked.table_max());
+    put_sizes_lines(
         alloc,
-        "table",
-        u64::from(linked.table_entries()),
-        u64::from(linked.table_max()),
+        linked.member_count(),
+        linked.plan(),
+        entries,
+        most,
         to,
     )
 }
@@ -73,7 +87,7 @@ pub fn summary(
     loaded: &Report,
     merged: &Report,
 ) -> Result<Vec<u8>, Memory>
-    ensures { IfOk result (λ bytes. (L : LinkedSet) → IsLinked L linked.now → bytes.items ≡ summary_of L loaded.now merged.now) }
+    ensures { IfOk result (λ bytes. bytes.items ≡ summary_of linked.now loaded.now merged.now) }
 {
     let mut bytes = Vec::new(alloc);
     put_sizes(alloc, linked, &mut bytes)?;

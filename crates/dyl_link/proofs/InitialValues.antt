@@ -2,9 +2,8 @@
 use Rattle.std.proofs.Common.{◌≡◌, ℕ, zero, suc, ◌+◌, ◌%◌, ◌^◌, ◌<◌, Bool, true, false, List, [], ◌∷◌, ◌++◌, length, map, slice_get, Option, Some, None, refl, sym, ap, ◌∙◌, subst, arith, if◌then◌else◌}
 use Rattle.std.specs.Prelude.{bytes_eq, codes, is_some, unwrap_or}
 use Rattle.std.specs.List.{list_any}
-use Rattle.std.specs.Option.{option_map}
 use Rattle.std.proofs.lemmas.List.{length-map}
-use Rattle.std.proofs.lemmas.Option.{slice_get-map, slice_get_within}
+use Rattle.std.proofs.lemmas.Option.{slice_get_within}
 use Rattle.std.proofs.lemmas.Slice.Eq.{bytes_eq-Decides}
 use Rattle.wasm_form.specs.declared.types.FuncType.{FuncType}
 use Rattle.wasm_form.specs.declared.types.GlobalType.{GlobalType}
@@ -19,7 +18,7 @@ use Rattle.spec_loading.specs.spec_runtime.Names.{HostName, host_typed}
 use Rattle.spec_loading.specs.spec_linking.declared.fault.Kind.{Kind}
 use Rattle.spec_loading.specs.spec_linking.declared.fault.Kind.TheVariants as kind
 use Rattle.spec_loading.specs.spec_linking.declared.fault.LinkFault.TheVariants.{IllTyped}
-use Rattle.spec_loading.specs.spec_linking.Sets.{Member, ClosedSet}
+use Rattle.spec_loading.specs.spec_linking.Sets.{Member}
 use Rattle.spec_loading.specs.spec_linking.Orders.{scope}
 use Rattle.spec_loading.specs.spec_linking.Plans.{region_of, regions_of}
 use Rattle.spec_loading.specs.spec_linking.Definitions.{Symbol, FunctionSymbol, DataSymbol, symbol_of, imported_globals, Definition, LoaderFunction, HeapBase, HeapEnd, MemberFunction, MemberData, HostFunction, WeakSymbol, Undefined, or_defined, loader_names, named_in, defined_by, member_definition, searched, found, where_so, env_name}
@@ -30,9 +29,7 @@ use Rattle.spec_loading.specs.spec_linking.Links.{unless, fault_as, data_cell_fa
 use Rattle.spec_loading.proofs.of_spec_linking.LinkedFacts.{or_none, holds_so, linked_member}
 use Rattle.spec_loading.proofs.of_spec_linking.Placing.{bases_length}
 use Rattle.spec_loading.proofs.of_spec_safety.Lookups.{got}
-use Rattle.dyl_slots.specs.dyl_search.declared.set.Member as code
-use Rattle.dyl_slots.specs.dyl_search.Gathers.{member_of}
-use Rattle.dyl_link.specs.Kept.{Kept, IsOfSet, imported_globals_in, cell_in}
+use Rattle.dyl_link.specs.Sets.{imported_globals_in}
 use Rattle.dyl_slots.proofs.Globals.{IsFitting, use_fits}
 use Rattle.spec_loading.proofs.of_spec_linking.DefinedSlots.{function_known, slot_there, memory_base_there}
 use Rattle.dyl_link.proofs.OutsideSlots.{loader_slot_there, host_slot_there, host_there}
@@ -229,16 +226,11 @@ value_there L links m g x at less =
           ∙ global.2.1,
     )
 
--- the same by what is kept of the set
-pub cell_there : (k : Kept) → IsOfSet k → (m g : ℕ) → g < imported_globals_in k m → HasValue (cell_in k m g)
-cell_there k of_set m g less = go (slice_get k.set.members m) refl less
+-- the same by the number of a member
+pub cell_there : (L : LinkedSet) → Links L → (m g : ℕ) → g < imported_globals_in L m → HasValue (imported_number L m g)
+cell_there L links m g less = go (slice_get L.set.members m) refl less
   where
-    go : (o : Option code.Member) → slice_get k.set.members m ≡ o → g < unwrap_or (o >>= λ x. Some (imported_globals x.checked)) 0
-        → HasValue (cell_in k m g)
+    go : (o : Option Member) → slice_get L.set.members m ≡ o → g < unwrap_or ((o >>= λ x. Some x.wasm) >>= λ wasm. Some (imported_globals wasm)) 0
+        → HasValue (imported_number L m g)
     go None e lt = absurd (omega arith)
-    go (Some x) e lt =
-        let is = of_set.1 in
-        let at : slice_get of_set.0.set.members m ≡ Some (member_of x) =
-        ap (λ (S : ClosedSet). slice_get S.members m) (sym is.set) ∙ slice_get-map member_of k.set.members m ∙ ap (option_map member_of) e in
-        let value = value_there of_set.0 is.links m g (member_of x) at lt in
-        (value.0, is.cells m g ∙ value.1)
+    go (Some x) e lt = value_there L links m g x e lt

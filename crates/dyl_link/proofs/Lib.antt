@@ -4,6 +4,7 @@ mod Greatest
 mod OneMore
 mod Told
 mod Parts
+pub mod Indices
 mod Findings
 mod OutsideSlots
 pub mod InitialValues

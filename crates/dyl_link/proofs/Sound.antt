@@ -22,7 +22,7 @@ use Rattle.dyl_slots.specs.declared.tables.Tables.{Tables}
 use Rattle.dyl_slots.specs.Given.{AllAt}
 use Rattle.dyl_slots.specs.Tables.{IsCounted, AreTables}
 use Rattle.dyl_link.specs.declared.options.LinkOptions.{LinkOptions}
-use Rattle.dyl_link.specs.Kept.{options_of, linked_set}
+use Rattle.dyl_link.specs.Sets.{options_of, linked_set}
 use Rattle.dyl_link.specs.Limits.{regions_fault}
 use Rattle.dyl_link.specs.Steps.{AreNamed, IsOver, IsSound, IsPlaced, AreAllOf}
 use Rattle.dyl_link.proofs.Findings.{before_limits, regions_first, plan_within}

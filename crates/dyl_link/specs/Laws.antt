@@ -1,15 +1,16 @@
 -- What is so of each set that links.
 use Rattle.std.specs.Prelude.{◌≡◌, ◌<◌, ℕ, Some, IsTrue, is_some, slice_get}
 use Rattle.spec_loading.specs.spec_linking.Sets.{Member}
+use Rattle.spec_loading.specs.spec_linking.Gathering.{IsSet}
 use Rattle.spec_loading.specs.spec_linking.Definitions.{imported_globals}
-use Rattle.spec_loading.specs.spec_linking.LinkedSets.{LinkedSet}
+use Rattle.spec_loading.specs.spec_linking.LinkedSets.{LinkedSet, function_ref}
 use Rattle.spec_loading.specs.spec_linking.Slots.{imported_number}
 use Rattle.spec_loading.specs.spec_linking.Links.{Links}
-use Rattle.dyl_link.specs.Kept.{Kept, IsOfSet, function_in, functions_in}
+use Rattle.dyl_link.specs.Sets.{functions_in}
 
 -- each number of a function of a member names one
 abbrev pub FunctionsAreThere : Type 0
-FunctionsAreThere = (k : Kept) → IsOfSet k → (m f : ℕ) → f < functions_in k m → IsTrue (is_some (function_in k m f))
+FunctionsAreThere = (L : LinkedSet) → IsSet L.set → Links L → (m f : ℕ) → f < functions_in L m → IsTrue (is_some (function_ref L m f))
 
 -- each global that a member imports has an initial value
 abbrev pub InitialValuesAreThere : Type 0

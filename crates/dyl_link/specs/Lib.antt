@@ -1,6 +1,7 @@
 pub mod Answers
-pub mod Kept
-pub mod Members
+pub mod Sets
+pub mod Functions
+pub mod Parts
 pub mod Bounds
 pub mod Duplicates
 pub mod Faults

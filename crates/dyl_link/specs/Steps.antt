@@ -20,9 +20,7 @@ use Rattle.dyl_slots.specs.Tables.{AreTables}
 use Rattle.dyl_link.specs.declared.options.LinkOptions.{LinkOptions}
 use Rattle.dyl_link.specs.declared.layout.Placed.{Placed}
 use Rattle.dyl_link.specs.declared.entry_and_layout.Found.{Found}
-use Rattle.dyl_link.specs.declared.link_or_fault.Ready.{Ready}
-use Rattle.dyl_link.specs.Kept.{options_of, Kept}
-use Rattle.dyl_link.specs.Members.{member_value, slots_value}
+use Rattle.dyl_link.specs.Sets.{options_of}
 
 -- the functions that the numbers of member m name
 abbrev pub AreNamed : LinkedSet → ℕ → List Ref → Type 0
@@ -66,25 +64,3 @@ pub record IsFoundOf (L : LinkedSet) (f : Found) : Type 0 where
   pub entry : set_entry L.set.members ≡ Some f.entry
   pub hosts : map host_name_of f.hosts.items ≡ hosts_of L
   pub uses_loader : f.uses_loader ≡ loading.uses_loader L
-
--- what is kept of a set that is made of this
-abbrev pub kept_with : ClosedSet → Ready → Kept
-kept_with S r =
-    let placed = r.found.placed in
-    let tables = placed.tables in
-    record {
-      set = S;
-      plan = placed.plan;
-      symbols = r.symbols;
-      entry = r.found.entry;
-      functions = placed.functions.items;
-      members = map member_value tables.members.items;
-      cells = tables.cells.items;
-      hosts = map host_name_of r.found.hosts.items;
-      host_slots = tables.host_slots.items;
-      loader_slots = slots_value tables.loader_slots;
-      outside = tables.outside.items;
-      table_entries = tables.table_entries;
-      table_max = tables.table_max;
-      uses_loader = r.found.uses_loader;
-    }

@@ -6,7 +6,7 @@ ghost use Rattle.spec_loading.specs.spec_linking.Links as links;
 ghost use Rattle.dyl_slots.specs.dyl_search.Gathers.{set_of};
 ghost use Rattle.dyl_slots.specs.dyl_scope.Scopes.{AreOf};
 ghost use Rattle.dyl_link.specs.Answers.{Tells};
-ghost use Rattle.dyl_link.specs.Kept.{linked_set};
+ghost use Rattle.dyl_link.specs.Sets.{linked_set};
 ghost use Rattle.dyl_link.specs.Steps.{IsOver, IsPlacedOf, IsFoundOf};
 
 use crate::entry::entry_without_fault;

@@ -6,7 +6,7 @@ ghost use Rattle.dyl_slots.specs.dyl_search.Gathers.{set_of};
 ghost use Rattle.dyl_slots.specs.dyl_plan.Regions.{asked};
 ghost use Rattle.dyl_link.specs.Answers.{Tells};
 ghost use Rattle.dyl_link.specs.Limits.{limit_of, regions_fault};
-ghost use Rattle.dyl_link.specs.Kept.{options_of};
+ghost use Rattle.dyl_link.specs.Sets.{options_of};
 
 use crate::options::LinkOptions;
 use crate::sizes::regions_of;

@@ -6,7 +6,7 @@ ghost use Rattle.dyl_slots.specs.dyl_section.Recorded.{record_of};
 ghost use Rattle.dyl_slots.specs.dyl_search.Gathers.{set_of, member_of};
 ghost use Rattle.dyl_slots.specs.dyl_plan.Regions.{region_of, asked};
 ghost use Rattle.dyl_link.specs.Bounds.{limits_as, listed, with_limits, all_limits};
-ghost use Rattle.dyl_link.specs.Kept.{options_of};
+ghost use Rattle.dyl_link.specs.Sets.{options_of};
 
 use crate::options::LinkOptions;
 use dyl_slots::dyl_imports::{Use, use_of};

@@ -15,23 +15,22 @@ use Rattle.wasm_machine.proofs.Steps.{advanced, kept_advances, made_advances, ke
 use Rattle.wasm_machine.proofs.Stepping.{iterated_wider}
 use Rattle.dyl_frames.specs.Next.{HasCodeOnTop, MayWant}
 use Rattle.dyl_frames.specs.Cores.{CodeStep}
-use Rattle.dyl_link.specs.Kept.{IsLinked}
 use Rattle.dyl_store.specs.declared.running.Running.{Running}
 use Rattle.dyl_store.specs.declared.store.Store.TheInside.{Inside}
 use Rattle.dyl_store.specs.Stores.{StoreRun, set_course, HadCodeOnTop, IsCodeNext, MayWantAt}
 use Rattle.dyl_store.specs.Runs.{IsRunning, RunsAt}
 use Rattle.dyl_store.specs.Steps.{IsMade, Stopped, Counted}
-use Rattle.dyl_store.specs.Kept.{run_of, StandsFrom, IsStore}
+use Rattle.dyl_store.specs.Kept.{run_of, StandsFrom, IsToldOf, IsStore}
 use Rattle.dyl_store.proofs.Stepping.{linked_now, moving_status, told_anew}
 use Rattle.dyl_store.proofs.Stopping.{HasNoneLeft, stopped_idle}
 
 -- the run of a set has made further steps of code
 abbrev pub IsByCode : StoreRun → Recorded → Type 0
-IsByCode v x = (L : LinkedSet) → IsLinked L v.linked → AreOfCode (set_course L) v.run x
+IsByCode v x = AreOfCode (set_course v.linked) v.run x
 
 -- code was on top before each of them
 abbrev pub ByCodeOnTop : StoreRun → Recorded → Type 0
-ByCodeOnTop v x = (L : LinkedSet) → IsLinked L v.linked → HadCodeOnTop L v.run x
+ByCodeOnTop v x = HadCodeOnTop v.linked v.run x
 
 module _ (L : LinkedSet) (v x : Recorded) (same : x.answers ≡ v.answers) (tops : HadCodeOnTop L v x) (steps : ℕ) (lost : Bool) where
   kept_on_top : steps ≡ x.steps → HadCodeOnTop L v (advanced x steps lost)
@@ -53,7 +52,7 @@ pub record IsAdvanced (most : ℕ) (v : StoreRun) (i : Inside) : Type 0 where
   pub advances : Advances most v.run (run_of i).run
   pub code : IsByCode v (run_of i).run
   pub tops : ByCodeOnTop v (run_of i).run
-  pub left : (L : LinkedSet) → IsLinked L v.linked → HasNoneLeft L most (run_of i)
+  pub left : HasNoneLeft most (record v { run = (run_of i).run })
   pub wants : i.lost ≡ true → MayWantAt v.linked (run_of i).run
 
 -- the parts of a run after steps of code
@@ -74,15 +73,12 @@ module _ (most : ℕ) (i : Inside) (new : Running) (steps : ℕ) (lost : Bool) (
     pub advances : Advances most v y
     pub code : AreOfCode (set_course L) v y
     pub tops : HadCodeOnTop L v y
-    pub left : HasNoneLeft L most (run_of (counted i new steps lost))
+    pub left : HasNoneLeft most (record { linked = L; run = y })
     pub wants : lost ≡ true → MayWant (state_at (set_course L) y)
 
-  module _ (L : LinkedSet) (of : IsLinked L i.running.linked.now) where
+  module _ (L : LinkedSet) (from : StandsFrom L v i.running) where
     abbrev C : Course
     C = set_course L
-
-    from : StandsFrom L v i.running
-    from = g.stands found L of
 
     start : status_at C v ≡ Moving
     start = moving_status L i.running (state_at C v) from.1 goes
@@ -193,37 +189,36 @@ module _ (most : ℕ) (i : Inside) (new : Running) (steps : ℕ) (lost : Bool) (
   linked_same : new.linked.now ≡ i.running.linked.now
   linked_same = linked_now i new linked
 
-  module _ (running : lost ≡ false → IsRunning new) (counts : (L : LinkedSet) → IsLinked L i.running.linked.now → (s : SetState) → RunsAt L i.running s → Counted L most s new i.steps steps lost) where
-    has_advanced : (L : LinkedSet) → IsLinked L i.running.linked.now → HasAdvanced L
-    has_advanced L of =
-        let o = counts L of (state_at (set_course L) v) (from L of).1 in
-        stops_so L of o.0 o.1 o.2 o.3 o.4
+  module _ (running : lost ≡ false → IsRunning new) (counts : (s : SetState) → RunsAt i.running.linked.now i.running s → Counted i.running.linked.now most s new i.steps steps lost) where
+    has_advanced : HasAdvanced i.running.linked.now
+    has_advanced =
+        let L = i.running.linked.now in
+        let from = g.stands found in
+        let o = counts (state_at (set_course L) v) from.1 in
+        stops_so L from o.0 o.1 o.2 o.3 o.4
 
     store_now : (e : Event) → e ≡ event_of new.core.machine.standing → IsStore (with_event (counted i new steps lost) e)
     store_now e is = record {
       running = running;
       bytes = g.bytes;
-      stands = λ none L of. (has_advanced L (subst (IsLinked L) linked_same of)).stands none;
-      told = λ none L of.
-          let so = has_advanced L (subst (IsLinked L) linked_same of) in
-          told_anew L new y (so.stands none).1 (so.unasked none) e is;
+      stands = λ none. subst (λ (M : LinkedSet). StandsFrom M y new) (sym linked_same) (has_advanced.stands none);
+      told = λ none.
+          subst (λ (M : LinkedSet). IsToldOf M e y) (sym linked_same) (told_anew i.running.linked.now new y (has_advanced.stands none).1 (has_advanced.unasked none) e is);
     }
 
     pub advanced_so : IsAdvanced most (run_of i) (counted i new steps lost)
-    advanced_so =
-        let set = (g.running found).set in
-        record {
-          store = store_now;
-          same = linked_same;
-          advances = (has_advanced set.0 set.1).advances;
-          code = λ L of. (has_advanced L of).code;
-          tops = λ L of. (has_advanced L of).tops;
-          left = λ L of. (has_advanced L of).left;
-          wants = λ wanting L of. (has_advanced L of).wants wanting;
-        }
+    advanced_so = record {
+      store = store_now;
+      same = linked_same;
+      advances = has_advanced.advances;
+      code = has_advanced.code;
+      tops = has_advanced.tops;
+      left = has_advanced.left;
+      wants = has_advanced.wants;
+    }
 
 -- the same of a run that is so
 pub advanced_run : (most : ℕ) (v : StoreRun) (i : Inside) → run_of i ≡ v → IsStore i → i.lost ≡ false → i.running.core.machine.standing ≡ standing.Moving → (new : Running) (steps : ℕ) (lost : Bool) → new.linked ≡ i.running.linked → (lost ≡ false → IsRunning new)
-    → ((L : LinkedSet) → IsLinked L i.running.linked.now → (s : SetState) → RunsAt L i.running s → Counted L most s new i.steps steps lost) → IsAdvanced most v (counted i new steps lost)
+    → ((s : SetState) → RunsAt i.running.linked.now i.running s → Counted i.running.linked.now most s new i.steps steps lost) → IsAdvanced most v (counted i new steps lost)
 advanced_run most v i is g found goes new steps lost linked running counts =
     subst (λ (w : StoreRun). IsAdvanced most w (counted i new steps lost)) is (advanced_so most i new steps lost g found goes linked running counts)

@@ -23,8 +23,6 @@ use Rattle.wasm_machine.specs.declared.machine.Standing.TheVariants as standing
 use Rattle.dyl_world.specs.Promoted.{PromotedMembers}
 use Rattle.dyl_frames.specs.Next.{next_answer}
 use Rattle.dyl_frames.specs.Cores.{loader_arguments}
-use Rattle.dyl_link.specs.Kept.{Kept, IsLinked}
-use Rattle.dyl_addresses.proofs.Linked.{members_count}
 use Rattle.dyl_store.specs.declared.running.Running.{Running}
 use Rattle.dyl_store.specs.Runs.{IsSomewhere, StepsTo}
 use Rattle.dyl_store.specs.Calls.{is_loader, loader_of, AnswersWith, Answers}
@@ -53,8 +51,8 @@ module _ (L : LinkedSet) (call : LoaderCall) where
       answers there.0 there.1 s told.1 next
 
 -- a machine that tells a call waits for its answer
-pub call_waits : (call : LoaderCall) (first second : ℕ) (old mid : Running) → IsSomewhere old → ((L : LinkedSet) → IsLinked L old.linked.now → StepsTo L (event.Loader call first second) old mid) → mid.core.machine.standing ≡ standing.Loading
-call_waits call first second old mid at steps = (steps at.0 at.1 at.2.0 at.2.1).0
+pub call_waits : (call : LoaderCall) (first second : ℕ) (old mid : Running) → IsSomewhere old → StepsTo old.linked.now (event.Loader call first second) old mid → mid.core.machine.standing ≡ standing.Loading
+call_waits call first second old mid at steps = (steps at.0 at.1).0
 
 pub no_loader : (e : Event) → ((call : LoaderCall) (first second : ℕ) → e ≡ event.Loader call first second → ⊥) → is_loader e ≡ false
 no_loader event.Moved none = refl
@@ -140,9 +138,8 @@ module _ (L : LinkedSet) (old new : Running) (e : Event) (memory : MemoryInstanc
 
 -- what is opened is a member, and errors are in their range
 module _ (L : LinkedSet) (memory : MemoryInstance) where
-  pub opened_range : (k : Kept) → IsLinked L k → (name flags : ℕ) (r x : Opening) → r ≡ open_answer L memory name flags → r ≡ x → OpensWell (length k.set.members) x
-  opened_range k h name flags r x is same =
-      subst (λ (n : ℕ). OpensWell n x) (members_count L k h) (subst (OpensWell (length L.set.members)) (sym is ∙ same) (opens_well L memory name flags))
+  pub opened_range : (name flags : ℕ) (r x : Opening) → r ≡ open_answer L memory name flags → r ≡ x → OpensWell (length L.set.members) x
+  opened_range name flags r x is same = subst (OpensWell (length L.set.members)) (sym is ∙ same) (opens_well L memory name flags)
 
   pub found_range : (stages promoted : List ℕ) (handle name : ℕ) (r x : Finding) → r ≡ symbol_answer L stages promoted memory handle name → r ≡ x → FindsWell x
   found_range stages promoted handle name r x is same = subst FindsWell (sym is ∙ same) (finds_well L stages promoted memory handle name)

@@ -22,13 +22,11 @@ use Rattle.spec_loading.specs.spec_linking.Sets.{Member}
 use Rattle.spec_loading.specs.spec_linking.Imports.{ImportUse, SharedMemory, SharedTable, StackPointer, MemoryBase, TableBase, DataCell, SlotCell, EnvFunction, ModuleFunction, OtherUse, use_of, is_i32_global, importing}
 use Rattle.spec_loading.specs.spec_linking.LinkedSets.{LinkedSet, wasm_of, definition}
 use Rattle.spec_loading.specs.spec_linking.Slots.{CellName, same_cell, cell_as, cell_of_import, first_cells, cells_of, cell_value, initial_as, initial_number, imported_number}
-use Rattle.spec_loading.specs.spec_linking.Links.{unless, fault_as, import_fault, data_cell_fault, slot_cell_fault}
+use Rattle.spec_loading.specs.spec_linking.Links.{Links, unless, fault_as, import_fault, data_cell_fault, slot_cell_fault}
 use Rattle.spec_loading.proofs.of_spec_linking.LinkedFacts.{or_none, holds_so, linked_member}
 use Rattle.spec_loading.specs.Addresses.{memory_base_address, import_address, address_with, global_address}
-use Rattle.dyl_addresses.specs.Kept.{KeptAddresses, AreAddresses}
-use Rattle.dyl_addresses.proofs.Linked.{wasm_at, one_module}
-use Rattle.dyl_link.specs.dyl_search.declared.set.Member as declared
-use Rattle.dyl_link.specs.Kept.{Kept, cell_in}
+use Rattle.dyl_addresses.specs.Kept.{KeptAddresses, AreAddressesOf}
+use Rattle.dyl_addresses.proofs.Linked.{one_module}
 use Rattle.dyl_store.specs.Opening.{global_place, Adds, cell_globals, IsAtCells, with_cell, with_cells, with_imports}
 
 -- ---- places
@@ -232,24 +230,24 @@ module _ (L : LinkedSet) (m : ℕ) (wasm : Module) (here : wasm_of L m ≡ Some 
 
 -- ---- a member
 
-pub adds_cells : (k : Kept) (a : KeptAddresses) (m : ℕ) (x : declared.Member) → AreAddresses k a → slice_get k.set.members m ≡ Some x → (imports : List Import) → imports ≡ x.checked.imports
-    → (old new : List Value) → IsAtCells k m old → new ≡ with_imports (global_place a m) (cell_in k m) old 0 imports → Adds cell_globals k m old new
-adds_cells k a m x are here imports same old new at told = λ L h w is.
-    let of_set : imports ≡ w.imports = same ∙ ap (λ (y : Module). y.imports) (one_module x.checked w (sym (wasm_at L k h m x here) ∙ is)) in
-    let inside : m < length L.set.members = within L w is in
+pub adds_cells : (L : LinkedSet) (a : KeptAddresses) (m : ℕ) (wasm : Module) → AreAddressesOf L a → Links L → wasm_of L m ≡ Some wasm → (imports : List Import) → imports ≡ wasm.imports
+    → (old new : List Value) → IsAtCells L m old → new ≡ with_imports (global_place a m) (imported_number L m) old 0 imports → Adds cell_globals L m old new
+adds_cells L a m wasm are links here imports same old new at told = λ w is.
+    let of_set : imports ≡ w.imports = same ∙ ap (λ (y : Module). y.imports) (one_module wasm w (sym here ∙ is)) in
+    let inside : m < length L.set.members = within w is in
     let there = got L.set.members m inside in
     let member = there.0 in
     let its : member.wasm ≡ w = one_module member.wasm w (sym (ap (λ (o : Option Member). o >>= λ y. Some y.wasm) there.1) ∙ is) in
-    let linked = linked_member L m member h.links there.1 in
+    let linked = linked_member L m member links there.1 in
     let none : (j : ℕ) (i : Import) → slice_get w.imports j ≡ Some i → import_fault L m w i ≡ None =
     subst (λ (y : Module). (j : ℕ) (i : Import) → slice_get y.imports j ≡ Some i → import_fault L m y i ≡ None) its linked.imports in
     told
-    ∙ ap (λ (is : List Import). with_imports (global_place a m) (cell_in k m) old 0 is) of_set
-    ∙ ap (λ (l : List Value). with_imports (global_place a m) (cell_in k m) l 0 w.imports) (sym (append-nil old))
-    ∙ all_imports L m w is (global_place a m) (cell_in k m) (λ g. ap (λ (o : Option ℕ). unwrap_or o 0) ((are L h).globals m g)) (h.cells m) old (at L h) w.imports 0 [] (first_gives w) none refl
+    ∙ ap (λ (is : List Import). with_imports (global_place a m) (imported_number L m) old 0 is) of_set
+    ∙ ap (λ (l : List Value). with_imports (global_place a m) (imported_number L m) l 0 w.imports) (sym (append-nil old))
+    ∙ all_imports L m w is (global_place a m) (imported_number L m) (λ g. ap (λ (o : Option ℕ). unwrap_or o 0) (are.globals m g)) (λ g. refl) old at w.imports 0 [] (first_gives w) none refl
   where
-    within : (L : LinkedSet) (w : Module) → wasm_of L m ≡ Some w → m < length L.set.members
-    within L w is = go (slice_get L.set.members m) refl is
+    within : (w : Module) → wasm_of L m ≡ Some w → m < length L.set.members
+    within w is = go (slice_get L.set.members m) refl is
       where
         go : (o : Option Member) → slice_get L.set.members m ≡ o → (o >>= λ y. Some y.wasm) ≡ Some w → m < length L.set.members
         go None e q = absurd cc

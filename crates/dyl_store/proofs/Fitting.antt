@@ -10,13 +10,12 @@ use Rattle.spec_loading.specs.spec_execution.Views.{View}
 use Rattle.spec_loading.specs.spec_execution.Instances.{ModuleParts, host_type}
 use Rattle.spec_loading.specs.spec_linking.LinkedSets.{LinkedSet, set_hosts}
 use Rattle.spec_loading.specs.LoadedSet.{SetState, set_loading}
+use Rattle.spec_loading.specs.Members.{set_view}
 use Rattle.wasm_machine.specs.declared.machine.Standing.{Standing}
 use Rattle.wasm_machine.specs.declared.machine.Standing.TheVariants as standing
 use Rattle.wasm_machine.proofs.Courses.{waited_call}
 use Rattle.dyl_frames.specs.Cores.{StandsAs, FitsHost}
 use Rattle.dyl_frames.proofs.Answering.{asking}
-use Rattle.dyl_link.specs.Kept.{IsLinked}
-use Rattle.dyl_store.specs.Worlds.{kept_view}
 use Rattle.dyl_store.specs.declared.running.Running.{Running}
 use Rattle.dyl_store.specs.Runs.{IsRunning, RunsAt}
 use Rattle.dyl_store.proofs.Loads.{loaded}
@@ -25,7 +24,10 @@ use Rattle.dyl_store.proofs.Loads.{loaded}
 abbrev FitsType : MemoryInstance → Answer → Option FuncType → Type 0
 FitsType memory a o = IfSome o (λ ty. IsTrue (fits_results ty.results memory a))
 
-module _ (x : Running) (h : IsRunning x) (L : LinkedSet) (linked : IsLinked L x.linked.now) (s : SetState) (at : RunsAt L x s) where
+module _ (x : Running) (h : IsRunning x) (s : SetState) (at : RunsAt x.linked.now x s) where
+  abbrev L : LinkedSet
+  L = x.linked.now
+
   -- how the run stands where the machine asks
   pub asking_status : (entry count : ℕ) → x.core.machine.standing ≡ standing.Asking entry count → (call : HostCall) × (s.run.status ≡ Waits call) × (set_hosts L entry ≡ Some call.host)
   asking_status entry count e =
@@ -42,19 +44,19 @@ module _ (x : Running) (h : IsRunning x) (L : LinkedSet) (linked : IsLinked L x.
   waits_asking call (standing.Exited code) k e = absurd (let clash : Exited code ≡ Waits call = sym k ∙ e in cc)
   waits_asking call standing.Lost k e = absurd k
 
-  host_named : (entry : ℕ) (call : HostCall) → set_hosts L entry ≡ Some call.host → (kept_view x.world.linked).host entry ≡ Some call.host.ty
+  host_named : (entry : ℕ) (call : HostCall) → set_hosts L entry ≡ Some call.host → (set_view x.world.linked).host entry ≡ Some call.host.ty
   host_named entry call named =
-      let is = loaded x h L linked in
+      let is = loaded x h in
       ap (λ (V : View ModuleParts). V.host entry) (sym is.view) ∙ is.hosts entry ∙ ap host_type named
 
   -- an answer that fits a call fits the host function that is asked
   pub fits_host : (a : Answer) (entry count : ℕ) (call : HostCall) → x.core.machine.standing ≡ standing.Asking entry count → set_hosts L entry ≡ Some call.host → IsTrue (answer_fits call s.run.memory a)
-      → FitsHost (kept_view x.world.linked) x.world.memory a x.core.machine.standing
+      → FitsHost (set_view x.world.linked) x.world.memory a x.core.machine.standing
   fits_host a entry count call asks named fits =
       let here : FitsType x.world.memory a (Some call.host.ty) = subst (λ (memory : MemoryInstance). IsTrue (answer_fits call memory a)) at.space fits in
-      subst (FitsHost (kept_view x.world.linked) x.world.memory a) (sym asks) (subst (FitsType x.world.memory a) (sym (host_named entry call named)) here)
+      subst (FitsHost (set_view x.world.linked) x.world.memory a) (sym asks) (subst (FitsType x.world.memory a) (sym (host_named entry call named)) here)
 
-  pub wait_fits_host : (a : Answer) → FitsWait a s.run.status s.run.memory → FitsHost (kept_view x.world.linked) x.world.memory a x.core.machine.standing
+  pub wait_fits_host : (a : Answer) → FitsWait a s.run.status s.run.memory → FitsHost (set_view x.world.linked) x.world.memory a x.core.machine.standing
   wait_fits_host a fits =
       let waited = waited_call a s.run.status s.run.memory fits in
       let asks = waits_asking waited.0 x.core.machine.standing at.standing waited.1 in
@@ -63,10 +65,10 @@ module _ (x : Running) (h : IsRunning x) (L : LinkedSet) (linked : IsLinked L x.
       fits_host a asks.0 asks.1 status.0 asks.2 status.2 (subst (λ (call : HostCall). IsTrue (answer_fits call s.run.memory a)) (sym same) waited.2)
 
   -- and the other way round
-  pub host_fits_call : (a : Answer) → FitsHost (kept_view x.world.linked) x.world.memory a x.core.machine.standing → (call : HostCall) × (s.run.status ≡ Waits call) × IsTrue (answer_fits call s.run.memory a)
+  pub host_fits_call : (a : Answer) → FitsHost (set_view x.world.linked) x.world.memory a x.core.machine.standing → (call : HostCall) × (s.run.status ≡ Waits call) × IsTrue (answer_fits call s.run.memory a)
   host_fits_call a fits =
-      let asks = asking (kept_view x.world.linked) x.world.memory a x.core.machine.standing fits in
+      let asks = asking (set_view x.world.linked) x.world.memory a x.core.machine.standing fits in
       let status = asking_status asks.0 asks.1 asks.2 in
-      let there : FitsType x.world.memory a ((kept_view x.world.linked).host asks.0) = subst (FitsHost (kept_view x.world.linked) x.world.memory a) asks.2 fits in
+      let there : FitsType x.world.memory a ((set_view x.world.linked).host asks.0) = subst (FitsHost (set_view x.world.linked) x.world.memory a) asks.2 fits in
       let here : FitsType x.world.memory a (Some status.0.host.ty) = subst (FitsType x.world.memory a) (host_named asks.0 status.0 status.2) there in
       (status.0, status.1, subst (λ (memory : MemoryInstance). IsTrue (answer_fits status.0 memory a)) (sym at.space) here)

@@ -17,14 +17,12 @@ use Rattle.spec_loading.specs.spec_execution.Limits.{room_with, room_of}
 use Rattle.spec_loading.specs.spec_execution.Instances.{module_view, module_height, host_type}
 use Rattle.spec_loading.specs.spec_safety.Laws.{AreThere}
 use Rattle.spec_loading.specs.spec_linking.Sets.{Member}
-use Rattle.spec_loading.specs.spec_linking.LinkedSets.{wasm_of}
+use Rattle.spec_loading.specs.spec_linking.LinkedSets.{LinkedSet, wasm_of, function_ref, hosts_of}
 use Rattle.spec_loading.specs.Addresses.{item_address, sum_before}
-use Rattle.spec_loading.specs.Members.{counts_of, where_stub}
+use Rattle.spec_loading.specs.Members.{set_instances, set_view, counts_of, where_stub}
 use Rattle.dyl_link.specs.host_table.declared.host.HostName as declared
 use Rattle.dyl_link.specs.host_table.Names.{host_name_of}
-use Rattle.dyl_link.specs.Kept.{Kept, function_in}
 use Rattle.dyl_store.specs.declared.run_member.Unit.{Unit}
-use Rattle.dyl_store.specs.Worlds.{set_in, kept_instances, kept_view}
 use Rattle.dyl_store.specs.Units.{IsMember, IsUnit, AreUnits}
 
 -- ---- members
@@ -33,14 +31,14 @@ wasm_within : (xs : List Member) (m : ℕ) (o : Option Member) → slice_get xs 
 wasm_within xs m (Some x) e h = slice_get_within xs m x e
 wasm_within xs m None e h = absurd cc
 
-module _ (k now : Kept) (units : List Unit) (are : AreUnits k units) (same : k ≡ now) (m : ℕ) (is : IsMember now m) where
+module _ (L now : LinkedSet) (units : List Unit) (are : AreUnits L units) (same : L ≡ now) (m : ℕ) (is : IsMember now m) where
   pub unit_within : m < length units
   unit_within =
-      let here : IsMember k m = subst (λ (x : Kept). IsMember x m) (sym same) is in
-      subst (λ (n : ℕ). m < n) (sym are.count) (wasm_within (set_in k).set.members m (slice_get (set_in k).set.members m) refl here)
+      let here : IsMember L m = subst (λ (x : LinkedSet). IsMember x m) (sym same) is in
+      subst (λ (n : ℕ). m < n) (sym are.count) (wasm_within L.set.members m (slice_get L.set.members m) refl here)
 
   pub unit_found : (u : Unit) → u ≡ get_or units m u → IsUnit now m u
-  unit_found u read = subst (λ (x : Kept). IsUnit x m u) same (are.each m u (slice_get_read units (length units) m u refl unit_within read))
+  unit_found u read = subst (λ (x : LinkedSet). IsUnit x m u) same (are.each m u (slice_get_read units (length units) m u refl unit_within read))
 
 -- a number in range is one of a member
 pub counted_types : (o : Option Module) (n : ℕ) → n < (counts_of o).types → IsTrue (is_some o)
@@ -96,29 +94,29 @@ module _ {X : Type 0} (o : Option Module) (wasm : Module) (is : o ≡ Some wasm)
       let here : first + n ≡ place.0 = ap (λ (z : ℕ). z + n) same ∙ at_address in
       (place.1 ∙ ap (λ (z : ℕ). Some z) (sym here), subst (λ (z : ℕ). z < length xs) (sym here) place.2)
 
-module _ (k : Kept) (m : ℕ) (u : Unit) (is : IsUnit k m u) where
-  pub global_kept : {X : Type 0} (g : ℕ) (xs : List X) → g < ((kept_instances k).counts m).globals → (a : ℕ) × ((kept_instances k).global_at m g ≡ Some a) × (a < length xs)
-      → slice_get u.globals.items g ≡ (kept_instances k).global_at m g
+module _ (L : LinkedSet) (m : ℕ) (u : Unit) (is : IsUnit L m u) where
+  pub global_kept : {X : Type 0} (g : ℕ) (xs : List X) → g < ((set_instances L).counts m).globals → (a : ℕ) × ((set_instances L).global_at m g ≡ Some a) × (a < length xs)
+      → slice_get u.globals.items g ≡ (set_instances L).global_at m g
   global_kept g xs lt place =
       is.globals g place.0 (subst (λ (o : Option Module). g < (counts_of o).globals) is.member lt) place.1 ∙ sym place.1
 
-  pub table_kept : {X : Type 0} (t : ℕ) (xs : List X) → t < ((kept_instances k).counts m).tables → (a : ℕ) × ((kept_instances k).table_at m t ≡ Some a) × (a < length xs)
-      → slice_get u.tables.items t ≡ (kept_instances k).table_at m t
+  pub table_kept : {X : Type 0} (t : ℕ) (xs : List X) → t < ((set_instances L).counts m).tables → (a : ℕ) × ((set_instances L).table_at m t ≡ Some a) × (a < length xs)
+      → slice_get u.tables.items t ≡ (set_instances L).table_at m t
   table_kept t xs lt place =
       is.tables t place.0 (subst (λ (o : Option Module). t < (counts_of o).tables) is.member lt) place.1 ∙ sym place.1
 
-  pub first_elem_kept : (e : ℕ) → e < ((kept_instances k).counts m).elems → u.first_elem ≡ sum_before (λ x. length x.elems) (set_in k).set.members m
+  pub first_elem_kept : (e : ℕ) → e < ((set_instances L).counts m).elems → u.first_elem ≡ sum_before (λ x. length x.elems) L.set.members m
   first_elem_kept e lt = is.first_elem (let some : e < length u.checked.now.elems = subst (λ (o : Option Module). e < (counts_of o).elems) is.member lt in omega arith)
 
-  pub first_data_kept : (d : ℕ) → d < ((kept_instances k).counts m).datas → u.first_data ≡ sum_before (λ x. length x.datas) (set_in k).set.members m
+  pub first_data_kept : (d : ℕ) → d < ((set_instances L).counts m).datas → u.first_data ≡ sum_before (λ x. length x.datas) L.set.members m
   first_data_kept d lt = is.first_data (let some : d < length u.checked.now.datas = subst (λ (o : Option Module). d < (counts_of o).datas) is.member lt in omega arith)
 
 -- ---- functions
 
-pub target_there : (k now : Kept) → k ≡ now → AreThere (kept_instances k) → (m f : ℕ) → f < ((kept_instances now).counts m).functions → IsTrue (is_some (function_in k m f))
-target_there k now same there m f lt =
-    let found = there.functions m f (subst (λ (x : Kept). f < ((kept_instances x).counts m).functions) (sym same) lt) in
-    rw found.1 refl
+pub target_there : (L now : LinkedSet) → L ≡ now → AreThere (set_instances L) → (m f : ℕ) → f < ((set_instances now).counts m).functions → IsTrue (is_some (function_ref L m f))
+target_there L now same there m f lt =
+    let found = there.functions m f (subst (λ (x : LinkedSet). f < ((set_instances x).counts m).functions) (sym same) lt) in
+    subst (λ (o : Option Ref). IsTrue (is_some o)) (sym found.1) refl
 
 module _ (o : Option Module) (wasm : Module) (is : o ≡ Some wasm) (f : ℕ) where
   pub own_code : IsSome (o >>= λ w. function_at w f) → IsSome (function_at wasm f)
@@ -157,28 +155,28 @@ some_typed (Some x) h = refl
 
 -- ---- rooms
 
-pub room_is : (now : Kept) (m f : ℕ) (wasm : Module) → wasm_of (set_in now) m ≡ Some wasm → room_of (kept_view now) m f ≡ room_of (module_view wasm) m f
+pub room_is : (now : LinkedSet) (m f : ℕ) (wasm : Module) → wasm_of now m ≡ Some wasm → room_of (set_view now) m f ≡ room_of (module_view wasm) m f
 room_is now m f wasm is =
     ap (λ (o : Option Module). room_with (unwrap_or (o >>= λ w. Some (module_height w f)) 0) (o >>= λ w. function_at w f)) is
 
 -- ---- types
 
-module _ (now : Kept) (r : Ref) (some : IsSome (type_of (kept_view now) r)) where
+module _ (now : LinkedSet) (r : Ref) (some : IsSome (type_of (set_view now) r)) where
   -- an own function
   module _ (m f : ℕ) (is : r ≡ Own m f) where
-    own_some : IsSome (wasm_of (set_in now) m >>= λ w. function_at w f)
-    own_some = go (wasm_of (set_in now) m >>= λ w. function_at w f) (subst (λ (x : Ref). IsSome (type_of (kept_view now) x)) is some)
+    own_some : IsSome (wasm_of now m >>= λ w. function_at w f)
+    own_some = go (wasm_of now m >>= λ w. function_at w f) (subst (λ (x : Ref). IsSome (type_of (set_view now) x)) is some)
       where
         go : (o : Option Function) → IsSome (o >>= λ x. Some x.ty) → IsSome o
         go None h = absurd cc
         go (Some x) h = refl
 
     pub own_member : IsMember now m
-    own_member = found_in (wasm_of (set_in now) m) (λ w. function_at w f) own_some
+    own_member = found_in (wasm_of now m) (λ w. function_at w f) own_some
 
-    module _ (wasm : Module) (at : wasm_of (set_in now) m ≡ Some wasm) where
+    module _ (wasm : Module) (at : wasm_of now m ≡ Some wasm) where
       own_here : IsSome (function_at wasm f)
-      own_here = own_code (wasm_of (set_in now) m) wasm at f own_some
+      own_here = own_code (wasm_of now m) wasm at f own_some
 
       pub own_within : f < length (function_space wasm)
       own_within = type_within wasm f (ap is_some (sym (own_type wasm f own_here)) ∙ some_typed (function_at wasm f) own_here)
@@ -192,26 +190,26 @@ module _ (now : Kept) (r : Ref) (some : IsSome (type_of (kept_view now) r)) wher
     stubbed (Some (Host entry)) ty h = absurd cc
     stubbed (Some (Stub m f)) ty h = refl
 
-    here : IsSome (function_in now m f >>= where_stub (wasm_of (set_in now) m >>= λ w. function_type w f))
-    here = subst (λ (x : Ref). IsSome (type_of (kept_view now) x)) is some
+    here : IsSome (function_ref now m f >>= where_stub (wasm_of now m >>= λ w. function_type w f))
+    here = subst (λ (x : Ref). IsSome (type_of (set_view now) x)) is some
 
-    stub_is : (function_in now m f >>= where_stub (wasm_of (set_in now) m >>= λ w. function_type w f)) ≡ (wasm_of (set_in now) m >>= λ w. function_type w f)
-    stub_is = stubbed (function_in now m f) (wasm_of (set_in now) m >>= λ w. function_type w f) here
+    stub_is : (function_ref now m f >>= where_stub (wasm_of now m >>= λ w. function_type w f)) ≡ (wasm_of now m >>= λ w. function_type w f)
+    stub_is = stubbed (function_ref now m f) (wasm_of now m >>= λ w. function_type w f) here
 
-    stub_some : IsSome (wasm_of (set_in now) m >>= λ w. function_type w f)
+    stub_some : IsSome (wasm_of now m >>= λ w. function_type w f)
     stub_some = subst (λ (o : Option FuncType). IsSome o) stub_is here
 
-    module _ (wasm : Module) (at : wasm_of (set_in now) m ≡ Some wasm) where
+    module _ (wasm : Module) (at : wasm_of now m ≡ Some wasm) where
       pub stub_within : f < length (function_space wasm)
       stub_within = type_within wasm f (subst (λ (o : Option Module). IsSome (o >>= λ w. function_type w f)) at stub_some)
 
   -- a host function
-  module _ (entry : ℕ) (is : r ≡ Host entry) (hosts : List declared.HostName) (are : map host_name_of hosts ≡ now.hosts) where
-    typed_at : slice_get now.hosts entry ≡ option_map host_name_of (slice_get hosts entry)
+  module _ (entry : ℕ) (is : r ≡ Host entry) (hosts : List declared.HostName) (are : map host_name_of hosts ≡ hosts_of now) where
+    typed_at : slice_get (hosts_of now) entry ≡ option_map host_name_of (slice_get hosts entry)
     typed_at = ap (λ (hs : List HostName). slice_get hs entry) (sym are) ∙ slice_get-map host_name_of hosts entry
 
     host_some : IsSome (host_type (option_map host_name_of (slice_get hosts entry)))
-    host_some = subst (λ (o : Option HostName). IsSome (host_type o)) typed_at (subst (λ (x : Ref). IsSome (type_of (kept_view now) x)) is some)
+    host_some = subst (λ (o : Option HostName). IsSome (host_type o)) typed_at (subst (λ (x : Ref). IsSome (type_of (set_view now) x)) is some)
 
     pub host_within : entry < length hosts
     host_within = go (slice_get hosts entry) refl host_some
@@ -220,10 +218,10 @@ module _ (now : Kept) (r : Ref) (some : IsSome (type_of (kept_view now) r)) wher
         go None e h = absurd cc
         go (Some x) e h = slice_get_within hosts entry x e
 
-    pub host_type_is : (x : declared.HostName) → x ≡ get_or hosts entry x → Some x.ty ≡ type_of (kept_view now) r
+    pub host_type_is : (x : declared.HostName) → x ≡ get_or hosts entry x → Some x.ty ≡ type_of (set_view now) r
     host_type_is x read =
         let found : slice_get hosts entry ≡ Some x = slice_get_read hosts (length hosts) entry x refl host_within read in
-        ap (λ (o : Option declared.HostName). host_type (option_map host_name_of o)) (sym found) ∙ ap host_type (sym typed_at) ∙ ap (type_of (kept_view now)) (sym is)
+        ap (λ (o : Option declared.HostName). host_type (option_map host_name_of o)) (sym found) ∙ ap host_type (sym typed_at) ∙ ap (type_of (set_view now)) (sym is)
 
 -- a type that a member declares
 module _ (o : Option Module) (wasm : Module) (is : o ≡ Some wasm) (t : ℕ) where

@@ -1,6 +1,6 @@
 -- A linked set begins with what its definition says.
 use Rattle.std.proofs.Common.{◌≡◌, ℕ, ◌+◌, ◌*◌, ◌<◌, ◌≤◌, List, [], ◌∷◌, ◌++◌, length, map, take, drop, Option, Some, refl, sym, ap, ap₂, ◌∙◌, subst, arith, length-append, length-drop, false}
-use Rattle.std.specs.Prelude.{reverse, replicate, is_some, IsTrue, Bool, None, Vec, if◌then◌else◌, Result, Ok}
+use Rattle.std.specs.Prelude.{reverse, replicate, Bool, None, Vec, if◌then◌else◌, Result, Ok}
 use Rattle.std.specs.List.{All}
 use Rattle.std.specs.declared.alloc.Global.{Global}
 use Rattle.std.proofs.lemmas.Bool.{le-leb}
@@ -11,19 +11,18 @@ use Rattle.wasm_form.specs.declared.runtime.Trap.{Trap}
 use Rattle.wasm_form.specs.declared.runtime.Value.{Value}
 use Rattle.wasm_form.specs.declared.runtime.Answer.{Answer}
 use Rattle.wasm_space.specs.Access.{ChangesOrTraps}
-use Rattle.spec_loading.specs.spec_binary.Indices.{Function}
 use Rattle.spec_loading.specs.spec_runtime.Memories.{MemoryInstance, page_size, zeros, new_memory, overwritten, written}
 use Rattle.spec_loading.specs.spec_runtime.Tables.{TableInstance}
 use Rattle.spec_loading.specs.spec_execution.Views.{View}
 use Rattle.spec_loading.specs.spec_execution.Instances.{ModuleParts}
-use Rattle.spec_loading.specs.spec_execution.Ranges.{AreInRange, Exists}
 use Rattle.spec_loading.specs.spec_linking.Sets.{Member}
 use Rattle.spec_loading.specs.spec_linking.Plans.{Plan}
+use Rattle.spec_loading.specs.spec_linking.Gathering.{IsSet}
 use Rattle.spec_loading.specs.spec_linking.LinkedSets.{LinkedSet}
+use Rattle.spec_loading.specs.spec_linking.Links.{Links}
 use Rattle.spec_loading.specs.spec_linking.Orders.{closure, post_order}
 use Rattle.spec_loading.specs.spec_linking.Slots.{linked_plan}
 use Rattle.spec_loading.proofs.of_spec_linking.LinkedFacts.{linked_limits}
-use Rattle.spec_loading.specs.spec_safety.Laws.{AreThere}
 use Rattle.spec_loading.specs.spec_safety.ValueTypes.{IsOfBytes, IsMemory}
 use Rattle.spec_loading.specs.spec_safety.TypedViews.{HoldTypes, IsSoundView}
 use Rattle.spec_loading.proofs.of_spec_safety.Lookups.{All-reverse}
@@ -37,24 +36,19 @@ use Rattle.spec_loading.specs.Laws.{LinkedIsThere, OpeningHolds, SizesArePlanned
 use Rattle.spec_loading.specs.SoundSets.{IsSoundState, SetIsSound, SetOpensSound, SetViewIsSound}
 use Rattle.wasm_machine.specs.declared.event.Event.TheVariants as event
 use Rattle.dyl_addresses.specs.Sets.{AreOf}
-use Rattle.dyl_addresses.proofs.Linked.{members_count}
 use Rattle.dyl_addresses.proofs.Ranges.{of_open}
-use Rattle.dyl_link.specs.dyl_scope.Scopes.{list_at}
 use Rattle.spec_loading.specs.declared.task.Task.{Task}
 use Rattle.dyl_frames.specs.declared.frames.Core.{Core}
 use Rattle.dyl_frames.specs.Cores.{IsCore, IsState, OpensAt}
-use Rattle.dyl_link.specs.Kept.{Kept, IsLinked}
 use Rattle.dyl_store.specs.declared.world.World.TheInside.{Inside}
 use Rattle.dyl_store.specs.declared.running.Running.{Running}
 use Rattle.dyl_store.specs.declared.store.Store.TheInside as kept
-use Rattle.dyl_addresses.specs.Sets.{IsOfSet}
-use Rattle.dyl_store.specs.Worlds.{WorldState, kept_instances, kept_view, HasSizes}
+use Rattle.dyl_store.specs.Worlds.{WorldState, HasSizes}
 use Rattle.dyl_store.specs.Units.{AreUnits, IsWorld, store_of}
 use Rattle.dyl_store.specs.Opened.{IsOpened}
 use Rattle.dyl_store.specs.Runs.{IsRunning, IsRunnable, RunsAt, ArePlacements}
 use Rattle.dyl_store.specs.Kept.{IsStore}
-use Rattle.dyl_store.proofs.Views.{kept_view_is, opening_sizes, all_fit}
-use Rattle.dyl_store.proofs.Runnable.{few_pages, hold_bytes}
+use Rattle.dyl_store.proofs.Views.{all_fit}
 
 -- ---- the memory
 
@@ -79,12 +73,9 @@ put_so why old at new r after le changes =
 texts_some : 0 < length error_texts
 texts_some = (let many = texts_length in omega arith)
 
-module _ (L : LinkedSet) (k : Kept) (h : IsLinked L k) (plan : Plan) (is : plan ≡ k.plan) where
-  planned : plan ≡ linked_plan L
-  planned = is ∙ h.plan
-
-  pub pages_fit : plan.pages ≤ plan.pages_max
-  pages_fit = subst (λ (p : Plan). p.pages ≤ p.pages_max) (sym planned) (linked_limits L h.links).pages
+module _ (L : LinkedSet) (plan : Plan) (planned : plan ≡ linked_plan L) where
+  pub pages_fit : Links L → plan.pages ≤ plan.pages_max
+  pages_fit links = subst (λ (p : Plan). p.pages ≤ p.pages_max) (sym planned) (linked_limits L links).pages
 
   module _ (sizes : SizesArePlanned) (old : MemoryInstance) (fresh : old ≡ new_memory plan.pages plan.pages_max) where
     empty : old ≡ new_memory (linked_plan L).pages (linked_plan L).pages_max
@@ -111,43 +102,21 @@ inside : (L : LinkedSet) (ts : List Task) → AreOf L ts → All (IsOf (length L
 inside L [] are = All-nil (IsOf (length L.set.members))
 inside L (t ∷ ts) are = All-cons (IsOf (length L.set.members)) t ts are.0 (inside L ts are.1)
 
--- names are kept of each member
-pub names_count : (L : LinkedSet) (k : Kept) → IsLinked L k → (m : ℕ) → m < length k.set.members → m < length k.symbols.names
-names_count L k h m lt = subst (λ (n : ℕ). m < n) (sym (h.symbols.count ∙ members_count L k h)) lt
-
-module _ (L : LinkedSet) (k : Kept) (h : IsLinked L k) (m : ℕ) (lt : m < length k.set.members) (tasks : List Task) (breadth post : List ℕ)
-    (opens : reverse tasks ≡ opening_tasks breadth post) (starts : breadth ≡ closure L.set m) (order : post ≡ list_at k.symbols.orders m) where
-  within : m < length L.set.members
-  within = subst (λ (n : ℕ). m < n) (sym (members_count L k h)) lt
-
+module _ (L : LinkedSet) (shape : IsSet L.set) (m : ℕ) (lt : m < length L.set.members) (tasks : List Task) (breadth post : List ℕ)
+    (opens : reverse tasks ≡ opening_tasks breadth post) (starts : breadth ≡ closure L.set m) (order : post ≡ post_order L.set m) where
   pub open_tasks : reverse tasks ≡ (open_frame L.set m).tasks
-  open_tasks = opens ∙ ap₂ opening_tasks starts (order ∙ h.symbols.orders m within)
+  open_tasks = opens ∙ ap₂ opening_tasks starts order
 
-  pub open_members : All (λ (t : Task). t.member < length k.set.members) tasks
+  pub open_members : All (λ (t : Task). t.member < length L.set.members) tasks
   open_members =
-      let there : All (IsOf (length L.set.members)) (reverse tasks) = inside L (reverse tasks) (subst (AreOf L) (sym open_tasks) (of_open L h.shape m within)) in
-      let here : All (IsOf (length k.set.members)) (reverse tasks) = subst (λ (n : ℕ). All (IsOf n) (reverse tasks)) (members_count L k h) there in
-      subst (λ (ts : List Task). All (IsOf (length k.set.members)) ts) (reverse-reverse tasks) (All-reverse (IsOf (length k.set.members)) (reverse tasks) here)
+      let there : All (IsOf (length L.set.members)) (reverse tasks) = inside L (reverse tasks) (subst (AreOf L) (sym open_tasks) (of_open L shape m lt)) in
+      subst (λ (ts : List Task). All (IsOf (length L.set.members)) ts) (reverse-reverse tasks) (All-reverse (IsOf (length L.set.members)) (reverse tasks) there)
 
 -- the first frame opens the main module
-pub startup_opens : (L : LinkedSet) (k : Kept) → IsLinked L k → (open_frame L.set 0).tasks ≡ (startup_frame L.set).tasks
-startup_opens L k h = ap (λ (breadth : List ℕ). opening_tasks breadth (post_order L.set 0)) (sym h.shape.startup)
-
-pub some_members : (L : LinkedSet) (k : Kept) → IsLinked L k → 0 < length k.set.members
-some_members L k h = subst (λ (n : ℕ). 0 < n) (members_count L k h) h.shape.some
+pub startup_opens : (L : LinkedSet) → IsSet L.set → (open_frame L.set 0).tasks ≡ (startup_frame L.set).tasks
+startup_opens L shape = ap (λ (breadth : List ℕ). opening_tasks breadth (post_order L.set 0)) (sym shape.startup)
 
 -- ---- the members
-
-module _ (L : LinkedSet) (k : Kept) (h : IsLinked L k) where
-  are_there : LinkedIsThere → AreThere (kept_instances k)
-  are_there law =
-      let all = law L h.shape h.links in
-      let same : set_view L ≡ kept_view k = sym (kept_view_is L k h) in
-      record {
-        types = subst (λ (V : View ModuleParts). (m t : ℕ) → t < (V.counts m).types → IsTrue (is_some (V.declared m t))) same all.types;
-        functions = subst (λ (V : View ModuleParts). (m f : ℕ) → f < (V.counts m).functions → (r : Ref) × (V.target m f ≡ Some r) × Exists V r) same all.functions;
-        code = subst (λ (V : View ModuleParts). (m f : ℕ) (x : Function) → V.code m f ≡ Some x → AreInRange (V.counts m) x.body) same all.code;
-      }
 
 -- a store is known by what it has
 abbrev pub parts_of : List Value → List TableInstance → List (List (Option Ref)) → List (List ℕ) → ModuleParts
@@ -156,37 +125,35 @@ parts_of gs ts es ds = record { globals = gs; tables = ts; elems = es; datas = d
 pub parts_same : (gs hs : List Value) (ts us : List TableInstance) (es fs : List (List (Option Ref))) (ds bs : List (List ℕ)) → gs ≡ hs → ts ≡ us → es ≡ fs → ds ≡ bs → parts_of gs ts es ds ≡ parts_of hs us fs bs
 parts_same gs hs ts us es fs ds bs g t e d = rw (g, t, e, d) refl
 
-pub world_is : LinkedIsThere → OpeningHolds → (w : Inside) → IsOfSet w.linked.now → AreUnits w.linked.now w.units.items → ((L : LinkedSet) → IsLinked L w.linked.now → store_of w ≡ opening_store L) → IsWorld w
-world_is law holds w set units store =
-    let k = w.linked.now in
-    let L = set.0 in
-    let h = set.1 in
+pub world_is : LinkedIsThere → OpeningHolds → (w : Inside) → IsSet w.linked.now.set → Links w.linked.now → AreUnits w.linked.now w.units.items → store_of w ≡ opening_store w.linked.now → IsWorld w
+world_is law holds w shape links units store =
+    let L = w.linked.now in
     record {
-      there = are_there L k h law;
-      fits = all_fit L k h (holds L h.shape h.links);
+      there = law L shape links;
+      fits = all_fit L (holds L shape links);
       units = units;
-      sizes = subst (HasSizes k) (sym (store L h)) (opening_sizes L k h);
+      sizes = subst (HasSizes L) (sym store) (record { globals = refl; tables = refl; elems = refl; datas = refl });
     }
 
 -- what is so of a linked set that begins so
-module _ (L : LinkedSet) (k : Kept) (h : IsLinked L k) (runnable : IsRunnable k) (w : WorldState) (opened : IsOpened k w) where
-  same_view : set_view L ≡ kept_view w.linked
-  same_view = sym (ap kept_view opened.linked ∙ kept_view_is L k h)
+module _ (L : LinkedSet) (shape : IsSet L.set) (links : Links L) (runnable : IsRunnable L) (w : WorldState) (opened : IsOpened L w) where
+  same_view : set_view L ≡ set_view w.linked
+  same_view = sym (ap set_view opened.linked)
 
-  pub view_over : SetViewIsSound → IsSoundView (kept_view w.linked)
-  view_over law = subst IsSoundView same_view (law L h.shape h.links)
+  pub view_over : SetViewIsSound → IsSoundView (set_view w.linked)
+  view_over law = subst IsSoundView same_view (law L shape links)
 
   opens : SetOpensSound → IsSoundState L (set_opening L)
-  opens law = law L h.shape h.links (few_pages L k h runnable) (hold_bytes L k h runnable)
+  opens law = law L shape links runnable.few runnable.bytes
 
-  pub holds_over : SetIsSound → SetOpensSound → HoldTypes (kept_view w.linked) (kept_view w.linked).names w.store
+  pub holds_over : SetIsSound → SetOpensSound → HoldTypes (set_view w.linked) (set_view w.linked).names w.store
   holds_over sound law =
-      let holds = (sound L h.shape h.links (few_pages L k h runnable)).view.holds (opening_store L) (opens law).units in
-      subst (λ (us : ModuleParts). HoldTypes (kept_view w.linked) (kept_view w.linked).names us) (sym (opened.store L h))
+      let holds = (sound L shape links runnable.few).view.holds (opening_store L) (opens law).units in
+      subst (λ (us : ModuleParts). HoldTypes (set_view w.linked) (set_view w.linked).names us) (sym opened.store)
       (subst (λ (V : View ModuleParts). HoldTypes V V.names (opening_store L)) same_view holds)
 
   pub memory_over : SetOpensSound → IsMemory w.memory
-  memory_over law = subst IsMemory (sym (opened.memory L h)) (opens law).memory
+  memory_over law = subst IsMemory (sym opened.memory) (opens law).memory
 
 -- ---- the machine
 
@@ -195,31 +162,30 @@ no_stages : (xs : List Member) → map {B = ℕ} (λ m. 0) xs ≡ replicate (len
 no_stages [] = refl
 no_stages (x ∷ xs) = ap (λ (ns : List ℕ). 0 ∷ ns) (no_stages xs)
 
-pub core_at : (L : LinkedSet) (k : Kept) → IsLinked L k → (w : WorldState) → IsOpened k w → (count : ℕ) → count ≡ length k.set.members → (tasks : List Task) → tasks ≡ (startup_frame L.set).tasks → (c : Core)
-    → OpensAt (set_loading L) count tasks (record { fixed = kept_view w.linked; units = w.store; memory = w.memory }) c → IsState (set_loading L) c w.store w.memory (set_opening L)
-core_at L k h w opened count many tasks are c opens =
+pub core_at : (L : LinkedSet) (w : WorldState) → IsOpened L w → (count : ℕ) → count ≡ length L.set.members → (tasks : List Task) → tasks ≡ (startup_frame L.set).tasks → (c : Core)
+    → OpensAt (set_loading L) count tasks (record { fixed = set_view w.linked; units = w.store; memory = w.memory }) c → IsState (set_loading L) c w.store w.memory (set_opening L)
+core_at L w opened count many tasks are c opens =
     opens (set_opening L) (record {
-      loader = ap (λ (xs : List ℕ). record { stages = xs; error = 0; promoted = [] }) (no_stages L.set.members ∙ ap (λ (n : ℕ). replicate n 0) (members_count L k h ∙ sym many));
-      units = sym (opened.store L h);
-      space = sym (opened.memory L h);
+      loader = ap (λ (xs : List ℕ). record { stages = xs; error = 0; promoted = [] }) (no_stages L.set.members ∙ ap (λ (n : ℕ). replicate n 0) (sym many));
+      units = sym opened.store;
+      space = sym opened.memory;
       status = refl;
       stack = rw are refl;
     })
 
 -- ---- the run
 
-pub running_is : (x : Running) → IsOfSet x.linked.now → IsRunnable x.linked.now → IsOpened x.linked.now x.world → IsCore (kept_view x.world.linked) x.world.store x.world.memory x.core → ((L : LinkedSet) → IsLinked L x.linked.now → RunsAt L x (set_opening L))
+pub running_is : (x : Running) → IsSet x.linked.now.set → Links x.linked.now → IsRunnable x.linked.now → IsOpened x.linked.now x.world → IsCore (set_view x.world.linked) x.world.store x.world.memory x.core → RunsAt x.linked.now x (set_opening x.linked.now)
     → ArePlacements x.linked.now x.placements.items → IsRunning x
-running_is x set runnable opened core at placements =
-    let k = x.linked.now in
-    let L = set.0 in
-    let h = set.1 in
+running_is x shape links runnable opened core at placements =
+    let L = x.linked.now in
     record {
-      set = set;
+      shape = shape;
+      links = links;
       runnable = runnable;
-      fixed = ap kept_view opened.linked;
+      fixed = ap set_view opened.linked;
       core = core;
-      members = ap (λ (l : LoaderState). length l.stages) (sym (at L h).loader) ∙ length-map L.set.members (λ (m : Member). 0) ∙ members_count L k h;
+      members = ap (λ (l : LoaderState). length l.stages) (sym at.loader) ∙ length-map L.set.members (λ (m : Member). 0);
       placements = placements;
     }
 
@@ -227,10 +193,10 @@ abbrev inside_of : Running → Vec Answer Global → kept.Inside
 inside_of x answers = record { running = x; steps = 0; answers = answers; answered = false; lost = false; event = event.Moved }
 
 -- no step was made
-pub store_is : (x : Running) (answers : Vec Answer Global) → IsRunning x → ((L : LinkedSet) → IsLinked L x.linked.now → RunsAt L x (set_opening L)) → answers.items ≡ [] → IsStore (inside_of x answers)
+pub store_is : (x : Running) (answers : Vec Answer Global) → IsRunning x → RunsAt x.linked.now x (set_opening x.linked.now) → answers.items ≡ [] → IsStore (inside_of x answers)
 store_is x answers running at none = record {
   running = λ e. running;
   bytes = subst (All IsOfBytes) (sym none) (All-nil IsOfBytes);
-  stands = λ e L h. (record { found = refl; run = refl; real = tt; left = none }, at L h);
-  told = λ e L h. (tt, tt);
+  stands = λ e. (record { found = refl; run = refl; real = tt; left = none }, at);
+  told = λ e. (tt, tt);
 }

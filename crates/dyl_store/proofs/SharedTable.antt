@@ -4,7 +4,6 @@ use Rattle.std.specs.Prelude.{Result}
 use Rattle.std.proofs.Math.Seq.{take-length}
 use Rattle.std.proofs.lemmas.Bool.Decides.{nat_tests}
 use Rattle.std.proofs.lemmas.List.{length-map, length-replicate}
-use Rattle.std.proofs.lemmas.Option.{same_Some}
 use Rattle.wasm_form.specs.declared.runtime.Ref.{Ref}
 use Rattle.wasm_form.specs.declared.runtime.Ref.TheVariants.{Own}
 use Rattle.wasm_form.specs.declared.runtime.Trap.{Trap}
@@ -21,8 +20,6 @@ use Rattle.spec_loading.specs.LoadedSet.{slots_before, first_slot}
 use Rattle.spec_loading.specs.Members.{opening_table}
 use Rattle.spec_loading.specs.Laws.{SizesArePlanned, SlotsFit}
 use Rattle.wasm_space.specs.Access.{ChangesOrTraps}
-use Rattle.dyl_addresses.proofs.Linked.{members_count}
-use Rattle.dyl_link.specs.Kept.{Kept, IsLinked, fresh_in, first_slot_in}
 use Rattle.dyl_store.specs.Opening.{outside_at}
 
 -- ---- the limits
@@ -75,14 +72,8 @@ pub outside_small : (L : LinkedSet) → Links L → outside_at L ≤ 1048576
 outside_small L links = (let fits = outside_fits L in let most = most_entries L links in omega arith)
 
 -- the fresh slots of the last member end there
-pub ends : (L : LinkedSet) (k : Kept) → IsLinked L k → (last slot : ℕ) (fresh : List ℕ) → last + 1 ≡ length k.set.members → Some slot ≡ first_slot_in k last → Some fresh ≡ fresh_in k last
-    → slot + length fresh ≡ outside_at L
-ends L k h last slot fresh is first own =
-    let many = members_count L k h in
-    let inside : last < length L.set.members = omega arith in
-    let p : slot ≡ first_slot L last = same_Some slot (first_slot L last) (first ∙ h.first_slots last inside) in
-    let q : fresh ≡ fresh_of L last = same_Some fresh (fresh_of L last) (own ∙ h.fresh last inside) in
-    ap₂ (λ (n : ℕ) (fs : List ℕ). n + length fs) p q ∙ outside_is L last (omega arith)
+pub ends : (L : LinkedSet) (last slot : ℕ) (fresh : List ℕ) → last + 1 ≡ length L.set.members → slot ≡ first_slot L last → fresh ≡ fresh_of L last → slot + length fresh ≡ outside_at L
+ends L last slot fresh is first own = ap₂ (λ (n : ℕ) (fs : List ℕ). n + length fs) first own ∙ outside_is L last (omega arith)
 
 -- the fresh slots of a member are some of the entries
 pub fresh_few : (L : LinkedSet) → Links L → SlotsFit → SizesArePlanned → (m : ℕ) → m < length L.set.members → length (fresh_of L m) < 4294967296
@@ -116,29 +107,30 @@ written old new at n items r many fits told =
     ap (entries_initialized old at items 0) many ∙ written_so old at items fits in
     (subst (λ (o : Option TableInstance). ChangesOrTraps TableBounds old o r new) wanted told).1
 
-module _ (L : LinkedSet) (k : Kept) (h : IsLinked L k) where
-  pub empty_is : (empty : TableInstance) → empty ≡ new_table k.table_entries k.table_max → empty ≡ new_table (table_entries L) (table_most L)
-  empty_is empty e = e ∙ ap₂ new_table h.table_entries h.table_max
+module _ (L : LinkedSet) (links : Links L) where
+  abbrev IsEmpty : TableInstance → Type 0
+  IsEmpty t = t ≡ new_table (table_entries L) (table_most L)
 
-  pub entries_fit : (empty : TableInstance) (at : ℕ) (items : List (Option Ref)) → empty ≡ new_table k.table_entries k.table_max → at ≡ outside_at L → items ≡ map Some k.outside
-      → at + length items ≤ length empty.entries
+  abbrev AreOutside : List (Option Ref) → Type 0
+  AreOutside items = items ≡ map Some (outside_slots L)
+
+  pub entries_fit : (empty : TableInstance) (at : ℕ) (items : List (Option Ref)) → IsEmpty empty → at ≡ outside_at L → AreOutside items → at + length items ≤ length empty.entries
   entries_fit empty at items e place is =
-      let size : length empty.entries ≡ table_entries L = ap (λ (t : TableInstance). length t.entries) (empty_is empty e) ∙ nulls_length (table_entries L) in
-      let many : length items ≡ length (map Some (outside_slots L)) = ap length (is ∙ ap (λ (rs : List Ref). map Some rs) h.outside) in
+      let size : length empty.entries ≡ table_entries L = ap (λ (t : TableInstance). length t.entries) e ∙ nulls_length (table_entries L) in
+      let many : length items ≡ length (map Some (outside_slots L)) = ap length is in
       let fits = outside_fits L in
       omega arith
 
-  pub entries_few : (items : List (Option Ref)) → items ≡ map Some k.outside → length items < 4294967296
+  pub entries_few : (items : List (Option Ref)) → AreOutside items → length items < 4294967296
   entries_few items is =
-      let many : length items ≡ length (map Some (outside_slots L)) = ap length (is ∙ ap (λ (rs : List Ref). map Some rs) h.outside) in
+      let many : length items ≡ length (map Some (outside_slots L)) = ap length is in
       let fits = outside_fits L in
-      let most = most_entries L h.links in
+      let most = most_entries L links in
       omega arith
 
-  pub table_is : (empty filled : TableInstance) (at : ℕ) (items : List (Option Ref)) → empty ≡ new_table k.table_entries k.table_max → at ≡ outside_at L → items ≡ map Some k.outside
+  pub table_is : (empty filled : TableInstance) (at : ℕ) (items : List (Option Ref)) → IsEmpty empty → at ≡ outside_at L → AreOutside items
       → filled ≡ record empty { entries = entries_overwritten empty.entries at items } → filled ≡ opening_table L
   table_is empty filled at items e place is told =
       told
-      ∙ ap (λ (t : TableInstance). record t { entries = entries_overwritten t.entries at items }) (empty_is empty e)
-      ∙ ap₂ (λ (a : ℕ) (xs : List (Option Ref)). record (new_table (table_entries L) (table_most L)) { entries = entries_overwritten (new_table (table_entries L) (table_most L)).entries a xs })
-      place (is ∙ ap (λ (rs : List Ref). map Some rs) h.outside)
+      ∙ ap (λ (t : TableInstance). record t { entries = entries_overwritten t.entries at items }) e
+      ∙ ap₂ (λ (a : ℕ) (xs : List (Option Ref)). record (new_table (table_entries L) (table_most L)) { entries = entries_overwritten (new_table (table_entries L) (table_most L)).entries a xs }) place is

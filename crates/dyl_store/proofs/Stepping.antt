@@ -19,12 +19,11 @@ use Rattle.wasm_machine.specs.declared.machine.Standing.TheVariants as standing
 use Rattle.wasm_machine.specs.declared.event.Event.{Event}
 use Rattle.wasm_machine.specs.declared.event.Event.TheVariants as event
 use Rattle.spec_loading.specs.spec_runtime.Courses.{Course, state_at, status_at, memory_at, IsAt, is_waiting}
+use Rattle.spec_loading.specs.Members.{set_view}
 use Rattle.wasm_machine.specs.Steps.{TellsStatus, event_of, steps_told, stands_told, StepMade, RunStepped, ArgumentsFit, AreNumbers}
 use Rattle.wasm_machine.proofs.Courses.{TakesLast, at_taken, answered_wait, read_last}
 use Rattle.wasm_machine.proofs.Steps.{moved, one_told, took, told_again, taken_goes}
 use Rattle.dyl_frames.specs.Cores.{StandsAs, Steps, FitsHost}
-use Rattle.dyl_link.specs.Kept.{Kept, IsLinked}
-use Rattle.dyl_store.specs.Worlds.{kept_view}
 use Rattle.dyl_store.specs.declared.running.Running.{Running}
 use Rattle.dyl_store.specs.declared.store.Store.TheInside.{Inside}
 use Rattle.dyl_store.specs.Stores.{StoreRun, set_course, MayWantAt}
@@ -33,7 +32,6 @@ use Rattle.dyl_store.specs.Calls.{is_loader}
 use Rattle.dyl_store.specs.Kept.{run_of, StandsFrom, IsToldOf, IsStore}
 use Rattle.dyl_store.proofs.Fitting.{asking_status, fits_host}
 use Rattle.dyl_store.proofs.Arguments.{arguments_told}
-use Rattle.dyl_store.proofs.Runnable.{few_pages, hold_bytes}
 
 -- the parts of a run, once another one is running after so many steps
 abbrev pub with_running : Inside → Running → ℕ → Bool → Inside
@@ -44,7 +42,7 @@ abbrev pub IsTold : LinkedSet → Event → Recorded → Recorded → Type 0
 IsTold L e x y = IsAt (set_course L) x × RunStepped (set_course L) e x y
 
 pub linked_now : (i : Inside) (new : Running) → new.linked ≡ i.running.linked → new.linked.now ≡ i.running.linked.now
-linked_now i new linked = ap (λ (b : Bor Kept). b.now) linked
+linked_now i new linked = ap (λ (b : Bor LinkedSet). b.now) linked
 
 pub moving_status : (L : LinkedSet) (x : Running) (s : SetState) → RunsAt L x s → x.core.machine.standing ≡ standing.Moving → s.run.status ≡ Moving
 moving_status L x s at moving = let k = subst (λ (st : Standing). StandsAs (set_loading L) x.core s st) moving at.standing in k.0
@@ -167,38 +165,38 @@ told_anew L now x at goes e is = (
 pub somewhere : SetRunIsSound → (i : Inside) → IsStore i → i.lost ≡ false → IsSomewhere i.running
 somewhere law i h found =
     let running = h.running found in
-    let L = running.set.0 in
-    let linked = running.set.1 in
-    let k = i.running.linked.now in
-    let sound = law L i.answers.items i.steps linked.shape linked.links (few_pages L k linked running.runnable) (hold_bytes L k linked running.runnable) h.bytes in
-    (L, linked, (state_at (set_course L) (run_of i).run, (h.stands found L linked).1, sound))
-
--- a set of what is seen of a run is one of what is kept of it
-pub linked_of : (v : StoreRun) (i : Inside) (L : LinkedSet) → run_of i ≡ v → IsLinked L v.linked → IsLinked L i.running.linked.now
-linked_of v i L is linked = subst (λ (s : StoreRun). IsLinked L s.linked) (sym is) linked
+    let L = i.running.linked.now in
+    let sound = law L i.answers.items i.steps running.shape running.links running.runnable.few running.runnable.bytes h.bytes in
+    (state_at (set_course L) (run_of i).run, (h.stands found).1, sound)
 
 -- what is told of the run, as it was seen before the step
-told_of : (L : LinkedSet) (e : Event) (v : StoreRun) (i : Inside) (y : Recorded) → run_of i ≡ v → IsTold L e (run_of i).run y → IsTold L e v.run y
-told_of L e v i y is told = subst (λ (s : StoreRun). IsTold L e s.run y) is told
+told_of : (e : Event) (v : StoreRun) (i : Inside) (y : Recorded) → run_of i ≡ v → IsTold i.running.linked.now e (run_of i).run y → IsTold v.linked e v.run y
+told_of e v i y is told = subst (λ (s : StoreRun). IsTold s.linked e s.run y) is told
 
 -- a step of what is running that goes on
 module _ (e : Event) (v : StoreRun) (i : Inside) (new : Running) (count : ℕ) (is : run_of i ≡ v) (h : IsStore i) (found : i.lost ≡ false) (moving : i.running.core.machine.standing ≡ standing.Moving)
-    (steps : (L : LinkedSet) → IsLinked L i.running.linked.now → StepsTo L e i.running new) (plain : is_loader e ≡ false) (linked : new.linked ≡ i.running.linked) (counted : count ≡ steps_told e) where
-  stepped_from : (L : LinkedSet) → IsLinked L i.running.linked.now → Stepped L new (run_of i).run count e
-  stepped_from L of =
+    (steps : StepsTo i.running.linked.now e i.running new) (plain : is_loader e ≡ false) (linked : new.linked ≡ i.running.linked) (counted : count ≡ steps_told e) where
+  abbrev L : LinkedSet
+  L = i.running.linked.now
+
+  -- what is recorded after the step
+  abbrev then_recorded : Recorded
+  then_recorded = (run_of (with_running i new (i.steps + count) i.answered)).run
+
+  stepped_from : Stepped L new (run_of i).run count e
+  stepped_from =
       let x = (run_of i).run in
       let s = state_at (set_course L) x in
-      let from = h.stands found L of in
-      stepped_at L new x count from.0 (moving_status L i.running s from.1 moving) e plain counted (steps L of s from.1)
+      let from = h.stands found in
+      stepped_at L new x count from.0 (moving_status L i.running s from.1 moving) e plain counted (steps s from.1)
 
   -- what is kept of what is told
-  told_still : (kept : Event) → kept ≡ stands_told e → AreNumbers e → (L : LinkedSet) → IsLinked L i.running.linked.now → IsToldOf L kept (run_of (with_running i new (i.steps + count) i.answered)).run
-  told_still kept same numbers L of =
+  told_still : (kept : Event) → kept ≡ stands_told e → AreNumbers e → IsToldOf L kept then_recorded
+  told_still kept same numbers =
       let C = set_course L in
       let x = (run_of i).run in
-      let y = (run_of (with_running i new (i.steps + count) i.answered)).run in
-      let fits = arguments_told L e (state_at C x) new (steps L of (state_at C x) (h.stands found L of).1) numbers in (
-        subst (λ (f : Event). TellsStatus (set_hosts L) f (status_at C y)) (sym same) (stepped_tells C e x y (stepped_from L of).1),
+      let fits = arguments_told L e (state_at C x) new (steps (state_at C x) (h.stands found).1) numbers in (
+        subst (λ (f : Event). TellsStatus (set_hosts L) f (status_at C then_recorded)) (sym same) (stepped_tells C e x then_recorded stepped_from.1),
         subst (ArgumentsFit (set_hosts L)) (sym same) (still_fits (set_hosts L) e fits),
       )
 
@@ -206,25 +204,23 @@ module _ (e : Event) (v : StoreRun) (i : Inside) (new : Running) (count : ℕ) (
   moving_store kept same numbers running = record {
     running = λ _. running;
     bytes = h.bytes;
-    stands = λ _ L of. (stepped_from L (subst (IsLinked L) (linked_now i new linked) of)).0;
-    told = λ _ L of. told_still kept same numbers L (subst (IsLinked L) (linked_now i new linked) of);
+    stands = λ _. subst (λ (M : LinkedSet). StandsFrom M then_recorded new) (sym (linked_now i new linked)) stepped_from.0;
+    told = λ _. subst (λ (M : LinkedSet). IsToldOf M kept then_recorded) (sym (linked_now i new linked)) (told_still kept same numbers);
   }
 
-  pub moving_stepped : (L : LinkedSet) → IsLinked L v.linked → IsTold L e v.run (run_of (with_running i new (i.steps + count) i.answered)).run
-  moving_stepped L of =
-      let before = linked_of v i L is of in
-      told_of L e v i (run_of (with_running i new (i.steps + count) i.answered)).run is ((h.stands found L before).0, (stepped_from L before).1)
+  pub moving_stepped : IsTold v.linked e v.run then_recorded
+  moving_stepped = told_of e v i then_recorded is ((h.stands found).0, stepped_from.1)
 
 -- where the next step of what is running may want memory, that of the run may
 pub wants_at : (v : StoreRun) (i : Inside) → run_of i ≡ v → IsStore i → i.lost ≡ false → WantsTo i.running → MayWantAt v.linked v.run
 wants_at v i is h found wants =
-    subst (λ (x : StoreRun). MayWantAt x.linked x.run) is (λ L of. wants L of (state_at (set_course L) (run_of i).run) (h.stands found L of).1)
+    subst (λ (x : StoreRun). MayWantAt x.linked x.run) is (wants (state_at (set_course i.running.linked.now) (run_of i).run) (h.stands found).1)
 
 -- ---- the answer that is recorded
 
 -- a run doesn't wait for an answer
 abbrev pub IsAnswered : StoreRun → Type 0
-IsAnswered v = (L : LinkedSet) × IsLinked L v.linked × (IsAt (set_course L) v.run → is_waiting (set_course L) v.run ≡ false)
+IsAnswered v = IsAt (set_course v.linked) v.run → is_waiting (set_course v.linked) v.run ≡ false
 
 -- A run of a set waits, and takes the last answer next.
 record TakesNext (L : LinkedSet) (i : Inside) (entry : ℕ) : Type 0 where
@@ -236,95 +232,98 @@ record TakesNext (L : LinkedSet) (i : Inside) (entry : ℕ) : Type 0 where
 
 module _ (v : StoreRun) (i : Inside) (entry count : ℕ) (items : List Answer) (is : run_of i ≡ v) (h : IsStore i) (found : i.lost ≡ false) (asks : i.running.core.machine.standing ≡ standing.Asking entry count)
     (answered : IsAnswered v) (same : items ≡ i.answers.items) where
+  abbrev M : LinkedSet
+  M = i.running.linked.now
+
   abbrev x : Recorded
   x = (run_of i).run
 
   -- the host call that is waited for
-  asked_call : (L : LinkedSet) → IsLinked L i.running.linked.now → (call : HostCall) × (status_at (set_course L) x ≡ Waits call) × (set_hosts L entry ≡ Some call.host)
-  asked_call L of = asking_status i.running (h.running found) L of (state_at (set_course L) x) (h.stands found L of).1 entry count asks
+  asked_call : (call : HostCall) × (status_at (set_course M) x ≡ Waits call) × (set_hosts M entry ≡ Some call.host)
+  asked_call = asking_status i.running (h.running found) (state_at (set_course M) x) (h.stands found).1 entry count asks
 
   answer_is_there : i.answered ≡ true
   answer_is_there =
       let w : IsAnswered (run_of i) = subst IsAnswered (sym is) answered in
-      let call = asked_call w.0 w.1 in
-      answered_wait i.answered (status_at (set_course w.0) x) call.0 call.1 (w.2 (h.stands found w.0 w.1).0)
+      let call = asked_call in
+      answered_wait i.answered (status_at (set_course M) x) call.0 call.1 (w (h.stands found).0)
 
-  takes_next : (L : LinkedSet) → IsLinked L i.running.linked.now → TakesNext L i entry
-  takes_next L of =
-      let from = h.stands found L of in
-      let call = asked_call L of in
+  takes_next : TakesNext M i entry
+  takes_next =
+      let from = h.stands found in
+      let call = asked_call in
       record {
         from = from;
         call = call.0;
         waits = call.1;
         host = call.2;
-        takes = at_taken (set_course L) x from.0 call.0 answer_is_there call.1;
+        takes = at_taken (set_course M) x from.0 call.0 answer_is_there call.1;
       }
 
   -- the last answer is there
   pub last_found : None ≡ slice_get items (length items - 1) → ⊥
   last_found e =
-      let set = (h.running found).set in
-      let w = takes_next set.0 set.1 in
+      let w = takes_next in
       let clash : None ≡ Some w.takes.answer = sym (read_last None items i.answers.items same e) ∙ w.takes.last in
       cc
 
   module _ (a : Answer) (read : Some a ≡ slice_get items (length items - 1)) where
-    taken_last : (L : LinkedSet) (of : IsLinked L i.running.linked.now) → (takes_next L of).takes.answer ≡ a
-    taken_last L of =
-        let w = takes_next L of in
+    taken_last : takes_next.takes.answer ≡ a
+    taken_last =
+        let w = takes_next in
         same_Some w.takes.answer a (sym w.takes.last ∙ read_last (Some a) items i.answers.items same read)
 
     -- and may be taken
-    pub last_taken : FitsHost (kept_view i.running.world.linked) i.running.world.memory a i.running.core.machine.standing
+    pub last_taken : FitsHost (set_view i.running.world.linked) i.running.world.memory a i.running.core.machine.standing
     last_taken =
-        let set = (h.running found).set in
-        let w = takes_next set.0 set.1 in
-        let C = set_course set.0 in
-        fits_host i.running (h.running found) set.0 set.1 (state_at C x) w.from.1 a entry count w.call asks w.host
-        (subst (λ (b : Answer). IsTrue (answer_fits w.call (memory_at C x) b)) (taken_last set.0 set.1) w.takes.fits)
+        let w = takes_next in
+        let C = set_course M in
+        fits_host i.running (h.running found) (state_at C x) w.from.1 a entry count w.call asks w.host
+        (subst (λ (b : Answer). IsTrue (answer_fits w.call (memory_at C x) b)) taken_last w.takes.fits)
 
     -- it is of bytes
     pub last_bytes : IsOfBytes a
     last_bytes = holds_at IsOfBytes i.answers.items (length i.answers.items - 1) a h.bytes (read_last (Some a) items i.answers.items same read)
 
     module _ (e : Event) (st : Standing) (new : Running) (linked : new.linked ≡ i.running.linked)
-        (takes : (L : LinkedSet) → IsLinked L i.running.linked.now → (s : SetState) → RunsAt L i.running s → RunsAt L new (with_run s (taken a s.run)))
+        (takes : (s : SetState) → RunsAt M i.running s → RunsAt M new (with_run s (taken a s.run)))
         (told : e ≡ event_of st) (at_standing : st ≡ new.core.machine.standing) where
       abbrev after : Inside
       after = with_running i new (i.steps + 1) false
 
       -- the run takes the last answer
-      taken_so : (L : LinkedSet) → IsLinked L i.running.linked.now → StandsFrom L (run_of after).run new × IsTold L e x (run_of after).run
-      taken_so L of =
-          let w = takes_next L of in
-          let C = set_course L in
+      taken_so : StandsFrom M (run_of after).run new × IsTold M e x (run_of after).run
+      taken_so =
+          let w = takes_next in
+          let C = set_course M in
           let s = state_at C x in
           let t = with_run s (taken a s.run) in
-          let at : RunsAt L new t = takes L of s w.from.1 in
+          let at : RunsAt M new t = takes s w.from.1 in
           let f = event_of new.core.machine.standing in
-          let made = took C f x (i.steps + 1) w.call a w.takes (taken_last L of) w.waits (omega arith) (one_told new.core.machine.standing)
-          (tells_after L new t new.core.machine.standing at.standing (taken_goes a s.run)) in
+          let made = took C f x (i.steps + 1) w.call a w.takes taken_last w.waits (omega arith) (one_told new.core.machine.standing)
+          (tells_after M new t new.core.machine.standing at.standing (taken_goes a s.run)) in
           let same_event : f ≡ e = sym (told ∙ ap event_of at_standing) in (
-            (made.stands, subst (RunsAt L new) (sym made.reaches) at),
+            (made.stands, subst (RunsAt M new) (sym made.reaches) at),
             (w.from.0, subst (λ (g : Event). RunStepped C g x (run_of after).run) same_event made.stepped),
+          )
+
+      told_taken : IsToldOf M e (run_of after).run
+      told_taken =
+          let same_event : stands_told e ≡ e = ap stands_told told ∙ told_same st ∙ sym told in (
+            subst (λ (f : Event). TellsStatus (set_hosts M) f (status_at (set_course M) (run_of after).run)) same_event (stepped_tells (set_course M) e x (run_of after).run taken_so.1.1),
+            end_asks_nothing e st told M,
           )
 
       pub taken_store : IsRunning new → IsStore (record after { event = e })
       taken_store running = record {
         running = λ _. running;
         bytes = h.bytes;
-        stands = λ _ L of. (taken_so L (subst (IsLinked L) (linked_now i new linked) of)).0;
-        told = λ _ L of.
-            let so = taken_so L (subst (IsLinked L) (linked_now i new linked) of) in
-            let same : stands_told e ≡ e = ap stands_told told ∙ told_same st ∙ sym told in (
-              subst (λ (f : Event). TellsStatus (set_hosts L) f (status_at (set_course L) (run_of after).run)) same (stepped_tells (set_course L) e x (run_of after).run so.1.1),
-              end_asks_nothing e st told L,
-            );
+        stands = λ _. subst (λ (N : LinkedSet). StandsFrom N (run_of after).run new) (sym (linked_now i new linked)) taken_so.0;
+        told = λ _. subst (λ (N : LinkedSet). IsToldOf N e (run_of after).run) (sym (linked_now i new linked)) told_taken;
       }
 
-      pub taken_stepped : (L : LinkedSet) → IsLinked L v.linked → IsTold L e v.run (run_of after).run
-      taken_stepped L of = told_of L e v i (run_of after).run is (taken_so L (linked_of v i L is of)).1
+      pub taken_stepped : IsTold v.linked e v.run (run_of after).run
+      taken_stepped = told_of e v i (run_of after).run is taken_so.1
 
 -- ---- an end, which is told again
 
@@ -352,10 +351,11 @@ ended_told L now x (standing.Exited code) h end = told_again (set_course L) (eve
 ended_told L now x standing.Lost h end = absurd h
 
 pub ended_stepped : (e : Event) (st : Standing) (v : StoreRun) (i : Inside) → run_of i ≡ v → IsStore i → i.lost ≡ false → is_end st ≡ true → st ≡ i.running.core.machine.standing → e ≡ event_of st
-    → (L : LinkedSet) → IsLinked L v.linked → IsTold L e v.run v.run
-ended_stepped e st v i is h found end at told L of =
+    → IsTold v.linked e v.run v.run
+ended_stepped e st v i is h found end at told =
+    let L = i.running.linked.now in
     let x = (run_of i).run in
-    let from = h.stands found L (linked_of v i L is of) in
+    let from = h.stands found in
     let here : StandsAs (set_loading L) i.running.core (state_at (set_course L) x) st = subst (StandsAs (set_loading L) i.running.core (state_at (set_course L) x)) (sym at) from.1.standing in
     let stepped : RunStepped (set_course L) e x x = subst (λ (f : Event). RunStepped (set_course L) f x x) (sym told) (ended_told L i.running x st here end) in
-    subst (λ (s : StoreRun). IsTold L e s.run s.run) is (from.0, stepped)
+    subst (λ (s : StoreRun). IsTold s.linked e s.run s.run) is (from.0, stepped)

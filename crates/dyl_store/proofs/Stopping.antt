@@ -8,7 +8,6 @@ use Rattle.wasm_machine.specs.declared.machine.Standing.{Standing}
 use Rattle.wasm_machine.specs.declared.machine.Standing.TheVariants as standing
 use Rattle.spec_loading.specs.spec_runtime.Courses.{state_at, IsAt}
 use Rattle.dyl_frames.specs.Cores.{StandsAs}
-use Rattle.dyl_link.specs.Kept.{IsLinked}
 use Rattle.dyl_store.specs.declared.running.Running.{Running}
 use Rattle.dyl_store.specs.declared.store.Store.TheInside.{Inside}
 use Rattle.dyl_store.specs.Stores.{StoreRun, set_course, IsCodeNext}
@@ -36,8 +35,8 @@ on_either (Ok x) P p = p
 on_either (Err e) P p = tt
 
 -- no step of code is left to the run of a set, of which so many steps may be made in all
-abbrev pub HasNoneLeft : LinkedSet → ℕ → StoreRun → Type 0
-HasNoneLeft L most v = IsAt (set_course L) v.run → v.run.steps < most → IsCodeNext L (state_at (set_course L) v.run) → ⊥
+abbrev pub HasNoneLeft : ℕ → StoreRun → Type 0
+HasNoneLeft most v = IsAt (set_course v.linked) v.run → v.run.steps < most → IsCodeNext v.linked (state_at (set_course v.linked) v.run) → ⊥
 
-pub idle_left : (L : LinkedSet) (most : ℕ) (i : Inside) → IsStore i → HasStopped i.running → IsLinked L i.running.linked.now → HasNoneLeft L most (run_of i)
-idle_left L most i h idle of = λ at few code. stopped_idle L i.running (state_at (set_course L) (run_of i).run) idle (h.stands at.found L of).1 code
+pub idle_left : (most : ℕ) (i : Inside) → IsStore i → HasStopped i.running → HasNoneLeft most (run_of i)
+idle_left most i h idle = λ at few code. stopped_idle i.running.linked.now i.running (state_at (set_course i.running.linked.now) (run_of i).run) idle (h.stands at.found).1 code

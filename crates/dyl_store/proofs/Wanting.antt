@@ -19,7 +19,7 @@ use Rattle.spec_loading.specs.spec_execution.Activations.{Level, Activation, Mov
 use Rattle.spec_loading.specs.spec_execution.Views.{Effected, performed}
 use Rattle.spec_loading.specs.spec_execution.Views as effects
 use Rattle.spec_loading.specs.spec_execution.Runs.{Frame, Active, Marked, Next, Goes, Asks, Loads, Ends, Traps, stands, left_with, effected_with, carried_out}
-use Rattle.spec_loading.specs.spec_linking.LinkedSets.{LinkedSet, set_hosts}
+use Rattle.spec_loading.specs.spec_linking.LinkedSets.{set_hosts}
 use Rattle.spec_loading.specs.Phases.{LoaderFrame}
 use Rattle.spec_loading.specs.Loading.{Loading, LoadedState, Comes, comes_to, with_run, came_to, loaded_next, loaded_from}
 use Rattle.spec_loading.specs.LoadedSet.{set_loading}
@@ -36,7 +36,6 @@ use Rattle.dyl_frames.specs.declared.frames.Core.{Core}
 use Rattle.dyl_frames.specs.Next.{CallsOrGrows}
 use Rattle.dyl_frames.specs.Cores.{stack_of, WantsFrom}
 use Rattle.dyl_frames.proofs.CodeSteps.{state_moving}
-use Rattle.dyl_link.specs.Kept.{IsLinked}
 use Rattle.dyl_store.specs.Worlds.{seen_of}
 use Rattle.dyl_store.specs.declared.running.Running.{Running}
 use Rattle.dyl_store.specs.Runs.{StepsTo, WantsTo}
@@ -148,9 +147,10 @@ module _ {Units : Type 0} (D : Loading Units) (s : LoadedState Units) where
 -- ---- what runs
 
 -- where a call of the loader is told the step may want memory
-pub told_wants : (call : LoaderCall) (first second : ℕ) (old mid : Running) → ((L : LinkedSet) → IsLinked L old.linked.now → StepsTo L (event.Loader call first second) old mid) → WantsTo old
-told_wants call first second old mid told = λ L of s at.
-    let c = (told L of s at).1.call in
+pub told_wants : (call : LoaderCall) (first second : ℕ) (old mid : Running) → StepsTo old.linked.now (event.Loader call first second) old mid → WantsTo old
+told_wants call first second old mid told = λ s at.
+    let L = old.linked.now in
+    let c = (told s at).1.call in
     (c.moving, loads_from (set_loading L) s c.which c.args (stack_of mid.core) s.run.stack c.comes)
 
 -- and where the run waits for a host function after the step
@@ -161,9 +161,10 @@ asked_waits host asked Returned tells = absurd tells
 asked_waits host asked (Exited code) tells = absurd tells
 asked_waits host asked (Trapped why) tells = absurd tells
 
-pub wait_wants : (e : Event) → is_wait e ≡ true → (old new : Running) → old.core.machine.standing ≡ standing.Moving → ((L : LinkedSet) → IsLinked L old.linked.now → StepsTo L e old new) → WantsTo old
-wait_wants (event.Waits asked) is old new moving told = λ L of s at.
-    let made = (told L of s at).1 in
+pub wait_wants : (e : Event) → is_wait e ≡ true → (old new : Running) → old.core.machine.standing ≡ standing.Moving → StepsTo old.linked.now e old new → WantsTo old
+wait_wants (event.Waits asked) is old new moving told = λ s at.
+    let L = old.linked.now in
+    let made = (told s at).1 in
     let goes = state_moving (set_loading L) old.core old.world.store old.world.memory s at moving in
     (goes.0, asks_from (set_loading L) s s.run.stack made.0 made.1 (asked_waits (set_hosts L) asked made.0.run.status made.2))
 wait_wants event.Moved is old new moving told = absurd (true≢false (sym is))
@@ -180,14 +181,15 @@ FrameWants core w = (D : Loading ModuleParts) → WantsFrom D core w
 
 pub wants_so : {T E : Type 0} (x : Running) (r : Result T E) → OnErr r (FrameWants x.core (seen_of x.world)) → OnErr r (WantsTo x)
 wants_so x (Ok t) wants = tt
-wants_so x (Err e) wants = λ L of. wants (set_loading L)
+wants_so x (Err e) wants = wants (set_loading x.linked.now)
 
 -- the same machine over the same world may want it where it may
 pub wants_still : {T E : Type 0} (x : Running) (core : Core) (w : Seen ModuleParts) → core ≡ x.core → w ≡ seen_of x.world → (r : Result T E)
-    → OnErr r ((L : LinkedSet) → IsLinked L x.linked.now → WantsFrom (set_loading L) core w) → OnErr r (WantsTo x)
+    → OnErr r (WantsFrom (set_loading x.linked.now) core w) → OnErr r (WantsTo x)
 wants_still x core w same seen (Ok t) wants = tt
-wants_still x core w same seen (Err e) wants = λ L of.
-    subst (λ (c : Core). WantsFrom (set_loading L) c (seen_of x.world)) same (subst (λ (v : Seen ModuleParts). WantsFrom (set_loading L) core v) seen (wants L of))
+wants_still x core w same seen (Err e) wants =
+    let D = set_loading x.linked.now in
+    subst (λ (c : Core). WantsFrom D c (seen_of x.world)) same (subst (λ (v : Seen ModuleParts). WantsFrom D core v) seen wants)
 
 -- what is so is so on Err
 pub on_lost : {T E : Type 0} (r : Result T E) (P : Type 0) → P → OnErr r P

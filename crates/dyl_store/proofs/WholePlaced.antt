@@ -1,5 +1,5 @@
 -- A whole member is placed.
-use Rattle.std.proofs.Common.{◌≡◌, ℕ, ◌<◌, List, [], ◌∷◌, ◌++◌, length, get_or, Option, Some, None, refl, sym, ap, ◌∙◌, subst, true, All}
+use Rattle.std.proofs.Common.{◌≡◌, ℕ, ◌<◌, List, [], ◌∷◌, ◌++◌, length, Option, Some, None, refl, sym, ap, ◌∙◌, subst, true, All}
 use Rattle.std.specs.Prelude.{slice_get, Result, Ok, Err, IsErrAnd}
 use Rattle.std.proofs.lemmas.Option.{slice_get_within}
 use Rattle.wasm_form.specs.declared.module.Module.{Module}
@@ -28,13 +28,8 @@ use Rattle.spec_loading.specs.spec_linking.LinkedSets.{LinkedSet, wasm_of}
 use Rattle.spec_loading.specs.spec_linking.Slots.{member_number}
 use Rattle.spec_loading.specs.Members.{set_view}
 use Rattle.spec_loading.specs.LoadedSet.{slots_written, slots_after, member_placed}
-use Rattle.spec_loading.specs.spec_linking.Sets.{ClosedSet}
 use Rattle.spec_loading.specs.Members.{counts_of}
-use Rattle.dyl_link.specs.dyl_search.declared.set.Member as declared
-use Rattle.dyl_link.specs.Kept.{Kept, IsLinked}
 use Rattle.dyl_frames.specs.Cores.{Places}
-use Rattle.dyl_store.specs.Worlds.{set_in, kept_view}
-use Rattle.dyl_store.proofs.Called.{member_read}
 
 pub err_as : (o : Option (Performed ModuleParts)) (r : Result (Unit {0}) Trap) (why : Trap) (us : ModuleParts) (memory : MemoryInstance) → IsErrAnd r (λ e. e ≡ why) → Places o (Err why) us memory → Places o r us memory
 err_as o (Ok u) why us memory told done = absurd told
@@ -98,7 +93,5 @@ elems_placeable wasm formed valid segments n same count =
     subst (λ (k : ℕ). All (IsPlaceable k) segments) (sym count) (subst (λ (l : List Elem). All (IsPlaceable (length (table_space wasm))) l) (sym same) (all_placeable wasm wasm.elems (parts_fit wasm valid).elems formed.elems.1))
 
 -- the counts of the member, over another name of the view
-pub counts_in : (L : LinkedSet) (k : Kept) → IsLinked L k → (m : ℕ) (x : declared.Member) → m < length k.set.members → x ≡ get_or k.set.members m x → (now : Kept) → kept_view now ≡ kept_view k → (kept_view now).counts m ≡ counts_of (Some x.checked)
-counts_in L k h m x lt read now same =
-    let there : wasm_of (set_in k) m ≡ Some x.checked = ap (λ (S : ClosedSet). wasm_of (record L { set = S }) m) h.set ∙ member_read L k h m x lt read in
-    ap (λ (V : View ModuleParts). V.counts m) same ∙ ap counts_of there
+pub counts_in : (L now : LinkedSet) (m : ℕ) (wasm : Module) → wasm_of L m ≡ Some wasm → set_view now ≡ set_view L → (set_view now).counts m ≡ counts_of (Some wasm)
+counts_in L now m wasm is same = ap (λ (V : View ModuleParts). V.counts m) same ∙ ap counts_of is

@@ -7,7 +7,6 @@ use Rattle.spec_loading.specs.spec_safety.ValueTypes.{IsOfBytes}
 use Rattle.spec_loading.specs.spec_runtime.Courses.{state_at, status_at, IsAt}
 use Rattle.wasm_machine.specs.declared.event.Event.{Event}
 use Rattle.wasm_machine.specs.Steps.{TellsStatus, ArgumentsFit}
-use Rattle.dyl_link.specs.Kept.{IsLinked}
 use Rattle.dyl_store.specs.declared.running.Running.{Running}
 use Rattle.dyl_store.specs.declared.store.Store.TheInside.{Inside}
 use Rattle.dyl_store.specs.Stores.{StoreRun, set_course}
@@ -28,5 +27,5 @@ IsToldOf L e x = TellsStatus (set_hosts L) e (status_at (set_course L) x) × Arg
 pub record IsStore (i : Inside) : Type 0 where
   pub running : i.lost ≡ false → IsRunning i.running
   pub bytes : All IsOfBytes i.answers.items
-  pub stands : i.lost ≡ false → (L : LinkedSet) → IsLinked L i.running.linked.now → StandsFrom L (run_of i).run i.running
-  pub told : i.lost ≡ false → (L : LinkedSet) → IsLinked L i.running.linked.now → IsToldOf L i.event (run_of i).run
+  pub stands : i.lost ≡ false → StandsFrom i.running.linked.now (run_of i).run i.running
+  pub told : i.lost ≡ false → IsToldOf i.running.linked.now i.event (run_of i).run

@@ -23,7 +23,6 @@ use Rattle.spec_loading.specs.Members.{from_members, opened_global, opened_globa
 use Rattle.dyl_addresses.specs.Bases.{AreBases}
 use Rattle.dyl_addresses.specs.Offsets.{based}
 use Rattle.dyl_addresses.specs.Kept.{KeptAddresses, kept_global, kept_table, kept_elem, kept_data}
-use Rattle.dyl_link.specs.Kept.{Kept, IsLinked}
 use Rattle.dyl_store.specs.declared.constants.Names.{Names}
 
 -- ---- constant expressions
@@ -94,27 +93,27 @@ abbrev pub tables_of : LinkedSet → ℕ → Module → List TableInstance
 tables_of L m wasm = map opened_table wasm.tables
 
 -- something comes first, and then what the members before member m have
-abbrev pub Begins : {X : Type 0} → (LinkedSet → List X) → (LinkedSet → ℕ → Module → List X) → Kept → ℕ → List X → Type 0
-Begins first of k m xs = (L : LinkedSet) → IsLinked L k → xs ≡ first L ++ of_members (of L) L m
+abbrev pub Begins : {X : Type 0} → (LinkedSet → List X) → (LinkedSet → ℕ → Module → List X) → LinkedSet → ℕ → List X → Type 0
+Begins first of L m xs = xs ≡ first L ++ of_members (of L) L m
 
 abbrev pub none_first : {X : Type 0} → LinkedSet → List X
 none_first L = []
 
-abbrev pub AreElems : Kept → ℕ → List (List (Option Ref)) → Type 0
-AreElems k m elems = Begins none_first elems_of k m elems
+abbrev pub AreElems : LinkedSet → ℕ → List (List (Option Ref)) → Type 0
+AreElems L m elems = Begins none_first elems_of L m elems
 
-abbrev pub AreDatas : Kept → ℕ → List (List ℕ) → Type 0
-AreDatas k m datas = Begins none_first datas_of k m datas
+abbrev pub AreDatas : LinkedSet → ℕ → List (List ℕ) → Type 0
+AreDatas L m datas = Begins none_first datas_of L m datas
 
-abbrev pub AreTables : Kept → ℕ → List TableInstance → Type 0
-AreTables k m tables = Begins (λ L. opening_table L ∷ []) tables_of k m tables
+abbrev pub AreTables : LinkedSet → ℕ → List TableInstance → Type 0
+AreTables L m tables = Begins (λ M. opening_table M ∷ []) tables_of L m tables
 
-abbrev pub AreGlobals : Kept → ℕ → List Value → Type 0
-AreGlobals k m globals = Begins (λ L. Num (linked_plan L).stack_top ∷ []) opened_globals k m globals
+abbrev pub AreGlobals : LinkedSet → ℕ → List Value → Type 0
+AreGlobals L m globals = Begins (λ M. Num (linked_plan M).stack_top ∷ []) opened_globals L m globals
 
 -- what a member has was added
-abbrev pub Adds : {X : Type 0} → (LinkedSet → ℕ → Module → List X) → Kept → ℕ → List X → List X → Type 0
-Adds of k m old new = (L : LinkedSet) → IsLinked L k → (wasm : Module) → wasm_of L m ≡ Some wasm → new ≡ old ++ of L m wasm
+abbrev pub Adds : {X : Type 0} → (LinkedSet → ℕ → Module → List X) → LinkedSet → ℕ → List X → List X → Type 0
+Adds of L m old new = (wasm : Module) → wasm_of L m ≡ Some wasm → new ≡ old ++ of L m wasm
 
 -- ---- globals of a member
 
@@ -129,8 +128,8 @@ abbrev pub own_globals : LinkedSet → ℕ → Module → List Value
 own_globals L m wasm = map (opened_global L m) wasm.globals
 
 -- the cells of member m come next
-abbrev pub IsAtCells : Kept → ℕ → List Value → Type 0
-IsAtCells k m globals = (L : LinkedSet) → IsLinked L k → length globals ≡ memory_base_address L m + 2
+abbrev pub IsAtCells : LinkedSet → ℕ → List Value → Type 0
+IsAtCells L m globals = length globals ≡ memory_base_address L m + 2
 
 -- a cell has the address of what comes next, unless it is there already
 abbrev pub with_cell : List Value → ℕ → Option ℕ → List Value

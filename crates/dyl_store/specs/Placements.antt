@@ -16,15 +16,14 @@ use Rattle.spec_loading.specs.spec_runtime.Tables.{entries_written}
 use Rattle.spec_loading.specs.spec_execution.Instances.{ModuleParts}
 use Rattle.spec_loading.specs.spec_linking.LinkedSets.{LinkedSet, wasm_of}
 use Rattle.spec_loading.specs.spec_linking.Slots.{member_number}
-use Rattle.spec_loading.specs.Members.{shared_table}
+use Rattle.spec_loading.specs.Members.{set_view, shared_table}
 use Rattle.spec_loading.specs.LoadedSet.{own_functions, with_slots, member_placed}
 use Rattle.spec_loading.specs.spec_binary.WellFormed.{IsFormedItems}
 use Rattle.spec_loading.specs.spec_execution.Activations.{Effect}
 use Rattle.spec_loading.specs.spec_execution.Segments.{Performed, all_performed, elem_effects, data_effects, all_effects}
-use Rattle.dyl_link.specs.Kept.{Kept, IsLinked}
 use Rattle.dyl_frames.specs.Cores.{Places}
 use Rattle.dyl_store.specs.declared.place_member.Placement.{Placement}
-use Rattle.dyl_store.specs.Worlds.{WorldState, kept_view}
+use Rattle.dyl_store.specs.Worlds.{WorldState}
 
 -- what is wanted was written from a segment, which is empty then; or there is none, which is a trap that changes nothing
 abbrev pub Moves : {A B : Type 0} → Trap → Option A → (A × List B) → Result (Unit {0}) Trap → (A × List B) → Type 0
@@ -32,7 +31,7 @@ Moves why wanted old result new = MatchOption wanted ((result ≡ Err why) × (n
 
 -- effects of a member came to this
 abbrev pub Performs : ℕ → List Effect → WorldState → Result (Unit {0}) Trap → WorldState → Type 0
-Performs m effects old result new = Places (all_performed (kept_view old.linked) m effects old.store old.memory) result new.store new.memory
+Performs m effects old result new = Places (all_performed (set_view old.linked) m effects old.store old.memory) result new.store new.memory
 
 -- ---- segments
 
@@ -89,9 +88,9 @@ pub record IsPlacementOf (L : LinkedSet) (m : ℕ) (wasm : Module) (p : Placemen
   pub slots : p.slots.items ≡ map Some (own_functions L m)
   pub few : length p.slots.items < 4294967296
 
-abbrev pub IsPlacement : Kept → ℕ → Placement → Type 0
-IsPlacement k m p = (L : LinkedSet) → IsLinked L k → (wasm : Module) → wasm_of L m ≡ Some wasm → IsPlacementOf L m wasm p
+abbrev pub IsPlacement : LinkedSet → ℕ → Placement → Type 0
+IsPlacement L m p = (wasm : Module) → wasm_of L m ≡ Some wasm → IsPlacementOf L m wasm p
 
 -- a member was placed so
-abbrev pub PlacesSo : Kept → ℕ → WorldState → Result (Unit {0}) Trap → WorldState → Type 0
-PlacesSo k m old result new = (L : LinkedSet) → IsLinked L k → Places (member_placed L m old.store old.memory) result new.store new.memory
+abbrev pub PlacesSo : LinkedSet → ℕ → WorldState → Result (Unit {0}) Trap → WorldState → Type 0
+PlacesSo L m old result new = Places (member_placed L m old.store old.memory) result new.store new.memory

@@ -1,22 +1,22 @@
 -- A loaded set in its run, without what is counted and recorded of it.
 use Rattle.std.specs.Prelude.{◌≡◌, ◌<◌, ℕ, List, length, slice_get, Some, IfSome, Bool, true, false}
 use Rattle.wasm_form.specs.declared.runtime.Ref.{Ref}
-use Rattle.spec_loading.specs.spec_validation.Faults.{most_pages}
+use Rattle.spec_loading.specs.spec_linking.Gathering.{IsSet}
 use Rattle.spec_loading.specs.spec_linking.LinkedSets.{LinkedSet}
+use Rattle.spec_loading.specs.spec_linking.Links.{Links}
 use Rattle.spec_loading.specs.declared.task.Phase.{Phase}
 use Rattle.spec_loading.specs.declared.task.Phase.TheVariants.{Place}
 use Rattle.spec_loading.specs.declared.task.Task.{Task}
 use Rattle.spec_loading.specs.Loading.{Loading}
 use Rattle.spec_loading.specs.LoaderAnswers.{promoted_with}
 use Rattle.spec_loading.specs.LoadedSet.{SetState, set_loading}
-use Rattle.spec_loading.specs.SoundSets.{HoldBytes, IsSoundState}
+use Rattle.spec_loading.specs.Members.{set_view}
+use Rattle.spec_loading.specs.SoundSets.{HoldBytes, HasFewPages, IsSoundState}
 use Rattle.wasm_step.specs.declared.done.Done.{Done}
 use Rattle.wasm_machine.specs.declared.event.Event.{Event}
-use Rattle.dyl_link.specs.Kept.{Kept, IsLinked}
 use Rattle.dyl_frames.specs.declared.frames.Core.{Core}
 use Rattle.dyl_frames.specs.Cores.{IsCore, IsState, StepsFrom, RunsFrom, WantsFrom, TellsDeep, TellsStarted, top_frame, first_task, is_behind}
-use Rattle.dyl_addresses.specs.Sets.{IsOfSet}
-use Rattle.dyl_store.specs.Worlds.{set_in, kept_view, seen_of}
+use Rattle.dyl_store.specs.Worlds.{seen_of}
 use Rattle.dyl_store.specs.Placements.{IsPlacement}
 use Rattle.dyl_store.specs.declared.place_member.Placement.{Placement}
 use Rattle.dyl_store.specs.declared.running.Running.{Running}
@@ -25,9 +25,9 @@ use Rattle.dyl_store.specs.declared.running.Running.{Running}
 abbrev pub RunsAt : LinkedSet → Running → SetState → Type 0
 RunsAt L x s = IsState (set_loading L) x.core x.world.store x.world.memory s
 
--- it is that of a linked set, and stands at a sound state
+-- it stands at a sound state
 abbrev pub IsSomewhere : Running → Type 0
-IsSomewhere x = (L : LinkedSet) × IsLinked L x.linked.now × ((s : SetState) × RunsAt L x s × IsSoundState L s)
+IsSomewhere x = (s : SetState) × RunsAt x.linked.now x s × IsSoundState x.linked.now s
 
 -- a step was made from wherever the run stands
 abbrev pub StepsTo : LinkedSet → Event → Running → Running → Type 0
@@ -39,7 +39,7 @@ RunsTo L n d old new = RunsFrom (set_loading L) n d old.core (seen_of old.world)
 
 -- from wherever the run stands the next step may want memory
 abbrev pub WantsTo : Running → Type 0
-WantsTo x = (L : LinkedSet) → IsLinked L x.linked.now → WantsFrom (set_loading L) x.core (seen_of x.world)
+WantsTo x = WantsFrom (set_loading x.linked.now) x.core (seen_of x.world)
 
 -- from wherever the run stands, this is whether the next step would pass a limit of depth
 abbrev pub IsDeepTo : LinkedSet → Bool → Running → Type 0
@@ -50,21 +50,22 @@ abbrev pub IsStartedTo : LinkedSet → Bool → Running → Type 0
 IsStartedTo L started x = TellsStarted (set_loading L) started x.core (seen_of x.world)
 
 -- there is a placement of each member
-pub record ArePlacements (k : Kept) (ps : List Placement) : Type 0 where
-  pub count : length ps ≡ length k.set.members
-  pub each : (m : ℕ) (p : Placement) → slice_get ps m ≡ Some p → IsPlacement k m p
+pub record ArePlacements (L : LinkedSet) (ps : List Placement) : Type 0 where
+  pub count : length ps ≡ length L.set.members
+  pub each : (m : ℕ) (p : Placement) → slice_get ps m ≡ Some p → IsPlacement L m p
 
 -- what is so of a linked set from which a run begins: its memory has few pages, and the data segments of its members are of bytes
-pub record IsRunnable (k : Kept) : Type 0 where
-  pub few : k.plan.pages_max < most_pages
-  pub bytes : HoldBytes (set_in k)
+pub record IsRunnable (L : LinkedSet) : Type 0 where
+  pub few : HasFewPages L
+  pub bytes : HoldBytes L
 
 -- What is so of it, until memory is wanting: the world is that of the linked set, and the machine over it is sound.
 pub record IsRunning (x : Running) : Type 0 where
-  pub set : IsOfSet x.linked.now
+  pub shape : IsSet x.linked.now.set
+  pub links : Links x.linked.now
   pub runnable : IsRunnable x.linked.now
-  pub fixed : kept_view x.world.linked ≡ kept_view x.linked.now
-  pub core : IsCore (kept_view x.world.linked) x.world.store x.world.memory x.core
+  pub fixed : set_view x.world.linked ≡ set_view x.linked.now
+  pub core : IsCore (set_view x.world.linked) x.world.store x.world.memory x.core
   pub members : length x.core.stages ≡ length x.linked.now.set.members
   pub placements : ArePlacements x.linked.now x.placements.items
 

@@ -10,11 +10,10 @@ use Rattle.spec_loading.specs.Loading.{loaded_too_deep}
 use Rattle.spec_loading.specs.LoadedSet.{SetState, set_loading, set_opening, set_system}
 use Rattle.spec_loading.specs.spec_runtime.Courses.{Course, no_steps, after, state_at, status_at}
 use Rattle.dyl_frames.specs.Next as next
-use Rattle.dyl_link.specs.Kept.{Kept, IsLinked}
 
--- what is kept of the linked set, and what is recorded of its run
+-- the linked set, and what is recorded of its run
 pub record StoreRun : Type 0 where
-  pub linked : Kept
+  pub linked : LinkedSet
   pub run : Recorded
 
 -- the course of a linked set from its opening state
@@ -22,8 +21,8 @@ abbrev pub set_course : LinkedSet → Course
 set_course L = record { system = set_system L; deep = loaded_too_deep (set_loading L); opening = set_opening L; host = set_hosts L }
 
 -- the run of a loaded set that has made no step
-abbrev pub new_run : Kept → StoreRun
-new_run k = record { linked = k; run = no_steps }
+abbrev pub new_run : LinkedSet → StoreRun
+new_run L = record { linked = L; run = no_steps }
 
 -- the next step is one of code
 abbrev pub IsCodeNext : LinkedSet → SetState → Type 0
@@ -53,5 +52,5 @@ IsDroppedTold dropped (Some []) = dropped ≡ true
 IsDroppedTold dropped (Some (x ∷ xs)) = dropped ≡ false
 
 -- where the recorded steps of the run lead the next step may want memory
-abbrev pub MayWantAt : Kept → Recorded → Type 0
-MayWantAt k x = (L : LinkedSet) → IsLinked L k → next.MayWant (state_at (set_course L) x)
+abbrev pub MayWantAt : LinkedSet → Recorded → Type 0
+MayWantAt L x = next.MayWant (state_at (set_course L) x)

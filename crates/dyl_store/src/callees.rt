@@ -2,13 +2,10 @@
 ghost use Rattle.std.specs.Prelude.{◌≡◌, ◌<◌, length, Some, IfSome};
 ghost use Rattle.spec_loading.specs.spec_binary.Indices.{nullary};
 ghost use Rattle.spec_loading.specs.spec_execution.Views.{type_of as type_seen};
-ghost use Rattle.spec_loading.specs.spec_linking.LinkedSets.{LinkedSet};
 ghost use Rattle.spec_loading.specs.Phases as loader;
 ghost use Rattle.spec_loading.specs.declared.task.Phase.TheVariants as phases;
 ghost use Rattle.spec_loading.specs.LoadedSet.{set_loading};
-ghost use Rattle.dyl_link.specs.Kept.{IsLinked};
-ghost use Rattle.dyl_addresses.specs.Sets.{IsOfSet};
-ghost use Rattle.dyl_store.specs.Worlds.{kept_view};
+ghost use Rattle.spec_loading.specs.Members.{set_view};
 
 use dyl_frames::{Phase, Task};
 use dyl_link::Linked;
@@ -40,14 +37,13 @@ fn phase_function(wasm: &Module, task: Task) -> Option<u32>
 
 // The function that a task calls, if any.
 pub(crate) fn callee(linked: &Linked, task: Task) -> Option<Ref>
-    requires set { IsOfSet linked.now }
-    requires member { task.member < length linked.now.set.members }
-    ensures found { (L : LinkedSet) → IsLinked L linked.now → (set_loading L).callee task.phase task.member ≡ Some result }
-    ensures nullary { IfSome result (λ r. type_seen (kept_view linked.now) r ≡ Some nullary) }
+    requires { task.member < length linked.now.set.members }
+    ensures found { (set_loading linked.now).callee task.phase task.member ≡ Some result }
+    ensures nullary { IfSome result (λ r. type_seen (set_view linked.now) r ≡ Some nullary) }
 {
     linked_functions_are_typed();
-    let member = &linked.set().members.items()[task.member as usize];
-    match phase_function(member.checked.module(), task) {
+    linked.links();
+    match phase_function(linked.module(task.member), task) {
         Some(f) => Some(linked.function(task.member, f)),
         None => None,
     }

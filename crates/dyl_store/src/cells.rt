@@ -1,9 +1,7 @@
 // The cells of a member, one for each kind and name, in the order of imports.
 ghost use Rattle.std.specs.Prelude.{◌≡◌, ◌<◌, ◌^◌, length, OnOk};
-ghost use Rattle.spec_loading.specs.spec_linking.Slots.{cell_of_import};
-ghost use Rattle.dyl_addresses.specs.Kept.{AreAddresses};
-ghost use Rattle.dyl_addresses.specs.Sets.{IsOfSet};
-ghost use Rattle.dyl_link.specs.Kept.{cell_in};
+ghost use Rattle.spec_loading.specs.spec_linking.Slots.{cell_of_import, imported_number};
+ghost use Rattle.dyl_addresses.specs.Kept.{AreAddressesOf};
 ghost use Rattle.dyl_store.specs.Opening.{global_place, Adds, cell_globals, IsAtCells, with_cell, with_cells, with_imports};
 
 use crate::opened_members::{global_place, is_global};
@@ -46,7 +44,7 @@ fn put_cells(
     imports: &[Import],
 ) -> Result<(), Memory>
     requires { length imports.now < 2 ^ 32 }
-    ensures { OnOk result (to.new.items ≡ with_imports (global_place addresses.now m) (cell_in linked.now m) to.old.items 0 imports.now) }
+    ensures { OnOk result (to.new.items ≡ with_imports (global_place addresses.now m) (imported_number linked.now m) to.old.items 0 imports.now) }
 {
     let mut g: u32 = 0;
     for i in imports {
@@ -63,18 +61,11 @@ pub(crate) fn put_member_cells(
     addresses: &Addresses,
     m: u32,
 ) -> Result<(), Memory>
-    requires set { IsOfSet linked.now }
     requires member { m < length linked.now.set.members }
-    requires addresses { AreAddresses linked.now addresses.now }
+    requires addresses { AreAddressesOf linked.now addresses.now }
     requires place { IsAtCells linked.now m to.old.items }
     ensures { OnOk result (Adds cell_globals linked.now m to.old.items to.new.items) }
 {
-    let member = &linked.set().members.items()[m as usize];
-    put_cells(
-        to,
-        linked,
-        addresses,
-        m,
-        member.checked.module().imports.items(),
-    )
+    linked.links();
+    put_cells(to, linked, addresses, m, linked.module(m).imports.items())
 }

@@ -1,10 +1,7 @@
 // What the members of a linked set begin with.
 ghost use Rattle.std.specs.Prelude.{◌≡◌, ◌<◌, ◌++◌, length, map, IfOk, OnOk};
-ghost use Rattle.spec_loading.specs.spec_linking.LinkedSets.{LinkedSet};
 ghost use Rattle.spec_loading.specs.Members.{opening_store};
-ghost use Rattle.dyl_addresses.specs.Kept.{AreAddresses};
-ghost use Rattle.dyl_link.specs.Kept.{IsLinked};
-ghost use Rattle.dyl_addresses.specs.Sets.{IsOfSet};
+ghost use Rattle.dyl_addresses.specs.Kept.{AreAddressesOf};
 ghost use Rattle.dyl_store.specs.Opening as opening;
 ghost use Rattle.dyl_store.specs.Opening.{AreGlobals, Adds, base_globals, own_globals};
 ghost use Rattle.spec_loading.specs.Members as members;
@@ -28,8 +25,7 @@ fn put_member_elems(
     linked: &Linked,
     m: u32,
 ) -> Result<(), Memory>
-    requires set { IsOfSet linked.now }
-    requires member { m < length linked.now.set.members }
+    requires { m < length linked.now.set.members }
     ensures { OnOk result (Adds opening.elems_of linked.now m (map (λ v. v.items) to.old.items) (map (λ v. v.items) to.new.items)) }
 {
     let bases = bases_of(alloc, linked, m)?;
@@ -37,16 +33,14 @@ fn put_member_elems(
         functions: functions_of(linked, m),
         bases: &bases,
     };
-    let member = &linked.set().members.items()[m as usize];
-    put_elems(alloc, to, &names, member.checked.module().elems.items())
+    put_elems(alloc, to, &names, linked.module(m).elems.items())
 }
 
 // The element segments of all members, in order.
 pub(crate) fn elems_of(alloc: Global, linked: &Linked) -> Result<Vec<Vec<Option<Ref>>>, Memory>
-    requires { IsOfSet linked.now }
-    ensures { IfOk result (λ v. (L : LinkedSet) → IsLinked L linked.now → map (λ x. x.items) v.items ≡ (opening_store L).elems) }
+    ensures { IfOk result (λ v. map (λ x. x.items) v.items ≡ (opening_store linked.now).elems) }
 {
-    let count = linked.set().members.items().len() as u32;
+    let count = linked.member_count();
     let mut all = Vec::new(alloc);
     for m in 0..count {
         put_member_elems(alloc, &mut all, linked, m)?;
@@ -71,16 +65,14 @@ fn put_member_datas<'m>(to: &mut Vec<&'m [u8]>, linked: &'m Linked, m: u32) -> R
     requires { m < length linked.now.set.members }
     ensures { OnOk result (Adds opening.datas_of linked.now m (map (λ d. d.now) to.old.items) (map (λ d. d.now) to.new.items)) }
 {
-    let member = &linked.set().members.items()[m as usize];
-    put_datas(to, member.checked.module().datas.items())
+    put_datas(to, linked.module(m).datas.items())
 }
 
 // The bytes of the data segments of all members, in order.
 pub(crate) fn datas_of<'m>(alloc: Global, linked: &'m Linked) -> Result<Vec<&'m [u8]>, Memory>
-    requires { IsOfSet linked.now }
-    ensures { IfOk result (λ v. (L : LinkedSet) → IsLinked L linked.now → map (λ d. d.now) v.items ≡ (opening_store L).datas) }
+    ensures { IfOk result (λ v. map (λ d. d.now) v.items ≡ (opening_store linked.now).datas) }
 {
-    let count = linked.set().members.items().len() as u32;
+    let count = linked.member_count();
     let mut all = Vec::new(alloc);
     for m in 0..count {
         put_member_datas(&mut all, linked, m)?;
@@ -100,18 +92,17 @@ fn put_member_tables(
     requires { m < length linked.now.set.members }
     ensures { OnOk result (Adds opening.tables_of linked.now m to.old.items to.new.items) }
 {
-    let member = &linked.set().members.items()[m as usize];
-    let mut own = own_tables(alloc, member.checked.module().tables.items())?;
+    let wasm = linked.member(m).checked.module();
+    let mut own = own_tables(alloc, wasm.tables.items())?;
     to.append(&mut own)?;
     Ok(())
 }
 
 // The shared table, and then the tables that each member defines.
 pub(crate) fn tables_of(alloc: Global, linked: &Linked) -> Result<Vec<Slots>, Memory>
-    requires { IsOfSet linked.now }
-    ensures { IfOk result (λ v. (L : LinkedSet) → IsLinked L linked.now → v.items ≡ (opening_store L).tables) }
+    ensures { IfOk result (λ v. v.items ≡ (opening_store linked.now).tables) }
 {
-    let count = linked.set().members.items().len() as u32;
+    let count = linked.member_count();
     let shared = shared_table(alloc, linked)?;
     let mut all = Vec::new(alloc);
     all.push(shared)?;
@@ -125,13 +116,11 @@ pub(crate) fn tables_of(alloc: Global, linked: &Linked) -> Result<Vec<Slots>, Me
 
 // Adds the bases of a member.
 fn put_bases(to: &mut Vec<Value>, linked: &Linked, m: u32) -> Result<(), Memory>
-    requires set { IsOfSet linked.now }
-    requires member { m < length linked.now.set.members }
+    requires { m < length linked.now.set.members }
     ensures { OnOk result (Adds base_globals linked.now m to.old.items to.new.items) }
 {
-    let plan = linked.plan();
-    let memory = plan.base(m);
-    let table = plan.table_base(m);
+    let memory = linked.memory_base(m);
+    let table = linked.table_base(m);
     to.push(Value::Num(u64::from(memory)))?;
     to.push(Value::Num(u64::from(table)))?;
     Ok(())
@@ -144,8 +133,7 @@ fn put_own_globals(
     linked: &Linked,
     m: u32,
 ) -> Result<(), Memory>
-    requires set { IsOfSet linked.now }
-    requires member { m < length linked.now.set.members }
+    requires { m < length linked.now.set.members }
     ensures { OnOk result (Adds own_globals linked.now m to.old.items to.new.items) }
 {
     let bases = bases_of(alloc, linked, m)?;
@@ -153,8 +141,7 @@ fn put_own_globals(
         functions: functions_of(linked, m),
         bases: &bases,
     };
-    let member = &linked.set().members.items()[m as usize];
-    put_globals(alloc, to, &names, member.checked.module().globals.items())
+    put_globals(alloc, to, &names, linked.module(m).globals.items())
 }
 
 // Adds the bases, the cells and the globals of a member.
@@ -165,9 +152,8 @@ fn put_member_globals(
     addresses: &Addresses,
     m: u32,
 ) -> Result<(), Memory>
-    requires set { IsOfSet linked.now }
     requires member { m < length linked.now.set.members }
-    requires addresses { AreAddresses linked.now addresses.now }
+    requires addresses { AreAddressesOf linked.now addresses.now }
     requires before { AreGlobals linked.now m to.old.items }
     ensures { OnOk result (Adds members.opened_globals linked.now m to.old.items to.new.items) }
 {
@@ -182,11 +168,10 @@ pub(crate) fn globals_of(
     linked: &Linked,
     addresses: &Addresses,
 ) -> Result<Vec<Value>, Memory>
-    requires set { IsOfSet linked.now }
-    requires addresses { AreAddresses linked.now addresses.now }
-    ensures { IfOk result (λ v. (L : LinkedSet) → IsLinked L linked.now → v.items ≡ (opening_store L).globals) }
+    requires { AreAddressesOf linked.now addresses.now }
+    ensures { IfOk result (λ v. v.items ≡ (opening_store linked.now).globals) }
 {
-    let count = linked.set().members.items().len() as u32;
+    let count = linked.member_count();
     let mut all = Vec::new(alloc);
     all.push(Value::Num(u64::from(linked.plan().stack_top())))?;
     for m in 0..count {

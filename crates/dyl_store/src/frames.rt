@@ -3,13 +3,10 @@ ghost use Rattle.std.specs.Prelude.{◌≡◌, [], length, Some, IfOk, OnOk, OnE
 ghost use Rattle.wasm_form.specs.declared.runtime.Ref.{Ref as Reference};
 ghost use Rattle.spec_loading.specs.spec_binary.Indices.{nullary};
 ghost use Rattle.spec_loading.specs.spec_execution.Views.{type_of as type_seen};
-ghost use Rattle.spec_loading.specs.spec_linking.LinkedSets.{LinkedSet};
+ghost use Rattle.spec_loading.specs.Members.{set_view};
 ghost use Rattle.spec_loading.specs.Loading.{Loading};
 ghost use Rattle.wasm_machine.specs.Machines.{IsMarked};
-ghost use Rattle.dyl_link.specs.Kept.{IsLinked};
-ghost use Rattle.dyl_addresses.specs.Sets.{IsOfSet};
 ghost use Rattle.dyl_frames.specs.Cores.{IsCore, IsLoaded, IsOwn, StepsFrom, WantsFrom, TellsDeep, top_frame};
-ghost use Rattle.dyl_store.specs.Worlds.{kept_view};
 ghost use Rattle.dyl_store.specs.Runs.{IsPlacing, NonePlaces, Serves};
 
 use crate::callees::callee;
@@ -33,7 +30,7 @@ fn follow<'m, V: View<'m>>(
     requires members { length core.old.stages ≡ length linked.now.set.members }
     requires nullary { type_seen (V.seen view.now).fixed entry ≡ Some nullary }
     requires own { IsOwn entry }
-    ensures stepped { IfOk result (λ e. (D : Loading V.Units) (L : LinkedSet) → IsLoaded D (V.seen view.now).fixed → IsLinked L linked.now → Serves L entry D → StepsFrom D e core.old (V.seen view.now) core.new (V.seen view.now)) }
+    ensures stepped { IfOk result (λ e. (D : Loading V.Units) → IsLoaded D (V.seen view.now).fixed → Serves linked.now entry D → StepsFrom D e core.old (V.seen view.now) core.new (V.seen view.now)) }
     ensures core { OnOk result (IsCore (V.seen view.now).fixed (V.seen view.now).units (V.seen view.now).memory core.new) }
     ensures members { OnOk result (length core.new.stages ≡ length core.old.stages) }
     ensures wanting { OnErr result ((D : Loading V.Units) → WantsFrom D core.old (V.seen view.now)) }
@@ -82,12 +79,11 @@ pub(crate) fn proceed<'m, V: View<'m>>(
     requires core { IsCore (V.seen view.now).fixed (V.seen view.now).units (V.seen view.now).memory core.old }
     requires marked { IsMarked core.old.machine }
     requires none { NonePlaces core.old }
-    requires set { IsOfSet linked.now }
     requires members { length core.old.stages ≡ length linked.now.set.members }
-    requires types { (r : Reference) → type_seen (V.seen view.now).fixed r ≡ type_seen (kept_view linked.now) r }
+    requires types { (r : Reference) → type_seen (V.seen view.now).fixed r ≡ type_seen (set_view linked.now) r }
     requires nullary { type_seen (V.seen view.now).fixed entry ≡ Some nullary }
     requires own { IsOwn entry }
-    ensures stepped { IfOk result (λ e. (D : Loading V.Units) (L : LinkedSet) → IsLoaded D (V.seen view.now).fixed → IsLinked L linked.now → Serves L entry D → StepsFrom D e core.old (V.seen view.now) core.new (V.seen view.now)) }
+    ensures stepped { IfOk result (λ e. (D : Loading V.Units) → IsLoaded D (V.seen view.now).fixed → Serves linked.now entry D → StepsFrom D e core.old (V.seen view.now) core.new (V.seen view.now)) }
     ensures core { OnOk result (IsCore (V.seen view.now).fixed (V.seen view.now).units (V.seen view.now).memory core.new) }
     ensures members { OnOk result (length core.new.stages ≡ length core.old.stages) }
     ensures wanting { OnErr result ((D : Loading V.Units) → WantsFrom D core.old (V.seen view.now)) }
@@ -113,11 +109,10 @@ pub(crate) fn is_deep<'m, V: View<'m>>(
 ) -> bool
     requires core { IsCore (V.seen view.now).fixed (V.seen view.now).units (V.seen view.now).memory core.now }
     requires moving { core.now.machine.standing ≡ Standing.Moving }
-    requires set { IsOfSet linked.now }
     requires members { length core.now.stages ≡ length linked.now.set.members }
-    requires types { (r : Reference) → type_seen (V.seen view.now).fixed r ≡ type_seen (kept_view linked.now) r }
+    requires types { (r : Reference) → type_seen (V.seen view.now).fixed r ≡ type_seen (set_view linked.now) r }
     requires nullary { type_seen (V.seen view.now).fixed entry ≡ Some nullary }
-    ensures { (D : Loading V.Units) (L : LinkedSet) → IsLoaded D (V.seen view.now).fixed → IsLinked L linked.now → Serves L entry D → TellsDeep D result core.now (V.seen view.now) }
+    ensures { (D : Loading V.Units) → IsLoaded D (V.seen view.now).fixed → Serves linked.now entry D → TellsDeep D result core.now (V.seen view.now) }
 {
     if !core.is_marked() {
         return core.code_deep(view);

@@ -1,10 +1,8 @@
 // The functions of the loader, which code of a loaded set calls.
 ghost use Rattle.std.specs.Prelude.{◌≡◌, ◌<◌, ◌≤◌, [], ◌∷◌, length, false, IfOk, OnOk};
 ghost use Rattle.wasm_form.specs.declared.runtime.LoaderCall.TheVariants as calls;
-ghost use Rattle.spec_loading.specs.spec_linking.LinkedSets.{LinkedSet};
 ghost use Rattle.spec_loading.specs.Phases.{open_frame};
 ghost use Rattle.spec_loading.specs.Loading.{Opens, Traps};
-ghost use Rattle.dyl_link.specs.Kept.{IsLinked};
 ghost use Rattle.dyl_frames.specs.Cores.{loader_arguments, gives_number, GivesHandle, IsHandle};
 ghost use Rattle.dyl_store.specs.Runs.{IsRunning};
 ghost use Rattle.dyl_store.specs.Calls.{is_loader, AnswersWith, Answers};
@@ -45,7 +43,7 @@ impl<'m> Running<'m> {
     ) -> Result<Event, Memory>
         requires running { IsRunning self.old }
         requires loading { self.old.core.machine.standing ≡ Standing.Loading }
-        ensures answers { IfOk result (λ e. (L : LinkedSet) → IsLinked L self.old.linked.now → Answers L call (loader_arguments call first second) e self.old self.new) }
+        ensures answers { IfOk result (λ e. Answers self.old.linked.now call (loader_arguments call first second) e self.old self.new) }
         ensures answered { IfOk result (λ e. is_loader e ≡ false) }
         ensures running { OnOk result (IsRunning self.new) }
         ensures linked { self.new.linked ≡ self.old.linked }
@@ -62,7 +60,7 @@ impl<'m> Running<'m> {
     fn open_module(&mut self, alloc: Global, name: u32, flags: u32) -> Result<Event, Memory>
         requires running { IsRunning self.old }
         requires loading { self.old.core.machine.standing ≡ Standing.Loading }
-        ensures answers { IfOk result (λ e. (L : LinkedSet) → IsLinked L self.old.linked.now → Answers L calls.Dlopen (name ∷ flags ∷ []) e self.old self.new) }
+        ensures answers { IfOk result (λ e. Answers self.old.linked.now calls.Dlopen (name ∷ flags ∷ []) e self.old self.new) }
         ensures answered { IfOk result (λ e. is_loader e ≡ false) }
         ensures running { OnOk result (IsRunning self.new) }
         ensures linked { self.new.linked ≡ self.old.linked }
@@ -80,7 +78,7 @@ impl<'m> Running<'m> {
     fn find_symbol(&mut self, handle: u32, name: u32) -> Event
         requires running { IsRunning self.old }
         requires loading { self.old.core.machine.standing ≡ Standing.Loading }
-        ensures answers { (L : LinkedSet) → IsLinked L self.old.linked.now → Answers L calls.Dlsym (handle ∷ name ∷ []) result self.old self.new }
+        ensures answers { Answers self.old.linked.now calls.Dlsym (handle ∷ name ∷ []) result self.old self.new }
         ensures answered { is_loader result ≡ false }
         ensures running { IsRunning self.new }
         ensures linked { self.new.linked ≡ self.old.linked }
@@ -103,7 +101,7 @@ impl<'m> Running<'m> {
     fn close_module(&mut self, handle: u32) -> Event
         requires running { IsRunning self.old }
         requires loading { self.old.core.machine.standing ≡ Standing.Loading }
-        ensures answers { (L : LinkedSet) → IsLinked L self.old.linked.now → Answers L calls.Dlclose (handle ∷ []) result self.old self.new }
+        ensures answers { Answers self.old.linked.now calls.Dlclose (handle ∷ []) result self.old self.new }
         ensures answered { is_loader result ≡ false }
         ensures running { IsRunning self.new }
         ensures linked { self.new.linked ≡ self.old.linked }
@@ -119,7 +117,7 @@ impl<'m> Running<'m> {
     fn tell_error(&mut self) -> Event
         requires running { IsRunning self.old }
         requires loading { self.old.core.machine.standing ≡ Standing.Loading }
-        ensures answers { (L : LinkedSet) → IsLinked L self.old.linked.now → Answers L calls.Dlerror [] result self.old self.new }
+        ensures answers { Answers self.old.linked.now calls.Dlerror [] result self.old self.new }
         ensures answered { is_loader result ≡ false }
         ensures running { IsRunning self.new }
         ensures linked { self.new.linked ≡ self.old.linked }
@@ -136,7 +134,7 @@ impl<'m> Running<'m> {
         requires member { m < length self.old.linked.now.set.members }
         requires hands { GivesHandle after }
         requires handle { IsHandle (length self.old.linked.now.set.members) after }
-        ensures answers { IfOk result (λ e. (L : LinkedSet) → IsLinked L self.old.linked.now → AnswersWith L (Opens (record (open_frame L.set m) { after = after })) e self.old self.new) }
+        ensures answers { IfOk result (λ e. AnswersWith self.old.linked.now (Opens (record (open_frame self.old.linked.now.set m) { after = after })) e self.old self.new) }
         ensures answered { IfOk result (λ e. is_loader e ≡ false) }
         ensures running { OnOk result (IsRunning self.new) }
         ensures linked { self.new.linked ≡ self.old.linked }
@@ -150,7 +148,7 @@ impl<'m> Running<'m> {
     fn give(&mut self, n: u32) -> Event
         requires running { IsRunning self.old }
         requires loading { self.old.core.machine.standing ≡ Standing.Loading }
-        ensures answers { (L : LinkedSet) → AnswersWith L (gives_number self.old.core n self.old.core.error) result self.old self.new }
+        ensures answers { AnswersWith self.old.linked.now (gives_number self.old.core n self.old.core.error) result self.old self.new }
         ensures answered { is_loader result ≡ false }
         ensures running { IsRunning self.new }
         ensures linked { self.new.linked ≡ self.old.linked }
@@ -165,7 +163,7 @@ impl<'m> Running<'m> {
         requires loading { self.old.core.machine.standing ≡ Standing.Loading }
         requires some { 1 ≤ e }
         requires last { e ≤ 5 }
-        ensures answers { (L : LinkedSet) → AnswersWith L (gives_number self.old.core n e) result self.old self.new }
+        ensures answers { AnswersWith self.old.linked.now (gives_number self.old.core n e) result self.old self.new }
         ensures answered { is_loader result ≡ false }
         ensures running { IsRunning self.new }
         ensures linked { self.new.linked ≡ self.old.linked }
@@ -177,7 +175,7 @@ impl<'m> Running<'m> {
     fn give_with(&mut self, n: u32, errors: Errors) -> Event
         requires running { IsRunning self.old }
         requires loading { self.old.core.machine.standing ≡ Standing.Loading }
-        ensures answers { (L : LinkedSet) → AnswersWith L (gives_number self.old.core n errors) result self.old self.new }
+        ensures answers { AnswersWith self.old.linked.now (gives_number self.old.core n errors) result self.old self.new }
         ensures answered { is_loader result ≡ false }
         ensures running { IsRunning self.new }
         ensures linked { self.new.linked ≡ self.old.linked }
@@ -190,7 +188,7 @@ impl<'m> Running<'m> {
     fn trap(&mut self, why: Trap) -> Event
         requires running { IsRunning self.old }
         requires loading { self.old.core.machine.standing ≡ Standing.Loading }
-        ensures answers { (L : LinkedSet) → AnswersWith L (Traps why) result self.old self.new }
+        ensures answers { AnswersWith self.old.linked.now (Traps why) result self.old self.new }
         ensures answered { is_loader result ≡ false }
         ensures running { IsRunning self.new }
         ensures linked { self.new.linked ≡ self.old.linked }

@@ -1,8 +1,7 @@
 // The members with which a run begins, each with the addresses of what it has.
 ghost use Rattle.std.specs.Prelude.{◌≡◌, ◌<◌, ◌≤◌, ◌+◌, ◌^◌, length, IfOk};
 ghost use Rattle.spec_loading.specs.spec_binary.IndexSpaces.{imports_of, globals_in, tables_in, global_space, table_space, imported_count};
-ghost use Rattle.dyl_addresses.specs.Kept.{AreAddresses};
-ghost use Rattle.dyl_addresses.specs.Sets.{IsOfSet};
+ghost use Rattle.dyl_addresses.specs.Kept.{AreAddressesOf};
 ghost use Rattle.dyl_store.specs.Units.{IsUnit, AreUnits};
 ghost use Rattle.dyl_store.specs.Opening.{global_place, table_place, elem_place, data_place, first_of};
 
@@ -152,13 +151,12 @@ fn unit_of<'m>(
     addresses: &Addresses,
     m: u32,
 ) -> Result<Unit<'m>, Memory>
-    requires set { IsOfSet linked.now }
     requires member { m < length linked.now.set.members }
-    requires addresses { AreAddresses linked.now addresses.now }
+    requires addresses { AreAddressesOf linked.now addresses.now }
     ensures { IfOk result (λ u. IsUnit linked.now m u) }
 {
-    let member = &linked.set().members.items()[m as usize];
-    let checked = &member.checked;
+    linked.links();
+    let checked = &linked.member(m).checked;
     let wasm = checked.module();
     let imported = function_count(wasm);
     let globals = global_addresses(alloc, addresses, m, wasm)?;
@@ -181,11 +179,10 @@ pub(crate) fn units_of<'m>(
     linked: &'m Linked,
     addresses: &Addresses,
 ) -> Result<Vec<Unit<'m>>, Memory>
-    requires set { IsOfSet linked.now }
-    requires addresses { AreAddresses linked.now addresses.now }
+    requires { AreAddressesOf linked.now addresses.now }
     ensures { IfOk result (λ units. AreUnits linked.now units.items) }
 {
-    let count = linked.set().members.items().len() as u32;
+    let count = linked.member_count();
     let mut units = Vec::new(alloc);
     for m in 0..count {
         let unit = unit_of(alloc, linked, addresses, m)?;

@@ -1,13 +1,10 @@
 // A linked set in its opening state.
 ghost use Rattle.std.specs.Prelude.{◌≡◌, ◌≤◌, ◌+◌, length, IfOk};
 ghost use Rattle.spec_loading.specs.spec_runtime.Memories.{overwritten};
-ghost use Rattle.spec_loading.specs.spec_linking.LinkedSets.{LinkedSet};
+ghost use Rattle.spec_loading.specs.Members.{set_view};
 ghost use Rattle.spec_loading.specs.LoadedSet.{set_loading, set_opening, opening_memory};
-ghost use Rattle.dyl_link.specs.Kept.{IsLinked};
 ghost use Rattle.dyl_frames.specs.Cores.{IsCore, IsState};
-ghost use Rattle.dyl_addresses.specs.Sets.{IsOfSet};
-ghost use Rattle.dyl_addresses.specs.Kept.{AreAddresses};
-ghost use Rattle.dyl_store.specs.Worlds.{kept_view};
+ghost use Rattle.dyl_addresses.specs.Kept.{AreAddressesOf};
 ghost use Rattle.dyl_store.specs.Opened.{IsOpened};
 ghost use Rattle.dyl_store.specs.Runs.{IsRunning, IsRunnable, RunsAt};
 
@@ -40,10 +37,10 @@ fn put(memory: &mut Space, at: u32, bytes: &[u8])
 
 // The memory of a linked set: zeros, with the texts of the loader's errors behind the stack.
 fn memory_of(alloc: Global, linked: &Linked) -> Result<Space, Memory>
-    requires set { IsOfSet linked.now }
-    ensures { IfOk result (λ s. (L : LinkedSet) → IsLinked L linked.now → s ≡ opening_memory L) }
+    ensures { IfOk result (λ s. s ≡ opening_memory linked.now) }
 {
     slots_fit();
+    linked.links();
     linked.has_few_pages();
     let plan = linked.plan();
     let mut memory = Space::new(alloc, plan.pages(), plan.pages_max())?;
@@ -53,16 +50,16 @@ fn memory_of(alloc: Global, linked: &Linked) -> Result<Space, Memory>
 
 // The machine of a linked set, over its members as they begin.
 fn core_of<'m>(alloc: Global, linked: &Linked, world: &World<'m>) -> Result<Core<'m>, Memory>
-    requires set { IsOfSet linked.now }
     requires runnable { IsRunnable linked.now }
     requires opened { IsOpened linked.now world.now }
-    ensures core { IfOk result (λ c. IsCore (kept_view world.now.linked) world.now.store world.now.memory c) }
-    ensures opened { IfOk result (λ c. (L : LinkedSet) → IsLinked L linked.now → IsState (set_loading L) c world.now.store world.now.memory (set_opening L)) }
+    ensures core { IfOk result (λ c. IsCore (set_view world.now.linked) world.now.store world.now.memory c) }
+    ensures opened { IfOk result (λ c. IsState (set_loading linked.now) c world.now.store world.now.memory (set_opening linked.now)) }
 {
     linked_sets_step_soundly();
     linked_sets_never_get_stuck();
+    linked.links();
     let tasks = member_tasks(alloc, linked, 0)?;
-    let count = linked.set().members.items().len() as u32;
+    let count = linked.member_count();
     let core = Core::new(alloc, world, count, tasks)?;
     Ok(core)
 }
@@ -70,11 +67,11 @@ fn core_of<'m>(alloc: Global, linked: &Linked, world: &World<'m>) -> Result<Core
 impl<'m> World<'m> {
     // The members of a linked set as they begin, by the addresses of what they have.
     fn opened(alloc: Global, linked: &'m Linked, addresses: &Addresses) -> Result<World<'m>, Memory>
-        requires set { IsOfSet linked.now }
-        requires addresses { AreAddresses linked.now addresses.now }
+        requires { AreAddressesOf linked.now addresses.now }
         ensures { IfOk result (λ w. IsOpened linked.now w) }
     {
         linked_code_is_there();
+        linked.links();
         let units = units_of(alloc, linked, addresses)?;
         let globals = globals_of(alloc, linked, addresses)?;
         let tables = tables_of(alloc, linked)?;
@@ -94,7 +91,6 @@ impl<'m> World<'m> {
 
     // The members of a linked set as they begin.
     pub fn open(alloc: Global, linked: &'m Linked) -> Result<World<'m>, Memory>
-        requires set { IsOfSet linked.now }
         ensures { IfOk result (λ w. IsOpened linked.now w) }
     {
         let addresses = Addresses::of(alloc, linked)?;
@@ -107,12 +103,12 @@ impl<'m> World<'m> {
 impl<'m> Running<'m> {
     // A linked set in its opening state.
     pub fn open(alloc: Global, linked: &'m Linked) -> Result<Running<'m>, Memory>
-        requires set { IsOfSet linked.now }
-        requires runnable { IsRunnable linked.now }
+        requires { IsRunnable linked.now }
         ensures running { IfOk result (λ x. IsRunning x) }
-        ensures opened { IfOk result (λ x. (L : LinkedSet) → IsLinked L linked.now → RunsAt L x (set_opening L)) }
+        ensures opened { IfOk result (λ x. RunsAt linked.now x (set_opening linked.now)) }
         ensures linked { IfOk result (λ x. x.linked.now ≡ linked.now) }
     {
+        linked.links();
         let placements = placements_of(alloc, linked)?;
         let world = match World::open(alloc, linked) {
             Ok(world) => world,

@@ -2,12 +2,11 @@
 ghost use Rattle.std.specs.Prelude.{◌≡◌, ◌<◌, ◌≤◌, length, slice_get, Some, All};
 ghost use Rattle.spec_loading.specs.spec_binary.WellFormed.{IsFormedItems, IsShort};
 ghost use Rattle.spec_loading.specs.spec_execution.Segments.{items_count, elem_effects, data_effects};
+ghost use Rattle.spec_loading.specs.Members.{set_instances, set_view};
 ghost use Rattle.wasm_form.specs.declared.instr.Expr.{Expr};
 ghost use Rattle.std.specs.Prelude.{ℕ, Option};
 ghost use Rattle.dyl_frames.specs.Cores.{Places};
-ghost use Rattle.dyl_addresses.specs.Sets.{IsOfSet};
 ghost use Rattle.dyl_store.specs.Placements.{Performs, PerformsElems, PerformsDatas, PlacesSo, IsPlaceable, IsPlacement, elem_offset, data_offset, slots_put};
-ghost use Rattle.dyl_store.specs.Worlds.{kept_instances, kept_view};
 
 use crate::world::World;
 use dyl_link::Linked;
@@ -43,8 +42,8 @@ fn offset_at(ats: &[Option<u32>], i: u32) -> Option<u32>
 impl<'m> World<'m> {
     // An element segment of a member, which is applied if it is active and goes somewhere.
     fn place_elem(&mut self, m: u32, e: u32, segment: &Elem, at: Option<u32>) -> Result<(), Trap>
-        requires elem { e < ((kept_instances self.old.linked).counts m).elems }
-        requires placeable { IsPlaceable ((kept_instances self.old.linked).counts m).tables segment.now }
+        requires elem { e < ((set_instances self.old.linked).counts m).elems }
+        requires placeable { IsPlaceable ((set_instances self.old.linked).counts m).tables segment.now }
         ensures performed { (number : Expr → Option ℕ) → at ≡ elem_offset number segment.now → Performs m (elem_effects number e segment.now) self.old result self.new }
         ensures linked { self.new.linked ≡ self.old.linked }
     {
@@ -64,10 +63,10 @@ impl<'m> World<'m> {
         segments: &[Elem],
         ats: &[Option<u32>],
     ) -> Result<(), Trap>
-        requires elems { length segments.now ≤ ((kept_instances self.old.linked).counts m).elems }
+        requires elems { length segments.now ≤ ((set_instances self.old.linked).counts m).elems }
         requires count { length ats.now ≡ length segments.now }
         requires few { length segments.now < 4294967296 }
-        requires placeable { All (IsPlaceable ((kept_instances self.old.linked).counts m).tables) segments.now }
+        requires placeable { All (IsPlaceable ((set_instances self.old.linked).counts m).tables) segments.now }
         ensures performed { PerformsElems m segments.now ats.now self.old result self.new }
         ensures linked { self.new.linked ≡ self.old.linked }
     {
@@ -80,7 +79,7 @@ impl<'m> World<'m> {
 
     // A data segment of a member, which is applied if it is active and goes somewhere.
     fn place_data(&mut self, m: u32, d: u32, segment: &Data, at: Option<u32>) -> Result<(), Trap>
-        requires data { d < ((kept_instances self.old.linked).counts m).datas }
+        requires data { d < ((set_instances self.old.linked).counts m).datas }
         requires short { IsShort segment.now.bytes }
         ensures performed { (number : Expr → Option ℕ) → at ≡ data_offset number segment.now → Performs m (data_effects number d segment.now) self.old result self.new }
         ensures linked { self.new.linked ≡ self.old.linked }
@@ -101,7 +100,7 @@ impl<'m> World<'m> {
         segments: &[Data],
         ats: &[Option<u32>],
     ) -> Result<(), Trap>
-        requires datas { length segments.now ≤ ((kept_instances self.old.linked).counts m).datas }
+        requires datas { length segments.now ≤ ((set_instances self.old.linked).counts m).datas }
         requires count { length ats.now ≡ length segments.now }
         requires few { length segments.now < 4294967296 }
         requires short { All (λ x. IsShort x.bytes) segments.now }
@@ -126,15 +125,13 @@ impl<'m> World<'m> {
 
     // A member: its active element segments, then its active data segments, and then its fresh slots. A trap keeps what was written.
     pub fn place(&mut self, linked: &Linked, m: u32, placement: &Placement) -> Result<(), Trap>
-        requires set { IsOfSet linked.now }
-        requires same { kept_view self.old.linked ≡ kept_view linked.now }
+        requires same { set_view self.old.linked ≡ set_view linked.now }
         requires member { m < length linked.now.set.members }
         requires placement { IsPlacement linked.now m placement.now }
         ensures placed { PlacesSo linked.now m self.old result self.new }
         ensures linked { self.new.linked ≡ self.old.linked }
     {
-        let member = &linked.set().members.items()[m as usize];
-        let wasm = member.checked.module();
+        let wasm = linked.member(m).checked.module();
         self.place_elems(m, wasm.elems.items(), &placement.elems)?;
         self.place_datas(m, wasm.datas.items(), &placement.datas)?;
         self.write_slots(linked.first_slot(m), &placement.slots)

@@ -1,16 +1,13 @@
 // A loaded set in its run, without what is counted and recorded of it.
 ghost use Rattle.std.specs.Prelude.{◌≡◌, ◌≢◌, ◌<◌, false, Some, IfOk, OnOk, OnErr};
 ghost use Rattle.spec_loading.specs.LoadedSet.{set_loading};
-ghost use Rattle.spec_loading.specs.spec_linking.LinkedSets.{LinkedSet};
+ghost use Rattle.spec_loading.specs.Members.{set_view};
 ghost use Rattle.spec_loading.specs.spec_safety.ValueTypes.{IsOfBytes};
 ghost use Rattle.wasm_machine.specs.Machines.{IsMarked};
 ghost use Rattle.spec_loading.specs.spec_binary.Indices.{nullary};
 ghost use Rattle.spec_loading.specs.spec_execution.Views.{type_of as type_seen};
-ghost use Rattle.wasm_form.specs.declared.runtime.Ref.TheVariants.{Own};
-ghost use Rattle.dyl_link.specs.Kept.{IsLinked};
-ghost use Rattle.dyl_addresses.specs.Sets.{IsOfSet};
-ghost use Rattle.dyl_frames.specs.Cores.{is_mark, FitsHost, TakenFrom};
-ghost use Rattle.dyl_store.specs.Worlds.{kept_view, seen_of};
+ghost use Rattle.dyl_frames.specs.Cores.{is_mark, FitsHost, IsOwn, TakenFrom};
+ghost use Rattle.dyl_store.specs.Worlds.{seen_of};
 ghost use Rattle.dyl_store.specs.Runs.{IsRunning, IsSomewhere, IsPlacing, StepsTo, RunsTo, WantsTo, IsDeepTo, IsStartedTo};
 ghost use Rattle.dyl_store.specs.Calls.{is_loader};
 
@@ -35,11 +32,12 @@ pub(crate) struct Running<'m> {
 
 // The entry of a linked set.
 fn entry_of(linked: &Linked) -> Ref
-    requires { IsOfSet linked.now }
-    ensures is { result ≡ Own 0 linked.now.entry }
-    ensures nullary { type_seen (kept_view linked.now) result ≡ Some nullary }
+    ensures is { (set_loading linked.now).entry ≡ Some result }
+    ensures own { IsOwn result }
+    ensures nullary { type_seen (set_view linked.now) result ≡ Some nullary }
 {
     linked_functions_are_typed();
+    linked.links();
     Ref::Own {
         unit: 0,
         func: linked.entry(),
@@ -59,7 +57,7 @@ impl<'m> Running<'m> {
         requires running { IsRunning self.old }
         requires stands { IsSomewhere self.old }
         requires moving { self.old.core.machine.standing ≡ Standing.Moving }
-        ensures stepped { IfOk result (λ e. (L : LinkedSet) → IsLinked L self.old.linked.now → StepsTo L e self.old self.new) }
+        ensures stepped { IfOk result (λ e. StepsTo self.old.linked.now e self.old self.new) }
         ensures wanting { OnErr result (WantsTo self.old) }
         ensures answered { IfOk result (λ e. is_loader e ≡ false) }
         ensures running { OnOk result (IsRunning self.new) }
@@ -81,7 +79,7 @@ impl<'m> Running<'m> {
         requires running { IsRunning self.old }
         requires stands { IsSomewhere self.old }
         requires moving { self.old.core.machine.standing ≡ Standing.Moving }
-        ensures stepped { IfOk result (λ e. (L : LinkedSet) → IsLinked L self.old.linked.now → StepsTo L e self.old self.new) }
+        ensures stepped { IfOk result (λ e. StepsTo self.old.linked.now e self.old self.new) }
         ensures wanting { OnErr result (WantsTo self.old) }
         ensures running { OnOk result (IsRunning self.new) }
         ensures linked { self.new.linked ≡ self.old.linked }
@@ -97,7 +95,7 @@ impl<'m> Running<'m> {
     pub fn run(&mut self, alloc: Global, most: u64) -> (u64, Done)
         requires running { IsRunning self.old }
         requires moving { self.old.core.machine.standing ≡ Standing.Moving }
-        ensures ran { (L : LinkedSet) → IsLinked L self.old.linked.now → RunsTo L result.0 result.1 self.old self.new }
+        ensures ran { RunsTo self.old.linked.now result.0 result.1 self.old self.new }
         ensures running { result.1 ≢ Done.NoMemory → IsRunning self.new }
         ensures linked { self.new.linked ≡ self.old.linked }
         ensures most { result.1 ≡ Done.Goes → result.0 ≡ most }
@@ -109,9 +107,9 @@ impl<'m> Running<'m> {
     // Takes the answer of the host function that is waited for.
     pub fn take(&mut self, a: &Answer)
         requires running { IsRunning self.old }
-        requires fits { FitsHost (kept_view self.old.world.linked) self.old.world.memory a.now self.old.core.machine.standing }
+        requires fits { FitsHost (set_view self.old.world.linked) self.old.world.memory a.now self.old.core.machine.standing }
         requires bytes { IsOfBytes a.now }
-        ensures taken { (L : LinkedSet) → IsLinked L self.old.linked.now → TakenFrom (set_loading L) a.now self.old.core (seen_of self.old.world) self.new.core (seen_of self.new.world) }
+        ensures taken { TakenFrom (set_loading self.old.linked.now) a.now self.old.core (seen_of self.old.world) self.new.core (seen_of self.new.world) }
         ensures running { IsRunning self.new }
         ensures linked { self.new.linked ≡ self.old.linked }
     {
@@ -123,7 +121,7 @@ impl<'m> Running<'m> {
         requires running { IsRunning self.old }
         requires stands { IsSomewhere self.old }
         requires marked { IsMarked self.old.core.machine }
-        ensures stepped { IfOk result (λ e. (L : LinkedSet) → IsLinked L self.old.linked.now → StepsTo L e self.old self.new) }
+        ensures stepped { IfOk result (λ e. StepsTo self.old.linked.now e self.old self.new) }
         ensures wanting { OnErr result (WantsTo self.old) }
         ensures running { OnOk result (IsRunning self.new) }
         ensures linked { self.new.linked ≡ self.old.linked }
@@ -146,7 +144,7 @@ impl<'m> Running<'m> {
         requires stands { IsSomewhere self.old }
         requires marked { IsMarked self.old.core.machine }
         requires placing { IsPlacing self.old.core task }
-        ensures stepped { (L : LinkedSet) → IsLinked L self.old.linked.now → StepsTo L result self.old self.new }
+        ensures stepped { StepsTo self.old.linked.now result self.old self.new }
         ensures running { IsRunning self.new }
         ensures linked { self.new.linked ≡ self.old.linked }
     {
@@ -164,7 +162,7 @@ impl<'m> Running<'m> {
     pub fn deep(&self) -> bool
         requires running { IsRunning self.now }
         requires moving { self.now.core.machine.standing ≡ Standing.Moving }
-        ensures { (L : LinkedSet) → IsLinked L self.now.linked.now → IsDeepTo L result self.now }
+        ensures { IsDeepTo self.now.linked.now result self.now }
     {
         is_deep(&self.core, &self.world, self.linked, entry_of(self.linked))
     }
@@ -176,7 +174,7 @@ impl<'m> Running<'m> {
     // Whether the entry was called, and the run goes on.
     pub fn started(&self) -> bool
         requires running { IsRunning self.now }
-        ensures { (L : LinkedSet) → IsStartedTo L result self.now }
+        ensures { IsStartedTo self.now.linked.now result self.now }
     {
         self.core.started(&self.world)
     }

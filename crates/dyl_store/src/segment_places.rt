@@ -1,6 +1,5 @@
 // Where the segments of each member go, by the bases among its imported globals, and what its fresh slots hold, found before the run.
 ghost use Rattle.std.specs.Prelude.{◌≡◌, ◌<◌, All, length, map, IfOk};
-ghost use Rattle.dyl_addresses.specs.Sets.{IsOfSet};
 ghost use Rattle.dyl_addresses.specs.Offsets.{number_with, HasElemOffset, HasDataOffset};
 ghost use Rattle.dyl_store.specs.Placements.{IsPlacement, elem_offset, data_offset, own_entry};
 ghost use Rattle.dyl_store.specs.Runs.{ArePlacements};
@@ -102,15 +101,15 @@ fn member_datas(
 
 // How a member is placed.
 fn placement_of(alloc: Global, linked: &Linked, m: u32) -> Result<Placement, Memory>
-    requires set { IsOfSet linked.now }
-    requires member { m < length linked.now.set.members }
+    requires { m < length linked.now.set.members }
     ensures { IfOk result (λ p. IsPlacement linked.now m p) }
 {
     slots_fit();
+    linked.links();
     let bases = bases_of(alloc, linked, m)?;
-    let member = &linked.set().members.items()[m as usize];
-    let elems = member_elems(alloc, &bases, &member.checked)?;
-    let datas = member_datas(alloc, &bases, &member.checked)?;
+    let checked = &linked.member(m).checked;
+    let elems = member_elems(alloc, &bases, checked)?;
+    let datas = member_datas(alloc, &bases, checked)?;
     let slots = slots_of(alloc, m, linked.fresh(m))?;
     Ok(Placement {
         elems,
@@ -121,10 +120,9 @@ fn placement_of(alloc: Global, linked: &Linked, m: u32) -> Result<Placement, Mem
 
 // How each member is placed, in order.
 pub(crate) fn placements_of(alloc: Global, linked: &Linked) -> Result<Vec<Placement>, Memory>
-    requires { IsOfSet linked.now }
     ensures { IfOk result (λ ps. ArePlacements linked.now ps.items) }
 {
-    let count = linked.set().members.items().len() as u32;
+    let count = linked.member_count();
     let mut placements = Vec::new(alloc);
     for m in 0..count {
         let placement = placement_of(alloc, linked, m)?;

@@ -3,8 +3,8 @@ ghost use Rattle.std.specs.Prelude.{◌≡◌, ◌<◌};
 ghost use Rattle.spec_loading.specs.spec_runtime.Memories.{initialized};
 ghost use Rattle.spec_loading.specs.spec_runtime.Tables.{entries_initialized};
 ghost use Rattle.spec_loading.specs.spec_execution.Segments.{elem_applied, data_applied};
+ghost use Rattle.spec_loading.specs.Members.{set_instances};
 ghost use Rattle.dyl_store.specs.Placements.{Moves, Performs};
-ghost use Rattle.dyl_store.specs.Worlds.{kept_instances};
 
 use crate::world::World;
 use wasm_form::{Ref, Trap};
@@ -36,8 +36,8 @@ fn move_bytes(bytes: &mut &[u8], n: u32, memory: &mut Space, at: u32) -> Result<
 impl<'m> World<'m> {
     // An element segment of a member: its first `n` entries are written to a table, from an index on, and it is dropped.
     pub fn apply_elem(&mut self, m: u32, e: u32, t: u32, n: u32, at: u32) -> Result<(), Trap>
-        requires table { t < ((kept_instances self.old.linked).counts m).tables }
-        requires elem { e < ((kept_instances self.old.linked).counts m).elems }
+        requires table { t < ((set_instances self.old.linked).counts m).tables }
+        requires elem { e < ((set_instances self.old.linked).counts m).elems }
         ensures performed { Performs m (elem_applied e t n at) self.old result self.new }
         ensures linked { self.new.linked ≡ self.old.linked }
     {
@@ -48,7 +48,7 @@ impl<'m> World<'m> {
 
     // A data segment of a member: its first `n` bytes are written to the memory, from an address on, and it is dropped.
     pub fn apply_data(&mut self, m: u32, d: u32, n: u32, at: u32) -> Result<(), Trap>
-        requires data { d < ((kept_instances self.old.linked).counts m).datas }
+        requires data { d < ((set_instances self.old.linked).counts m).datas }
         ensures performed { Performs m (data_applied d n at) self.old result self.new }
         ensures linked { self.new.linked ≡ self.old.linked }
     {

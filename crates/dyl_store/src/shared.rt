@@ -1,10 +1,8 @@
 // The table that all members share.
 ghost use Rattle.std.specs.Prelude.{◌≡◌, ◌≤◌, ◌<◌, ◌+◌, Some, map, length, IfOk};
 ghost use Rattle.spec_loading.specs.spec_runtime.Tables.{new_table, entries_overwritten};
-ghost use Rattle.spec_loading.specs.spec_linking.LinkedSets.{LinkedSet};
+ghost use Rattle.spec_loading.specs.spec_linking.Slots.{table_entries, table_most};
 ghost use Rattle.spec_loading.specs.Members.{opening_table};
-ghost use Rattle.dyl_link.specs.Kept.{IsLinked};
-ghost use Rattle.dyl_addresses.specs.Sets.{IsOfSet};
 ghost use Rattle.dyl_store.specs.Opening.{outside_at};
 
 use dyl_link::Linked;
@@ -25,17 +23,16 @@ fn entries_of(alloc: Global, refs: &[Ref]) -> Result<Vec<Option<Ref>>, Memory>
 
 // The last member.
 fn last_member(linked: &Linked) -> u32
-    requires { IsOfSet linked.now }
     ensures { result + 1 ≡ length linked.now.set.members }
 {
-    linked.set().members.items().len() as u32 - 1
+    linked.member_count() - 1
 }
 
 // The first of the slots behind the fresh ones of the members.
 fn outside_at(linked: &Linked) -> u32
-    requires { IsOfSet linked.now }
-    ensures { (L : LinkedSet) → IsLinked L linked.now → result ≡ outside_at L }
+    ensures { result ≡ outside_at linked.now }
 {
+    linked.links();
     let last = last_member(linked);
     linked.first_slot(last) + linked.fresh(last).len() as u32
 }
@@ -51,17 +48,17 @@ fn write_entries(table: &mut Slots, at: u32, entries: &[Option<Ref>])
 
 // The shared table with its initial entries, all null.
 fn empty_table(alloc: Global, linked: &Linked) -> Result<Slots, Memory>
-    requires { IsOfSet linked.now }
-    ensures { IfOk result (λ s. s ≡ new_table linked.now.table_entries linked.now.table_max) }
+    ensures { IfOk result (λ s. s ≡ new_table (table_entries linked.now) (table_most linked.now)) }
 {
+    linked.links();
     Slots::new(alloc, linked.table_entries(), linked.table_max())
 }
 
 // The shared table: nulls, but for the functions of the loader and of the host, which have the slots behind the members' fresh ones.
 pub(crate) fn shared_table(alloc: Global, linked: &Linked) -> Result<Slots, Memory>
-    requires { IsOfSet linked.now }
-    ensures { IfOk result (λ s. (L : LinkedSet) → IsLinked L linked.now → s ≡ opening_table L) }
+    ensures { IfOk result (λ s. s ≡ opening_table linked.now) }
 {
+    linked.links();
     let entries = entries_of(alloc, linked.outside())?;
     let mut table = empty_table(alloc, linked)?;
     write_entries(&mut table, outside_at(linked), &entries);

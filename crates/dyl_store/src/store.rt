@@ -2,7 +2,9 @@
 ghost use Rattle.std.specs.Prelude.{◌≡◌, ◌<◌, ◌⊎◌, length, map, true, false, Some, IfOk, OnOk, OnErr, Err};
 ghost use Rattle.spec_loading.specs.SoundSets.{HoldBytes};
 ghost use Rattle.spec_loading.specs.spec_runtime.Recorded.{has_ended};
-ghost use Rattle.spec_loading.specs.spec_linking.LinkedSets.{LinkedSet, set_hosts};
+ghost use Rattle.spec_loading.specs.spec_linking.Gathering.{IsSet};
+ghost use Rattle.spec_loading.specs.spec_linking.LinkedSets.{set_hosts, hosts_of};
+ghost use Rattle.spec_loading.specs.spec_linking.Links.{Links};
 ghost use Rattle.spec_loading.specs.Loading.{stage_in};
 ghost use Rattle.spec_loading.specs.Members.{set_view, shared_table};
 ghost use Rattle.spec_keeping.specs.Started.{is_started};
@@ -10,11 +12,9 @@ ghost use Rattle.spec_loading.specs.LoadedSet.{SetState};
 ghost use Rattle.spec_loading.specs.spec_runtime.Courses.{state_at, status_at, memory_at, IsAt, is_waiting, with_answer, as_lost};
 ghost use Rattle.wasm_machine.specs.Steps.{RunStepped, TellsStatus, ArgumentsFit, Advances, AreOfCode, Awaits, stands_told, is_wait};
 ghost use Rattle.dyl_link.specs.host_table.Names.{host_name_of};
-ghost use Rattle.dyl_link.specs.Kept.{IsLinked};
 ghost use Rattle.dyl_store.specs.Stores.{set_course, new_run, is_deep_at, units_at, IsDroppedTold, HadCodeOnTop, IsCodeNext, MayWantAt};
 ghost use Rattle.dyl_store.specs.Runs.{IsRunning, RunsAt};
 ghost use Rattle.dyl_store.specs.Steps.{Counted};
-ghost use Rattle.dyl_store.specs.Worlds.{set_in};
 
 use crate::running::Running;
 use dyl_link::Linked;
@@ -77,7 +77,7 @@ fn run_code(running: &mut Running, alloc: Global, most: u64, steps: &mut u64, lo
     requires moving { running.old.core.machine.standing ≡ Standing.Moving }
     requires few { steps.old < most }
     requires found { lost.old ≡ false }
-    ensures counted { (L : LinkedSet) → IsLinked L running.old.linked.now → (s : SetState) → RunsAt L running.old s → Counted L most s running.new steps.old steps.new lost.new }
+    ensures counted { (s : SetState) → RunsAt running.old.linked.now running.old s → Counted running.old.linked.now most s running.new steps.old steps.new lost.new }
     ensures running { lost.new ≡ false → IsRunning running.new }
     ensures linked { running.new.linked ≡ running.old.linked }
 {
@@ -92,9 +92,9 @@ fn run_code(running: &mut Running, alloc: Global, most: u64, steps: &mut u64, lo
 
 // The data segments of all members are of bytes.
 fn hold_bytes(linked: &Linked)
-    ensures { HoldBytes (set_in linked.now) }
+    ensures { HoldBytes linked.now }
 {
-    for member in linked.set().members.items() {
+    for member in linked.members() {
         holds_bytes(member.checked.module());
     }
 }
@@ -119,16 +119,17 @@ impl<'m> Store<'m> {
         })
     }
 
-    /// The set that is run links. The call does nothing: a proof gets this fact by it.
+    /// What is run is a set, and it links. The call does nothing: a proof gets these facts by it.
     pub fn links(&self)
-        ensures { (L : LinkedSet) × IsLinked L self.now.linked }
+        ensures shape { IsSet self.now.linked.set }
+        ensures links { Links self.now.linked }
     {
         self.running.linked.links();
     }
 
     /// The data segments of the members are of bytes. The call changes nothing: a proof gets this fact by it.
     pub fn holds_bytes(&self)
-        ensures { (L : LinkedSet) → IsLinked L self.now.linked → HoldBytes L }
+        ensures { HoldBytes self.now.linked }
     {
         hold_bytes(self.running.linked);
     }
@@ -137,13 +138,13 @@ impl<'m> Store<'m> {
     /// and `Deep` where the step would pass a limit of depth, with nothing changed. It takes memory only where a frame of the loader is
     /// on top, or code that next calls a function or grows a memory or a table; a run that answered `Memory` answers it from then on.
     pub fn run_step(&mut self, alloc: Global) -> Result<Event, Memory>
-        requires answered { (L : LinkedSet) × IsLinked L self.old.linked × (IsAt (set_course L) self.old.run → is_waiting (set_course L) self.old.run ≡ false) }
+        requires answered { IsAt (set_course self.old.linked) self.old.run → is_waiting (set_course self.old.linked) self.old.run ≡ false }
         requires few { self.old.run.steps < 18446744073709551615 }
-        ensures stepped { (L : LinkedSet) → IsLinked L self.old.linked → IfOk result (λ e. IsAt (set_course L) self.old.run × RunStepped (set_course L) e self.old.run self.new.run) }
+        ensures stepped { IfOk result (λ e. IsAt (set_course self.old.linked) self.old.run × RunStepped (set_course self.old.linked) e self.old.run self.new.run) }
         ensures wanting { OnErr result ((self.old.run.lost ≡ true) ⊎ MayWantAt self.old.linked self.old.run) }
         ensures lost { OnErr result (self.new.run ≡ as_lost self.old.run) }
         ensures again { self.old.run.lost ≡ true → result ≡ Err (record {}) }
-        ensures arguments { (L : LinkedSet) → IsLinked L self.old.linked → IfOk result (λ e. ArgumentsFit (set_hosts L) e) }
+        ensures arguments { IfOk result (λ e. ArgumentsFit (set_hosts self.old.linked) e) }
         ensures same { self.new.linked ≡ self.old.linked }
     {
         if self.lost {
@@ -184,9 +185,9 @@ impl<'m> Store<'m> {
     /// one that is too deep; or the run has ended or waits. It takes memory only as a step does.
     pub fn advance(&mut self, alloc: Global, most: u64) -> Result<(), Memory>
         ensures advances { Advances most self.old.run self.new.run }
-        ensures code { (L : LinkedSet) → IsLinked L self.old.linked → AreOfCode (set_course L) self.old.run self.new.run }
-        ensures tops { (L : LinkedSet) → IsLinked L self.old.linked → HadCodeOnTop L self.old.run self.new.run }
-        ensures left { (L : LinkedSet) → IsLinked L self.old.linked → OnOk result (IsAt (set_course L) self.new.run → self.new.run.steps < most → IsCodeNext L (state_at (set_course L) self.new.run) → ⊥) }
+        ensures code { AreOfCode (set_course self.old.linked) self.old.run self.new.run }
+        ensures tops { HadCodeOnTop self.old.linked self.old.run self.new.run }
+        ensures left { OnOk result (IsAt (set_course self.old.linked) self.new.run → self.new.run.steps < most → IsCodeNext self.old.linked (state_at (set_course self.old.linked) self.new.run) → ⊥) }
         ensures found { OnOk result (self.new.run.lost ≡ false) }
         ensures wanting { OnErr result ((self.old.run.lost ≡ true) ⊎ MayWantAt self.old.linked self.new.run) }
         ensures lost { OnErr result (self.new.run.lost ≡ true) }
@@ -217,7 +218,7 @@ impl<'m> Store<'m> {
 
     /// Records the answer that the next step takes.
     pub fn answer(&mut self, alloc: Global, a: Answer) -> Result<(), Memory>
-        requires { (L : LinkedSet) × IsLinked L self.old.linked × Awaits (set_course L) self.old.run a }
+        requires { Awaits (set_course self.old.linked) self.old.run a }
         ensures recorded { OnOk result (self.new.run ≡ with_answer self.old.run a) }
         ensures lost { OnErr result (self.new.run ≡ as_lost self.old.run) }
         ensures same { self.new.linked ≡ self.old.linked }
@@ -233,14 +234,14 @@ impl<'m> Store<'m> {
 
     /// Whether it waits for an answer that isn't recorded.
     pub fn waiting(&self) -> bool
-        ensures { (L : LinkedSet) → IsLinked L self.now.linked → IsAt (set_course L) self.now.run → result ≡ is_waiting (set_course L) self.now.run }
+        ensures { IsAt (set_course self.now.linked) self.now.run → result ≡ is_waiting (set_course self.now.linked) self.now.run }
     {
         !self.answered && matches!(self.running.core.standing(), Standing::Asking(..))
     }
 
     /// Whether it has returned, exited or trapped.
     pub fn has_ended(&self) -> bool
-        ensures { (L : LinkedSet) → IsLinked L self.now.linked → IsAt (set_course L) self.now.run → result ≡ has_ended (status_at (set_course L) self.now.run) }
+        ensures { IsAt (set_course self.now.linked) self.now.run → result ≡ has_ended (status_at (set_course self.now.linked) self.now.run) }
     {
         matches!(
             self.running.core.standing(),
@@ -251,8 +252,8 @@ impl<'m> Store<'m> {
     /// How the run stands: `Moved`, `Waits` with the pending call, `Returned`, `Trapped` or `Exited`. It takes no memory. Of a run that
     /// answered `Memory` nothing is said.
     pub fn state(&self) -> &Event
-        ensures tells { (L : LinkedSet) → IsLinked L self.now.linked → self.now.run.lost ≡ false → TellsStatus (set_hosts L) result.now (status_at (set_course L) self.now.run) }
-        ensures arguments { (L : LinkedSet) → IsLinked L self.now.linked → self.now.run.lost ≡ false → ArgumentsFit (set_hosts L) result.now }
+        ensures tells { self.now.run.lost ≡ false → TellsStatus (set_hosts self.now.linked) result.now (status_at (set_course self.now.linked) self.now.run) }
+        ensures arguments { self.now.run.lost ≡ false → ArgumentsFit (set_hosts self.now.linked) result.now }
     {
         &self.event
     }
@@ -260,7 +261,7 @@ impl<'m> Store<'m> {
     /// Whether a limit of depth is due: the run goes on by itself, and its next step would pass one. It takes no memory. Of a run that
     /// answered `Memory` nothing is said.
     pub fn deep(&self) -> bool
-        ensures { (L : LinkedSet) → IsLinked L self.now.linked → self.now.run.lost ≡ false → result ≡ is_deep_at (set_course L) self.now.run }
+        ensures { self.now.run.lost ≡ false → result ≡ is_deep_at (set_course self.now.linked) self.now.run }
     {
         if self.lost {
             return false;
@@ -275,7 +276,7 @@ impl<'m> Store<'m> {
     /// constructed. It takes no memory. Of a run that answered `Memory` nothing is said.
     pub fn stage(&self, m: u32) -> u8
         requires { m < length self.now.linked.set.members }
-        ensures { (L : LinkedSet) → IsLinked L self.now.linked → self.now.run.lost ≡ false → stage_in (state_at (set_course L) self.now.run).loader m ≡ Some result }
+        ensures { self.now.run.lost ≡ false → stage_in (state_at (set_course self.now.linked) self.now.run).loader m ≡ Some result }
     {
         if self.lost {
             return 0;
@@ -285,28 +286,28 @@ impl<'m> Store<'m> {
 
     /// The last error of the loader, by its number, or 0. It takes no memory. Of a run that answered `Memory` nothing is said.
     pub fn error(&self) -> u8
-        ensures { (L : LinkedSet) → IsLinked L self.now.linked → self.now.run.lost ≡ false → result ≡ (state_at (set_course L) self.now.run).loader.error }
+        ensures { self.now.run.lost ≡ false → result ≡ (state_at (set_course self.now.linked) self.now.run).loader.error }
     {
         self.running.core.errors().get()
     }
 
     /// The promoted members, in the order in which they were promoted. It takes no memory. Of a run that answered `Memory` nothing is said.
     pub fn promoted(&self) -> &[u32]
-        ensures { (L : LinkedSet) → IsLinked L self.now.linked → self.now.run.lost ≡ false → result.now ≡ (state_at (set_course L) self.now.run).loader.promoted }
+        ensures { self.now.run.lost ≡ false → result.now ≡ (state_at (set_course self.now.linked) self.now.run).loader.promoted }
     {
         self.running.core.promoted().list()
     }
 
     /// The table that all members share. It takes no memory. Of a run that answered `Memory` nothing is said.
     pub fn shared_table(&self) -> &Slots
-        ensures { (L : LinkedSet) → IsLinked L self.now.linked → self.now.run.lost ≡ false → shared_table (state_at (set_course L) self.now.run).run.units ≡ Some result.now }
+        ensures { self.now.run.lost ≡ false → shared_table (state_at (set_course self.now.linked) self.now.run).run.units ≡ Some result.now }
     {
         &self.running.world.tables[0]
     }
 
     /// Whether the entry was called, and the run goes on. It takes no memory. Of a run that answered `Memory` nothing is said.
     pub fn started(&self) -> bool
-        ensures { (L : LinkedSet) → IsLinked L self.now.linked → self.now.run.lost ≡ false → result ≡ is_started (state_at (set_course L) self.now.run) }
+        ensures { self.now.run.lost ≡ false → result ≡ is_started (state_at (set_course self.now.linked) self.now.run) }
     {
         if self.lost {
             return false;
@@ -316,8 +317,8 @@ impl<'m> Store<'m> {
 
     /// A global of member m, by its number there. It takes no memory. Of a run that answered `Memory` nothing is said.
     pub fn global(&self, m: u32, g: u32) -> Value
-        requires { (L : LinkedSet) × IsLinked L self.now.linked × (g < ((set_view L).counts m).globals) }
-        ensures { (L : LinkedSet) → IsLinked L self.now.linked → self.now.run.lost ≡ false → (set_view L).global (units_at L self.now.run) m g ≡ Some result }
+        requires { g < ((set_view self.now.linked).counts m).globals }
+        ensures { self.now.run.lost ≡ false → (set_view self.now.linked).global (units_at self.now.linked self.now.run) m g ≡ Some result }
     {
         if self.lost {
             return Value::Num(0);
@@ -327,8 +328,8 @@ impl<'m> Store<'m> {
 
     /// A table of member m, by its number there. It takes no memory. Of a run that answered `Memory` nothing is said.
     pub fn table(&self, m: u32, t: u32) -> &Slots
-        requires { (L : LinkedSet) × IsLinked L self.now.linked × (t < ((set_view L).counts m).tables) }
-        ensures { (L : LinkedSet) → IsLinked L self.now.linked → self.now.run.lost ≡ false → (set_view L).table (units_at L self.now.run) m t ≡ Some result.now }
+        requires { t < ((set_view self.now.linked).counts m).tables }
+        ensures { self.now.run.lost ≡ false → (set_view self.now.linked).table (units_at self.now.linked self.now.run) m t ≡ Some result.now }
     {
         if self.lost {
             return self.shared_table();
@@ -339,8 +340,8 @@ impl<'m> Store<'m> {
     /// Whether an element segment of member m, by its number there, is empty, as it is once it is dropped. It takes no memory. Of a run that
     /// answered `Memory` nothing is said.
     pub fn elem_dropped(&self, m: u32, e: u32) -> bool
-        requires { (L : LinkedSet) × IsLinked L self.now.linked × (e < ((set_view L).counts m).elems) }
-        ensures { (L : LinkedSet) → IsLinked L self.now.linked → self.now.run.lost ≡ false → IsDroppedTold result ((set_view L).elem (units_at L self.now.run) m e) }
+        requires { e < ((set_view self.now.linked).counts m).elems }
+        ensures { self.now.run.lost ≡ false → IsDroppedTold result ((set_view self.now.linked).elem (units_at self.now.linked self.now.run) m e) }
     {
         if self.lost {
             return true;
@@ -351,8 +352,8 @@ impl<'m> Store<'m> {
     /// Whether a data segment of member m, by its number there, is empty, as it is once it is dropped. It takes no memory. Of a run that
     /// answered `Memory` nothing is said.
     pub fn data_dropped(&self, m: u32, d: u32) -> bool
-        requires { (L : LinkedSet) × IsLinked L self.now.linked × (d < ((set_view L).counts m).datas) }
-        ensures { (L : LinkedSet) → IsLinked L self.now.linked → self.now.run.lost ≡ false → IsDroppedTold result ((set_view L).bytes (units_at L self.now.run) m d) }
+        requires { d < ((set_view self.now.linked).counts m).datas }
+        ensures { self.now.run.lost ≡ false → IsDroppedTold result ((set_view self.now.linked).bytes (units_at self.now.linked self.now.run) m d) }
     {
         if self.lost {
             return true;
@@ -362,14 +363,14 @@ impl<'m> Store<'m> {
 
     /// The globals of all members, by their addresses in the store. It takes no memory. Of a run that answered `Memory` nothing is said.
     pub fn globals(&self) -> &[Value]
-        ensures { (L : LinkedSet) → IsLinked L self.now.linked → self.now.run.lost ≡ false → result.now ≡ (units_at L self.now.run).globals }
+        ensures { self.now.run.lost ≡ false → result.now ≡ (units_at self.now.linked self.now.run).globals }
     {
         &self.running.world.globals
     }
 
     /// The tables of all members, by their addresses in the store. It takes no memory. Of a run that answered `Memory` nothing is said.
     pub fn tables(&self) -> &[Slots]
-        ensures { (L : LinkedSet) → IsLinked L self.now.linked → self.now.run.lost ≡ false → result.now ≡ (units_at L self.now.run).tables }
+        ensures { self.now.run.lost ≡ false → result.now ≡ (units_at self.now.linked self.now.run).tables }
     {
         &self.running.world.tables
     }
@@ -377,7 +378,7 @@ impl<'m> Store<'m> {
     /// What is left of the element segments of all members, by their addresses in the store. It takes no memory. Of a run that answered
     /// `Memory` nothing is said.
     pub fn elems(&self) -> &[Vec<Option<Ref>>]
-        ensures { (L : LinkedSet) → IsLinked L self.now.linked → self.now.run.lost ≡ false → map (λ v. v.items) result.now ≡ (units_at L self.now.run).elems }
+        ensures { self.now.run.lost ≡ false → map (λ v. v.items) result.now ≡ (units_at self.now.linked self.now.run).elems }
     {
         &self.running.world.elems
     }
@@ -385,7 +386,7 @@ impl<'m> Store<'m> {
     /// What is left of the data segments of all members, by their addresses in the store. It takes no memory. Of a run that answered `Memory`
     /// nothing is said.
     pub fn datas(&self) -> &[&'m [u8]]
-        ensures { (L : LinkedSet) → IsLinked L self.now.linked → self.now.run.lost ≡ false → map (λ d. d.now) result.now ≡ (units_at L self.now.run).datas }
+        ensures { self.now.run.lost ≡ false → map (λ d. d.now) result.now ≡ (units_at self.now.linked self.now.run).datas }
     {
         &self.running.world.datas
     }
@@ -393,7 +394,7 @@ impl<'m> Store<'m> {
     /// How many steps were made. The run stands where these lead.
     pub fn steps(&self) -> u64
         ensures value { result ≡ self.now.run.steps }
-        ensures stands { (L : LinkedSet) → IsLinked L self.now.linked → self.now.run.lost ≡ false → IsAt (set_course L) self.now.run }
+        ensures stands { self.now.run.lost ≡ false → IsAt (set_course self.now.linked) self.now.run }
     {
         self.steps
     }
@@ -416,14 +417,14 @@ impl<'m> Store<'m> {
 
     /// The memory as the run stands.
     pub fn memory(&self) -> &Space
-        ensures { (L : LinkedSet) → IsLinked L self.now.linked → IsAt (set_course L) self.now.run → result.now ≡ memory_at (set_course L) self.now.run }
+        ensures { IsAt (set_course self.now.linked) self.now.run → result.now ≡ memory_at (set_course self.now.linked) self.now.run }
     {
         &self.running.world.memory
     }
 
     /// The host functions that the set imports, by their entries.
     pub fn hosts(&self) -> &[HostName]
-        ensures { map host_name_of result.now ≡ self.now.linked.hosts }
+        ensures { map host_name_of result.now ≡ hosts_of self.now.linked }
     {
         self.running.linked.hosts()
     }

@@ -1,10 +1,7 @@
 // The tasks of opening a member.
 ghost use Rattle.std.specs.Prelude.{◌≡◌, ◌<◌, ◌++◌, length, reverse, IfOk, OnOk};
 ghost use Rattle.std.specs.List.{All};
-ghost use Rattle.spec_loading.specs.spec_linking.LinkedSets.{LinkedSet};
 ghost use Rattle.spec_loading.specs.Phases.{tasks_of, opening_tasks, open_frame};
-ghost use Rattle.dyl_link.specs.Kept.{IsLinked};
-ghost use Rattle.dyl_addresses.specs.Sets.{IsOfSet};
 
 use dyl_frames::{Phase, Task};
 use dyl_link::Linked;
@@ -44,15 +41,11 @@ fn opening_tasks(alloc: Global, breadth: &[u32], post: &[u32]) -> Result<Vec<Tas
 
 // The tasks of opening a member over its closure, of which the next one comes last.
 pub(crate) fn member_tasks(alloc: Global, linked: &Linked, m: u32) -> Result<Vec<Task>, Memory>
-    requires set { IsOfSet linked.now }
-    requires member { m < length linked.now.set.members }
-    ensures tasks { IfOk result (λ v. (L : LinkedSet) → IsLinked L linked.now → reverse v.items ≡ (open_frame L.set m).tasks) }
+    requires { m < length linked.now.set.members }
+    ensures tasks { IfOk result (λ v. reverse v.items ≡ (open_frame linked.now.set m).tasks) }
     ensures members { IfOk result (λ v. All (λ t. t.member < length linked.now.set.members) v.items) }
 {
-    let tasks = opening_tasks(
-        alloc,
-        linked.symbols().closure(m),
-        linked.construct_order(m),
-    )?;
+    linked.links();
+    let tasks = opening_tasks(alloc, linked.closure(m), linked.construct_order(m))?;
     Ok(tasks)
 }

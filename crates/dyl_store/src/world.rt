@@ -1,8 +1,9 @@
 // The members of a linked set over one store.
 ghost use Rattle.std.specs.Prelude.{◌≡◌, ◌<◌, length, Some};
+ghost use Rattle.spec_loading.specs.Members.{set_instances, set_view};
 ghost use Rattle.dyl_store.specs.Units.{IsMember, IsUnit};
 ghost use Rattle.dyl_store.specs.Stores.{IsDroppedTold};
-ghost use Rattle.dyl_store.specs.Worlds.{kept_instances, kept_view, HasPlaces};
+ghost use Rattle.dyl_store.specs.Worlds.{HasPlaces};
 
 use crate::run_member::Unit;
 use dyl_link::Linked;
@@ -43,7 +44,7 @@ impl<'m> World<'m> {
     pub fn unit(&self, m: u32) -> &Unit<'m>
         requires { IsMember self.now.linked m }
         ensures unit { IsUnit self.now.linked m result.now }
-        ensures places { HasPlaces (kept_instances self.now.linked) self.now.store }
+        ensures places { HasPlaces (set_instances self.now.linked) self.now.store }
     {
         &self.units[m as usize]
     }
@@ -51,8 +52,8 @@ impl<'m> World<'m> {
     // The address of a global of a member.
     #[inline(always)]
     pub fn global_address(&self, m: u32, g: u32) -> usize
-        requires { g < ((kept_instances self.now.linked).counts m).globals }
-        ensures found { (kept_instances self.now.linked).global_at m g ≡ Some result }
+        requires { g < ((set_instances self.now.linked).counts m).globals }
+        ensures found { (set_instances self.now.linked).global_at m g ≡ Some result }
         ensures inside { result < length self.now.store.globals }
     {
         self.unit(m).globals[g as usize] as usize
@@ -61,8 +62,8 @@ impl<'m> World<'m> {
     // The address of a table of a member.
     #[inline(always)]
     pub fn table_address(&self, m: u32, t: u32) -> usize
-        requires { t < ((kept_instances self.now.linked).counts m).tables }
-        ensures found { (kept_instances self.now.linked).table_at m t ≡ Some result }
+        requires { t < ((set_instances self.now.linked).counts m).tables }
+        ensures found { (set_instances self.now.linked).table_at m t ≡ Some result }
         ensures inside { result < length self.now.store.tables }
     {
         self.unit(m).tables[t as usize] as usize
@@ -71,8 +72,8 @@ impl<'m> World<'m> {
     // The address of an element segment of a member.
     #[inline(always)]
     pub fn elem_address(&self, m: u32, e: u32) -> usize
-        requires { e < ((kept_instances self.now.linked).counts m).elems }
-        ensures found { (kept_instances self.now.linked).elem_at m e ≡ Some result }
+        requires { e < ((set_instances self.now.linked).counts m).elems }
+        ensures found { (set_instances self.now.linked).elem_at m e ≡ Some result }
         ensures inside { result < length self.now.store.elems }
     {
         self.unit(m).first_elem as usize + e as usize
@@ -81,24 +82,24 @@ impl<'m> World<'m> {
     // The address of a data segment of a member.
     #[inline(always)]
     pub fn data_address(&self, m: u32, d: u32) -> usize
-        requires { d < ((kept_instances self.now.linked).counts m).datas }
-        ensures found { (kept_instances self.now.linked).data_at m d ≡ Some result }
+        requires { d < ((set_instances self.now.linked).counts m).datas }
+        ensures found { (set_instances self.now.linked).data_at m d ≡ Some result }
         ensures inside { result < length self.now.store.datas }
     {
         self.unit(m).first_data as usize + d as usize
     }
     // Whether an element segment of a member is empty.
     pub fn elem_dropped(&self, m: u32, e: u32) -> bool
-        requires { e < ((kept_instances self.now.linked).counts m).elems }
-        ensures { IsDroppedTold result ((kept_view self.now.linked).elem self.now.store m e) }
+        requires { e < ((set_instances self.now.linked).counts m).elems }
+        ensures { IsDroppedTold result ((set_view self.now.linked).elem self.now.store m e) }
     {
         self.elems[self.elem_address(m, e)].is_empty()
     }
 
     // Whether a data segment of a member is empty.
     pub fn data_dropped(&self, m: u32, d: u32) -> bool
-        requires { d < ((kept_instances self.now.linked).counts m).datas }
-        ensures { IsDroppedTold result ((kept_view self.now.linked).bytes self.now.store m d) }
+        requires { d < ((set_instances self.now.linked).counts m).datas }
+        ensures { IsDroppedTold result ((set_view self.now.linked).bytes self.now.store m d) }
     {
         self.datas[self.data_address(m, d)].is_empty()
     }

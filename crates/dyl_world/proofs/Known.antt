@@ -1,23 +1,24 @@
 -- What is known of what is kept of a linked set.
-use Rattle.std.proofs.Common.{◌≡◌, ℕ, zero, suc, ◌+◌, ◌-◌, ◌<◌, ◌≤◌, List, [], ◌∷◌, ◌++◌, length, map, Bool, true, false, Option, Some, None, nat_eq, refl, ap, ap₂, sym, ◌∙◌, subst, drop, bytes_eq, slice_get, arith}
+use Rattle.std.proofs.Common.{◌≡◌, ℕ, zero, suc, ◌+◌, ◌-◌, ◌%◌, ◌^◌, ◌<◌, ◌≤◌, List, [], ◌∷◌, ◌++◌, length, map, Bool, true, false, Option, Some, None, nat_eq, refl, ap, ap₂, sym, ◌∙◌, subst, drop, bytes_eq, slice_get, arith}
 use Rattle.std.specs.Prelude.{unwrap_or, not, All}
 use Rattle.std.specs.List.{position_from, filter}
 use Rattle.std.proofs.lemmas.Bool.Decides.{nat_tests}
-use Rattle.std.proofs.lemmas.List.{length-map, drop_all}
+use Rattle.std.proofs.lemmas.List.{drop_all}
 use Rattle.std.proofs.lemmas.List.Elements.{All-map}
-use Rattle.std.proofs.lemmas.Option.{slice_get_within}
+use Rattle.std.proofs.lemmas.Option.{slice_get_within, slice_get_past}
 use Rattle.spec_loading.specs.spec_linking.Sets as sets
-use Rattle.spec_loading.specs.spec_linking.Plans.{Plan, stack_end, texts_size, sizes_of, region_of, regions_of, end_of}
+use Rattle.spec_loading.specs.spec_linking.Plans.{Plan, texts_size, regions_of, end_of}
 use Rattle.spec_loading.specs.spec_linking.LinkedSets.{LinkedSet}
 use Rattle.spec_loading.specs.spec_linking.Orders.{is_among, with_numbers, closure}
-use Rattle.spec_loading.specs.spec_linking.Slots.{linked_plan}
+use Rattle.spec_loading.specs.spec_linking.Slots.{linked_plan, address_of}
 use Rattle.spec_loading.specs.spec_linking.Definitions.{Undefined, searched}
-use Rattle.spec_loading.proofs.of_spec_linking.Placing.{above, end_above, bases_length}
+use Rattle.spec_loading.proofs.of_spec_linking.Placing.{above, end_above}
 use Rattle.spec_loading.specs.LoaderAnswers.{is_handle, handle_list, promoted_with, member_named, error_answer, error_offsets}
 use Rattle.dyl_link.specs.dyl_search.declared.set.Member.{Member}
-use Rattle.dyl_link.specs.dyl_search.declared.set.ClosedSet.{ClosedSet}
-use Rattle.dyl_link.specs.dyl_search.Gathers.{member_of, set_of}
-use Rattle.dyl_link.specs.Kept.{Kept, IsLinked}
+use Rattle.dyl_link.specs.dyl_search.Gathers.{member_of}
+use Rattle.spec_loading.specs.spec_binary.Options.{◌>>=◌}
+use Rattle.spec_loading.specs.spec_linking.Gathering.{IsSet}
+use Rattle.dyl_link.proofs.Indices.{bases_long}
 use Rattle.spec_loading.proofs.InsideSets.{closure_inside}
 use Rattle.dyl_world.specs.Found.{is_named, AreWithout}
 use Rattle.dyl_world.proofs.Texts.{ExportsNo, none_searched}
@@ -44,55 +45,28 @@ texts_before L =
     let rounded = above 16 end (omega arith) in
     omega arith
 
-module _ (L : LinkedSet) (k : Kept) (h : IsLinked L k) where
-  count : length k.set.members ≡ length L.set.members
-  count = sym (length-map k.set.members member_of) ∙ ap (λ (S : sets.ClosedSet). length S.members) h.set
+-- so the text of an error lies before the heap
+pub text_fits : (L : LinkedSet) (plan : Plan) (i offset : ℕ) → plan ≡ linked_plan L → offset ≡ unwrap_or (slice_get error_offsets i) 0 → plan.stack_top + offset ≤ plan.heap_base
+text_fits L plan i offset same is =
+    let top = ap (λ (p : Plan). p.stack_top) same in
+    let heap = ap (λ (p : Plan). p.heap_base) same in
+    let small = offset_small i in
+    let end = texts_before L in
+    omega arith
 
-  pub few_members : length k.set.members ≤ 256
-  few_members = (let few = h.shape.few in let same = count in omega arith)
+pub text_there : (L : LinkedSet) (plan : Plan) (e offset : ℕ) → 1 ≤ e → plan ≡ linked_plan L → offset ≡ unwrap_or (slice_get error_offsets (e - 1)) 0 → plan.stack_top + offset ≡ error_answer L e
+text_there L plan e offset some same is = (λ i. (same i).stack_top + is i) ∙ text_of L e some
 
-  pub some_members : 0 < length k.set.members
-  some_members = (let some = h.shape.some in let same = count in omega arith)
+-- ---- members
 
-  pub names_count : length k.symbols.names ≡ length k.set.members
-  names_count = h.symbols.count ∙ sym count
+-- there is no address in a member that isn't there
+pub no_address : (L : LinkedSet) (m offset : ℕ) → length L.set.members ≤ m → None ≡ address_of L m offset
+no_address L m offset past =
+    let long = bases_long L in
+    ap (λ (o : Option ℕ). o >>= λ base. Some ((base + offset) % 2 ^ 32)) (sym (slice_get_past (linked_plan L).bases m (omega arith)))
 
-  pub bases_count : length k.plan.bases ≡ length k.set.members
-  bases_count =
-      ap (λ (p : Plan). length p.bases) h.plan
-      ∙ bases_length (λ r. r.mem_size) (λ r. r.mem_align) (stack_end + (sizes_of L.set L.options).stack + texts_size) (regions_of L.set.members)
-      ∙ length-map L.set.members (λ (m : sets.Member). region_of m.dylink)
-      ∙ sym count
-
-  pub texts_end : k.plan.stack_top + texts_size ≤ k.plan.heap_base
-  texts_end =
-      let top = ap (λ (p : Plan). p.stack_top) h.plan in
-      let heap = ap (λ (p : Plan). p.heap_base) h.plan in
-      let within = texts_before L in
-      omega arith
-
-  -- so the text of an error lies before the heap
-  pub text_fits : (plan : Plan) (i offset : ℕ) → plan ≡ k.plan → offset ≡ unwrap_or (slice_get error_offsets i) 0 → plan.stack_top + offset ≤ plan.heap_base
-  text_fits plan i offset same is =
-      let top = ap (λ (p : Plan). p.stack_top) same in
-      let heap = ap (λ (p : Plan). p.heap_base) same in
-      let small = offset_small i in
-      let end = texts_end in
-      omega arith
-
-  pub text_there : (plan : Plan) (e offset : ℕ) → 1 ≤ e → plan ≡ k.plan → offset ≡ unwrap_or (slice_get error_offsets (e - 1)) 0 → plan.stack_top + offset ≡ error_answer L e
-  text_there plan e offset some same is =
-      (λ i. (same i).stack_top + is i) ∙ (λ i. (h.plan i).stack_top + unwrap_or (slice_get error_offsets (e - 1)) 0) ∙ text_of L e some
-
-  pub startup_is : (startup : List ℕ) (set : ClosedSet) → startup ≡ set.startup → set ≡ k.set → startup ≡ L.set.startup
-  startup_is startup set is same = is ∙ ap (λ (S : ClosedSet). S.startup) same ∙ ap (λ (S : sets.ClosedSet). S.startup) h.set
-
-  -- ---- closures
-
-  pub closure_below : (m : ℕ) → m < length k.set.members → (xs : List ℕ) → xs ≡ closure L.set m → All (λ n. n < length k.set.members) xs
-  closure_below m lt xs is =
-      let all = closure_inside L.set h.shape m (subst (λ n. m < n) count lt) in
-      subst (λ n. All (λ i. i < n) xs) (sym count) (subst (All (λ i. i < length L.set.members)) (sym is) all)
+pub closure_below : (L : LinkedSet) → IsSet L.set → (m : ℕ) → m < length L.set.members → (xs : List ℕ) → xs ≡ closure L.set m → All (λ n. n < length L.set.members) xs
+closure_below L shape m lt xs is = subst (All (λ i. i < length L.set.members)) (sym is) (closure_inside L.set shape m lt)
 
 -- ---- promoted members
 
@@ -139,13 +113,13 @@ module _ (name : List ℕ) where
       by true p rest = rw p refl
       by false p rest = rw p rest
 
-pub named_in_set : (S : ClosedSet) (name : List ℕ) → position_from (is_named name) 0 S.members ≡ member_named (set_of S) name
-named_in_set S name = sym (named_from name 0 S.members)
+pub named_in_set : (S : sets.ClosedSet) (xs : List Member) → map member_of xs ≡ S.members → (name : List ℕ) → position_from (is_named name) 0 xs ≡ member_named S name
+named_in_set S xs same name =
+    sym (named_from name 0 xs) ∙ ap (λ (ms : List sets.Member). position_from (λ (m : sets.Member). bytes_eq name m.name) 0 ms) same
 
 -- ---- a name that no member exports
 
-pub none_defined : (L : LinkedSet) (k : Kept) → IsLinked L k → (members : List Member) → members ≡ k.set.members → (name : List ℕ) → AreWithout name members → (ms : List ℕ) → Undefined ≡ searched L.set ms name
-none_defined L k h members same name without ms =
-    let here : map member_of members ≡ L.set.members = ap (map member_of) same ∙ ap (λ (S : sets.ClosedSet). S.members) h.set in
-    let none : All (ExportsNo name) L.set.members = subst (All (ExportsNo name)) here (All-map (ExportsNo name) member_of members without) in
-    sym (none_searched name L.set none ms)
+pub none_defined : (S : sets.ClosedSet) (members : List Member) → map member_of members ≡ S.members → (name : List ℕ) → AreWithout name members → (ms : List ℕ) → Undefined ≡ searched S ms name
+none_defined S members here name without ms =
+    let none : All (ExportsNo name) S.members = subst (All (ExportsNo name)) here (All-map (ExportsNo name) member_of members without) in
+    sym (none_searched name S none ms)

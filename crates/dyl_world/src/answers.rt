@@ -1,9 +1,6 @@
 // What the functions of the loader answer.
 ghost use Rattle.std.specs.Prelude.{◌≡◌, ◌≤◌, ◌+◌, ◌-◌, Some, length, unwrap_or, slice_get};
-ghost use Rattle.spec_loading.specs.spec_linking.LinkedSets.{LinkedSet};
 ghost use Rattle.spec_loading.specs.LoaderAnswers as loader;
-ghost use Rattle.dyl_link.specs.dyl_search.Gathers.{set_of};
-ghost use Rattle.dyl_link.specs.Kept.{IsLinked};
 
 use crate::errors::Errors;
 use crate::promoted::Promoted;
@@ -12,7 +9,6 @@ use crate::stages::Stages;
 use crate::strings::{Name, name_at};
 use dyl_link::Linked;
 use dyl_link::dyl_plan::Plan;
-use dyl_link::dyl_search::ClosedSet;
 use spec_loading::{Finding, Opening};
 use wasm_space::Space;
 
@@ -35,14 +31,13 @@ const GLOBAL_FLAG: u32 = 256;
 const TEXT_OFFSETS: [u32; 5] = [0, 18, 41, 59, 81];
 
 // What `dlopen` comes to for a name that was read. The flags are tested before the name.
-fn open_named(set: &ClosedSet, name: &Name<'_>, flags: u32) -> Opening
-    requires { length set.now.members ≤ 256 }
-    ensures { (L : LinkedSet) → set_of set.now ≡ L.set → result ≡ loader.open_named L flags (Some name.now) }
+fn open_named(linked: &Linked, name: &Name<'_>, flags: u32) -> Opening
+    ensures { result ≡ loader.open_named linked.now flags (Some name.now) }
 {
     if flags & OTHER_FLAGS != 0 {
         return Opening::Refused(BAD_FLAGS);
     }
-    match member_named(set, name) {
+    match member_named(linked, name) {
         Some(m) if flags & GLOBAL_FLAG == 0 => Opening::Begin(m),
         Some(m) => Opening::BeginGlobal(m),
         None => Opening::Refused(NO_MODULE),
@@ -51,14 +46,13 @@ fn open_named(set: &ClosedSet, name: &Name<'_>, flags: u32) -> Opening
 
 /// What `dlopen` comes to, whose name stands at an address in memory. A name at address 0 is the program itself.
 pub fn open_answer(linked: &Linked, memory: &Space, name: u32, flags: u32) -> Opening
-    ensures { (L : LinkedSet) → IsLinked L linked.now → result ≡ loader.open_answer L memory.now name flags }
+    ensures { result ≡ loader.open_answer linked.now memory.now name flags }
 {
-    linked.links();
     if name == 0 {
         return Opening::Main;
     }
     match name_at(memory, name) {
-        Some(text) => open_named(linked.set(), &text, flags),
+        Some(text) => open_named(linked, &text, flags),
         None => Opening::Trapped,
     }
 }
@@ -82,10 +76,10 @@ fn find_named(
     handle: u32,
     name: &Name<'_>,
 ) -> Finding
-    requires linked { (L : LinkedSet) × IsLinked L linked.now }
-    requires stages { length stages.now ≡ length linked.now.set.members }
-    ensures { (L : LinkedSet) → IsLinked L linked.now → result ≡ loader.find_named L stages.now promoted.now.list handle (Some name.now) }
+    requires { length stages.now ≡ length linked.now.set.members }
+    ensures { result ≡ loader.find_named linked.now stages.now promoted.now.list handle (Some name.now) }
 {
+    linked.links();
     if handle != 0 && !is_handle(stages, handle) {
         return Finding::Refused(BAD_HANDLE);
     }
@@ -105,10 +99,9 @@ pub fn symbol_answer(
     handle: u32,
     name: u32,
 ) -> Finding
-    requires stages { length stages.now ≡ length linked.now.set.members }
-    ensures { (L : LinkedSet) → IsLinked L linked.now → result ≡ loader.symbol_answer L stages.now promoted.now.list memory.now handle name }
+    requires { length stages.now ≡ length linked.now.set.members }
+    ensures { result ≡ loader.symbol_answer linked.now stages.now promoted.now.list memory.now handle name }
 {
-    linked.links();
     match name_at(memory, name) {
         Some(text) => find_named(linked, stages, promoted, handle, &text),
         None => Finding::Trapped,
@@ -144,10 +137,9 @@ fn text_address(plan: &Plan, offset: u32) -> u32
 
 /// What `dlerror` answers: the address of the text of the last error, or 0 where none is set. None is set afterwards.
 pub fn error_answer(linked: &Linked, errors: &mut Errors) -> u32
-    ensures value { (L : LinkedSet) → IsLinked L linked.now → result ≡ loader.error_answer L errors.old }
+    ensures value { result ≡ loader.error_answer linked.now errors.old }
     ensures none { errors.new ≡ 0 }
 {
-    linked.links();
     match errors.take() {
         0 => 0,
         e => text_address(linked.plan(), text_offset(e)),

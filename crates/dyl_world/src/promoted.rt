@@ -1,9 +1,7 @@
 // The promoted members.
 ghost use Rattle.std.specs.Prelude.{◌≡◌, ◌<◌, [], length, IfOk};
-ghost use Rattle.spec_loading.specs.spec_linking.LinkedSets.{LinkedSet};
 ghost use Rattle.spec_loading.specs.spec_linking.Orders.{with_number};
 ghost use Rattle.spec_loading.specs.LoaderAnswers.{promoted_with};
-ghost use Rattle.dyl_link.specs.Kept.{IsLinked};
 
 use dyl_link::Linked;
 use spec_loading::wasm_form::Memory;
@@ -62,12 +60,12 @@ impl Promoted {
     pub fn add(&mut self, linked: &Linked, m: u32)
         requires member { m < length linked.now.set.members }
         requires room { self.old.room ≡ length linked.now.set.members }
-        ensures list { (L : LinkedSet) → IsLinked L linked.now → self.new.list ≡ promoted_with L.set m self.old.list }
+        ensures list { self.new.list ≡ promoted_with linked.now.set m self.old.list }
         ensures room { self.new.room ≡ self.old.room }
     {
         linked.links();
-        let startup = linked.set().startup.items();
-        let closure = linked.symbols().closure(m);
+        let startup = linked.startup();
+        let closure = linked.closure(m);
         for k in closure {
             if !startup.contains(k) {
                 self.add_one(*k);

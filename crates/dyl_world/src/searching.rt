@@ -3,19 +3,16 @@ ghost use Rattle.std.specs.Prelude.{◌≡◌, ◌<◌, ◌≤◌, ◌+◌, ◌+
 ghost use Rattle.std.specs.List.{position_from};
 ghost use Rattle.spec_loading.specs.spec_binary.Exports.{exported_as};
 ghost use Rattle.spec_loading.specs.spec_linking.Definitions.{searched};
-ghost use Rattle.spec_loading.specs.spec_linking.LinkedSets.{LinkedSet};
 ghost use Rattle.spec_loading.specs.spec_linking.Slots as slots;
 ghost use Rattle.spec_loading.specs.LoaderAnswers as loader;
-ghost use Rattle.dyl_link.specs.dyl_search.Gathers.{set_of};
 ghost use Rattle.dyl_link.specs.dyl_scope.Scopes.{meaning_of};
-ghost use Rattle.dyl_link.specs.Kept.{IsLinked, address_in};
 ghost use Rattle.dyl_world.specs.Found.{IsFound, is_named, AreWithout};
 
 use crate::promoted::Promoted;
 use crate::strings::Name;
 use dyl_link::Linked;
 use dyl_link::dyl_scope::Def;
-use dyl_link::dyl_search::{ClosedSet, Member};
+use dyl_link::dyl_search::Member;
 use spec_loading::wasm_form::{Export, Ref};
 
 fn first_named(members: &[Member], name: &Name<'_>) -> Option<u32>
@@ -31,19 +28,19 @@ fn first_named(members: &[Member], name: &Name<'_>) -> Option<u32>
 }
 
 // The first member that has a name.
-#[tactic(auto, using(crate::proofs::Known::named_in_set))]
-pub(crate) fn member_named(set: &ClosedSet, name: &Name<'_>) -> Option<u32>
-    requires { length set.now.members ≤ 256 }
-    ensures { result ≡ loader.member_named (set_of set.now) name.now }
+pub(crate) fn member_named(linked: &Linked, name: &Name<'_>) -> Option<u32>
+    ensures { result ≡ loader.member_named linked.now.set name.now }
 {
-    first_named(set.members.items(), name)
+    linked.links();
+    first_named(linked.members(), name)
 }
 
 // What the first of some members defines a name as. A name that isn't UTF-8 is defined by none.
 #[tactic(auto, using(crate::proofs::Texts::no_text))]
 fn definition(linked: &Linked, members: &[u32], name: &[u8]) -> Def
-    ensures { (L : LinkedSet) → IsLinked L linked.now → meaning_of result ≡ searched L.set members.now name.now }
+    ensures { meaning_of result ≡ searched linked.now.set members.now name.now }
 {
+    linked.links();
     match str::from_utf8(name) {
         Ok(text) => linked.symbols().search(members, text),
         Err(_) => Def::Nothing,
@@ -52,10 +49,9 @@ fn definition(linked: &Linked, members: &[u32], name: &[u8]) -> Def
 
 // The address of data at a place of the memory region of a member, if there is one of this number.
 fn address(linked: &Linked, m: u32, offset: u32) -> Option<u32>
-    requires { length linked.now.plan.bases ≡ length linked.now.set.members }
-    ensures { result ≡ address_in linked.now m offset }
+    ensures { result ≡ slots.address_of linked.now m offset }
 {
-    if (m as usize) < linked.set().members.items().len() {
+    if m < linked.member_count() {
         Some(linked.address(m, offset))
     } else {
         None
@@ -64,8 +60,7 @@ fn address(linked: &Linked, m: u32, offset: u32) -> Option<u32>
 
 // The slot of the function that a name is defined as, or the address of the data.
 fn number_of(linked: &Linked, found: Def) -> Option<u32>
-    requires { length linked.now.plan.bases ≡ length linked.now.set.members }
-    ensures { (L : LinkedSet) (name : List ℕ) → IsLinked L linked.now → IsFound (meaning_of found) → result ≡ slots.cell_number L name (meaning_of found) }
+    ensures { (name : List ℕ) → IsFound (meaning_of found) → result ≡ slots.cell_number linked.now name (meaning_of found) }
 {
     match found {
         Def::Function { module, func } => linked.slot(Ref::Own { unit: module, func }),
@@ -77,8 +72,7 @@ fn number_of(linked: &Linked, found: Def) -> Option<u32>
 
 /// The slot of the function, or the address of the data, that the first of some members defines a name as, if one does.
 pub fn search(linked: &Linked, members: &[u32], name: &[u8]) -> Option<u32>
-    requires { length linked.now.plan.bases ≡ length linked.now.set.members }
-    ensures { (L : LinkedSet) → IsLinked L linked.now → result ≡ slots.cell_number L name.now (searched L.set members.now name.now) }
+    ensures { result ≡ slots.cell_number linked.now name.now (searched linked.now.set members.now name.now) }
 {
     number_of(linked, definition(linked, members, name))
 }
@@ -111,9 +105,9 @@ fn exported_by<'a>(members: &'a [Member], name: &Name<'_>) -> Option<&'a str>
 // has no slice of its own.
 #[cold]
 fn definition_across(linked: &Linked, members: &[u32], name: &Name<'_>) -> Def
-    ensures { (L : LinkedSet) → IsLinked L linked.now → meaning_of result ≡ searched L.set members.now name.now }
+    ensures { meaning_of result ≡ searched linked.now.set members.now name.now }
 {
-    match exported_by(linked.set().members.items(), name) {
+    match exported_by(linked.members(), name) {
         Some(key) => definition(linked, members, key.as_bytes()),
         None => Def::Nothing,
     }
@@ -121,7 +115,7 @@ fn definition_across(linked: &Linked, members: &[u32], name: &Name<'_>) -> Def
 
 // What the first of some members defines a name in memory as.
 fn definition_in(linked: &Linked, members: &[u32], name: &Name<'_>) -> Def
-    ensures { (L : LinkedSet) → IsLinked L linked.now → meaning_of result ≡ searched L.set members.now name.now }
+    ensures { meaning_of result ≡ searched linked.now.set members.now name.now }
 {
     match name.in_one_page() {
         Some(bytes) => definition(linked, members, bytes),
@@ -131,9 +125,9 @@ fn definition_in(linked: &Linked, members: &[u32], name: &Name<'_>) -> Def
 
 // The same of the members that start with the main module, or else of the promoted ones.
 fn definition_in_program(linked: &Linked, promoted: &Promoted, name: &Name<'_>) -> Def
-    ensures { (L : LinkedSet) → IsLinked L linked.now → meaning_of result ≡ searched L.set (L.set.startup ++ promoted.now.list) name.now }
+    ensures { meaning_of result ≡ searched linked.now.set (linked.now.set.startup ++ promoted.now.list) name.now }
 {
-    match definition_in(linked, linked.set().startup.items(), name) {
+    match definition_in(linked, linked.startup(), name) {
         Def::Nothing => definition_in(linked, promoted.list(), name),
         found => found,
     }
@@ -141,13 +135,13 @@ fn definition_in_program(linked: &Linked, promoted: &Promoted, name: &Name<'_>) 
 
 // What the first of the members that a handle leads to defines a name in memory as.
 fn definition_by(linked: &Linked, promoted: &Promoted, handle: u32, name: &Name<'_>) -> Def
-    requires { handle ≤ length linked.now.symbols.names }
-    ensures { (L : LinkedSet) → IsLinked L linked.now → meaning_of result ≡ searched L.set (loader.handle_list L.set promoted.now.list handle) name.now }
+    requires { handle ≤ length linked.now.set.members }
+    ensures { meaning_of result ≡ searched linked.now.set (loader.handle_list linked.now.set promoted.now.list handle) name.now }
 {
     if handle < 2 {
         definition_in_program(linked, promoted, name)
     } else {
-        definition_in(linked, linked.symbols().closure(handle - 1), name)
+        definition_in(linked, linked.closure(handle - 1), name)
     }
 }
 
@@ -159,9 +153,8 @@ pub(crate) fn search_handle(
     handle: u32,
     name: &Name<'_>,
 ) -> Option<u32>
-    requires handle { handle ≤ length linked.now.symbols.names }
-    requires bases { length linked.now.plan.bases ≡ length linked.now.set.members }
-    ensures { (L : LinkedSet) → IsLinked L linked.now → result ≡ slots.cell_number L name.now (searched L.set (loader.handle_list L.set promoted.now.list handle) name.now) }
+    requires { handle ≤ length linked.now.set.members }
+    ensures { result ≡ slots.cell_number linked.now name.now (searched linked.now.set (loader.handle_list linked.now.set promoted.now.list handle) name.now) }
 {
     number_of(linked, definition_by(linked, promoted, handle, name))
 }

@@ -1,10 +1,14 @@
 -- Entries of a map by text keys, as the meanings see them.
-use Rattle.std.proofs.Common.{◌≡◌, ℕ, Bool, true, false, List, [], ◌∷◌, ◌++◌, refl, ap, sym, ◌∙◌, cond, Some, None, OnOk, OnErr, Result, Ok, Err, string_bytes, is_some, unwrap_or, ◌||◌, true≢false}
+use Rattle.std.proofs.Common.{◌≡◌, ℕ, Bool, true, false, List, [], ◌∷◌, ◌++◌, refl, ap, sym, ◌∙◌, cond, Some, None, OnOk, OnErr, Result, Ok, Err, string_bytes, is_some, unwrap_or, ◌||◌, true≢false, zero, suc, ◌+◌, slice_get, take, subst, arith}
 use Rattle.std.specs.Prelude.{String}
-use Rattle.std.specs.List.{All}
+use Rattle.std.specs.List.{All, AllByRecursion, IsDistinct}
 use Rattle.std.specs.Str.{bytes_eq}
 use Rattle.std.specs.String.{string_eq}
-use Rattle.std.specs.Map.{lookup, set_value}
+use Rattle.std.specs.Map.{lookup, set_value, keys_of}
+use Rattle.std.proofs.lemmas.Slice.Eq.{bytes_eq-Decides}
+use Rattle.std.proofs.lemmas.Option.{slice_get_within, get_or_from_slice_get}
+use Rattle.std.proofs.lemmas.List.{map-append}
+use Rattle.std.proofs.Math.Seq.{take-suc}
 use Rattle.indexmap.specs.IndexMap.{insert_entry}
 use Rattle.spec_runtime.specs.wasm_form.declared.types.FuncType.{FuncType}
 use Rattle.std.proofs.lemmas.Map.Steps.{set_value_same}
@@ -29,6 +33,49 @@ module _ {Z X : Type 0} where
       by true p rest = absurd (true≢false (ap (λ b. is_some (cond b (Some e.1) (lookup (bytes_eq (string_bytes k)) (by_text es)))) (sym p) ∙ none))
       by false p rest = ap (λ b. by_text (cond b ((e.0, v) ∷ es) (e ∷ insert_entry eq es k v))) (same k e.0 ∙ p)
           ∙ ap (λ r. (string_bytes e.0, e.1) ∷ r) (rest (ap (λ b. is_some (cond b (Some e.1) (lookup (bytes_eq (string_bytes k)) (by_text es)))) (sym p) ∙ none))
+
+-- texts that differ do so the other way round
+differ_back : (a b : List ℕ) → bytes_eq a b ≡ false → bytes_eq b a ≡ false
+differ_back a b e = by (bytes_eq b a) refl
+  where
+    by : (r : Bool) → bytes_eq b a ≡ r → bytes_eq b a ≡ false
+    by false q = q
+    by true q =
+        let same : b ≡ a = (bytes_eq-Decides b a).0 q in
+        absurd (true≢false (sym (subst (λ x. bytes_eq x a ≡ true) same q) ∙ subst (λ x. bytes_eq a x ≡ false) same e))
+
+module _ {Z X : Type 0} where
+  -- what holds of all keys holds of that of an entry
+  key_has : (P : String Z → Type 0) (es : List (String Z × X)) (i : ℕ) (k : String Z) (v : X) → AllByRecursion P (keys_of es) → slice_get es i ≡ Some (k, v) → P k
+  key_has P [] i k v all at = absurd (true≢false (sym (ap is_some at)))
+  key_has P (e ∷ es) zero k v all at = subst P (ap (λ o. (unwrap_or o e).0) at) all.0
+  key_has P (e ∷ es) (suc i) k v all at = key_has P es i k v all.1 at
+
+  -- of distinct keys, that of an entry isn't among those before it
+  before_absent : (es : List (String Z × X)) (i : ℕ) (k : String Z) (v : X) → IsDistinct string_eq (keys_of es) → slice_get es i ≡ Some (k, v)
+      → is_some (lookup (bytes_eq (string_bytes k)) (by_text (take i es))) ≡ false
+  unfolding IsDistinct
+  before_absent [] i k v distinct at = absurd (true≢false (sym (ap is_some at)))
+  before_absent (e ∷ es) zero k v distinct at = refl
+  before_absent (e ∷ es) (suc i) k v distinct at =
+      let apart : bytes_eq (string_bytes k) (string_bytes e.0) ≡ false = differ_back (string_bytes e.0) (string_bytes k) (key_has (λ y. string_eq e.0 y ≡ false) es i k v distinct.0 at) in
+      ap (λ b. is_some (cond b (Some e.1) (lookup (bytes_eq (string_bytes k)) (by_text (take i es))))) apart ∙ before_absent es i k v distinct.1 at
+
+  -- One entry more is copied: the copies are then those of one entry more.
+  pub one_copied : (es copies new : List (String Z × X)) (i : ℕ) (k own : String Z) (v w : X) → IsDistinct string_eq (keys_of es) → slice_get es i ≡ Some (k, v)
+      → string_bytes own ≡ string_bytes k → w ≡ v → by_text copies ≡ by_text (take i es) → new ≡ insert_entry string_eq copies own w → by_text new ≡ by_text (take (i + 1) es)
+  one_copied es copies new i k own v w distinct at named valued so_far inserted =
+      let absent : is_some (lookup (bytes_eq (string_bytes own)) (by_text copies)) ≡ false =
+      ap (λ n. is_some (lookup (bytes_eq n) (by_text copies))) named ∙ ap (λ l. is_some (lookup (bytes_eq (string_bytes k)) l)) so_far ∙ before_absent es i k v distinct at in
+      let next : suc i ≡ i + 1 = omega arith in
+      ap by_text inserted
+      ∙ by_text_insert string_eq (λ x y. refl) copies own w absent
+      ∙ ap (λ l. l ++ (string_bytes own, w) ∷ []) so_far
+      ∙ ap (λ n. by_text (take i es) ++ (n, w) ∷ []) named
+      ∙ ap (λ x. by_text (take i es) ++ (string_bytes k, x) ∷ []) valued
+      ∙ sym (map-append (λ e. (string_bytes e.0, e.1)) (take i es) ((k, v) ∷ []))
+      ∙ ap by_text (sym (take-suc es i (k, v) (slice_get_within es i (k, v) at) ∙ ap (λ e. take i es ++ e ∷ []) (get_or_from_slice_get es i (k, v) (k, v) at)))
+      ∙ ap (λ n. by_text (take n es)) next
 
 module _ {K X : Type 0} (P : X → Type 0) where
   -- what holds of each value and of one more holds of each once that one is inserted

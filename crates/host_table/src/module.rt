@@ -1,11 +1,14 @@
 // What is declared of one module.
-ghost use Rattle.std.specs.Prelude.{◌≡◌, false, OnOk, OnErr, IfSome, IsTrue};
+ghost use Rattle.std.specs.Prelude.{◌≡◌, ◌<◌, ◌+◌, false, length, take, IfOk, OnOk, OnErr, IfSome, IsTrue};
 ghost use Rattle.std.specs.Map.{lookup};
 ghost use Rattle.std.specs.Str.{bytes_eq};
 ghost use Rattle.std.specs.Option.{option_copied};
+ghost use Rattle.std.specs.String.{string_eq};
+ghost use Rattle.indexmap.specs.IndexMap.{IsUnique};
 ghost use Rattle.spec_runtime.specs.Names.{empty_module, declares, with_function, with_every_name, module_match, has_integers};
-ghost use Rattle.host_table.specs.Names.{match_of, fits_where};
+ghost use Rattle.host_table.specs.Names.{by_text, match_of, fits_where, HaveIntegers};
 
+use crate::copies::copied_type;
 use crate::types::{is_rest_type, is_same_type};
 use indexmap::IndexMap;
 use spec_runtime::wasm_form::{FuncType, Memory, owned};
@@ -47,6 +50,20 @@ impl ModuleNames {
             functions: IndexMap::new(alloc),
             rest: false,
         }
+    }
+
+    // The same names with the same types, in memory of their own.
+    pub fn copied(&self, alloc: Global) -> Result<ModuleNames, Memory>
+        ensures { IfOk result (λ names. names ≡ self.now) }
+    {
+        let mut functions = IndexMap::new(alloc);
+        for n in 0..self.functions.len() {
+            copy_function(alloc, &self.functions, n, &mut functions)?;
+        }
+        Ok(ModuleNames {
+            functions,
+            rest: self.rest,
+        })
     }
 
     // Declares a name with its type, unless the name is declared already.
@@ -105,6 +122,30 @@ impl ModuleNames {
             None => HostMatch::Unknown,
         }
     }
+}
+
+// Copies function n, behind the copies of those before it.
+fn copy_function(
+    alloc: Global,
+    from: &IndexMap<String, FuncType>,
+    n: usize,
+    to: &mut IndexMap<String, FuncType>,
+) -> Result<(), Memory>
+    requires there { n < length from.now.entries }
+    requires unique { IsUnique string_eq from.now }
+    requires integers { HaveIntegers from.now.entries }
+    requires before { by_text to.old.entries ≡ by_text (take n from.now.entries) }
+    requires before_integers { HaveIntegers to.old.entries }
+    ensures copied { OnOk result (by_text to.new.entries ≡ by_text (take (n + 1) from.now.entries)) }
+    ensures copied_integers { OnOk result (HaveIntegers to.new.entries) }
+{
+    let Some((name, ty)) = from.get_index(n) else {
+        return Ok(());
+    };
+    let name = owned(alloc, name.as_str())?;
+    let ty = copied_type(alloc, ty)?;
+    to.insert(name, ty)?;
+    Ok(())
 }
 
 fn fits_if(covered: bool) -> HostMatch

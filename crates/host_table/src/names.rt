@@ -1,10 +1,12 @@
 // The names under which host functions are declared.
-ghost use Rattle.std.specs.Prelude.{◌≡◌, OnOk, OnErr, None, unwrap_or, IfSome, IsTrue};
+ghost use Rattle.std.specs.Prelude.{◌≡◌, ◌<◌, ◌+◌, length, take, IfOk, OnOk, OnErr, None, unwrap_or, IfSome, IsTrue};
 ghost use Rattle.std.specs.Map.{lookup};
 ghost use Rattle.std.specs.Str.{bytes_eq};
 ghost use Rattle.std.specs.Option.{option_copied};
+ghost use Rattle.std.specs.String.{string_eq};
+ghost use Rattle.indexmap.specs.IndexMap.{IsUnique};
 ghost use Rattle.spec_runtime.specs.Names.{HostModule, no_names, empty_module, host_module, change_module, with_name, with_rest, host_match, host_typed, has_integers};
-ghost use Rattle.host_table.specs.Names.{match_of};
+ghost use Rattle.host_table.specs.Names.{by_text, match_of};
 
 use crate::module::{HostMatch, ModuleNames};
 use indexmap::IndexMap;
@@ -36,6 +38,17 @@ impl HostNames {
         HostNames {
             modules: IndexMap::new(alloc),
         }
+    }
+
+    /// The same declarations, in memory of their own.
+    pub fn copied(&self, alloc: Global) -> Result<HostNames, Memory>
+        ensures { IfOk result (λ names. names ≡ self.now) }
+    {
+        let mut modules = IndexMap::new(alloc);
+        for n in 0..self.modules.len() {
+            copy_module(alloc, &self.modules, n, &mut modules)?;
+        }
+        Ok(HostNames { modules })
     }
 
     /// Declares a host function of integers alone by its module, its name and its type. Where the name is declared
@@ -120,4 +133,25 @@ impl HostNames {
         self.modules.insert(key, names)?;
         Ok(())
     }
+}
+
+// Copies what is declared of module n, behind the copies of those before it.
+fn copy_module(
+    alloc: Global,
+    from: &IndexMap<String, ModuleNames>,
+    n: usize,
+    to: &mut IndexMap<String, ModuleNames>,
+) -> Result<(), Memory>
+    requires there { n < length from.now.entries }
+    requires unique { IsUnique string_eq from.now }
+    requires before { by_text to.old.entries ≡ by_text (take n from.now.entries) }
+    ensures { OnOk result (by_text to.new.entries ≡ by_text (take (n + 1) from.now.entries)) }
+{
+    let Some((name, names)) = from.get_index(n) else {
+        return Ok(());
+    };
+    let name = owned(alloc, name.as_str())?;
+    let names = names.copied(alloc)?;
+    to.insert(name, names)?;
+    Ok(())
 }

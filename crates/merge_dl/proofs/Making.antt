@@ -1,5 +1,5 @@
 -- What is made of what is kept of a linked set is what the set has.
-use Rattle.std.proofs.Common.{◌≡◌, ◌<◌, ◌≤◌, ℕ, zero, suc, ◌+◌, ◌-◌, List, [], ◌∷◌, ◌++◌, length, map, drop, get_or, Bool, true, false, refl, sym, ap, ap₂, ◌∙◌, arith, append_assoc, append-nil}
+use Rattle.std.proofs.Common.{◌≡◌, ◌<◌, ◌≤◌, ℕ, zero, suc, ◌+◌, ◌-◌, List, [], ◌∷◌, ◌++◌, length, drop, get_or, slice_get, Some, Bool, true, false, refl, sym, ap, ap₂, ◌∙◌, arith, append_assoc, append-nil}
 use Rattle.std.proofs.Math.Path.{fun_ext}
 use Rattle.std.proofs.lemmas.List.{drop_all, at_drop_more}
 use Rattle.std.specs.Prelude.{not}
@@ -18,8 +18,6 @@ use Rattle.spec_loading.specs.spec_linking.Orders.{is_among, closure}
 use Rattle.spec_loading.specs.spec_linking.LinkedSets.{LinkedSet}
 use Rattle.spec_loading.specs.LoaderAnswers.{bad_handle_error, bad_close_error, not_closed, global_flag, later_members}
 use Rattle.spec_loading.specs.Members.{from_members}
-use Rattle.dyl_link.specs.dyl_search.declared.set.Member as declared
-use Rattle.dyl_link.specs.dyl_search.Gathers.{member_of}
 use Rattle.merge_match.specs.Parts.{number_of}
 use Rattle.merge_start.specs.Words.{Starts, number, promote_one, promote_each}
 use Rattle.wasm_form.specs.declared.module.Part.{Part}
@@ -58,18 +56,20 @@ pub four_more : {A : Type 0} (xs : List A) (a b c d : A) → (((xs ++ a ∷ []) 
 four_more [] a b c d = refl
 four_more (x ∷ xs) a b c d = ap (λ l. x ∷ l) (four_more xs a b c d)
 
+member_at : (ms : List Member) (m : ℕ) (y : Member) → slice_get ms m ≡ Some y → drop m ms ≡ y ∷ drop (m + 1) ms
+member_at [] m y e = absurd cc
+member_at (x ∷ ms) zero y e = (let same : x ≡ y = cc in ap (λ z. z ∷ ms) same)
+member_at (x ∷ ms) (suc m) y e = (let next : suc m + 1 ≡ suc (m + 1) = omega arith in rw next (member_at ms m y e))
+
 -- what a member has comes before what those behind it have
-pub member_next : {X : Type 0} (of : ℕ → Module → List X) (ms : List declared.Member) (j : ℕ) (x : declared.Member) → j < length ms
-    → x ≡ get_or ms j x → (m next : ℕ) → next ≡ m + 1 → (to more all : List X) (wasm : Module) → wasm ≡ (member_of x).wasm
-    → more ≡ to ++ of m wasm → to ++ from_members of m (map member_of (drop j ms)) ≡ all
-    → more ++ from_members of next (map member_of (drop (j + 1) ms)) ≡ all
-member_next {X} of ms j x lt item m next step to more all wasm same put before =
-    let rest = drop (j + 1) ms in
-    let from : List declared.Member → List X = λ l. to ++ from_members of m (map member_of l) in
-    ap₂ (λ (a b : List X). a ++ b) (put ∙ ap (λ (w : Module). to ++ of m w) same) (ap (λ i. from_members of i (map member_of rest)) step)
-    ∙ append_assoc to (of m (member_of x).wasm) (from_members of (m + 1) (map member_of rest))
-    ∙ ap (λ (y : declared.Member). from (y ∷ rest)) item
-    ∙ sym (at_drop_more from ms j x lt)
+pub member_next : {X : Type 0} (of : ℕ → Module → List X) (ms : List Member) (m : ℕ) (y : Member) → slice_get ms m ≡ Some y
+    → (to more all : List X) (wasm : Module) → wasm ≡ y.wasm → more ≡ to ++ of m wasm → to ++ from_members of m (drop m ms) ≡ all
+    → more ++ from_members of (m + 1) (drop (m + 1) ms) ≡ all
+member_next {X} of ms m y there to more all wasm same put before =
+    let rest = from_members of (m + 1) (drop (m + 1) ms) in
+    ap (λ (l : List X). l ++ rest) (put ∙ ap (λ (w : Module). to ++ of m w) same)
+    ∙ append_assoc to (of m y.wasm) rest
+    ∙ ap (λ (l : List Member). to ++ from_members of m l) (sym (member_at ms m y there))
     ∙ before
 
 -- the same of items of a list
@@ -85,11 +85,10 @@ flat_next {X} {Y} of xs j x lt item to more all put before =
     ∙ before
 
 -- no member is left
-pub member_last : {X : Type 0} (of : ℕ → Module → List X) (m : ℕ) (ms : List declared.Member) (j : ℕ) → length ms ≤ j → (to all : List X)
-    → to ++ from_members of m (map member_of (drop j ms)) ≡ all → to ≡ all
-member_last {X} of m ms j le to all before =
-    let from : List declared.Member → List X = λ l. to ++ from_members of m (map member_of l) in
-    sym (append-nil to) ∙ ap from (sym (drop_all j ms le)) ∙ before
+pub member_last : {X : Type 0} (of : ℕ → Module → List X) (m : ℕ) (ms : List Member) → length ms ≤ m → (to all : List X)
+    → to ++ from_members of m (drop m ms) ≡ all → to ≡ all
+member_last {X} of m ms le to all before =
+    sym (append-nil to) ∙ ap (λ (l : List Member). to ++ from_members of m l) (sym (drop_all m ms le)) ∙ before
 
 drop_next : {A : Type 0} (i : ℕ) (xs : List A) → i < length xs → (y : A) × (drop i xs ≡ y ∷ drop (i + 1) xs)
 drop_next i [] lt = absurd (omega arith)
@@ -120,19 +119,16 @@ unfolding open_call_code
 open_made L x d begun search all a b c = c ∙ ap₂ (λ u v. u ++ v) a b
 
 -- the name of a member comes before the names of those behind it
-pub named_next : (L : LinkedSet) (x : Starts) (ms : List declared.Member) (j : ℕ) (y : declared.Member) → j < length ms → y ≡ get_or ms j y → (m : ℕ)
-    → (to more whole : List Named) → more ≡ to ++ strings (((member_of y).name, opens_code L x m) ∷ [])
-    → to ++ strings (named_members L x m (map member_of (drop j ms))) ≡ whole → more ++ strings (named_members L x (m + 1) (map member_of (drop (j + 1) ms))) ≡ whole
-named_next L x ms j y lt item m to more whole put before =
-    let rest = drop (j + 1) ms in
-    let later = named_members L x (m + 1) (map member_of rest) in
-    let this : Named = ((member_of y).name, opens_code L x m) in
-    let from : List declared.Member → List Named = λ l. to ++ strings (named_members L x m (map member_of l)) in
+pub named_next : (L : LinkedSet) (x : Starts) (ms : List Member) (m : ℕ) (y : Member) → slice_get ms m ≡ Some y
+    → (to more whole : List Named) → more ≡ to ++ strings ((y.name, opens_code L x m) ∷ [])
+    → to ++ strings (named_members L x m (drop m ms)) ≡ whole → more ++ strings (named_members L x (m + 1) (drop (m + 1) ms)) ≡ whole
+named_next L x ms m y there to more whole put before =
+    let later = named_members L x (m + 1) (drop (m + 1) ms) in
+    let this : Named = (y.name, opens_code L x m) in
     ap (λ l. l ++ strings later) put
     ∙ append_assoc to (strings (this ∷ [])) (strings later)
     ∙ ap (λ l. to ++ l) (sym (strings_then this later))
-    ∙ ap (λ (z : declared.Member). from (z ∷ rest)) item
-    ∙ sym (at_drop_more from ms j y lt)
+    ∙ ap (λ (l : List Member). to ++ strings (named_members L x m l)) (sym (member_at ms m y there))
     ∙ before
 
 -- ---- promoted members

@@ -1,10 +1,6 @@
 // `dlclose`.
-ghost use Rattle.std.specs.Prelude.{◌≡◌, ◌<◌, ◌≤◌, ◌^◌, ◌++◌, length, drop, map, IfOk, OnOk};
+ghost use Rattle.std.specs.Prelude.{◌≡◌, ◌<◌, ◌^◌, ◌++◌, drop, IfOk, OnOk};
 ghost use Rattle.wasm_form.specs.declared.runtime.LoaderCall.TheVariants.{Dlclose};
-ghost use Rattle.spec_loading.specs.spec_linking.LinkedSets.{LinkedSet};
-ghost use Rattle.dyl_link.specs.dyl_search.Gathers.{member_of};
-ghost use Rattle.dyl_link.specs.Kept.{IsLinked};
-ghost use Rattle.dyl_addresses.specs.Sets.{IsOfSet};
 ghost use Rattle.merge_start.specs.Words.{Starts};
 ghost use Rattle.merge_dl.specs.Words.{Finders, close_code, closes_code, close_call_code};
 ghost use Rattle.merge_dl.specs.Listed.{AreDlNumbers, starts_in, finders_in, call_part};
@@ -13,7 +9,6 @@ use crate::numbers::DlNumbers;
 use crate::parts::{part, unary_type};
 use crate::words::{fault, give, when, where_first};
 use dyl_link::Linked;
-use dyl_link::dyl_search::Member;
 use merge_pieces::opcodes;
 use std::alloc::Global;
 use wasm_form::{Instr, Memory, Part};
@@ -36,15 +31,13 @@ fn close_code(alloc: Global, n: &DlNumbers, m: u32) -> Result<Vec<Instr>, Memory
 fn put_closes(
     to: &mut Vec<Instr>,
     alloc: Global,
+    linked: &Linked,
     n: &DlNumbers,
-    members: &[Member],
 ) -> Result<(), Memory>
-    requires few { length members.now ≤ 256 }
     requires guard { n.now.guard < 2 ^ 31 }
-    ensures { OnOk result (to.new.items ≡ to.old.items ++ closes_code (starts_in n.now) 1 (drop 1 (map member_of members.now))) }
+    ensures { OnOk result (to.new.items ≡ to.old.items ++ closes_code (starts_in n.now) 1 (drop 1 linked.now.set.members)) }
 {
-    let count = members.len() as u32;
-    for m in 1..count {
+    for m in 1..linked.member_count() {
         let mut one = close_code(alloc, n, m)?;
         to.append(&mut one)?;
     }
@@ -53,22 +46,20 @@ fn put_closes(
 
 #[tactic(auto, unfolding(crate::specs::Words::close_call_code))]
 fn close_call_code(alloc: Global, linked: &Linked, n: &DlNumbers) -> Result<Vec<Instr>, Memory>
-    requires set { IsOfSet linked.now }
     requires guard { n.now.guard < 2 ^ 31 }
-    ensures { IfOk result (λ x. (L : LinkedSet) → IsLinked L linked.now → x.items ≡ close_call_code L (starts_in n.now) (finders_in n.now)) }
+    ensures { IfOk result (λ x. x.items ≡ close_call_code linked.now (starts_in n.now) (finders_in n.now)) }
 {
     let itself = give(alloc, 0)?;
     let mut code = where_first(alloc, 1, itself)?;
-    put_closes(&mut code, alloc, n, linked.set().members.items())?;
+    put_closes(&mut code, alloc, linked, n)?;
     let mut refused = fault(alloc, n, 5, u32::MAX)?;
     code.append(&mut refused)?;
     Ok(code)
 }
 
 pub(crate) fn close_function(alloc: Global, linked: &Linked, n: &DlNumbers) -> Result<Part, Memory>
-    requires set { IsOfSet linked.now }
     requires guard { n.now.guard < 2 ^ 31 }
-    ensures { IfOk result (λ p. (L : LinkedSet) (x : Starts) (d : Finders) → IsLinked L linked.now → AreDlNumbers L n.now x d → p ≡ call_part L x d Dlclose) }
+    ensures { IfOk result (λ p. (x : Starts) (d : Finders) → AreDlNumbers linked.now n.now x d → p ≡ call_part linked.now x d Dlclose) }
 {
     let ty = unary_type(alloc)?;
     let code = close_call_code(alloc, linked, n)?;

@@ -2,9 +2,7 @@
 ghost use Rattle.std.specs.Prelude.{◌≡◌, ◌+◌, ◌<◌, ◌^◌, ◌++◌, IfOk, OnOk};
 ghost use Rattle.wasm_form.specs.declared.runtime.LoaderCall.TheVariants.{Dlerror};
 ghost use Rattle.spec_loading.specs.spec_linking.Plans.{texts_size};
-ghost use Rattle.spec_loading.specs.spec_linking.LinkedSets.{LinkedSet};
-ghost use Rattle.dyl_link.specs.Kept.{IsLinked};
-ghost use Rattle.dyl_addresses.specs.Sets.{IsOfSet};
+ghost use Rattle.spec_loading.specs.spec_linking.Slots.{linked_plan};
 ghost use Rattle.merge_start.specs.Words.{Starts};
 ghost use Rattle.merge_dl.specs.Words.{Finders, error_call_code};
 ghost use Rattle.merge_dl.specs.Listed.{AreDlNumbers, finders_in, text_at, texts_at, call_part};
@@ -50,8 +48,7 @@ fn put_texts(to: &mut Vec<Instr>, alloc: Global, address: u32) -> Result<(), Mem
 
 // The address of the error texts. They end before the heap, so there is an address for each.
 fn texts_address(linked: &Linked) -> u32
-    requires { IsOfSet linked.now }
-    ensures is { result ≡ linked.now.plan.stack_top }
+    ensures is { result ≡ (linked_plan linked.now).stack_top }
     ensures fits { result + texts_size < 2 ^ 32 }
 {
     let _heap = linked.plan().heap_base();
@@ -61,8 +58,7 @@ fn texts_address(linked: &Linked) -> u32
 // The last error is in local 0, and none is kept any more.
 #[tactic(auto, unfolding(crate::specs::Words::error_call_code))]
 fn error_call_code(alloc: Global, linked: &Linked, n: &DlNumbers) -> Result<Vec<Instr>, Memory>
-    requires { IsOfSet linked.now }
-    ensures { IfOk result (λ x. (L : LinkedSet) → IsLinked L linked.now → x.items ≡ error_call_code L (finders_in n.now)) }
+    ensures { IfOk result (λ x. x.items ≡ error_call_code linked.now (finders_in n.now)) }
 {
     let mut code = vec![in alloc;
         Instr::Index(opcodes::GLOBAL_GET, n.error),
@@ -76,8 +72,7 @@ fn error_call_code(alloc: Global, linked: &Linked, n: &DlNumbers) -> Result<Vec<
 }
 
 pub(crate) fn error_function(alloc: Global, linked: &Linked, n: &DlNumbers) -> Result<Part, Memory>
-    requires { IsOfSet linked.now }
-    ensures { IfOk result (λ p. (L : LinkedSet) (x : Starts) (d : Finders) → IsLinked L linked.now → AreDlNumbers L n.now x d → p ≡ call_part L x d Dlerror) }
+    ensures { IfOk result (λ p. (x : Starts) (d : Finders) → AreDlNumbers linked.now n.now x d → p ≡ call_part linked.now x d Dlerror) }
 {
     let ty = handle_type(alloc)?;
     let locals = one_local(alloc, ValType::I32)?;

@@ -3,9 +3,6 @@ ghost use Rattle.std.specs.Prelude.{◌≡◌, ◌<◌, ◌^◌, ◌∷◌, ◌+
 ghost use Rattle.std.specs.List.{All};
 ghost use Rattle.wasm_form.specs.declared.instr.Instr.{Index};
 ghost use Rattle.wasm_form.specs.declared.runtime.LoaderCall.TheVariants.{Dlopen};
-ghost use Rattle.spec_loading.specs.spec_linking.LinkedSets.{LinkedSet};
-ghost use Rattle.dyl_link.specs.Kept.{IsLinked};
-ghost use Rattle.dyl_addresses.specs.Sets.{IsOfSet};
 ghost use Rattle.merge_pieces.specs.Opcodes as op;
 ghost use Rattle.merge_start.specs.Words.{Starts, promote_code};
 ghost use Rattle.merge_find.specs.Decisions.{strings};
@@ -30,10 +27,9 @@ fn open_and_promote(
     n: &DlNumbers,
     m: u32,
 ) -> Result<Vec<Instr>, Memory>
-    requires set { IsOfSet linked.now }
     requires member { m < length linked.now.set.members }
     requires promoted { n.now.promoted < 2 ^ 31 }
-    ensures { IfOk result (λ x. (L : LinkedSet) → IsLinked L linked.now → x.items ≡ Index op.call ((starts_in n.now).opening m) ∷ (promote_code L (starts_in n.now) m ++ return_code)) }
+    ensures { IfOk result (λ x. x.items ≡ Index op.call ((starts_in n.now).opening m) ∷ (promote_code linked.now (starts_in n.now) m ++ return_code)) }
 {
     let mut promotes = promote_code(alloc, linked, n, m)?;
     let mut code = vec![in alloc; Instr::Index(opcodes::CALL, opening(n, m))]?;
@@ -44,10 +40,9 @@ fn open_and_promote(
 
 // The function that opens member m is called, and what it gives is returned; where the flag is set, once the closure is promoted.
 fn opens_code(alloc: Global, linked: &Linked, n: &DlNumbers, m: u32) -> Result<Vec<Instr>, Memory>
-    requires set { IsOfSet linked.now }
     requires member { m < length linked.now.set.members }
     requires promoted { n.now.promoted < 2 ^ 31 }
-    ensures { IfOk result (λ x. (L : LinkedSet) → IsLinked L linked.now → x.items ≡ opens_code L (starts_in n.now) m) }
+    ensures { IfOk result (λ x. x.items ≡ opens_code linked.now (starts_in n.now) m) }
 {
     let promotes = open_and_promote(alloc, linked, n, m)?;
     Ok(vec![in alloc;
@@ -62,26 +57,23 @@ fn opens_code(alloc: Global, linked: &Linked, n: &DlNumbers, m: u32) -> Result<V
 
 // The names of members, with what opens them.
 fn named_members(alloc: Global, linked: &Linked, n: &DlNumbers) -> Result<Vec<Named>, Memory>
-    requires set { IsOfSet linked.now }
     requires promoted { n.now.promoted < 2 ^ 31 }
-    ensures names { IfOk result (λ x. (L : LinkedSet) → IsLinked L linked.now → names_of x.items ≡ strings (named_members L (starts_in n.now) 0 L.set.members)) }
+    ensures names { IfOk result (λ x. names_of x.items ≡ strings (named_members linked.now (starts_in n.now) 0 linked.now.set.members)) }
     ensures texts { IfOk result (λ x. All HasText x.items) }
 {
     let mut names = Vec::new(alloc);
-    let mut m: u32 = 0;
-    for member in linked.set().members.items() {
+    for m in 0..linked.member_count() {
+        let member = linked.member(m);
         let code = opens_code(alloc, linked, n, m)?;
         put_named(&mut names, alloc, member.name.as_str().as_bytes(), code)?;
-        m += 1;
     }
     Ok(names)
 }
 
 // A member of the name is opened, or an error is kept.
 fn members_code(alloc: Global, linked: &Linked, n: &DlNumbers) -> Result<Vec<Instr>, Memory>
-    requires set { IsOfSet linked.now }
     requires promoted { n.now.promoted < 2 ^ 31 }
-    ensures { IfOk result (λ x. (L : LinkedSet) → IsLinked L linked.now → x.items ≡ members_code L (starts_in n.now) (finders_in n.now)) }
+    ensures { IfOk result (λ x. x.items ≡ members_code linked.now (starts_in n.now) (finders_in n.now)) }
 {
     let names = named_members(alloc, linked, n)?;
     let search = Search {
@@ -116,9 +108,8 @@ fn open_begin(alloc: Global, n: &DlNumbers) -> Result<Vec<Instr>, Memory>
 
 #[tactic(auto, unfolding(crate::specs::Words::open_call_code))]
 fn open_call_code(alloc: Global, linked: &Linked, n: &DlNumbers) -> Result<Vec<Instr>, Memory>
-    requires set { IsOfSet linked.now }
     requires promoted { n.now.promoted < 2 ^ 31 }
-    ensures { IfOk result (λ x. (L : LinkedSet) → IsLinked L linked.now → x.items ≡ open_call_code L (starts_in n.now) (finders_in n.now)) }
+    ensures { IfOk result (λ x. x.items ≡ open_call_code linked.now (starts_in n.now) (finders_in n.now)) }
 {
     let mut code = open_begin(alloc, n)?;
     let mut search = members_code(alloc, linked, n)?;
@@ -127,9 +118,8 @@ fn open_call_code(alloc: Global, linked: &Linked, n: &DlNumbers) -> Result<Vec<I
 }
 
 pub(crate) fn open_function(alloc: Global, linked: &Linked, n: &DlNumbers) -> Result<Part, Memory>
-    requires set { IsOfSet linked.now }
     requires promoted { n.now.promoted < 2 ^ 31 }
-    ensures { IfOk result (λ p. (L : LinkedSet) (x : Starts) (d : Finders) → IsLinked L linked.now → AreDlNumbers L n.now x d → p ≡ call_part L x d Dlopen) }
+    ensures { IfOk result (λ p. (x : Starts) (d : Finders) → AreDlNumbers linked.now n.now x d → p ≡ call_part linked.now x d Dlopen) }
 {
     let ty = binary_type(alloc)?;
     let locals = one_local(alloc, ValType::I32)?;

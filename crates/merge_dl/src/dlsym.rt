@@ -1,12 +1,8 @@
 // `dlsym`.
-ghost use Rattle.std.specs.Prelude.{◌≡◌, ◌<◌, ◌^◌, ◌++◌, length, drop, map, IfOk, OnOk};
+ghost use Rattle.std.specs.Prelude.{◌≡◌, ◌<◌, ◌^◌, ◌++◌, length, drop, IfOk, OnOk};
 ghost use Rattle.wasm_form.specs.declared.runtime.LoaderCall.TheVariants.{Dlsym};
-ghost use Rattle.spec_loading.specs.spec_linking.LinkedSets.{LinkedSet};
-ghost use Rattle.dyl_link.specs.dyl_search.Gathers.{member_of};
-ghost use Rattle.dyl_link.specs.Kept.{IsLinked};
 ghost use Rattle.merge_start.specs.Words.{Starts};
 ghost use Rattle.merge_start.specs.Listed.{AreFew};
-ghost use Rattle.dyl_addresses.specs.Sets.{IsOfSet};
 ghost use Rattle.merge_dl.specs.Words.{Finders, try_code, tries_then, handle_code, handles_code, symbol_locals, symbol_call_code};
 ghost use Rattle.merge_dl.specs.Listed.{AreDlNumbers, starts_in, finders_in, symbol_begin, call_part};
 
@@ -65,14 +61,14 @@ fn tries_then(
 
 // Where local 0 is the handle of member m and it has been placed, its closure is searched.
 fn handle_code(alloc: Global, linked: &Linked, n: &DlNumbers, m: u32) -> Result<Vec<Instr>, Memory>
-    requires set { IsOfSet linked.now }
     requires member { m < length linked.now.set.members }
     requires guard { n.now.guard < 2 ^ 31 }
     requires first { n.now.first_function < 2 ^ 31 }
-    ensures { IfOk result (λ x. (L : LinkedSet) → IsLinked L linked.now → x.items ≡ handle_code L (starts_in n.now) (finders_in n.now) m) }
+    ensures { IfOk result (λ x. x.items ≡ handle_code linked.now (starts_in n.now) (finders_in n.now) m) }
 {
+    linked.links();
     let unknown = fault(alloc, n, 4, 0)?;
-    let searched = tries_then(alloc, n, linked.symbols().closure(m), unknown)?;
+    let searched = tries_then(alloc, n, linked.closure(m), unknown)?;
     let mut code = vec![in alloc;
         Instr::Index(opcodes::GLOBAL_GET, n.guard + m),
         when(searched),
@@ -89,13 +85,11 @@ fn put_handles(
     linked: &Linked,
     n: &DlNumbers,
 ) -> Result<(), Memory>
-    requires set { IsOfSet linked.now }
     requires guard { n.now.guard < 2 ^ 31 }
     requires first { n.now.first_function < 2 ^ 31 }
-    ensures { OnOk result ((L : LinkedSet) → IsLinked L linked.now → to.new.items ≡ to.old.items ++ handles_code L (starts_in n.now) (finders_in n.now) 1 (drop 1 (map member_of linked.now.set.members))) }
+    ensures { OnOk result (to.new.items ≡ to.old.items ++ handles_code linked.now (starts_in n.now) (finders_in n.now) 1 (drop 1 linked.now.set.members)) }
 {
-    let count = linked.set().members.items().len() as u32;
-    for m in 1..count {
+    for m in 1..linked.member_count() {
         let mut one = handle_code(alloc, linked, n, m)?;
         to.append(&mut one)?;
     }
@@ -105,13 +99,13 @@ fn put_handles(
 // The length of the name is in local 2; for the handles 0 and 1 the members that start with the main module are searched, and then those that
 // are promoted.
 fn symbol_begin(alloc: Global, linked: &Linked, n: &DlNumbers) -> Result<Vec<Instr>, Memory>
-    requires set { IsOfSet linked.now }
     requires first { n.now.first_function < 2 ^ 31 }
     requires promoted { n.now.promoted < 2 ^ 31 }
-    ensures { IfOk result (λ x. (L : LinkedSet) → IsLinked L linked.now → x.items ≡ symbol_begin L (starts_in n.now) (finders_in n.now)) }
+    ensures { IfOk result (λ x. x.items ≡ symbol_begin linked.now (starts_in n.now) (finders_in n.now)) }
 {
+    linked.links();
     let promoted = promoted_code(alloc, linked, n)?;
-    let searched = tries_then(alloc, n, linked.set().startup.items(), promoted)?;
+    let searched = tries_then(alloc, n, linked.startup(), promoted)?;
     Ok(vec![in alloc;
         Instr::Index(opcodes::LOCAL_GET, 1),
         Instr::Index(opcodes::CALL, n.first_function),
@@ -125,11 +119,10 @@ fn symbol_begin(alloc: Global, linked: &Linked, n: &DlNumbers) -> Result<Vec<Ins
 
 #[tactic(auto, unfolding(crate::specs::Words::symbol_call_code))]
 fn symbol_call_code(alloc: Global, linked: &Linked, n: &DlNumbers) -> Result<Vec<Instr>, Memory>
-    requires set { IsOfSet linked.now }
     requires guard { n.now.guard < 2 ^ 31 }
     requires first { n.now.first_function < 2 ^ 31 }
     requires promoted { n.now.promoted < 2 ^ 31 }
-    ensures { IfOk result (λ x. (L : LinkedSet) → IsLinked L linked.now → x.items ≡ symbol_call_code L (starts_in n.now) (finders_in n.now)) }
+    ensures { IfOk result (λ x. x.items ≡ symbol_call_code linked.now (starts_in n.now) (finders_in n.now)) }
 {
     let mut code = symbol_begin(alloc, linked, n)?;
     put_handles(&mut code, alloc, linked, n)?;
@@ -150,11 +143,10 @@ fn symbol_locals(alloc: Global) -> Result<Vec<Group>, Memory>
 }
 
 pub(crate) fn symbol_function(alloc: Global, linked: &Linked, n: &DlNumbers) -> Result<Part, Memory>
-    requires set { IsOfSet linked.now }
     requires guard { n.now.guard < 2 ^ 31 }
     requires first { n.now.first_function < 2 ^ 31 }
     requires promoted { n.now.promoted < 2 ^ 31 }
-    ensures { IfOk result (λ p. (L : LinkedSet) (x : Starts) (d : Finders) → IsLinked L linked.now → AreDlNumbers L n.now x d → p ≡ call_part L x d Dlsym) }
+    ensures { IfOk result (λ p. (x : Starts) (d : Finders) → AreDlNumbers linked.now n.now x d → p ≡ call_part linked.now x d Dlsym) }
 {
     let ty = binary_type(alloc)?;
     let locals = symbol_locals(alloc)?;

@@ -2,11 +2,8 @@
 ghost use Rattle.std.specs.Prelude.{◌≡◌, ◌++◌, IfOk, OnOk};
 ghost use Rattle.std.specs.List.{All, flat_map};
 ghost use Rattle.spec_loading.specs.spec_linking.Definitions.{member_definition};
-ghost use Rattle.spec_loading.specs.spec_linking.LinkedSets.{LinkedSet};
 ghost use Rattle.spec_loading.specs.spec_linking.Slots.{cell_number};
 ghost use Rattle.spec_loading.specs.Members.{from_members};
-ghost use Rattle.dyl_link.specs.Kept.{IsLinked};
-ghost use Rattle.dyl_addresses.specs.Sets.{IsOfSet};
 ghost use Rattle.merge_find.specs.Building.{names_of, HasText};
 ghost use Rattle.merge_dl.specs.Called.{AreSearchParts, AreQuick};
 ghost use Rattle.merge_dl.specs.Listed.{export_names, find_part, find_parts};
@@ -24,8 +21,7 @@ use wasm_form::{Export, List, Memory, Module, Part};
 
 // The slot of the function, or the address of the data, that member m defines a name as.
 fn name_number(linked: &Linked, m: u32, name: &[u8]) -> Option<u32>
-    requires { IsOfSet linked.now }
-    ensures { (L : LinkedSet) → IsLinked L linked.now → result ≡ cell_number L name.now (member_definition L.set m name.now) }
+    ensures { result ≡ cell_number linked.now name.now (member_definition linked.now.set m name.now) }
 {
     search(linked, &[m], name)
 }
@@ -38,9 +34,8 @@ fn put_export(
     m: u32,
     e: &Export,
 ) -> Result<(), Memory>
-    requires set { IsOfSet linked.now }
     requires texts { All HasText to.old.items }
-    ensures names { OnOk result ((L : LinkedSet) → IsLinked L linked.now → names_of to.new.items ≡ names_of to.old.items ++ export_names L m e.now) }
+    ensures names { OnOk result (names_of to.new.items ≡ names_of to.old.items ++ export_names linked.now m e.now) }
     ensures texts { OnOk result (All HasText to.new.items) }
 {
     let name = e.name.as_str().as_bytes();
@@ -61,8 +56,7 @@ fn exported_names(
     m: u32,
     exports: &[Export],
 ) -> Result<Vec<Named>, Memory>
-    requires set { IsOfSet linked.now }
-    ensures names { IfOk result (λ x. (L : LinkedSet) → IsLinked L linked.now → names_of x.items ≡ flat_map (export_names L m) exports.now) }
+    ensures names { IfOk result (λ x. names_of x.items ≡ flat_map (export_names linked.now m) exports.now) }
     ensures texts { IfOk result (λ x. All HasText x.items) }
 {
     let mut names = Vec::new(alloc);
@@ -74,8 +68,7 @@ fn exported_names(
 
 // The function that searches the names of member m.
 fn find_function(alloc: Global, linked: &Linked, m: u32, wasm: &Module) -> Result<Part, Memory>
-    requires { IsOfSet linked.now }
-    ensures { IfOk result (λ x. (L : LinkedSet) → IsLinked L linked.now → x ≡ find_part L m wasm.now) }
+    ensures { IfOk result (λ x. x ≡ find_part linked.now m wasm.now) }
 {
     let ty = search_type(alloc)?;
     let names = exported_names(alloc, linked, m, wasm.exports.items())?;
@@ -88,13 +81,11 @@ fn find_function(alloc: Global, linked: &Linked, m: u32, wasm: &Module) -> Resul
 }
 
 fn put_finds(alloc: Global, to: &mut Vec<Part>, linked: &Linked) -> Result<(), Memory>
-    ensures { OnOk result ((L : LinkedSet) → IsLinked L linked.now → to.new.items ≡ to.old.items ++ from_members (find_parts L) 0 L.set.members) }
+    ensures { OnOk result (to.new.items ≡ to.old.items ++ from_members (find_parts linked.now) 0 linked.now.set.members) }
 {
-    linked.links();
-    let mut m: u32 = 0;
-    for member in linked.set().members.items() {
-        to.push(find_function(alloc, linked, m, member.checked.module())?)?;
-        m += 1;
+    for m in 0..linked.member_count() {
+        let wasm = linked.member(m).checked.module();
+        to.push(find_function(alloc, linked, m, wasm)?)?;
     }
     Ok(())
 }
@@ -104,10 +95,11 @@ fn put_finds(alloc: Global, to: &mut Vec<Part>, linked: &Linked) -> Result<(), M
 /// at most 200 steps for each byte of the string, and 1,600.
 /// `Memory` where no memory could be had.
 pub fn find_functions(alloc: Global, linked: &Linked, _n: &DlNumbers) -> Result<List<Part>, Memory>
-    ensures code { IfOk result (λ parts. (L : LinkedSet) → IsLinked L linked.now → parts ≡ from_members (find_parts L) 0 L.set.members) }
-    ensures works { IfOk result (λ parts. (L : LinkedSet) → IsLinked L linked.now → AreSearchParts L parts) }
-    ensures quick { IfOk result (λ parts. (L : LinkedSet) → IsLinked L linked.now → AreQuick L parts) }
+    ensures code { IfOk result (λ parts. parts ≡ from_members (find_parts linked.now) 0 linked.now.set.members) }
+    ensures works { IfOk result (λ parts. AreSearchParts linked.now parts) }
+    ensures quick { IfOk result (λ parts. AreQuick linked.now parts) }
 {
+    linked.links();
     searches_find();
     searches_are_typed();
     exports_are_texts();

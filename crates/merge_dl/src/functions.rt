@@ -1,8 +1,5 @@
 // The functions of the loader.
 ghost use Rattle.std.specs.Prelude.{◌≡◌, ◌++◌, ◌<◌, ◌^◌, IfOk, OnOk};
-ghost use Rattle.spec_loading.specs.spec_linking.LinkedSets.{LinkedSet};
-ghost use Rattle.dyl_link.specs.Kept.{IsLinked};
-ghost use Rattle.dyl_addresses.specs.Sets.{IsOfSet};
 ghost use Rattle.merge_start.specs.Words.{Starts};
 ghost use Rattle.merge_dl.specs.Words.{Finders};
 ghost use Rattle.merge_dl.specs.Listed.{AreDlNumbers, call_parts};
@@ -23,11 +20,10 @@ fn put_functions(
     linked: &Linked,
     n: &DlNumbers,
 ) -> Result<(), Memory>
-    requires set { IsOfSet linked.now }
     requires guard { n.now.guard < 2 ^ 31 }
     requires first { n.now.first_function < 2 ^ 31 }
     requires promoted { n.now.promoted < 2 ^ 31 }
-    ensures { OnOk result ((L : LinkedSet) (x : Starts) (d : Finders) → IsLinked L linked.now → AreDlNumbers L n.now x d → to.new.items ≡ to.old.items ++ call_parts L x d) }
+    ensures { OnOk result ((x : Starts) (d : Finders) → AreDlNumbers linked.now n.now x d → to.new.items ≡ to.old.items ++ call_parts linked.now x d) }
 {
     to.push(open_function(alloc, linked, n)?)?;
     to.push(symbol_function(alloc, linked, n)?)?;
@@ -42,9 +38,8 @@ pub fn dl_functions(alloc: Global, linked: &Linked, n: &DlNumbers) -> Result<Lis
     requires guard { n.now.guard < 2 ^ 31 }
     requires first { n.now.first_function < 2 ^ 31 }
     requires promoted { n.now.promoted < 2 ^ 31 }
-    ensures { IfOk result (λ parts. (L : LinkedSet) (x : Starts) (d : Finders) → IsLinked L linked.now → AreDlNumbers L n.now x d → parts ≡ call_parts L x d) }
+    ensures { IfOk result (λ parts. (x : Starts) (d : Finders) → AreDlNumbers linked.now n.now x d → parts ≡ call_parts linked.now x d) }
 {
-    linked.links();
     let mut parts = Vec::new(alloc);
     match put_functions(alloc, &mut parts, linked, n) {
         Ok(()) => Ok(List::of(parts)),

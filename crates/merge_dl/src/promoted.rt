@@ -2,9 +2,6 @@
 ghost use Rattle.std.specs.Prelude.{◌≡◌, ◌≤◌, ◌<◌, ◌^◌, ◌∷◌, [], ◌++◌, length, not, IfOk, OnOk};
 ghost use Rattle.std.specs.List.{filter, range_with_len};
 ghost use Rattle.spec_loading.specs.spec_linking.Orders.{is_among};
-ghost use Rattle.spec_loading.specs.spec_linking.LinkedSets.{LinkedSet};
-ghost use Rattle.dyl_link.specs.Kept.{IsLinked};
-ghost use Rattle.dyl_addresses.specs.Sets.{IsOfSet};
 ghost use Rattle.merge_start.specs.Words.{next_place, promote_one, promote_each, promote_code};
 ghost use Rattle.merge_start.specs.Listed.{AreFew};
 ghost use Rattle.merge_dl.specs.Words.{before_code, keep_code, ask_code, prefer_code, prefers_code, preferred_code, promoted_code};
@@ -76,17 +73,12 @@ pub(crate) fn promote_code(
     n: &DlNumbers,
     m: u32,
 ) -> Result<Vec<Instr>, Memory>
-    requires set { IsOfSet linked.now }
     requires member { m < length linked.now.set.members }
     requires promoted { n.now.promoted < 2 ^ 31 }
-    ensures { IfOk result (λ x. (L : LinkedSet) → IsLinked L linked.now → x.items ≡ promote_code L (starts_in n.now) m) }
+    ensures { IfOk result (λ x. x.items ≡ promote_code linked.now (starts_in n.now) m) }
 {
-    promote_each(
-        alloc,
-        n,
-        linked.set().startup.items(),
-        linked.symbols().closure(m),
-    )
+    linked.links();
+    promote_each(alloc, n, linked.startup(), linked.closure(m))
 }
 
 // ---- the search
@@ -218,14 +210,13 @@ pub(crate) fn promoted_code(
     linked: &Linked,
     n: &DlNumbers,
 ) -> Result<Vec<Instr>, Memory>
-    requires set { IsOfSet linked.now }
     requires first { n.now.first_function < 2 ^ 31 }
     requires promoted { n.now.promoted < 2 ^ 31 }
-    ensures { IfOk result (λ x. (L : LinkedSet) → IsLinked L linked.now → x.items ≡ promoted_code L (starts_in n.now) (finders_in n.now)) }
+    ensures { IfOk result (λ x. x.items ≡ promoted_code linked.now (starts_in n.now) (finders_in n.now)) }
 {
-    let count = linked.set().members.items().len() as u32;
+    let count = linked.member_count();
     let mut code = vec![in alloc; number(u32::MAX), Instr::Index(opcodes::LOCAL_SET, 5)]?;
-    put_prefers(&mut code, alloc, n, linked.set().startup.items(), count)?;
+    put_prefers(&mut code, alloc, n, linked.startup(), count)?;
     let mut preferred = preferred_code(alloc, n)?;
     code.append(&mut preferred)?;
     Ok(code)

@@ -6,20 +6,23 @@ use Rattle.wasm_form.specs.declared.module.Module.{Module}
 use Rattle.wasm_form.specs.declared.runtime.LoaderCall.TheVariants.{Dlopen, Dlsym, Dlclose, Dlerror}
 use Rattle.wasm_form.specs.declared.runtime.Ref.{Ref}
 use Rattle.spec_loading.specs.spec_linking.Sets.{Member}
+use Rattle.spec_loading.specs.spec_linking.Gathering.{IsSet}
 use Rattle.spec_loading.specs.spec_linking.LinkedSets.{LinkedSet}
 use Rattle.spec_loading.specs.Members.{from_members, uses_loader}
 use Rattle.dyl_link.specs.dyl_search.declared.set.Member as kept
-use Rattle.dyl_link.specs.Kept.{Kept, IsLinked}
-use Rattle.dyl_addresses.specs.Sets.{module_of}
+use Rattle.dyl_link.specs.dyl_search.Gathers.{member_of}
+use Rattle.dyl_link.specs.Functions.{AreFunctions}
+use Rattle.dyl_addresses.specs.Sets.{module_of, wasms}
 use Rattle.dyl_addresses.specs.Lists.{size_in, numbers_end}
 use Rattle.dyl_addresses.specs.declared.lists.Space.TheVariants.{Codes}
 use Rattle.dyl_addresses.specs.Kept.{KeptAddresses}
 use Rattle.merge_index.proofs.FewItems.{AreFew, sum_few}
-use Rattle.merge_index.specs.Numbering.{stubs_of, first_phase, first_opening, length_number, first_find, first_call, call_place, loader_numbers}
+use Rattle.merge_index.specs.Numbering.{host_count, stubs_of, first_phase, first_opening, length_number, first_find, first_call, call_place, loader_numbers}
 use Rattle.merge_index.specs.declared.numbers.LoaderNumbers.{LoaderNumbers}
 use Rattle.merge_index.specs.Lists.{stub_size, stubs_end, all_stubs_end}
 use Rattle.merge_index.proofs.Counted.{few_bytes, few_hosts, few_stubs}
-use Rattle.merge_index.proofs.Whole.{first_phase_is}
+use Rattle.dyl_addresses.proofs.Whole.{of_modules}
+use Rattle.merge_index.proofs.Whole.{first_is, first_phase_is}
 
 -- ---- sums go up
 
@@ -62,12 +65,11 @@ all_room xs i x lt is next all held =
 
 -- ---- a set
 
-module _ (L : LinkedSet) (k : Kept) (linked : IsLinked L k) where
-  pub hosts_few : length k.hosts < 4294967296
+module _ (L : LinkedSet) (shape : IsSet L.set) where
+  pub hosts_few : host_count L < 4294967296
   hosts_few =
-      let hosts = few_hosts L linked.shape in
-      let bytes = few_bytes L linked.shape in
-      let same = ap length linked.hosts in
+      let hosts = few_hosts L shape in
+      let bytes = few_bytes L shape in
       omega arith
 
   codes_each : (x : Member) → AreFew x.wasm x.size → length x.wasm.codes ≤ 0 + x.size
@@ -75,46 +77,48 @@ module _ (L : LinkedSet) (k : Kept) (linked : IsLinked L k) where
 
   phases_most : first_phase L ≤ 50331648
   phases_most =
-      let hosts = few_hosts L linked.shape in
-      let codes = sum_few (λ w. length w.codes) 0 codes_each L.set.members linked.shape.members in
-      let stubs = few_stubs L linked.shape in
+      let hosts = few_hosts L shape in
+      let codes = sum_few (λ w. length w.codes) 0 codes_each L.set.members shape.members in
+      let stubs = few_stubs L shape in
       let all = ap (λ ms. length (from_members (stubs_of L) 0 ms)) (take_all (length L.set.members) L.set.members (omega arith)) in
-      let bytes = few_bytes L linked.shape in
+      let bytes = few_bytes L shape in
       omega arith
 
   pub phases_few : first_phase L < 2147483648
   phases_few = (let most = phases_most in omega arith)
 
-  -- the numbers behind the bodies, and behind the stubs, where all begins behind the host functions
-  pub stubs_few : all_stubs_end (numbers_end (size_in Codes) (length k.hosts) (map module_of k.set.members)) k.functions < 2147483648
-  stubs_few =
-      let none : KeptAddresses = record { globals = []; tables = []; elems = []; datas = [] } in
-      let is = first_phase_is L k linked none in
+  -- the numbers behind the bodies, where all begins behind the host functions
+  codes_few : numbers_end (size_in Codes) (host_count L) (wasms L.set.members) < 4294967296
+  codes_few =
+      let is = first_is L in
       let most = phases_most in
       omega arith
 
-  pub codes_few : numbers_end (size_in Codes) (length k.hosts) (map module_of k.set.members) < 4294967296
-  codes_few =
-      let least = all_least (numbers_end (size_in Codes) (length k.hosts) (map module_of k.set.members)) k.functions in
-      let most = stubs_few in
+  -- and behind the stubs
+  stubs_few : (refs : List (List Ref)) → AreFunctions L refs → all_stubs_end (numbers_end (size_in Codes) (host_count L) (wasms L.set.members)) refs < 2147483648
+  stubs_few refs named =
+      let none : KeptAddresses = record { globals = []; tables = []; elems = []; datas = [] } in
+      let is = first_phase_is L refs named none in
+      let most = phases_most in
       omega arith
 
   -- the same by what code has of them
-  pub ends_few : (hosts first : ℕ) (ms : List kept.Member) (refs : List (List Ref)) → hosts ≡ length k.hosts → ms ≡ k.set.members → refs ≡ k.functions
-      → first ≡ numbers_end (size_in Codes) hosts (map module_of ms) → all_stubs_end first refs < 2147483648
+  pub ends_few : (hosts first : ℕ) (ms : List kept.Member) (refs : List (List Ref)) → hosts ≡ host_count L → map member_of ms ≡ L.set.members
+      → AreFunctions L refs → first ≡ numbers_end (size_in Codes) hosts (map module_of ms) → all_stubs_end first refs < 2147483648
   ends_few hosts first ms refs many list named is =
-      subst (λ (n : ℕ). n < 2147483648)
-      (sym (ap₂ all_stubs_end (is ∙ ap₂ (λ (n : ℕ) (l : List kept.Member). numbers_end (size_in Codes) n (map module_of l)) many list) named)) stubs_few
+      subst (λ (n : ℕ). all_stubs_end n refs < 2147483648)
+      (sym (is ∙ ap₂ (λ (n : ℕ) (ws : List Module). numbers_end (size_in Codes) n ws) many (of_modules L ms list))) (stubs_few refs named)
 
-  pub totals_few : (hosts : ℕ) (ms : List kept.Member) → hosts ≡ length k.hosts → ms ≡ k.set.members → numbers_end (size_in Codes) hosts (map module_of ms) < 4294967296
+  pub totals_few : (hosts : ℕ) (ms : List kept.Member) → hosts ≡ host_count L → map member_of ms ≡ L.set.members
+      → numbers_end (size_in Codes) hosts (map module_of ms) < 4294967296
   totals_few hosts ms many list =
-      subst (λ (n : ℕ). n < 4294967296) (sym (ap₂ (λ (n : ℕ) (l : List kept.Member). numbers_end (size_in Codes) n (map module_of l)) many list)) codes_few
+      subst (λ (n : ℕ). n < 4294967296) (sym (ap₂ (λ (n : ℕ) (ws : List Module). numbers_end (size_in Codes) n ws) many (of_modules L ms list))) codes_few
 
   opening_few : first_opening L < 2147483648
-  opening_few = (let most = phases_most in let many = linked.shape.few in omega arith)
+  opening_few = (let most = phases_most in let many = shape.few in omega arith)
 
   length_few : length_number L < 2147483648
-  length_few = (let most = phases_most in let many = linked.shape.few in omega arith)
+  length_few = (let most = phases_most in let many = shape.few in omega arith)
 
   abbrev found_numbers : LoaderNumbers
   found_numbers = record {

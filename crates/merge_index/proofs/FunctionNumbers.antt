@@ -20,7 +20,8 @@ use Rattle.merge_index.specs.declared.numbers.LoaderNumbers.{LoaderNumbers}
 use Rattle.merge_index.specs.Kept.{number_at, own_from, stub_number, call_in}
 use Rattle.dyl_addresses.specs.Lists.{numbered}
 use Rattle.merge_index.specs.Lists.{Known, stub_size, stubs_end, ref_number, named_from, named_lists}
-use Rattle.dyl_addresses.proofs.Items.{wasms, numbered_item}
+use Rattle.dyl_addresses.specs.Sets.{wasms}
+use Rattle.dyl_addresses.proofs.Items.{numbered_item}
 use Rattle.merge_index.proofs.Refs.{ref_fits}
 use Rattle.merge_index.proofs.Stubs.{Reads, before_one, stubs_to, counted}
 use Rattle.merge_index.proofs.StubNumbers.{stub_within}

@@ -1,5 +1,5 @@
 -- What is kept stands for the numbers of the set.
-use Rattle.std.proofs.Common.{◌≡◌, ℕ, ◌+◌, List, [], ◌∷◌, length, refl, ap, ap₂, ◌∙◌, arith}
+use Rattle.std.proofs.Common.{◌≡◌, ℕ, ◌+◌, List, [], ◌∷◌, length, map, Option, refl, sym, ap, ap₂, ◌∙◌, arith}
 use Rattle.std.proofs.Math.Path.{fun_ext}
 use Rattle.std.proofs.lemmas.List.{length-map}
 use Rattle.wasm_form.specs.declared.module.Module.{Module}
@@ -9,17 +9,19 @@ use Rattle.spec_loading.specs.spec_linking.Sets as sets
 use Rattle.spec_loading.specs.spec_linking.LinkedSets.{LinkedSet}
 use Rattle.spec_loading.specs.Addresses.{sum_before}
 use Rattle.spec_loading.specs.Members.{uses_loader}
-use Rattle.dyl_link.specs.Kept.{Kept, IsLinked}
+use Rattle.dyl_link.specs.Functions.{AreFunctions}
 use Rattle.merge_match.specs.Renumbering.{Numbers}
 use Rattle.merge_match.specs.Parts.{number_of}
 use Rattle.merge_index.specs.Numbering.{host_count, first_stub, first_phase, loader_numbers, function_number, numbers_of}
 use Rattle.merge_index.specs.Kept.{KeptNumbers, number_at, stub_number, call_in, numbers_in, function_in}
 use Rattle.dyl_addresses.specs.Kept.{KeptAddresses, AreAddressesOf}
-use Rattle.dyl_addresses.specs.Lists.{size_in, numbers_end}
-use Rattle.merge_index.specs.Lists.{named_lists, all_stubs_end, loader_where, kept_with, kept_of}
-use Rattle.dyl_addresses.specs.declared.lists.Space.TheVariants.{Codes}
-use Rattle.dyl_addresses.proofs.Items.{wasms, items_are}
-use Rattle.dyl_addresses.proofs.Whole.{of_modules}
+use Rattle.dyl_addresses.specs.Lists.{size_in, numbers_end, numbered}
+use Rattle.spec_loading.specs.spec_binary.IndexSpaces.{imported_count}
+use Rattle.merge_index.specs.declared.numbers.LoaderNumbers.{LoaderNumbers}
+use Rattle.merge_index.specs.Lists.{Known, named_lists, all_stubs_end, loader_where, kept_of}
+use Rattle.dyl_addresses.specs.declared.lists.Space.TheVariants.{Types, Codes}
+use Rattle.dyl_addresses.specs.Sets.{wasms}
+use Rattle.dyl_addresses.proofs.Items.{items_are}
 use Rattle.merge_index.proofs.Stubs.{ended}
 use Rattle.merge_index.proofs.FunctionNumbers.{owns, imports, own_is, called, named_is, stub_number_is}
 
@@ -42,47 +44,58 @@ pub total_is : (size : Module → ℕ) (start : ℕ) (xs : List sets.Member) →
 total_is size start [] = omega arith
 total_is size start (x ∷ xs) = total_is size (start + size x.wasm) xs ∙ omega arith
 
-module _ (L : LinkedSet) (k : Kept) (h : IsLinked L k) (addresses : KeptAddresses) where
-  first_is : numbers_end (size_in Codes) (host_count L) (wasms L.set.members) ≡ first_stub L
-  first_is = total_is (size_in Codes) (host_count L) L.set.members
+pub first_is : (L : LinkedSet) → numbers_end (size_in Codes) (host_count L) (wasms L.set.members) ≡ first_stub L
+first_is L = total_is (size_in Codes) (host_count L) L.set.members
 
+-- what is made list by list is what is kept
+pub kept_is : (L : LinkedSet) (refs : List (List Ref)) (addresses : KeptAddresses) (hosts : ℕ) (ws : List Module)
+    → hosts ≡ host_count L → ws ≡ wasms L.set.members
+    → (own : List (List ℕ)) (imported : List ℕ) (first phase : ℕ) (loader : Option LoaderNumbers) (functions types : List (List ℕ)) (k : Known)
+    → own ≡ numbered (size_in Codes) hosts ws → imported ≡ map imported_count ws → first ≡ numbers_end (size_in Codes) hosts ws
+    → phase ≡ all_stubs_end first refs → loader ≡ loader_where (uses_loader L) phase (length L.set.members)
+    → k ≡ record { owns = own; imported = imported; loader = loader } → functions ≡ named_lists k first refs
+    → types ≡ numbered (size_in Types) 0 ws
+    → record { functions = functions; owns = own; imported = imported; first_stub = first; first_phase = phase; loader = loader; types = types; addresses = addresses }
+    ≡ kept_of L refs addresses
+kept_is L refs addresses hosts ws many list own imported first phase loader functions types k p q r s t u v w =
+    let a : own ≡ numbered (size_in Codes) (host_count L) (wasms L.set.members) = p ∙ ap₂ (λ n ms. numbered (size_in Codes) n ms) many list in
+    let b : imported ≡ map imported_count (wasms L.set.members) = q ∙ ap (map imported_count) list in
+    let f : first ≡ numbers_end (size_in Codes) (host_count L) (wasms L.set.members) = r ∙ ap₂ (λ n ms. numbers_end (size_in Codes) n ms) many list in
+    let g : phase ≡ all_stubs_end (numbers_end (size_in Codes) (host_count L) (wasms L.set.members)) refs = s ∙ ap (λ n. all_stubs_end n refs) f in
+    let l : loader ≡ (kept_of L refs addresses).loader =
+    t ∙ ap₂ (λ n m. loader_where (uses_loader L) n m) g (sym (length-map L.set.members (λ x. x.wasm))) in
+    let known : k ≡ record { owns = (kept_of L refs addresses).owns; imported = (kept_of L refs addresses).imported; loader = (kept_of L refs addresses).loader } =
+    u ∙ (λ i. record { owns = a i; imported = b i; loader = l i }) in
+    let fs : functions ≡ (kept_of L refs addresses).functions = v ∙ ap₂ (λ x n. named_lists x n refs) known f in
+    let ts : types ≡ numbered (size_in Types) 0 (wasms L.set.members) = w ∙ ap (numbered (size_in Types) 0) list in
+    λ i. record { functions = fs i; owns = a i; imported = b i; first_stub = f i; first_phase = g i; loader = l i; types = ts i; addresses = addresses }
+
+module _ (L : LinkedSet) (refs : List (List Ref)) (named : AreFunctions L refs) (addresses : KeptAddresses) where
   abbrev kept : KeptNumbers
-  kept = kept_with (host_count L) (wasms L.set.members) k.functions (uses_loader L) addresses
+  kept = kept_of L refs addresses
 
-  phase_same : kept.first_phase ≡ first_phase L
-  phase_same = ap (λ n. all_stubs_end n k.functions) first_is ∙ ended L (first_stub L) k.functions h.functions
+  pub first_phase_is : (kept_of L refs addresses).first_phase ≡ first_phase L
+  first_phase_is = ap (λ n. all_stubs_end n refs) (first_is L) ∙ ended L (first_stub L) refs named.names
 
-  loader_same : kept.loader ≡ loader_numbers L
-  loader_same = ap₂ (λ a b. loader_where (uses_loader L) a b) phase_same (length-map L.set.members (λ x. x.wasm))
+  pub loader_is : (kept_of L refs addresses).loader ≡ loader_numbers L
+  loader_is = ap₂ (λ a b. loader_where (uses_loader L) a b) first_phase_is (length-map L.set.members (λ x. x.wasm))
 
   named_same : (m f : ℕ) → number_at kept.functions m f ≡ (numbers_of L).named m f
   named_same m f =
-      ap₂ (λ l n. number_at (named_lists (record { owns = owns L; imported = imports L; loader = l }) n k.functions) m f) loader_same first_is
-      ∙ named_is L k.functions h.functions m f
+      ap₂ (λ l n. number_at (named_lists (record { owns = owns L; imported = imports L; loader = l }) n refs) m f) loader_is (first_is L)
+      ∙ named_is L refs named.names m f
 
   function_same : (r : Ref) → function_in kept r ≡ function_number L r
   function_same (Own m f) = own_is L m f
-  function_same (Loader which) = ap (λ l. call_in l which) loader_same ∙ called L which
+  function_same (Loader which) = ap (λ l. call_in l which) loader_is ∙ called L which
   function_same (Host e) = refl
   function_same (Stub m f) =
-      ap₂ (λ a b. stub_number a b (number_at kept.functions m f)) first_is phase_same
+      ap₂ (λ a b. stub_number a b (number_at kept.functions m f)) (first_is L) first_phase_is
       ∙ ap (stub_number (first_stub L) (first_phase L)) (named_same m f)
       ∙ stub_number_is L m f
 
-  kept_is : kept_of k addresses ≡ kept
-  kept_is =
-      ap₂ (λ n ms. kept_with n ms k.functions k.uses_loader addresses) (ap length h.hosts) (of_modules L k h)
-      ∙ ap (λ b. kept_with (host_count L) (wasms L.set.members) k.functions b addresses) h.uses_loader
-
-  pub numbers_are : AreAddressesOf L addresses → numbers_in (kept_of k addresses) ≡ numbers_of L
+  pub numbers_are : AreAddressesOf L addresses → numbers_in (kept_of L refs addresses) ≡ numbers_of L
   numbers_are are =
-      ap numbers_in kept_is
-      ∙ same_numbers (numbers_in kept) (numbers_of L) function_same named_same (λ m t. ap number_of (items_are L (λ x. length x.types) m t))
+      same_numbers (numbers_in kept) (numbers_of L) function_same named_same (λ m t. ap number_of (items_are L (λ x. length x.types) m t))
       (λ m g. ap number_of (are.globals m g)) (λ m t. ap number_of (are.tables m t))
       (λ m e. ap number_of (are.elems m e)) (λ m d. ap number_of (are.datas m d))
-
-  pub first_phase_is : (kept_of k addresses).first_phase ≡ first_phase L
-  first_phase_is = ap (λ (x : KeptNumbers). x.first_phase) kept_is ∙ phase_same
-
-  pub loader_is : (kept_of k addresses).loader ≡ loader_numbers L
-  loader_is = ap (λ (x : KeptNumbers). x.loader) kept_is ∙ loader_same

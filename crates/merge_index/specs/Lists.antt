@@ -7,19 +7,20 @@ use Rattle.wasm_form.specs.declared.runtime.Ref.{Ref}
 use Rattle.wasm_form.specs.declared.runtime.Ref.TheVariants.{Own, Loader, Host, Stub}
 use Rattle.spec_loading.specs.spec_binary.Options.{◌>>=◌}
 use Rattle.spec_loading.specs.spec_binary.IndexSpaces.{imported_count}
-use Rattle.dyl_link.specs.Kept.{Kept}
+use Rattle.spec_loading.specs.spec_linking.LinkedSets.{LinkedSet, wasm_of}
+use Rattle.spec_loading.specs.Members.{uses_loader}
 use Rattle.merge_index.specs.declared.functions.Known as declared
-use Rattle.dyl_addresses.specs.Sets.{module_of}
+use Rattle.dyl_addresses.specs.Sets.{wasms}
 use Rattle.dyl_addresses.specs.declared.lists.Space.TheVariants.{Types, Codes}
 use Rattle.dyl_addresses.specs.Lists.{size_in, numbers_end, numbered}
 use Rattle.dyl_addresses.specs.Kept.{KeptAddresses}
 use Rattle.merge_index.specs.declared.numbers.LoaderNumbers.{LoaderNumbers}
-use Rattle.merge_index.specs.Numbering.{call_place}
+use Rattle.merge_index.specs.Numbering.{host_count, call_place}
 use Rattle.merge_index.specs.Kept.{KeptNumbers, own_from, call_in}
 
 -- a body of member m, by its number
-abbrev pub code_in : Kept → ℕ → ℕ → Option Code
-code_in k m body = slice_get k.set.members m >>= λ x. slice_get (module_of x).codes body
+abbrev pub code_in : LinkedSet → ℕ → ℕ → Option Code
+code_in L m body = wasm_of L m >>= λ wasm. slice_get wasm.codes body
 
 -- ---- functions
 
@@ -107,5 +108,5 @@ kept_with hosts wasms refs uses addresses =
       addresses = addresses;
     }
 
-abbrev pub kept_of : Kept → KeptAddresses → KeptNumbers
-kept_of k addresses = kept_with (length k.hosts) (map module_of k.set.members) k.functions k.uses_loader addresses
+abbrev pub kept_of : LinkedSet → List (List Ref) → KeptAddresses → KeptNumbers
+kept_of L refs addresses = kept_with (host_count L) (wasms L.set.members) refs (uses_loader L) addresses

@@ -1,11 +1,10 @@
 // Numbers of a linked set.
-ghost use Rattle.std.specs.Prelude.{◌≡◌, ◌<◌, ◌≤◌, ◌^◌, length, slice_get, IfOk};
-ghost use Rattle.spec_loading.specs.spec_linking.LinkedSets.{LinkedSet};
-ghost use Rattle.dyl_link.specs.Kept.{IsLinked};
+ghost use Rattle.std.specs.Prelude.{◌≡◌, ◌<◌, ◌^◌, length, slice_get, IfOk};
+ghost use Rattle.spec_loading.specs.Members.{uses_loader};
+ghost use Rattle.dyl_link.specs.Functions.{AreFunctions};
 ghost use Rattle.merge_index.specs.Numbering.{first_phase, loader_numbers, numbers_of};
 ghost use Rattle.merge_match.specs.Parts.{number_of};
-ghost use Rattle.dyl_addresses.specs.Kept.{AreAddresses};
-ghost use Rattle.dyl_addresses.specs.Sets.{IsOfSet};
+ghost use Rattle.dyl_addresses.specs.Kept.{AreAddressesOf};
 ghost use Rattle.merge_index.specs.Lists.{loader_where, kept_of};
 ghost use Rattle.merge_index.specs.Kept.{own_from, stub_number, call_in, numbers_in};
 
@@ -121,36 +120,35 @@ impl Model for Numbers {
 
 // What there is for the functions of the loader, where the set uses them and the phases begin with a number.
 fn loader_where(linked: &Linked, first: u32) -> Option<LoaderNumbers>
-    requires first { first < 2 ^ 31 }
-    requires few { length linked.now.set.members ≤ 256 }
-    ensures { result ≡ loader_where linked.now.uses_loader first (length linked.now.set.members) }
+    requires { first < 2 ^ 31 }
+    ensures { result ≡ loader_where (uses_loader linked.now) first (length linked.now.set.members) }
 {
     if !linked.uses_loader() {
         return None;
     }
-    let count = linked.set().members.items().len() as u32;
-    Some(loader_behind(first, count))
+    Some(loader_behind(first, linked.member_count()))
 }
 
-// What is kept of a linked set.
-fn kept(alloc: Global, linked: &Linked) -> Result<Numbers, Memory>
-    requires { IsOfSet linked.now }
-    ensures kept { IfOk result (λ n. n ≡ kept_of linked.now n.addresses) }
-    ensures addresses { IfOk result (λ n. AreAddresses linked.now n.addresses) }
+// What is kept of a linked set, by the functions that the numbers of its members name.
+fn kept(alloc: Global, linked: &Linked, named: &[List<Ref>]) -> Result<Numbers, Memory>
+    requires { AreFunctions linked.now named.now }
+    ensures kept { IfOk result (λ n. n ≡ kept_of linked.now named.now n.addresses) }
+    ensures addresses { IfOk result (λ n. AreAddressesOf linked.now n.addresses) }
 {
-    let members = linked.set().members.items();
+    linked.links();
+    let members = linked.members();
     let hosts = linked.hosts().len() as u32;
     let owns = numbered(alloc, members, Space::Codes, hosts)?;
     let imported = imported_counts(alloc, members)?;
     let first_stub = total(members, Space::Codes, hosts);
-    let first_phase = all_stubs_end(first_stub, linked.functions());
+    let first_phase = all_stubs_end(first_stub, named);
     let loader = loader_where(linked, first_phase);
     let known = Known {
         owns: owns.as_slice(),
         imported: imported.as_slice(),
         loader,
     };
-    let functions = named_lists(alloc, linked.functions(), known, first_stub)?;
+    let functions = named_lists(alloc, named, known, first_stub)?;
     let types = numbered(alloc, members, Space::Types, 0)?;
     let addresses = Addresses::of(alloc, linked)?;
     Ok(Numbers {
@@ -168,12 +166,11 @@ fn kept(alloc: Global, linked: &Linked) -> Result<Numbers, Memory>
 impl Numbers {
     /// The numbers of what the members of a linked set have. `Memory` where no memory could be had.
     pub fn of(alloc: Global, linked: &Linked) -> Result<Numbers, Memory>
-        ensures numbers { IfOk result (λ n. (L : LinkedSet) → IsLinked L linked.now → numbers_in n ≡ numbers_of L) }
-        ensures phase { IfOk result (λ n. (L : LinkedSet) → IsLinked L linked.now → n.first_phase ≡ first_phase L) }
-        ensures loader { IfOk result (λ n. (L : LinkedSet) → IsLinked L linked.now → n.loader ≡ loader_numbers L) }
+        ensures numbers { IfOk result (λ n. numbers_in n ≡ numbers_of linked.now) }
+        ensures phase { IfOk result (λ n. n.first_phase ≡ first_phase linked.now) }
+        ensures loader { IfOk result (λ n. n.loader ≡ loader_numbers linked.now) }
     {
-        linked.links();
-        let numbers = kept(alloc, linked)?;
+        let numbers = kept(alloc, linked, linked.functions())?;
         Ok(numbers)
     }
 

@@ -182,8 +182,7 @@ impl Numbers {
         requires there { IsTrue (is_some (code_in linked.now m body)) }
         ensures { IfOk result (λ x. Some x ≡ option_map (renumbered_code (numbers_in self.now) m) (code_in linked.now m body)) }
     {
-        let member = &linked.set().members.items()[m as usize];
-        let code = &member.checked.module().codes.items()[body as usize];
+        let code = &linked.module(m).codes.items()[body as usize];
         rename_code(alloc, self, m, code)
     }
 }

@@ -1,5 +1,5 @@
 -- Members of a set are few, and each has fewer than 2^32 of anything: so numbers of what all have together fit.
-use Rattle.std.proofs.Common.{◌≡◌, ◌<◌, ◌≤◌, ◌+◌, ◌*◌, ◌^◌, ℕ, List, [], ◌∷◌, ◌++◌, length, Option, Some, None, Bool, true, false, if◌then◌else◌, is_none, sym, ap, ◌∙◌, subst, arith, length-append}
+use Rattle.std.proofs.Common.{◌≡◌, ◌<◌, ◌≤◌, ◌+◌, ◌*◌, ◌^◌, ℕ, List, [], ◌∷◌, ◌++◌, length, Option, Some, None, Bool, true, false, if◌then◌else◌, is_none, sym, subst, arith, length-append}
 use Rattle.std.specs.List.{filter}
 use Rattle.std.proofs.lemmas.List.Sums.{length-filter, count_by-le-length}
 use Rattle.wasm_form.specs.declared.module.ImportDesc.{ImportDesc}
@@ -7,7 +7,6 @@ use Rattle.wasm_form.specs.declared.module.ImportDesc.TheVariants as imported
 use Rattle.wasm_form.specs.declared.module.Import.{Import}
 use Rattle.wasm_form.specs.declared.module.Export.{Export}
 use Rattle.wasm_form.specs.declared.module.Module.{Module}
-use Rattle.spec_loading.specs.spec_binary.Options.{◌>>=◌}
 use Rattle.spec_loading.specs.spec_binary.WellFormed.{IsWellFormed}
 use Rattle.spec_loading.specs.spec_linking.Definitions.{defined_function}
 use Rattle.spec_loading.specs.spec_linking.Orders.{is_among}
@@ -15,9 +14,8 @@ use Rattle.spec_loading.specs.spec_binary.IndexSpaces.{tables_in, imports_of, ta
 use Rattle.spec_loading.specs.spec_linking.LinkedSets.{LinkedSet, wasm_of}
 use Rattle.spec_loading.specs.spec_linking.Slots.{segment_slot, with_function, functions_with, defined_functions, fresh_of}
 use Rattle.spec_loading.specs.spec_linking.Slots as slots
-use Rattle.dyl_link.specs.Kept.{Kept, IsLinked}
 use Rattle.merge_start.specs.declared.numbers.Places.{Places}
-use Rattle.merge_start.specs.Listed.{Fit, spans_at, behind, fresh_count}
+use Rattle.merge_start.specs.Listed.{Fit, spans_at, behind}
 
 -- ---- tables
 
@@ -87,7 +85,8 @@ functions_within wasm known (e ∷ es) =
 filter_few : {A : Type 0} (p : A → Bool) (xs : List A) → length (filter p xs) ≤ length xs
 filter_few p xs = (let few = count_by-le-length p xs in omega (arith, length-filter p xs))
 
-fresh_few : (L : LinkedSet) (m : ℕ) (wasm : Module) → IsWellFormed wasm → wasm_of L m ≡ Some wasm → length (fresh_of L m) < 2 ^ 32
+-- a member has fewer fresh slots than exports
+pub fresh_few : (L : LinkedSet) (m : ℕ) (wasm : Module) → IsWellFormed wasm → wasm_of L m ≡ Some wasm → length (fresh_of L m) < 2 ^ 32
 fresh_few L m wasm formed found =
     let among : length (slots.fresh_in L m (Some wasm)) < 2 ^ 32 =
     (let short = formed.exports.0 in let all = functions_within wasm [] wasm.exports in
@@ -95,14 +94,3 @@ fresh_few L m wasm formed found =
     filter_few (λ f. is_none (segment_slot L m f)) (defined_functions wasm) in
     omega arith) in
     subst (λ o. length (slots.fresh_in L m o) < 2 ^ 32) (sym found) among
-
-some_equal : (a b : ℕ) → Some a ≡ Some b → a ≡ b
-some_equal a b e = cc
-
--- a member has fewer fresh slots than exports
-pub fresh_fits : (L : LinkedSet) (k : Kept) → IsLinked L k → (m : ℕ) → m < length L.set.members → (wasm : Module) → IsWellFormed wasm
-    → wasm_of L m ≡ Some wasm → (count : ℕ) → fresh_count k m ≡ Some count → count < 2 ^ 32
-fresh_fits L k h m lt wasm formed found count e =
-    let few = fresh_few L m wasm formed found in
-    let same = some_equal _ _ (sym e ∙ ap (λ (o : Option (List ℕ)). o >>= λ fs. Some (length fs)) (h.fresh m lt)) in
-    omega (arith, few, same)

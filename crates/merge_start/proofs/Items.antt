@@ -94,6 +94,3 @@ module _ (L : LinkedSet) (s : StartNumbers) (m : ℕ) (wasm : Module) (fs : List
   pub fresh_is : (fresh : List ℕ) → fresh ≡ fresh_of L m
       → functions_elem fs (record { first = at; count = count }) fresh ∷ [] ≡ fresh_elems L s m wasm
   fresh_is fresh same = λ i. functions_elem (listed i) (record { first = at_is i; count = count_is i }) (same i) ∷ []
-
-pub one_list : (a b : List ℕ) → Some a ≡ Some b → a ≡ b
-one_list a b e = cc

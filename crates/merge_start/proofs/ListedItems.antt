@@ -25,17 +25,15 @@ use Rattle.spec_loading.specs.spec_binary.IndexSpaces.{imports_of, globals_in}
 use Rattle.spec_loading.specs.spec_validation.Faults.{immutable, constant_index, constant_step, is_constant, items_fit, elem_mode_fits, elem_fits}
 use Rattle.spec_loading.proofs.of_spec_validation.Parts.{parts_fit}
 use Rattle.spec_loading.specs.spec_linking.Sets as sets
-use Rattle.spec_loading.specs.spec_linking.Gathering.{IsMember}
-use Rattle.spec_loading.specs.spec_linking.Plans.{Plan}
+use Rattle.spec_loading.specs.spec_linking.Gathering.{IsMember, IsSet}
 use Rattle.spec_loading.specs.spec_linking.LinkedSets.{LinkedSet, wasm_of}
-use Rattle.spec_loading.specs.spec_linking.Slots.{fresh_of}
-use Rattle.spec_loading.specs.spec_linking.Links.{Finding, first_fault, import_fault}
+use Rattle.spec_loading.specs.spec_linking.Slots.{linked_plan, fresh_of}
+use Rattle.spec_loading.specs.spec_linking.Links.{Finding, Links, first_fault, import_fault}
 use Rattle.spec_loading.proofs.of_spec_binary.Lists.{got, holds_at}
 use Rattle.spec_loading.proofs.of_spec_linking.LinkedFacts.{linked_member}
 use Rattle.spec_loading.specs.Members.{from_members}
 use Rattle.dyl_slots.proofs.Globals.{global_is_word}
-use Rattle.dyl_link.specs.Kept.{Kept, IsLinked}
-use Rattle.dyl_addresses.proofs.Linked.{members_count, bases_long, table_bases_long}
+use Rattle.dyl_link.proofs.Indices.{bases_long, table_bases_long}
 use Rattle.merge_match.specs.Renumbering.{Numbers, index_in, rolled, same_expr, instr, code, expr}
 use Rattle.merge_match.proofs.OneLevel.{in_expr, inside}
 use Rattle.merge_start.specs.declared.numbers.StartNumbers.{StartNumbers}
@@ -52,7 +50,7 @@ no_function : (b : Bool) (v : ValType) → v ≡ I32 → (if b then None else So
 no_function true v word h = absurd cc
 no_function false v word h = (let q : Some I32 ≡ Some FuncRef = subst (λ (u : ValType). Some u ≡ Some FuncRef) word h in absurd cc)
 
-module _ (L : LinkedSet) (k : Kept) (h : IsLinked L k) (m : ℕ) (member : sets.Member) (at : slice_get L.set.members m ≡ Some member)
+module _ (L : LinkedSet) (shape : IsSet L.set) (links : Links L) (m : ℕ) (member : sets.Member) (at : slice_get L.set.members m ≡ Some member)
     (lt : m < length L.set.members) where
   abbrev wasm : Module
   wasm = member.wasm
@@ -61,15 +59,14 @@ module _ (L : LinkedSet) (k : Kept) (h : IsLinked L k) (m : ℕ) (member : sets.
   here = ap (λ (o : Option sets.Member). o >>= λ x. Some x.wasm) at
 
   imports_none : first_fault (import_fault L m wasm) wasm.imports ≡ None
-  imports_none = all_none (import_fault L m wasm) wasm.imports (linked_member L m member h.links at).imports
+  imports_none = all_none (import_fault L m wasm) wasm.imports (linked_member L m member links at).imports
 
   is_word : (g : ℕ) (ty : GlobalType) → slice_get (imports_of globals_in wasm.imports) g ≡ Some ty → ty.value ≡ I32
   is_word g ty e =
-      let count = members_count L k h in
-      let memory = got k.plan.bases m (let long = bases_long L k h in omega arith) in
-      let table = got k.plan.table_bases m (let long = table_bases_long L k h in omega arith) in
+      let memory = got (linked_plan L).bases m (let long = bases_long L in omega arith) in
+      let table = got (linked_plan L).table_bases m (let long = table_bases_long L in omega arith) in
       global_is_word L m wasm here imports_none (record { memory = memory.0; table = table.0 })
-      (ap (λ (p : Plan). slice_get p.bases m) (sym h.plan) ∙ memory.1) (ap (λ (p : Plan). slice_get p.table_bases m) (sym h.plan) ∙ table.1) g ty e
+      memory.1 table.1 g ty e
 
   no_global : (g : ℕ) (o : Option GlobalType) → slice_get (imports_of globals_in wasm.imports) g ≡ o → (o >>= immutable) ≡ Some FuncRef → ⊥
   no_global g None e fits = absurd cc
@@ -142,7 +139,7 @@ module _ (L : LinkedSet) (k : Kept) (h : IsLinked L k) (m : ℕ) (member : sets.
 
     pub own_renumbered : own_elems L s m wasm ≡ renumbered_elems n m wasm
     own_renumbered =
-        let is : IsMember member = holds_at IsMember L.set.members m member h.shape.members at in
+        let is : IsMember member = holds_at IsMember L.set.members m member shape.members at in
         elems_same wasm.elems (parts_fit wasm is.read.valid).elems
 
     pub fresh_renumbered : fresh_elems L s m wasm ≡ renumbered_slots L n m wasm
@@ -160,13 +157,13 @@ members_same f g k (x ∷ xs) each =
     (members_same f g (k + 1) xs (λ i y e. (let place : k + suc i ≡ k + 1 + i = omega arith in subst (λ j. f j y.wasm ≡ g j y.wasm) place (each (suc i) y e))))
 
 pub listed_is_renumbered : ListedIsRenumbered
-listed_is_renumbered L k h s n named parts are = record {
+listed_is_renumbered L shape links s n named parts are = record {
   elems = are.elems
       ∙ ap₂ (λ (a b : List Elem). a ++ b)
       (members_same (own_elems L s) (renumbered_elems n) 0 L.set.members (λ i x e. at_place (own_elems L s) (renumbered_elems n) i x
-      (own_renumbered L k h i x e (slice_get_within L.set.members i x e) s n named)))
+      (own_renumbered L shape links i x e (slice_get_within L.set.members i x e) s n named)))
       (members_same (fresh_elems L s) (renumbered_slots L n) 0 L.set.members (λ i x e. at_place (fresh_elems L s) (renumbered_slots L n) i x
-      (fresh_renumbered L k h i x e (slice_get_within L.set.members i x e) s n named)));
+      (fresh_renumbered L shape links i x e (slice_get_within L.set.members i x e) s n named)));
   datas = are.datas;
 }
   where

@@ -1,7 +1,6 @@
 -- The functions that are made by lists are those of the phases.
-use Rattle.std.proofs.Common.{◌≡◌, ◌<◌, ℕ, zero, suc, ◌+◌, ◌*◌, List, [], ◌∷◌, ◌++◌, length, map, drop, slice_get, Option, Some, option_map, refl, sym, ap, ap₂, ◌∙◌, append_assoc, arith}
+use Rattle.std.proofs.Common.{◌≡◌, ◌<◌, ℕ, zero, suc, ◌+◌, ◌*◌, List, [], ◌∷◌, ◌++◌, length, map, drop, slice_get, Option, Some, refl, sym, ap, ap₂, ◌∙◌, append_assoc, arith}
 use Rattle.std.proofs.lemmas.List.{length-map}
-use Rattle.std.proofs.lemmas.Option.{slice_get-map}
 use Rattle.wasm_form.specs.declared.instr.Instr.{Instr}
 use Rattle.wasm_form.specs.declared.module.Module.{Module}
 use Rattle.wasm_form.specs.declared.runtime.Ref.TheVariants.{Own}
@@ -18,7 +17,6 @@ use Rattle.spec_loading.specs.Members.{from_members}
 use Rattle.spec_loading.specs.LoadedSet.{first_slot, own_functions}
 use Rattle.dyl_link.specs.dyl_search.declared.set.Member.{Member}
 use Rattle.dyl_link.specs.dyl_search.Gathers.{member_of}
-use Rattle.dyl_link.specs.Kept.{Kept, first_slot_in, IsLinked}
 use Rattle.merge_match.specs.Renumbering.{Numbers}
 use Rattle.merge_match.specs.Moves.{effect}
 use Rattle.merge_match.specs.Parts.{number_of}
@@ -29,9 +27,8 @@ use Rattle.merge_start.specs.declared.phases.Slots.{Slots}
 use Rattle.wasm_form.specs.declared.module.Part.{Part}
 use Rattle.dyl_addresses.specs.Sets.{module_of}
 use Rattle.dyl_addresses.specs.Bases.{AreBases}
-use Rattle.merge_start.specs.Listed.{AreListed, IsAt, numbers_at, spans_at, behind, placed_with, parts_of, phase_parts, call_at, elems_total, fresh_count, IsMadeOf}
+use Rattle.merge_start.specs.Listed.{AreListed, IsAt, numbers_at, spans_at, behind, placed_with, parts_of, phase_parts, call_at, elems_total, IsMadeOf}
 use Rattle.dyl_addresses.proofs.Offsets.{with_bases}
-use Rattle.dyl_addresses.proofs.Linked.{members_are}
 
 -- ---- effects by numbers that agree
 
@@ -70,7 +67,7 @@ total_is start (x ∷ xs) = total_is (start + length (module_of x).elems) xs ∙
 
 -- ---- a member
 
-module _ (L : LinkedSet) (k : Kept) (linked : IsLinked L k) (s : StartNumbers) (n : Numbers) (x : Starts) (listed : AreListed L s n x)
+module _ (L : LinkedSet) (s : StartNumbers) (n : Numbers) (x : Starts) (listed : AreListed L s n x)
     (m : ℕ) (few : m < length L.set.members) (wasm : Module) (found : wasm_of L m ≡ Some wasm) where
   place_is : (at : Places) → IsAt L m at → (bases : List (Option ℕ)) → AreBases L m bases → (segment first count : ℕ)
       → segment ≡ x.slots m → first ≡ first_slot L m → count ≡ length (own_functions L m)
@@ -96,25 +93,20 @@ module _ (L : LinkedSet) (k : Kept) (linked : IsLinked L k) (s : StartNumbers) (
       let construct = call_is 3 _ (listed.calls m Construct wasm found) in
       rw (is, start, relocate, construct, listed.guards) refl
 
-  some_same : (a b : ℕ) → Some a ≡ Some b → a ≡ b
-  some_same a b e = cc
-
-  pub made_is : (at : Places) → IsAt L m at → (slots : Slots) → (total : ℕ)
-      → total ≡ elems_total 0 (map module_of k.set.members)
-      → slots.segment ≡ number_of (slice_get s.elems (total + m)) → Some slots.first ≡ first_slot_in k m
-      → fresh_count k m ≡ Some slots.count
-      → (parts : List Part) → IsMadeOf k s m (spans_at at wasm) slots parts → parts ≡ phase_parts L n x m wasm
-  made_is at is slots total sum segment first count parts made =
-      let one = made L linked wasm found in
-      let members : map member_of k.set.members ≡ L.set.members = ap (λ (S : sets.ClosedSet). S.members) linked.set in
+  pub made_is : (at : Places) → IsAt L m at → (slots : Slots) → (total : ℕ) (members : List Member) → map member_of members ≡ L.set.members
+      → total ≡ elems_total 0 (map module_of members)
+      → slots.segment ≡ number_of (slice_get s.elems (total + m)) → slots.first ≡ first_slot L m
+      → slots.count ≡ length (fresh_of L m)
+      → (parts : List Part) → IsMadeOf L s m (spans_at at wasm) slots parts → parts ≡ phase_parts L n x m wasm
+  made_is at is slots total members same sum segment first count parts made =
+      let one = made wasm found in
       let all : total ≡ sum_before (λ w. length w.elems) L.set.members (length L.set.members) =
-      sum ∙ total_is 0 k.set.members ∙ ap (λ ms. 0 + sum_before (λ w. length w.elems) ms (length ms)) members ∙ omega arith in
+      sum ∙ total_is 0 members ∙ ap (λ ms. 0 + sum_before (λ w. length w.elems) ms (length ms)) same ∙ omega arith in
       let p : slots.segment ≡ x.slots m =
       segment ∙ ap (λ t. number_of (slice_get s.elems (t + m))) all ∙ sym (listed.slots m few) in
-      let q : slots.first ≡ first_slot L m = some_same _ _ (first ∙ linked.first_slots m few) in
       let r : slots.count ≡ length (own_functions L m) =
-      some_same _ _ (sym count ∙ ap (λ (o : Option (List ℕ)). o >>= λ fs. Some (length fs)) (linked.fresh m few)) ∙ sym (length-map (fresh_of L m) (Own m)) in
-      one.2 ∙ parts_are _ (place_is at is one.0 one.1 slots.segment slots.first slots.count p q r)
+      count ∙ sym (length-map (fresh_of L m) (Own m)) in
+      one.2 ∙ parts_are _ (place_is at is one.0 one.1 slots.segment slots.first slots.count p first r)
 
 -- ---- the members one after the other
 
@@ -135,29 +127,23 @@ drop_next [] m y e = absurd cc
 drop_next (x ∷ xs) zero y e = (let same : x ≡ y = cc in ap (λ z. z ∷ xs) same)
 drop_next (x ∷ xs) (suc m) y e = (let next : suc m + 1 ≡ suc (m + 1) = omega arith in rw next (drop_next xs m y e))
 
-module _ (L : LinkedSet) (k : Kept) (linked : IsLinked L k) (m : ℕ) (x : Member) (e : slice_get k.set.members m ≡ Some x) where
-  there : slice_get L.set.members m ≡ Some (member_of x)
-  there =
-      ap (λ (ms : List sets.Member). slice_get ms m) (sym (members_are L k linked))
-      ∙ slice_get-map member_of k.set.members m
-      ∙ ap (option_map member_of) e
-
-  pub next_at : (at : Places) → IsAt L m at → IsAt L (m + 1) (behind (spans_at at (module_of x)))
+module _ (L : LinkedSet) (m : ℕ) (x : sets.Member) (there : slice_get L.set.members m ≡ Some x) where
+  pub next_at : (at : Places) → IsAt L m at → IsAt L (m + 1) (behind (spans_at at x.wasm))
   next_at at is = record {
-    elems = ap (λ n. n + length (module_of x).elems) is.elems ∙ sym (sum_next (λ w. length w.elems) L.set.members m (member_of x) there);
-    datas = ap (λ n. n + length (module_of x).datas) is.datas ∙ sym (sum_next (λ w. length w.datas) L.set.members m (member_of x) there);
-    tables = ap (λ n. n + length (table_space (module_of x))) is.tables ∙ sym (sum_next (λ w. length (table_space w)) L.set.members m (member_of x) there);
+    elems = ap (λ n. n + length x.wasm.elems) is.elems ∙ sym (sum_next (λ w. length w.elems) L.set.members m x there);
+    datas = ap (λ n. n + length x.wasm.datas) is.datas ∙ sym (sum_next (λ w. length w.datas) L.set.members m x there);
+    tables = ap (λ n. n + length (table_space x.wasm)) is.tables ∙ sym (sum_next (λ w. length (table_space w)) L.set.members m x there);
   }
 
-  pub next_sum : (size : Module → ℕ) (at : ℕ) → at ≡ sum_before size L.set.members m → at + size (module_of x) ≡ sum_before size L.set.members (m + 1)
-  next_sum size at is = ap (λ n. n + size (module_of x)) is ∙ sym (sum_next size L.set.members m (member_of x) there)
+  pub next_sum : (size : Module → ℕ) (at : ℕ) → at ≡ sum_before size L.set.members m → at + size x.wasm ≡ sum_before size L.set.members (m + 1)
+  next_sum size at is = ap (λ n. n + size x.wasm) is ∙ sym (sum_next size L.set.members m x there)
 
   pub next_made : {A : Type 0} (of : ℕ → Module → List A) (parts four more all : List A)
-      → parts ++ from_members of m (drop m L.set.members) ≡ all → four ≡ of m (module_of x) → more ≡ parts ++ four
+      → parts ++ from_members of m (drop m L.set.members) ≡ all → four ≡ of m x.wasm → more ≡ parts ++ four
       → more ++ from_members of (m + 1) (drop (m + 1) L.set.members) ≡ all
   next_made of parts four more all before made added =
       let rest = from_members of (m + 1) (drop (m + 1) L.set.members) in
       ap (λ l. l ++ rest) added
       ∙ append_assoc parts four rest
-      ∙ ap (λ l. parts ++ l) (ap (λ l. l ++ rest) made ∙ ap (from_members of m) (sym (drop_next L.set.members m (member_of x) there)))
+      ∙ ap (λ l. parts ++ l) (ap (λ l. l ++ rest) made ∙ ap (from_members of m) (sym (drop_next L.set.members m x there)))
       ∙ before

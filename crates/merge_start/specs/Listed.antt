@@ -14,7 +14,6 @@ use Rattle.spec_loading.specs.declared.task.Phase.{Phase}
 use Rattle.spec_loading.specs.declared.task.Phase.TheVariants.{Place, Start, Relocate, Construct}
 use Rattle.spec_loading.specs.Phases.{stage_of, phase_function}
 use Rattle.spec_loading.specs.Addresses.{sum_before}
-use Rattle.dyl_link.specs.Kept.{Kept, fresh_in, IsLinked}
 use Rattle.dyl_addresses.specs.Bases.{AreBases}
 use Rattle.dyl_addresses.specs.Offsets.{number_with}
 use Rattle.merge_match.specs.Renumbering.{Numbers}
@@ -140,12 +139,9 @@ phase_parts L n x m wasm =
     nullary_part (phase_code L n x m wasm Place) ∷ nullary_part (phase_code L n x m wasm Start)
     ∷ nullary_part (phase_code L n x m wasm Relocate) ∷ nullary_part (phase_code L n x m wasm Construct) ∷ []
 
-abbrev pub fresh_count : Kept → ℕ → Option ℕ
-fresh_count k m = fresh_in k m >>= λ fs. Some (length fs)
-
 -- the four functions of member m are made of what stands in the lists
-abbrev pub IsMadeOf : Kept → StartNumbers → ℕ → Spans → Slots → List Part → Type 0
-IsMadeOf k s m spans slots parts = (L : LinkedSet) → IsLinked L k → (wasm : Module) → wasm_of L m ≡ Some wasm
+abbrev pub IsMadeOf : LinkedSet → StartNumbers → ℕ → Spans → Slots → List Part → Type 0
+IsMadeOf L s m spans slots parts = (wasm : Module) → wasm_of L m ≡ Some wasm
     → (bases : List (Option ℕ)) × AreBases L m bases
     × (parts ≡ parts_of s m (placed_with s spans bases slots.segment slots.first slots.count wasm))
 

@@ -12,11 +12,12 @@ use Rattle.wasm_form.specs.declared.module.DataMode.TheVariants as data_mode
 use Rattle.wasm_form.specs.declared.module.Data.{Data}
 use Rattle.wasm_form.specs.declared.module.Module.{Module}
 use Rattle.spec_loading.specs.spec_binary.IndexSpaces.{function_space}
+use Rattle.spec_loading.specs.spec_linking.Gathering.{IsSet}
 use Rattle.spec_loading.specs.spec_linking.LinkedSets.{LinkedSet, wasm_of}
+use Rattle.spec_loading.specs.spec_linking.Links.{Links}
 use Rattle.spec_loading.specs.spec_linking.Slots.{fresh_of}
 use Rattle.spec_loading.specs.Addresses.{sum_before}
 use Rattle.spec_loading.specs.Members.{from_members}
-use Rattle.dyl_link.specs.Kept.{Kept, IsLinked}
 use Rattle.merge_match.specs.Renumbering.{Numbers, expr}
 use Rattle.merge_match.specs.Parts.{nowhere}
 use Rattle.merge_start.specs.declared.numbers.StartNumbers.{StartNumbers}
@@ -98,7 +99,7 @@ pub record AreRenumbered (L : LinkedSet) (n : Numbers) (parts : PassiveParts) : 
   pub datas : parts.datas ≡ from_members own_datas 0 L.set.members
 
 abbrev pub ListedIsRenumbered : Type 0
-ListedIsRenumbered = (L : LinkedSet) (k : Kept) → IsLinked L k → (s : StartNumbers) (n : Numbers) → AreNamed L s n → (parts : PassiveParts)
+ListedIsRenumbered = (L : LinkedSet) → IsSet L.set → Links L → (s : StartNumbers) (n : Numbers) → AreNamed L s n → (parts : PassiveParts)
     → ArePassive L s parts → AreRenumbered L n parts
 
 -- ---- items of a valid segment

@@ -1,8 +1,6 @@
 // The functions of the phases of all members.
 ghost use Rattle.std.specs.Prelude.{◌≡◌, ◌<◌, ◌^◌, IfOk};
-ghost use Rattle.spec_loading.specs.spec_linking.LinkedSets.{LinkedSet};
 ghost use Rattle.spec_loading.specs.Members.{from_members};
-ghost use Rattle.dyl_link.specs.Kept.{IsLinked};
 ghost use Rattle.merge_match.specs.Renumbering.{Numbers};
 ghost use Rattle.merge_start.specs.Words.{Starts};
 ghost use Rattle.merge_start.specs.Listed.{AreListed, phase_parts};
@@ -20,19 +18,18 @@ pub fn phase_functions(
     n: &StartNumbers,
 ) -> Result<List<Part>, Memory>
     requires guard { n.now.guard < 2 ^ 31 }
-    ensures { IfOk result (λ parts. (L : LinkedSet) (N : Numbers) (x : Starts) → IsLinked L linked.now → AreListed L n.now N x → parts ≡ from_members (phase_parts L N x) 0 L.set.members) }
+    ensures { IfOk result (λ parts. (N : Numbers) (x : Starts) → AreListed linked.now n.now N x → parts ≡ from_members (phase_parts linked.now N x) 0 linked.now.set.members) }
 {
     linked.links();
-    let members = linked.set().members.items();
-    let total = elems_total(members);
+    let total = elems_total(linked.members());
     let mut parts = Vec::new(alloc);
     let mut at = Places {
         elems: 0,
         datas: 0,
         tables: 0,
     };
-    for m in 0..members.len() as u32 {
-        let spans = spans_at(at, members[m as usize].checked.module());
+    for m in 0..linked.member_count() {
+        let spans = spans_at(at, linked.member(m).checked.module());
         let slots = slots_of(linked, n, total, m);
         let mut four = member_parts(alloc, linked, n, m, spans, slots)?;
         parts.append(&mut four)?;

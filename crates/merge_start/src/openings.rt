@@ -1,11 +1,8 @@
 // The functions that open members: the entry function opens main.
 ghost use Rattle.std.specs.Prelude.{◌≡◌, ◌<◌, ◌^◌, length, IfOk};
-ghost use Rattle.spec_loading.specs.spec_linking.LinkedSets.{LinkedSet};
 ghost use Rattle.spec_loading.specs.Members.{from_members};
-ghost use Rattle.dyl_link.specs.Kept.{IsLinked};
 ghost use Rattle.merge_match.specs.Renumbering.{Numbers};
 ghost use Rattle.merge_start.specs.Words.{Starts, entry_code, open_code};
-ghost use Rattle.dyl_addresses.specs.Sets.{IsOfSet};
 ghost use Rattle.merge_start.specs.Listed.{AreListed, nullary_part, handle_part, open_parts};
 
 use crate::numbers::StartNumbers;
@@ -19,10 +16,10 @@ use wasm_form::{Instr, List, Memory, Part};
 /// where no memory could be had.
 pub fn entry_function(alloc: Global, linked: &Linked, n: &StartNumbers) -> Result<Part, Memory>
     requires first { n.now.first_function < 2 ^ 31 }
-    ensures { IfOk result (λ part. (L : LinkedSet) (N : Numbers) (x : Starts) → IsLinked L linked.now → AreListed L n.now N x → part ≡ nullary_part (entry_code L N x)) }
+    ensures { IfOk result (λ part. (N : Numbers) (x : Starts) → AreListed linked.now n.now N x → part ≡ nullary_part (entry_code linked.now N x)) }
 {
     linked.links();
-    let startup = linked.set().startup.items();
+    let startup = linked.startup();
     let entry = Instr::Index(opcodes::CALL, n.entry);
     let code = opening_code(
         alloc,
@@ -36,12 +33,12 @@ pub fn entry_function(alloc: Global, linked: &Linked, n: &StartNumbers) -> Resul
 
 // The function that opens member m, and gives its handle.
 fn open_function(alloc: Global, linked: &Linked, n: &StartNumbers, m: u32) -> Result<Part, Memory>
-    requires set { IsOfSet linked.now }
     requires member { m < length linked.now.set.members }
     requires first { n.now.first_function < 2 ^ 31 }
-    ensures { IfOk result (λ part. (L : LinkedSet) (N : Numbers) (x : Starts) → IsLinked L linked.now → AreListed L n.now N x → part ≡ handle_part (open_code L N x m)) }
+    ensures { IfOk result (λ part. (N : Numbers) (x : Starts) → AreListed linked.now n.now N x → part ≡ handle_part (open_code linked.now N x m)) }
 {
-    let closure = linked.symbols().closure(m);
+    linked.links();
+    let closure = linked.closure(m);
     let handle = number(m + 1);
     let code = opening_code(
         alloc,
@@ -61,11 +58,10 @@ pub fn open_functions(
     n: &StartNumbers,
 ) -> Result<List<Part>, Memory>
     requires first { n.now.first_function < 2 ^ 31 }
-    ensures { IfOk result (λ parts. (L : LinkedSet) (N : Numbers) (x : Starts) → IsLinked L linked.now → AreListed L n.now N x → parts ≡ from_members (open_parts L N x) 0 L.set.members) }
+    ensures { IfOk result (λ parts. (N : Numbers) (x : Starts) → AreListed linked.now n.now N x → parts ≡ from_members (open_parts linked.now N x) 0 linked.now.set.members) }
 {
-    linked.links();
     let mut parts = Vec::new(alloc);
-    for m in 0..linked.set().members.items().len() as u32 {
+    for m in 0..linked.member_count() {
         let part = open_function(alloc, linked, n, m)?;
         parts.push(part)?;
     }

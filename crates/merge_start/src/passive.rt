@@ -3,10 +3,7 @@ ghost use Rattle.std.specs.Prelude.{◌≡◌, ◌+◌, ◌<◌, ◌++◌, All, 
 ghost use Rattle.wasm_form.specs.declared.instr.Instr.{out-Instr};
 ghost use Rattle.spec_loading.specs.spec_binary.IndexSpaces.{function_space};
 ghost use Rattle.spec_loading.specs.spec_binary.WellFormed.{IsWellFormed};
-ghost use Rattle.spec_loading.specs.spec_linking.LinkedSets.{LinkedSet};
 ghost use Rattle.spec_loading.specs.Members.{from_members};
-ghost use Rattle.dyl_link.specs.Kept.{IsLinked};
-ghost use Rattle.dyl_addresses.specs.Sets.{IsOfSet};
 ghost use Rattle.merge_match.specs.Renumbering.{Numbers, index_in, instr, code, expr};
 ghost use Rattle.merge_start.specs.Listed as listed;
 ghost use Rattle.merge_start.specs.Passive.{functions_at, passive_mode, renumbered_items, passive_elem, passive_data, functions_elem, own_elems, own_datas, fresh_elems, IsItem, AreItems, ArePassive, AreNamed, AreRenumbered};
@@ -172,14 +169,12 @@ fn function_count(wasm: &Module) -> usize
 
 // The element segments of the members.
 fn members_elems(alloc: Global, linked: &Linked, n: &StartNumbers) -> Result<Vec<Elem>, Memory>
-    requires set { IsOfSet linked.now }
-    ensures { IfOk result (λ x. (L : LinkedSet) → IsLinked L linked.now → x.items ≡ from_members (own_elems L n.now) 0 L.set.members) }
+    ensures { IfOk result (λ x. x.items ≡ from_members (own_elems linked.now n.now) 0 linked.now.set.members) }
 {
-    let members = linked.set().members.items();
     let mut list = Vec::new(alloc);
     let mut at: usize = 0;
-    for m in 0..members.len() as u32 {
-        let wasm = members[m as usize].checked.module();
+    for m in 0..linked.member_count() {
+        let wasm = linked.member(m).checked.module();
         let s = Span {
             first: at,
             count: function_count(wasm),
@@ -192,16 +187,14 @@ fn members_elems(alloc: Global, linked: &Linked, n: &StartNumbers) -> Result<Vec
 
 // The segments of their fresh slots.
 fn slots_elems(alloc: Global, linked: &Linked, n: &StartNumbers) -> Result<Vec<Elem>, Memory>
-    requires set { IsOfSet linked.now }
-    ensures { IfOk result (λ x. (L : LinkedSet) → IsLinked L linked.now → x.items ≡ from_members (fresh_elems L n.now) 0 L.set.members) }
+    ensures { IfOk result (λ x. x.items ≡ from_members (fresh_elems linked.now n.now) 0 linked.now.set.members) }
 {
-    let members = linked.set().members.items();
     let mut list = Vec::new(alloc);
     let mut at: usize = 0;
-    for m in 0..members.len() as u32 {
+    for m in 0..linked.member_count() {
         let s = Span {
             first: at,
-            count: function_count(members[m as usize].checked.module()),
+            count: function_count(linked.member(m).checked.module()),
         };
         let one = functions_elem(alloc, n.functions.items(), s, linked.fresh(m))?;
         list.push(one)?;
@@ -212,16 +205,14 @@ fn slots_elems(alloc: Global, linked: &Linked, n: &StartNumbers) -> Result<Vec<E
 
 // The data segments of the members.
 fn members_datas(alloc: Global, linked: &Linked) -> Result<Vec<Data>, Memory>
-    requires set { IsOfSet linked.now }
-    ensures { IfOk result (λ x. (L : LinkedSet) → IsLinked L linked.now → x.items ≡ from_members own_datas 0 L.set.members) }
+    ensures { IfOk result (λ x. x.items ≡ from_members own_datas 0 linked.now.set.members) }
 {
-    let members = linked.set().members.items();
     let mut list = Vec::new(alloc);
-    for m in 0..members.len() as u32 {
+    for m in 0..linked.member_count() {
         put_datas(
             alloc,
             &mut list,
-            members[m as usize].checked.module().datas.items(),
+            linked.member(m).checked.module().datas.items(),
         )?;
     }
     Ok(list)
@@ -236,8 +227,8 @@ pub fn passive_parts(
     linked: &Linked,
     n: &StartNumbers,
 ) -> Result<PassiveParts, Memory>
-    ensures listed { IfOk result (λ parts. (L : LinkedSet) → IsLinked L linked.now → ArePassive L n.now parts) }
-    ensures renumbered { IfOk result (λ parts. (L : LinkedSet) (N : Numbers) → IsLinked L linked.now → AreNamed L n.now N → AreRenumbered L N parts) }
+    ensures listed { IfOk result (λ parts. ArePassive linked.now n.now parts) }
+    ensures renumbered { IfOk result (λ parts. (N : Numbers) → AreNamed linked.now n.now N → AreRenumbered linked.now N parts) }
 {
     linked.links();
     let mut elems = members_elems(alloc, linked, n)?;

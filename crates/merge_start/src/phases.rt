@@ -1,11 +1,12 @@
 // The functions of the phases.
-ghost use Rattle.std.specs.Prelude.{◌≡◌, ℕ, ◌+◌, ◌*◌, ◌<◌, ◌≤◌, ◌^◌, All, length, map, slice_get, Some, IfOk};
+ghost use Rattle.std.specs.Prelude.{◌≡◌, ◌+◌, ◌*◌, ◌<◌, ◌≤◌, ◌^◌, All, length, map, slice_get, IfOk};
 ghost use Rattle.spec_loading.specs.spec_binary.WellFormed.{IsWellFormed};
-ghost use Rattle.dyl_link.specs.Kept.{first_slot_in};
+ghost use Rattle.spec_loading.specs.spec_linking.Slots.{fresh_of};
+ghost use Rattle.spec_loading.specs.LoadedSet as loading;
 ghost use Rattle.merge_match.specs.Parts.{number_of};
-ghost use Rattle.dyl_addresses.specs.Sets.{module_of, IsOfSet};
-ghost use Rattle.dyl_addresses.specs.Offsets.{number_with, HasElemOffset, HasDataOffset};
-ghost use Rattle.merge_start.specs.Listed.{numbers_at, placed_with, calling_part, parts_of, elems_total, fresh_count, IsMadeOf, Fit};
+ghost use Rattle.dyl_addresses.specs.Sets.{module_of};
+ghost use Rattle.dyl_addresses.specs.Offsets.{HasElemOffset, HasDataOffset};
+ghost use Rattle.merge_start.specs.Listed.{placed_with, calling_part, parts_of, elems_total, IsMadeOf, Fit};
 
 use crate::numbers::{Spans, StartNumbers, call_at};
 use crate::part::nullary_part;
@@ -90,12 +91,12 @@ pub(crate) fn elems_total(members: &[Member]) -> usize
 
 // The slots that are written for member m, where so many element segments come before those of slots.
 pub(crate) fn slots_of(linked: &Linked, n: &StartNumbers, total: usize, m: u32) -> Slots
-    requires member { m < length linked.now.members }
+    requires member { m < length linked.now.set.members }
     requires total { total ≤ 256 * 2 ^ 32 }
-    requires fresh { (count : ℕ) → fresh_count linked.now m ≡ Some count → count < 2 ^ 32 }
+    requires fresh { length (fresh_of linked.now m) < 2 ^ 32 }
     ensures segment { result.segment ≡ number_of (slice_get n.now.elems (total + m)) }
-    ensures first { Some result.first ≡ first_slot_in linked.now m }
-    ensures count { fresh_count linked.now m ≡ Some result.count }
+    ensures first { result.first ≡ loading.first_slot linked.now m }
+    ensures count { result.count ≡ length (fresh_of linked.now m) }
 {
     let segment = match n.elems.items().get(total + m as usize) {
         Some(e) => *e,
@@ -117,22 +118,15 @@ pub(crate) fn member_parts(
     spans: Spans,
     slots: Slots,
 ) -> Result<Vec<Part>, Memory>
-    requires set { IsOfSet linked.now }
     requires member { m < length linked.now.set.members }
     requires guard { n.now.guard < 2 ^ 31 }
     requires fit { Fit spans }
     ensures { IfOk result (λ parts. IsMadeOf linked.now n.now m spans slots parts.items) }
 {
-    let member = &linked.set().members.items()[m as usize];
+    linked.links();
+    let wasm = linked.member(m).checked.module();
     let bases = bases_of(alloc, linked, m)?;
-    let place = place_code(
-        alloc,
-        n,
-        spans,
-        bases.as_slice(),
-        slots,
-        member.checked.module(),
-    )?;
+    let place = place_code(alloc, n, spans, bases.as_slice(), slots, wasm)?;
     let parts = parts_of(alloc, n, m, place)?;
     Ok(parts)
 }

@@ -3,13 +3,13 @@ use Rattle.std.proofs.Common.{◌≡◌, ◌<◌, ℕ, zero, suc, ◌+◌, List,
 use Rattle.wasm_form.specs.declared.module.Code.{Code}
 use Rattle.wasm_form.specs.declared.module.Module.{Module}
 use Rattle.spec_reading.specs.spec_binary.Options.{◌>>=◌}
-use Rattle.dyl_link.specs.dyl_search.declared.set.Member.{Member}
-use Rattle.dyl_link.specs.Kept.{Kept, function_in}
+use Rattle.spec_loading.specs.spec_linking.Sets.{Member}
+use Rattle.spec_loading.specs.spec_linking.LinkedSets.{LinkedSet, function_ref}
+use Rattle.spec_loading.specs.Members.{from_members}
 use Rattle.merge_index.specs.Numbering.{is_stub}
-use Rattle.dyl_addresses.specs.Sets.{module_of}
 use Rattle.dyl_addresses.proofs.Linked.{at_index}
 use Rattle.merge_module.specs.MergedModule.{trap_code}
-use Rattle.merge_whole.specs.Built.{joined, stubs_at, HasBodies}
+use Rattle.merge_whole.specs.Built.{stubs_at, HasBodies}
 
 pub inside : {A : Type 0} (xs : List A) (b : ℕ) → b < length xs → (y : A) × (slice_get xs b ≡ Some y)
 inside [] b lt = absurd (omega arith)
@@ -50,32 +50,32 @@ body_next R codes b lt o same code is before now all held added =
     ∙ ap (λ l. before ++ map R l) (sym (drop_next codes b found.0 found.1))
     ∙ held
 
-pub trap_next : (k : Kept) (m f next i : ℕ) (ts : List ℕ) → i < length ts → next ≡ f + 1 → (before now all : List Code)
-    → before ++ stubs_at k m (λ t. trap_code) f (drop i ts) ≡ all → now ≡ before ++ (if is_stub (function_in k m f) then trap_code ∷ [] else [])
-    → now ++ stubs_at k m (λ t. trap_code) next (drop (i + 1) ts) ≡ all
-trap_next k m f next i ts lt is before now all held added =
+pub trap_next : (L : LinkedSet) (m f next i : ℕ) (ts : List ℕ) → i < length ts → next ≡ f + 1 → (before now all : List Code)
+    → before ++ stubs_at L m (λ t. trap_code) f (drop i ts) ≡ all → now ≡ before ++ (if is_stub (function_ref L m f) then trap_code ∷ [] else [])
+    → now ++ stubs_at L m (λ t. trap_code) next (drop (i + 1) ts) ≡ all
+trap_next L m f next i ts lt is before now all held added =
     let found = inside ts i lt in
-    let part : List Code = if is_stub (function_in k m f) then trap_code ∷ [] else [] in
-    let rest = stubs_at k m (λ t. trap_code) (f + 1) (drop (i + 1) ts) in
-    ap (λ n. now ++ stubs_at k m (λ t. trap_code) n (drop (i + 1) ts)) is
+    let part : List Code = if is_stub (function_ref L m f) then trap_code ∷ [] else [] in
+    let rest = stubs_at L m (λ t. trap_code) (f + 1) (drop (i + 1) ts) in
+    ap (λ n. now ++ stubs_at L m (λ t. trap_code) n (drop (i + 1) ts)) is
     ∙ ap (λ l. l ++ rest) added
     ∙ append_assoc before part rest
-    ∙ ap (λ l. before ++ stubs_at k m (λ t. trap_code) f l) (sym (drop_next ts i found.0 found.1))
+    ∙ ap (λ l. before ++ stubs_at L m (λ t. trap_code) f l) (sym (drop_next ts i found.0 found.1))
     ∙ held
 
 pub member_next : {X : Type 0} (of : ℕ → Module → List X) (xs : List Member) (m : ℕ) (x : Member) → slice_get xs m ≡ Some x
-    → (before now all part : List X) → before ++ joined of m (drop m xs) ≡ all → part ≡ of m (module_of x) → now ≡ before ++ part
-    → now ++ joined of (m + 1) (drop (m + 1) xs) ≡ all
+    → (before now all part : List X) → before ++ from_members of m (drop m xs) ≡ all → part ≡ of m x.wasm → now ≡ before ++ part
+    → now ++ from_members of (m + 1) (drop (m + 1) xs) ≡ all
 member_next of xs m x here before now all part held is added =
-    let rest = joined of (m + 1) (drop (m + 1) xs) in
+    let rest = from_members of (m + 1) (drop (m + 1) xs) in
     ap (λ l. l ++ rest) added
     ∙ append_assoc before part rest
     ∙ ap (λ p. before ++ (p ++ rest)) is
-    ∙ ap (λ l. before ++ joined of m l) (sym (drop_next xs m x here))
+    ∙ ap (λ l. before ++ from_members of m l) (sym (drop_next xs m x here))
     ∙ held
 
-pub has_bodies : (k : Kept) (m : ℕ) (x : Member) (codes : List Code) → slice_get k.set.members m ≡ Some x → codes ≡ (module_of x).codes
-    → HasBodies k m codes
-has_bodies k m x codes here same = λ b.
-    ap (λ (o : Option Member). o >>= λ y. slice_get (module_of y).codes b) here
+pub has_bodies : (L : LinkedSet) (m : ℕ) (x : Member) (codes : List Code) → slice_get L.set.members m ≡ Some x → codes ≡ x.wasm.codes
+    → HasBodies L m codes
+has_bodies L m x codes here same = λ b.
+    ap (λ (o : Option Member). (o >>= λ y. Some y.wasm) >>= λ wasm. slice_get wasm.codes b) here
     ∙ ap (λ l. slice_get l b) (sym same)

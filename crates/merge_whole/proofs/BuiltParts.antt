@@ -1,57 +1,51 @@
--- Types, imports, functions and bodies of the merged module, by what is kept of a linked set, are those of the set.
+-- Functions and bodies of the merged module, as they are put together, are those of the set.
 use Rattle.std.proofs.Common.{◌≡◌, ℕ, zero, suc, ◌+◌, ◌*◌, Bool, true, false, cond, if◌then◌else◌, List, [], ◌∷◌, ◌++◌, length, map, replicate, slice_get, unwrap_or, Option, Some, None, refl, sym, ap, ap₂, subst, ◌∙◌, arith, append_assoc, append-nil}
 use Rattle.std.specs.List.{filter, range_with_len}
 use Rattle.std.proofs.lemmas.List.{map-append}
-use Rattle.wasm_form.specs.declared.types.FuncType.{FuncType}
 use Rattle.wasm_form.specs.declared.module.Code.{Code}
 use Rattle.wasm_form.specs.declared.module.Module.{Module}
-use Rattle.spec_reading.specs.spec_binary.Indices.{nullary}
 use Rattle.spec_reading.specs.spec_binary.IndexSpaces.{function_space}
-use Rattle.spec_loading.specs.spec_linking.Sets as sets
+use Rattle.spec_loading.specs.spec_linking.Sets.{Member}
 use Rattle.spec_loading.specs.spec_linking.LinkedSets.{LinkedSet, function_ref}
 use Rattle.spec_loading.specs.Members.{from_members, uses_loader}
-use Rattle.dyl_link.specs.dyl_search.declared.set.Member.{Member}
-use Rattle.dyl_link.specs.Kept.{Kept, IsLinked}
 use Rattle.merge_match.specs.Renumbering.{Numbers}
 use Rattle.merge_start.specs.Words.{Starts, entry_code}
 use Rattle.merge_start.specs.Listed.{phase_parts, open_parts}
 use Rattle.wasm_form.specs.declared.module.Part.{Part}
-use Rattle.dyl_addresses.proofs.Linked.{members_count}
 use Rattle.merge_dl.specs.Words.{length_body}
-use Rattle.merge_dl.specs.Listed.{AreDlNumbers, loader_types, find_parts, call_parts}
+use Rattle.merge_dl.specs.Listed.{AreDlNumbers, find_parts, call_parts}
 use Rattle.merge_dl.specs.declared.numbers.DlNumbers.{DlNumbers}
 use Rattle.merge_index.specs.Numbering.{is_stub}
-use Rattle.merge_module.specs.MergedModule.{with_loader, generated_functions_types, added_types, first_added, merged_types, nullary_number, stub_types, loader_funcs, generated_types, merged_funcs, trap_code, plain_code, stub_codes, phase_codes, finders_of, open_codes, find_codes, call_codes, loader_codes, merged_codes}
-use Rattle.merge_whole.specs.Built.{joined, types_of, where_used, generated_in, types_in, nullary_in, funcs_of, stubs_at, imported_types, stub_types_of, four_of, one_of, funcs_for_loader, generated_funcs_in, funcs_in, bodies_of, traps_of, code_of, generated_codes}
+use Rattle.merge_module.specs.MergedModule.{with_loader, nullary_number, stub_types, loader_funcs, generated_types, merged_funcs, trap_code, plain_code, stub_codes, phase_codes, finders_of, open_codes, find_codes, call_codes, loader_codes, merged_codes}
+use Rattle.merge_whole.specs.Built.{funcs_of, stubs_at, imported_types, stub_types_of, four_of, one_of, funcs_for_loader, generated_funcs_in, funcs_in, bodies_of, traps_of, code_of, generated_codes}
 use Rattle.merge_whole.specs.Given.{HasLoader}
-use Rattle.merge_whole.proofs.Joins.{members_are}
 
 -- ---- lists
 
-joined_same : {X : Type 0} (of other : ℕ → Module → List X) → ((m : ℕ) (wasm : Module) → of m wasm ≡ other m wasm)
-    → (m : ℕ) (xs : List Member) → joined of m xs ≡ joined other m xs
-joined_same of other same m [] = refl
-joined_same of other same m (x ∷ xs) = ap₂ (λ a b. a ++ b) (same m x.checked) (joined_same of other same (m + 1) xs)
+from_same : {X : Type 0} (of other : ℕ → Module → List X) → ((m : ℕ) (wasm : Module) → of m wasm ≡ other m wasm)
+    → (m : ℕ) (xs : List Member) → from_members of m xs ≡ from_members other m xs
+from_same of other same m [] = refl
+from_same of other same m (x ∷ xs) = ap₂ (λ a b. a ++ b) (same m x.wasm) (from_same of other same (m + 1) xs)
 
-four_are : (t m : ℕ) (xs : List Member) → joined (four_of t) m xs ++ t ∷ [] ≡ replicate (4 * length xs + 1) t
+four_are : (t m : ℕ) (xs : List Member) → from_members (four_of t) m xs ++ t ∷ [] ≡ replicate (4 * length xs + 1) t
 four_are t m [] = refl
 four_are t m (x ∷ xs) =
     let e : 4 * length (x ∷ xs) + 1 ≡ suc (suc (suc (suc (4 * length xs + 1)))) = omega arith in
     rw e (ap (λ l. t ∷ t ∷ t ∷ t ∷ l) (four_are t (m + 1) xs))
 
-ones_are : (t m : ℕ) (xs : List Member) → joined (one_of t) m xs ≡ replicate (length xs) t
+ones_are : (t m : ℕ) (xs : List Member) → from_members (one_of t) m xs ≡ replicate (length xs) t
 ones_are t m [] = refl
 ones_are t m (x ∷ xs) = ap (λ l. t ∷ l) (ones_are t (m + 1) xs)
 
 -- the functions of the loader are put one after the other
 pub funcs_put : (t : ℕ) (ms : List Member) (handle unary binary search : ℕ) → handle ≡ t + 1 → unary ≡ t + 2 → binary ≡ t + 3 → search ≡ t + 4
-    → (to one two three all : List ℕ) → one ≡ to ++ joined (one_of handle) 0 ms → two ≡ one ++ unary ∷ []
-    → three ≡ two ++ joined (one_of search) 0 ms → all ≡ three ++ (binary ∷ binary ∷ unary ∷ handle ∷ []) → all ≡ to ++ funcs_for_loader t ms
+    → (to one two three all : List ℕ) → one ≡ to ++ from_members (one_of handle) 0 ms → two ≡ one ++ unary ∷ []
+    → three ≡ two ++ from_members (one_of search) 0 ms → all ≡ three ++ (binary ∷ binary ∷ unary ∷ handle ∷ []) → all ≡ to ++ funcs_for_loader t ms
 funcs_put t ms handle unary binary search h u b s to one two three all p q r e =
-    let opens = joined (one_of handle) 0 ms in
-    let finds = joined (one_of search) 0 ms in
+    let opens = from_members (one_of handle) 0 ms in
+    let finds = from_members (one_of search) 0 ms in
     let calls = binary ∷ binary ∷ unary ∷ handle ∷ [] in
-    let shape : ℕ → ℕ → ℕ → ℕ → List ℕ = λ x y z v. joined (one_of x) 0 ms ++ y ∷ (joined (one_of v) 0 ms ++ z ∷ z ∷ y ∷ x ∷ []) in
+    let shape : ℕ → ℕ → ℕ → ℕ → List ℕ = λ x y z v. from_members (one_of x) 0 ms ++ y ∷ (from_members (one_of v) 0 ms ++ z ∷ z ∷ y ∷ x ∷ []) in
     e
     ∙ ap (λ l. l ++ calls) (r ∙ ap (λ l. l ++ finds) (q ∙ ap (λ l. l ++ unary ∷ []) p))
     ∙ append_assoc ((to ++ opens) ++ unary ∷ []) finds calls
@@ -71,7 +65,7 @@ stub_next g x f rest more true here later = ap₂ (λ y l. y ∷ l) (sym here) l
 stub_next g x f rest more false here later = later
 
 codes_are : (parts : ℕ → Module → List Part) (codes : ℕ → Module → List Code) → ((m : ℕ) (wasm : Module) → map code_of (parts m wasm) ≡ codes m wasm)
-    → (m : ℕ) (ms : List sets.Member) → map code_of (from_members parts m ms) ≡ from_members codes m ms
+    → (m : ℕ) (ms : List Member) → map code_of (from_members parts m ms) ≡ from_members codes m ms
 codes_are parts codes same m [] = refl
 codes_are parts codes same m (y ∷ ms) =
     map-append code_of (parts m y.wasm) (from_members parts (m + 1) ms)
@@ -136,37 +130,19 @@ generated_put L n x phases entry p e old one two all a b c =
 
 -- ---- a set
 
-module _ (L : LinkedSet) (k : Kept) (linked : IsLinked L k) where
-  pub used_are : {X : Type 0} (xs ys : List X) → xs ≡ ys → where_used k xs ≡ with_loader L ys
-  used_are xs ys same = ap₂ (λ b l. if b then l else []) linked.uses_loader same
-
-  generated_are : generated_in k ≡ generated_functions_types L
-  generated_are = ap (λ l. nullary ∷ l) (used_are loader_types loader_types refl)
-
-  pub types_are : (added : List FuncType) → added ≡ added_types L → types_in k added ≡ merged_types L
-  types_are added is =
-      ap₂ (λ (a b : List FuncType). a ++ b) (members_are types_of L k linked)
-      (ap₂ (λ (g more : List FuncType). g ++ more) generated_are is)
-
-  nullary_are : nullary_in k ≡ nullary_number L
-  nullary_are = ap length (members_are types_of L k linked)
-
-  pub first_is : nullary_in k + length (generated_in k) ≡ first_added L
-  first_is = ap₂ (λ t (g : List FuncType). t + length g) nullary_are generated_are
-
+module _ (L : LinkedSet) where
   -- ---- stubs
 
   stubs_are : {X : Type 0} (m : ℕ) (of g : ℕ → X) (f : ℕ) (ts : List ℕ) → ((i t : ℕ) → slice_get ts i ≡ Some t → g (f + i) ≡ of t)
-      → stubs_at k m of f ts ≡ map g (filter (λ j. is_stub (function_ref L m j)) (range_with_len f (length ts)))
+      → stubs_at L m of f ts ≡ map g (filter (λ j. is_stub (function_ref L m j)) (range_with_len f (length ts)))
   stubs_are m of g f [] reads = refl
   stubs_are m of g f (t ∷ ts) reads =
       let same : f ≡ f + 0 = omega arith in
       let rest = filter (λ j. is_stub (function_ref L m j)) (range_with_len (f + 1) (length ts)) in
       let later = stubs_are m of g (f + 1) ts (λ i u e. let s : f + 1 + i ≡ f + suc i = omega arith in ap g s ∙ reads (suc i) u e) in
-      ap (λ o. (if is_stub o then of t ∷ [] else []) ++ stubs_at k m of (f + 1) ts) (linked.functions m f)
-      ∙ stub_next g (of t) f rest (stubs_at k m of (f + 1) ts) (is_stub (function_ref L m f)) (ap g same ∙ reads 0 t refl) later
+      stub_next g (of t) f rest (stubs_at L m of (f + 1) ts) (is_stub (function_ref L m f)) (ap g same ∙ reads 0 t refl) later
 
-  stub_types_are : (n : Numbers) (m : ℕ) (wasm : Module) → stub_types_of k n m wasm ≡ stub_types L n m wasm
+  stub_types_are : (n : Numbers) (m : ℕ) (wasm : Module) → stub_types_of L n m wasm ≡ stub_types L n m wasm
   stub_types_are n m wasm =
       stubs_are m (n.ty m) (λ f. n.ty m (unwrap_or (slice_get (function_space wasm) f) 0)) 0 (imported_types wasm)
       (λ i t e.
@@ -174,46 +150,37 @@ module _ (L : LinkedSet) (k : Kept) (linked : IsLinked L k) where
       ap (λ j. n.ty m (unwrap_or (slice_get (function_space wasm) j) 0)) s
       ∙ ap (λ o. n.ty m (unwrap_or o 0)) (in_front (imported_types wasm) wasm.funcs i t e))
 
-  traps_are : (m : ℕ) (wasm : Module) → traps_of k m wasm ≡ stub_codes L m wasm
+  traps_are : (m : ℕ) (wasm : Module) → traps_of L m wasm ≡ stub_codes L m wasm
   traps_are m wasm = stubs_are m (λ t. trap_code) (λ f. trap_code) 0 (imported_types wasm) (λ i t e. refl)
 
   -- those of the functions of the loader
   abbrev with_types : ℕ → List ℕ → List ℕ → List ℕ
   with_types t opens finds = opens ++ (t + 2) ∷ (finds ++ (t + 3) ∷ (t + 3) ∷ (t + 2) ∷ (t + 1) ∷ [])
 
-  loader_funcs_are : funcs_for_loader (nullary_in k) k.set.members ≡ loader_funcs L
+  loader_funcs_are : funcs_for_loader (nullary_number L) L.set.members ≡ loader_funcs L
   loader_funcs_are =
-      let t = nullary_in k in
-      ap₂ (with_types t) (ones_are (t + 1) 0 k.set.members) (ones_are (t + 4) 0 k.set.members)
-      ∙ ap₂ (λ c u. with_types u (replicate c (u + 1)) (replicate c (u + 4))) (sym (members_count L k linked)) nullary_are
+      let t = nullary_number L in
+      ap₂ (with_types t) (ones_are (t + 1) 0 L.set.members) (ones_are (t + 4) 0 L.set.members)
 
-  generated_funcs_are : generated_funcs_in k ≡ generated_types L
+  generated_funcs_are : generated_funcs_in L ≡ generated_types L
   generated_funcs_are =
-      let t = nullary_in k in
-      let more = funcs_for_loader t k.set.members in
-      sym (append_assoc (joined (four_of t) 0 k.set.members) (t ∷ []) (where_used k more))
-      ∙ ap₂ (λ (a b : List ℕ). a ++ b)
-      (four_are t 0 k.set.members ∙ ap₂ (λ c u. replicate (4 * c + 1) u) (sym (members_count L k linked)) nullary_are)
-      (used_are more (loader_funcs L) loader_funcs_are)
+      let t = nullary_number L in
+      let more = funcs_for_loader t L.set.members in
+      sym (append_assoc (from_members (four_of t) 0 L.set.members) (t ∷ []) (with_loader L more))
+      ∙ ap₂ (λ (a b : List ℕ). a ++ b) (four_are t 0 L.set.members) (ap (with_loader L) loader_funcs_are)
 
-  pub funcs_are : (n : Numbers) → funcs_in k n ≡ merged_funcs L n
+  pub funcs_are : (n : Numbers) → funcs_in L n ≡ merged_funcs L n
   funcs_are n =
-      ap₂ (λ a b. a ++ b) (members_are (funcs_of n) L k linked)
-      (ap₂ (λ a b. a ++ b)
-      (joined_same (stub_types_of k n) (stub_types L n) (stub_types_are n) 0 k.set.members ∙ members_are (stub_types L n) L k linked)
-      generated_funcs_are)
-
-  bodies_are : (n : Numbers) → joined (bodies_of n) 0 k.set.members ++ joined (traps_of k) 0 k.set.members
-      ≡ from_members (bodies_of n) 0 L.set.members ++ from_members (stub_codes L) 0 L.set.members
-  bodies_are n =
-      ap₂ (λ a b. a ++ b) (members_are (bodies_of n) L k linked)
-      (joined_same (traps_of k) (stub_codes L) traps_are 0 k.set.members ∙ members_are (stub_codes L) L k linked)
+      ap₂ (λ a b. from_members (funcs_of n) 0 L.set.members ++ (a ++ b))
+      (from_same (stub_types_of L n) (stub_types L n) (stub_types_are n) 0 L.set.members) generated_funcs_are
 
   -- all bodies, those that are generated last
   pub all_codes : (n : Numbers) (x : Starts) (own all : List Code)
-      → own ≡ joined (bodies_of n) 0 k.set.members ++ joined (traps_of k) 0 k.set.members → all ≡ own ++ generated_codes L n x
+      → own ≡ from_members (bodies_of n) 0 L.set.members ++ from_members (traps_of L) 0 L.set.members → all ≡ own ++ generated_codes L n x
       → all ≡ merged_codes L n x
   all_codes n x own all p q =
       let a = from_members (bodies_of n) 0 L.set.members in
       let b = from_members (stub_codes L) 0 L.set.members in
-      q ∙ ap (λ l. l ++ generated_codes L n x) (p ∙ bodies_are n) ∙ append_assoc a b (generated_codes L n x)
+      q
+      ∙ ap (λ l. l ++ generated_codes L n x) (p ∙ ap (λ l. a ++ l) (from_same (traps_of L) (stub_codes L) traps_are 0 L.set.members))
+      ∙ append_assoc a b (generated_codes L n x)

@@ -13,18 +13,15 @@ use Rattle.wasm_form.specs.declared.module.Custom.{Custom}
 use Rattle.wasm_form.specs.declared.module.Module.{Module}
 use Rattle.spec_loading.specs.spec_linking.LinkedSets.{LinkedSet}
 use Rattle.spec_loading.specs.declared.task.Phase.TheVariants.{Place}
-use Rattle.dyl_link.specs.Kept.{Kept, IsLinked}
 use Rattle.merge_start.specs.declared.numbers.StartNumbers.{StartNumbers}
 use Rattle.merge_start.specs.Listed.{AreListed}
-use Rattle.dyl_addresses.proofs.Linked.{members_count}
 use Rattle.merge_index.specs.Numbering.{first_phase, numbers_of, starts_of}
 use Rattle.merge_module.specs.MergedModule.{merged_types, merged_imports, merged_funcs, merged_tables, shared_memory_type, merged_globals, entry_exports, merged_elems, merged_codes, merged_datas, merged_module}
 
-pub starting_is : (L : LinkedSet) (k : Kept) → IsLinked L k → (s : StartNumbers) → AreListed L s (numbers_of L) (starts_of L) → (n : ℕ)
-    → n ≡ s.first_function + 4 * length k.set.members → n ≡ (starts_of L).starting
-starting_is L k h s listed n is =
+pub starting_is : (L : LinkedSet) (s : StartNumbers) → AreListed L s (numbers_of L) (starts_of L) → (n : ℕ)
+    → n ≡ s.first_function + 4 * length L.set.members → n ≡ (starts_of L).starting
+starting_is L s listed n is =
     let same : first_phase L + 4 * 0 + (1 - 1) ≡ s.first_function + 4 * 0 + (1 - 1) = listed.phases 0 Place in
-    let count = members_count L k h in
     let e : n ≡ first_phase L + 4 * length L.set.members = omega arith in
     e
 

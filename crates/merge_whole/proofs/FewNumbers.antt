@@ -6,16 +6,13 @@ use Rattle.std.proofs.lemmas.List.Elements.{All-head, All-tail}
 use Rattle.std.proofs.lemmas.Option.{slice_get-map}
 use Rattle.wasm_form.specs.declared.module.Module.{Module}
 use Rattle.spec_loading.specs.spec_linking.Sets.{Member}
-use Rattle.spec_loading.specs.spec_linking.Gathering.{total_size, IsMember}
+use Rattle.spec_loading.specs.spec_linking.Gathering.{total_size, IsMember, IsSet}
 use Rattle.spec_loading.specs.spec_linking.LinkedSets.{LinkedSet}
 use Rattle.spec_loading.specs.Addresses.{globals_size}
 use Rattle.spec_loading.specs.Members.{from_members}
 use Rattle.spec_loading.proofs.of_spec_safety.Lookups.{holds_at}
 use Rattle.dyl_link.specs.dyl_search.declared.set.Member as kept
 use Rattle.dyl_link.specs.dyl_search.Gathers.{member_of}
-use Rattle.dyl_link.specs.Kept.{Kept, IsLinked}
-use Rattle.dyl_addresses.proofs.Linked.{members_are}
-use Rattle.merge_start.proofs.Linked.{few_members}
 use Rattle.merge_index.specs.Numbering.{starts_of}
 use Rattle.dyl_addresses.specs.Sets.{module_of}
 use Rattle.merge_module.specs.MergedModule.{passive_data, texts_segment, merged_datas}
@@ -52,55 +49,53 @@ total_room size xs i x lt is next all held =
 
 -- ---- a set
 
-module _ (L : LinkedSet) (k : Kept) (linked : IsLinked L k) where
+module _ (L : LinkedSet) (shape : IsSet L.set) where
   elems_each : (x : Member) → AreFew x.wasm x.size → length x.wasm.elems ≤ x.size
   elems_each x few = (let all = few.all in omega arith)
 
   datas_each : (x : Member) → AreFew x.wasm x.size → length x.wasm.datas ≤ x.size
   datas_each x few = (let all = few.all in omega arith)
 
-  pub elems_total : total (size_in Elems) (length k.set.members) (members_of k.set.members) < 4294967296
+  pub elems_total : total (size_in Elems) (length L.set.members) L.set.members < 4294967296
   elems_total =
-      let most = total_few (size_in Elems) elems_each (length k.set.members) L.set.members linked.shape.members in
-      let same = ap (λ ms. total (size_in Elems) (length k.set.members) ms) (members_are L k linked) in
-      let bytes = few_bytes L linked.shape in
-      let many = few_members L k linked in
+      let most = total_few (size_in Elems) elems_each (length L.set.members) L.set.members shape.members in
+      let bytes = few_bytes L shape in
+      let many = shape.few in
       omega arith
 
-  pub datas_total : total (size_in Datas) 0 (members_of k.set.members) < 4294967296
+  pub datas_total : total (size_in Datas) 0 L.set.members < 4294967296
   datas_total =
-      let most = total_few (size_in Datas) datas_each 0 L.set.members linked.shape.members in
-      let same = ap (λ ms. total (size_in Datas) 0 ms) (members_are L k linked) in
-      let bytes = few_bytes L linked.shape in
+      let most = total_few (size_in Datas) datas_each 0 L.set.members shape.members in
+      let bytes = few_bytes L shape in
       omega arith
 
   -- what a member has
-  module _ (i : ℕ) (x : kept.Member) (at : slice_get k.set.members i ≡ Some x) where
+  module _ (xs : List kept.Member) (same : map member_of xs ≡ L.set.members) (i : ℕ) (x : kept.Member) (at : slice_get xs i ≡ Some x) where
     there : slice_get L.set.members i ≡ Some (member_of x)
-    there = ap (λ (ms : List Member). slice_get ms i) (sym (members_are L k linked)) ∙ slice_get-map member_of k.set.members i ∙ ap (option_map member_of) at
+    there = ap (λ (ms : List Member). slice_get ms i) (sym same) ∙ slice_get-map member_of xs i ∙ ap (option_map member_of) at
 
     has_few : AreFew (module_of x) (member_of x).size
-    has_few = member_few (member_of x) (holds_at IsMember L.set.members i (member_of x) linked.shape.members there)
+    has_few = member_few (member_of x) (holds_at IsMember L.set.members i (member_of x) shape.members there)
 
     pub tables_within : length (module_of x).imports + length (module_of x).tables < 4294967296
-    tables_within = (let all = has_few.all in let within = size_within L.set.members i (member_of x) there in let bytes = few_bytes L linked.shape in omega arith)
+    tables_within = (let all = has_few.all in let within = size_within L.set.members i (member_of x) there in let bytes = few_bytes L shape in omega arith)
 
     pub functions_within : length (module_of x).imports + length (module_of x).funcs < 4294967296
-    functions_within = (let all = has_few.all in let within = size_within L.set.members i (member_of x) there in let bytes = few_bytes L linked.shape in omega arith)
+    functions_within = (let all = has_few.all in let within = size_within L.set.members i (member_of x) there in let bytes = few_bytes L shape in omega arith)
 
   globals_each : (x : Member) → AreFew x.wasm x.size → globals_size x.wasm ≤ 2 + x.size
   globals_each x few = (let all = few.all in let cells = cells_few x.wasm in omega arith)
 
   pub guards_few : (starts_of L).guards < 1073741824
   guards_few =
-      let most = sum_few globals_size 2 globals_each L.set.members linked.shape.members in
-      let bytes = few_bytes L linked.shape in
-      let many = linked.shape.few in
+      let most = sum_few globals_size 2 globals_each L.set.members shape.members in
+      let bytes = few_bytes L shape in
+      let many = shape.few in
       omega arith
 
   pub datas_few : length (merged_datas L) < 4294967296
   datas_few =
-      let own = few_of L linked.shape (λ m w. map passive_data w.datas)
+      let own = few_of L shape (λ m w. map passive_data w.datas)
       (λ m y few. (let all = few.all in omega (arith, length-map y.wasm.datas passive_data))) in
-      let bytes = few_bytes L linked.shape in
+      let bytes = few_bytes L shape in
       omega (arith, length-append (from_members (λ m w. map passive_data w.datas) 0 L.set.members) (texts_segment L ∷ []))

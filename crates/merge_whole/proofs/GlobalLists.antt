@@ -1,5 +1,5 @@
 -- The globals that are made are those of the merged module of a linked set.
-use Rattle.std.proofs.Common.{◌≡◌, ◌<◌, ℕ, suc, ◌+◌, Bool, true, false, not, cond, List, [], ◌∷◌, ◌++◌, length, map, drop, get_or, slice_get, Option, Some, None, refl, sym, ap, ap₂, subst, ◌∙◌, arith, append_assoc, length-append}
+use Rattle.std.proofs.Common.{◌≡◌, ◌<◌, ℕ, suc, ◌+◌, Bool, true, false, not, cond, List, [], ◌∷◌, ◌++◌, length, map, drop, get_or, slice_get, Option, Some, None, refl, sym, ap, ap₂, ◌∙◌, arith, append_assoc, length-append}
 use Rattle.std.proofs.Math.Path.{fun_ext}
 use Rattle.std.specs.Prelude.{unwrap_or}
 use Rattle.std.specs.List.{flat_map, list_any}
@@ -10,7 +10,6 @@ use Rattle.wasm_form.specs.declared.module.ImportDesc.TheVariants as imported
 use Rattle.wasm_form.specs.declared.module.Import.{Import}
 use Rattle.wasm_form.specs.declared.module.GlobalDef.{GlobalDef}
 use Rattle.wasm_form.specs.declared.module.Module.{Module}
-use Rattle.wasm_form.specs.declared.runtime.Ref.{Ref}
 use Rattle.wasm_form.specs.declared.runtime.Value.{Value}
 use Rattle.spec_reading.specs.spec_binary.Options.{◌>>=◌}
 use Rattle.spec_reading.specs.spec_binary.IndexSpaces.{globals_in}
@@ -20,18 +19,18 @@ use Rattle.spec_loading.specs.spec_execution.Values.{zero_of}
 use Rattle.spec_loading.specs.spec_linking.declared.fault.Kind.TheVariants as kind
 use Rattle.spec_loading.specs.spec_linking.declared.fault.LinkFault.TheVariants.{IllTyped}
 use Rattle.spec_loading.specs.spec_linking.Sets.{Member}
-use Rattle.spec_loading.specs.spec_linking.Plans.{Plan}
 use Rattle.spec_loading.specs.spec_linking.Imports.{ImportUse, SharedMemory, SharedTable, StackPointer, MemoryBase, TableBase, DataCell, SlotCell, EnvFunction, ModuleFunction, OtherUse, use_of, importing, is_i32_global}
-use Rattle.spec_loading.specs.spec_linking.LinkedSets.{LinkedSet, wasm_of, definition}
-use Rattle.spec_loading.specs.spec_linking.Links.{unless, data_cell_fault, slot_cell_fault, fault_as}
-use Rattle.spec_loading.specs.spec_linking.Slots.{CellName, same_cell, cell_as, cell_of_import, first_cells, cells_of, cell_value, initial_as, initial_number, linked_plan, memory_base, table_base}
+use Rattle.spec_loading.specs.spec_linking.LinkedSets.{LinkedSet, wasm_of, function_ref, definition}
+use Rattle.spec_loading.specs.spec_linking.Links.{Links, unless, data_cell_fault, slot_cell_fault, fault_as}
+use Rattle.spec_loading.specs.spec_linking.Slots.{CellName, same_cell, cell_as, cell_of_import, first_cells, cells_of, cell_value, initial_as, initial_number, imported_number, linked_plan, memory_base, table_base}
 use Rattle.spec_loading.proofs.of_spec_linking.LinkedFacts.{holds_so, or_none, linked_member}
 use Rattle.spec_loading.specs.Addresses.{globals_size}
 use Rattle.spec_loading.specs.Members.{from_members, opened_global}
-use Rattle.dyl_link.specs.Kept.{Kept, cell_in, IsLinked}
 use Rattle.merge_match.specs.Renumbering.{Numbers}
 use Rattle.dyl_addresses.specs.Bases.{AreBases, bases_from}
-use Rattle.dyl_addresses.proofs.Linked.{members_are, members_count, bases_long, table_bases_long}
+use Rattle.dyl_link.proofs.Indices.{bases_long, table_bases_long}
+use Rattle.dyl_link.specs.dyl_search.declared.set.Member as kept
+use Rattle.dyl_link.specs.dyl_search.Gathers.{member_of}
 use Rattle.dyl_addresses.proofs.Offsets.{are_bases}
 use Rattle.dyl_addresses.specs.Globals.{CellKey, cell_of_key, cells_in, with_cells}
 use Rattle.merge_index.specs.Numbering.{sum_of}
@@ -40,10 +39,8 @@ use Rattle.dyl_addresses.proofs.Keys.{key_eq, key_is, any_same}
 use Rattle.merge_module.specs.MergedModule.{with_loader, number_global, constant_instr, own_global, member_globals, merged_globals, zero_globals, loader_globals}
 use Rattle.merge_index.proofs.Counted.{joined_length}
 use Rattle.merge_module.proofs.MergedSpaces.{past_front}
-use Rattle.merge_whole.specs.Built.{where_used}
-use Rattle.merge_whole.proofs.BuiltParts.{used_are}
 use Rattle.merge_whole.proofs.ElementLists.{from_same}
-use Rattle.merge_whole.specs.GlobalDefs.{bases_by, value_by, own_by, cells_by, globals_by, all_globals, zeros_for, loader_zeros}
+use Rattle.merge_whole.specs.GlobalDefs.{bases_by, value_by, own_by, cells_by, globals_by, all_globals, zeros_for}
 
 is_given : (d : ImportDesc) (may : Bool) (i : Import) (rest : List Import) → is_i32_global may d ≡ true → slice_get (map (λ x. i) (globals_in d) ++ rest) 0 ≡ Some i
 is_given (imported.Func t) may i rest e = absurd cc
@@ -63,52 +60,54 @@ new_first ks key b e = go (list_any (same_cell (cell_of_key key)) (cells_in ks))
     go false false e = absurd cc
 
 -- what is put for an import comes before the cells of those behind it
-pub cells_next : (k : Kept) (m : ℕ) (is : List Import) (j : ℕ) (i : Import) → j < length is → i ≡ get_or is j i
+pub cells_next : (L : LinkedSet) (m : ℕ) (is : List Import) (j : ℕ) (i : Import) → j < length is → i ≡ get_or is j i
     → (known now : List CellName) (g end value : ℕ) (to more all : List GlobalDef)
-    → now ≡ with_cells known (cell_of_import i) → end ≡ g + length (globals_in i.desc) → value ≡ unwrap_or (cell_in k m g) 0
+    → now ≡ with_cells known (cell_of_import i) → end ≡ g + length (globals_in i.desc) → value ≡ unwrap_or (imported_number L m g) 0
     → more ≡ to ++ map (λ c. number_global true value) (first_cells known (cell_of_import i))
-    → to ++ cells_by k m known g (drop j is) ≡ all → more ++ cells_by k m now end (drop (j + 1) is) ≡ all
-cells_next k m is j i lt item known now g end value to more all cells step number put before =
+    → to ++ cells_by L m known g (drop j is) ≡ all → more ++ cells_by L m now end (drop (j + 1) is) ≡ all
+cells_next L m is j i lt item known now g end value to more all cells step number put before =
     let rest = drop (j + 1) is in
     let new = first_cells known (cell_of_import i) in
-    let one = map (λ c. number_global true (unwrap_or (cell_in k m g) 0)) new in
-    let later = cells_by k m (with_cells known (cell_of_import i)) (g + length (globals_in i.desc)) rest in
-    let from : List Import → List GlobalDef = λ l. to ++ cells_by k m known g l in
+    let one = map (λ c. number_global true (unwrap_or (imported_number L m g) 0)) new in
+    let later = cells_by L m (with_cells known (cell_of_import i)) (g + length (globals_in i.desc)) rest in
+    let from : List Import → List GlobalDef = λ l. to ++ cells_by L m known g l in
     ap₂ (λ (a b : List GlobalDef). a ++ b) (put ∙ ap (λ v. to ++ map (λ c. number_global true v) new) number)
-    (ap₂ (λ (cs : List CellName) (n : ℕ). cells_by k m cs n rest) cells step)
+    (ap₂ (λ (cs : List CellName) (n : ℕ). cells_by L m cs n rest) cells step)
     ∙ append_assoc to one later
     ∙ ap (λ (x : Import). from (x ∷ rest)) item
     ∙ sym (at_drop_more from is j i lt)
     ∙ before
 
 -- the bases of a member, its cells and its own globals are put one after the other
-pub member_put : (k : Kept) (n : Numbers) (m : ℕ) (wasm : Module) (memory table : ℕ)
-    → memory ≡ unwrap_or (slice_get k.plan.bases m) 0 → table ≡ unwrap_or (slice_get k.plan.table_bases m) 0
+pub member_put : (L : LinkedSet) (n : Numbers) (m : ℕ) (wasm : Module) (memory table : ℕ)
+    → memory_base L m ≡ Some memory → table_base L m ≡ Some table
     → (bases : List (Option ℕ)) → bases ≡ bases_from memory table wasm.imports
     → (imports : List Import) → imports ≡ wasm.imports → (owns : List GlobalDef) → owns ≡ wasm.globals
     → (to : List GlobalDef) (a b : GlobalDef) (one two cells all : List GlobalDef)
     → a ≡ number_global false memory → b ≡ number_global false table → one ≡ to ++ a ∷ [] → two ≡ one ++ b ∷ []
-    → cells ≡ two ++ cells_by k m [] 0 imports → all ≡ cells ++ map (own_by k n bases m) owns
-    → all ≡ to ++ globals_by k n m wasm
-member_put k n m wasm memory table is_memory is_table bases are imports same owns same_owns to a b one two cells all is_a is_b put_a put_b put_cells put_owns =
-    let x = number_global false (unwrap_or (slice_get k.plan.bases m) 0) in
-    let y = number_global false (unwrap_or (slice_get k.plan.table_bases m) 0) in
-    let these = cells_by k m [] 0 wasm.imports in
-    let bs = bases_from (unwrap_or (slice_get k.plan.bases m) 0) (unwrap_or (slice_get k.plan.table_bases m) 0) wasm.imports in
-    let those = map (own_by k n bs m) wasm.globals in
+    → cells ≡ two ++ cells_by L m [] 0 imports → all ≡ cells ++ map (own_by L n bases m) owns
+    → all ≡ to ++ globals_by L n m wasm
+member_put L n m wasm memory table memory_at table_at bases are imports same owns same_owns to a b one two cells all is_a is_b put_a put_b put_cells put_owns =
+    let is_memory : memory ≡ unwrap_or (memory_base L m) 0 = sym (ap (λ (o : Option ℕ). unwrap_or o 0) memory_at) in
+    let is_table : table ≡ unwrap_or (table_base L m) 0 = sym (ap (λ (o : Option ℕ). unwrap_or o 0) table_at) in
+    let x = number_global false (unwrap_or (memory_base L m) 0) in
+    let y = number_global false (unwrap_or (table_base L m) 0) in
+    let these = cells_by L m [] 0 wasm.imports in
+    let bs = bases_from (unwrap_or (memory_base L m) 0) (unwrap_or (table_base L m) 0) wasm.imports in
+    let those = map (own_by L n bs m) wasm.globals in
     let first : one ≡ to ++ x ∷ [] = put_a ∙ ap (λ (g : GlobalDef). to ++ g ∷ []) (is_a ∙ ap (number_global false) is_memory) in
     let both : two ≡ (to ++ x ∷ []) ++ y ∷ [] =
     put_b ∙ ap₂ (λ (l : List GlobalDef) (g : GlobalDef). l ++ g ∷ []) first (is_b ∙ ap (number_global false) is_table) in
     let bases_are : bases ≡ bs = are ∙ ap₂ (λ (u v : ℕ). bases_from u v wasm.imports) is_memory is_table in
     put_owns
     ∙ ap₂ (λ (u v : List GlobalDef). u ++ v)
-    (put_cells ∙ ap₂ (λ (l : List GlobalDef) (is : List Import). l ++ cells_by k m [] 0 is) both same)
-    (ap₂ (λ (u : List (Option ℕ)) (gs : List GlobalDef). map (own_by k n u m) gs) bases_are same_owns)
+    (put_cells ∙ ap₂ (λ (l : List GlobalDef) (is : List Import). l ++ cells_by L m [] 0 is) both same)
+    (ap₂ (λ (u : List (Option ℕ)) (gs : List GlobalDef). map (own_by L n u m) gs) bases_are same_owns)
     ∙ append_assoc ((to ++ x ∷ []) ++ y ∷ []) these those
     ∙ append_assoc (to ++ x ∷ []) (y ∷ []) (these ++ those)
     ∙ append_assoc to (x ∷ []) (y ∷ (these ++ those))
 
-module _ (L : LinkedSet) (k : Kept) (h : IsLinked L k) (m : ℕ) (member : Member) (at : slice_get L.set.members m ≡ Some member) where
+module _ (L : LinkedSet) (m : ℕ) (member : Member) (at : slice_get L.set.members m ≡ Some member) where
   abbrev wasm : Module
   wasm = member.wasm
 
@@ -128,26 +127,25 @@ module _ (L : LinkedSet) (k : Kept) (h : IsLinked L k) (m : ℕ) (member : Membe
       go true = refl
       go false = ap (λ x. number_global true x ∷ []) e
 
-  initial : (g : ℕ) (i : Import) → slice_get (importing globals_in wasm.imports) g ≡ Some i → unwrap_or (cell_in k m g) 0 ≡ unwrap_or (initial_number L m i) 0
+  initial : (g : ℕ) (i : Import) → slice_get (importing globals_in wasm.imports) g ≡ Some i → unwrap_or (imported_number L m g) 0 ≡ unwrap_or (initial_number L m i) 0
   initial g i e =
       ap (λ (o : Option ℕ). unwrap_or o 0)
-      (h.cells m g
-      ∙ ap (λ (o : Option Module). o >>= λ w. slice_get (importing globals_in w.imports) g >>= initial_number L m) here
+      (ap (λ (o : Option Module). o >>= λ w. slice_get (importing globals_in w.imports) g >>= initial_number L m) here
       ∙ ap (λ (o : Option Import). o >>= initial_number L m) e)
 
   import_cells : (known : List CellName) (g : ℕ) (i : Import) → ((may : Bool) → is_i32_global may i.desc ≡ true → slice_get (importing globals_in wasm.imports) g ≡ Some i)
       → (u : ImportUse) → use_of i ≡ u → fault_as L m wasm i u ≡ None
-      → map (λ c. number_global true (unwrap_or (cell_in k m g) 0)) (first_cells known (cell_as i u)) ≡ map cell_global (first_cells known (cell_as i u))
+      → map (λ c. number_global true (unwrap_or (imported_number L m g) 0)) (first_cells known (cell_as i u)) ≡ map cell_global (first_cells known (cell_as i u))
   import_cells known g i given DataCell q none =
       let form = (or_none (unless (is_i32_global true i.desc) (IllTyped m kind.Mem i.field)) (data_cell_fault m i.field (definition L m kind.Mem i.field)) none).0 in
       let so = holds_so (is_i32_global true i.desc) (IllTyped m kind.Mem i.field) form in
       let value : unwrap_or (initial_number L m i) 0 ≡ cell_value L m (kind.Mem, i.field) = ap (λ (u : ImportUse). unwrap_or (initial_as L m i u) 0) q in
-      one_cell (unwrap_or (cell_in k m g) 0) (kind.Mem, i.field) known (initial g i (given true so) ∙ value)
+      one_cell (unwrap_or (imported_number L m g) 0) (kind.Mem, i.field) known (initial g i (given true so) ∙ value)
   import_cells known g i given SlotCell q none =
       let form = (or_none (unless (is_i32_global true i.desc) (IllTyped m kind.Func i.field)) (slot_cell_fault m i.field (definition L m kind.Func i.field)) none).0 in
       let so = holds_so (is_i32_global true i.desc) (IllTyped m kind.Func i.field) form in
       let value : unwrap_or (initial_number L m i) 0 ≡ cell_value L m (kind.Func, i.field) = ap (λ (u : ImportUse). unwrap_or (initial_as L m i u) 0) q in
-      one_cell (unwrap_or (cell_in k m g) 0) (kind.Func, i.field) known (initial g i (given true so) ∙ value)
+      one_cell (unwrap_or (imported_number L m g) 0) (kind.Func, i.field) known (initial g i (given true so) ∙ value)
   import_cells known g i given SharedMemory q none = refl
   import_cells known g i given SharedTable q none = refl
   import_cells known g i given StackPointer q none = refl
@@ -160,7 +158,7 @@ module _ (L : LinkedSet) (k : Kept) (h : IsLinked L k) (m : ℕ) (member : Membe
   cells_from_is : (known : List CellName) (g : ℕ) (is : List Import)
       → ((j : ℕ) → slice_get (importing globals_in wasm.imports) (g + j) ≡ slice_get (importing globals_in is) j)
       → ((j : ℕ) (i : Import) → slice_get is j ≡ Some i → fault_as L m wasm i (use_of i) ≡ None)
-      → cells_by k m known g is ≡ map cell_global (first_cells known (flat_map cell_of_import is))
+      → cells_by L m known g is ≡ map cell_global (first_cells known (flat_map cell_of_import is))
   cells_from_is known g [] numbered free = refl
   cells_from_is known g (i ∷ is) numbered free =
       let cs = cell_of_import i in
@@ -178,21 +176,20 @@ module _ (L : LinkedSet) (k : Kept) (h : IsLinked L k) (m : ℕ) (member : Membe
       ∙ sym (map-append cell_global (first_cells known cs) (first_cells (with_cells known cs) ds))
       ∙ ap (map cell_global) (sym (first_append known cs ds))
 
-  cells_are : cells_by k m [] 0 wasm.imports ≡ map cell_global (cells_of wasm)
-  cells_are = cells_from_is [] 0 wasm.imports (λ j. ap (slice_get (importing globals_in wasm.imports)) (omega arith)) (λ j i e. (linked_member L m member h.links at).imports j i e)
+  cells_are : Links L → cells_by L m [] 0 wasm.imports ≡ map cell_global (cells_of wasm)
+  cells_are links = cells_from_is [] 0 wasm.imports (λ j. ap (slice_get (importing globals_in wasm.imports)) (omega arith)) (λ j i e. (linked_member L m member links at).imports j i e)
 
   -- ---- own globals
 
-  pub value_is : (bases : List (Option ℕ)) → AreBases L m bases → (g : GlobalDef) → value_by k bases m g ≡ opened_global L m g
+  pub value_is : (bases : List (Option ℕ)) → AreBases L m bases → (g : GlobalDef) → value_by L bases m g ≡ opened_global L m g
   value_is bases are g =
-      ap₂ (λ (functions : ℕ → Option Ref) (globals : ℕ → Option Value). unwrap_or (constant_of functions globals g.init) (zero_of g.ty.value))
-      (fun_ext (h.functions m)) (fun_ext are)
+      ap (λ (globals : ℕ → Option Value). unwrap_or (constant_of (function_ref L m) globals g.init) (zero_of g.ty.value)) (fun_ext are)
 
-  own_is : (n : Numbers) (bases : List (Option ℕ)) → AreBases L m bases → (g : GlobalDef) → own_by k n bases m g ≡ own_global L n m g
+  own_is : (n : Numbers) (bases : List (Option ℕ)) → AreBases L m bases → (g : GlobalDef) → own_by L n bases m g ≡ own_global L n m g
   own_is n bases are g =
       ap (λ (v : Value). record g { init = record { list = constant_instr n g.ty.value v ∷ [] } }) (value_is bases are g)
 
-  owns_are : (n : Numbers) (bases : List (Option ℕ)) → AreBases L m bases → (gs : List GlobalDef) → map (own_by k n bases m) gs ≡ map (own_global L n m) gs
+  owns_are : (n : Numbers) (bases : List (Option ℕ)) → AreBases L m bases → (gs : List GlobalDef) → map (own_by L n bases m) gs ≡ map (own_global L n m) gs
   owns_are n bases are [] = refl
   owns_are n bases are (g ∷ gs) = ap₂ (λ x l. x ∷ l) (own_is n bases are g) (owns_are n bases are gs)
 
@@ -201,43 +198,21 @@ module _ (L : LinkedSet) (k : Kept) (h : IsLinked L k) (m : ℕ) (member : Membe
   some_is : (xs : List ℕ) → m < length xs → slice_get xs m ≡ Some (unwrap_or (slice_get xs m) 0)
   some_is xs lt = (let x = got xs m lt in x.1 ∙ ap Some (sym (ap (λ (o : Option ℕ). unwrap_or o 0) x.1)))
 
-  inside : m < length k.set.members
-  inside = (let within = slice_get_within L.set.members m member at in let count = members_count L k h in omega arith)
+  inside : m < length L.set.members
+  inside = slice_get_within L.set.members m member at
 
-  memory_is : slice_get k.plan.bases m ≡ memory_base L m
-  memory_is = ap (λ (p : Plan). slice_get p.bases m) h.plan
-
-  table_is : slice_get k.plan.table_bases m ≡ table_base L m
-  table_is = ap (λ (p : Plan). slice_get p.table_bases m) h.plan
-
-  -- its bases
-  abbrev bases : List (Option ℕ)
-  bases = bases_from (unwrap_or (memory_base L m) 0) (unwrap_or (table_base L m) 0) wasm.imports
-
-  bases_are : AreBases L m bases
+  pub bases_are : AreBases L m (bases_by L m wasm)
   bases_are =
-      let long = bases_long L k h in
-      let table_long = table_bases_long L k h in
       let within = inside in
-      let memory : memory_base L m ≡ Some (unwrap_or (memory_base L m) 0) =
-      sym memory_is ∙ some_is k.plan.bases (omega arith) ∙ ap (λ (o : Option ℕ). Some (unwrap_or o 0)) memory_is in
-      let table : table_base L m ≡ Some (unwrap_or (table_base L m) 0) =
-      sym table_is ∙ some_is k.plan.table_bases (omega arith) ∙ ap (λ (o : Option ℕ). Some (unwrap_or o 0)) table_is in
+      let memory : memory_base L m ≡ Some (unwrap_or (memory_base L m) 0) = some_is (linked_plan L).bases (let long = bases_long L in omega arith) in
+      let table : table_base L m ≡ Some (unwrap_or (table_base L m) 0) = some_is (linked_plan L).table_bases (let long = table_bases_long L in omega arith) in
       are_bases L m (unwrap_or (memory_base L m) 0) (unwrap_or (table_base L m) 0) memory table wasm here
 
-  pub kept_bases : AreBases L m (bases_by k m wasm)
-  kept_bases =
-      subst (AreBases L m) (sym (ap₂ (λ (a b : Option ℕ). bases_from (unwrap_or a 0) (unwrap_or b 0) wasm.imports) memory_is table_is)) bases_are
-
-  member_is : (n : Numbers) → globals_by k n m wasm ≡ member_globals L n m wasm
-  member_is n =
-      ap₂ (λ (a b : Option ℕ).
-      number_global false (unwrap_or a 0) ∷ number_global false (unwrap_or b 0)
-      ∷ (cells_by k m [] 0 wasm.imports ++ map (own_by k n (bases_from (unwrap_or a 0) (unwrap_or b 0) wasm.imports) m) wasm.globals))
-      memory_is table_is
-      ∙ ap₂ (λ (cs gs : List GlobalDef).
+  member_is : Links L → (n : Numbers) → globals_by L n m wasm ≡ member_globals L n m wasm
+  member_is links n =
+      ap₂ (λ (cs gs : List GlobalDef).
       number_global false (unwrap_or (memory_base L m) 0) ∷ number_global false (unwrap_or (table_base L m) 0) ∷ (cs ++ gs))
-      cells_are (owns_are n bases bases_are wasm.globals)
+      (cells_are links) (owns_are n (bases_by L m wasm) bases_are wasm.globals)
 
 -- ---- all globals
 
@@ -248,25 +223,22 @@ member_many L n m wasm =
     let both = length-append (map (λ c. number_global true (cell_value L m c)) (cells_of wasm)) (map (own_global L n m) wasm.globals) in
     omega arith
 
-module _ (L : LinkedSet) (k : Kept) (h : IsLinked L k) (n : Numbers) where
-  all_are : all_globals k n ≡ number_global true (linked_plan L).stack_top ∷ from_members (member_globals L n) 0 L.set.members
+module _ (L : LinkedSet) (links : Links L) (n : Numbers) where
+  all_are : all_globals L n ≡ number_global true (linked_plan L).stack_top ∷ from_members (member_globals L n) 0 L.set.members
   all_are =
-      ap₂ (λ (p : Plan) (ms : List Member). number_global true p.stack_top ∷ from_members (globals_by k n) 0 ms) h.plan (members_are L k h)
-      ∙ ap (λ gs. number_global true (linked_plan L).stack_top ∷ gs)
-      (from_same (globals_by k n) (member_globals L n) 0 L.set.members
-      (λ j y at. member_is L k h (0 + j) y (ap (slice_get L.set.members) (omega arith) ∙ at) n))
+      ap (λ gs. number_global true (linked_plan L).stack_top ∷ gs)
+      (from_same (globals_by L n) (member_globals L n) 0 L.set.members
+      (λ j y at. member_is L (0 + j) y (ap (slice_get L.set.members) (omega arith) ∙ at) links n))
 
-  pub many_are : length (all_globals k n) ≡ 1 + sum_of globals_size L
+  pub many_are : length (all_globals L n) ≡ 1 + sum_of globals_size L
   many_are = ap length all_are ∙ (let many = joined_length (member_globals L n) globals_size (member_many L n) 0 L.set.members in omega arith)
 
   -- the guards come behind them, and then what the functions of the loader keep
-  pub globals_are : (guarded all : List GlobalDef) → guarded ≡ all_globals k n ++ zeros_for k.set.members
-      → all ≡ guarded ++ where_used k (loader_zeros k) → all ≡ merged_globals L n
-  globals_are guarded all guards last =
+  pub globals_are : (guarded all : List GlobalDef) (ms : List kept.Member) → map member_of ms ≡ L.set.members → guarded ≡ all_globals L n ++ zeros_for ms
+      → all ≡ guarded ++ with_loader L (loader_globals L) → all ≡ merged_globals L n
+  globals_are guarded all ms same guards last =
       let own = number_global true (linked_plan L).stack_top ∷ from_members (member_globals L n) 0 L.set.members in
-      let zeros : zeros_for k.set.members ≡ zero_globals L = ap (λ (ms : List Member). map (λ x. number_global true 0) ms) (members_are L k h) in
+      let zeros : zeros_for ms ≡ zero_globals L = ap (λ (xs : List Member). map (λ x. number_global true 0) xs) same in
       last
-      ∙ ap₂ (λ (a b : List GlobalDef). a ++ b)
-      (guards ∙ ap₂ (λ (a b : List GlobalDef). a ++ b) all_are zeros)
-      (used_are L k h (loader_zeros k) (loader_globals L) (ap (λ (l : List GlobalDef). number_global true 0 ∷ number_global true 0 ∷ l) zeros))
+      ∙ ap (λ (a : List GlobalDef). a ++ with_loader L (loader_globals L)) (guards ∙ ap₂ (λ (a b : List GlobalDef). a ++ b) all_are zeros)
       ∙ append_assoc own (zero_globals L) (with_loader L (loader_globals L))

@@ -14,20 +14,18 @@ use Rattle.spec_loading.specs.spec_runtime.Names.{HostName}
 use Rattle.spec_loading.specs.spec_linking.Gathering.{IsSet}
 use Rattle.spec_loading.specs.spec_linking.Definitions.{or_other}
 use Rattle.spec_loading.specs.spec_linking.LinkedSets.{LinkedSet, hosts_of, function_ref}
-use Rattle.dyl_link.specs.dyl_search.declared.set.Member.{Member}
-use Rattle.dyl_link.specs.Kept.{Kept, IsLinked}
+use Rattle.spec_loading.specs.spec_linking.Sets.{Member}
+use Rattle.spec_loading.specs.Members.{from_members}
 use Rattle.merge_match.specs.Renumbering.{Numbers}
 use Rattle.merge_match.specs.Parts.{number_of}
 use Rattle.merge_match.specs.Joined.{type_address}
 use Rattle.merge_index.specs.Numbering.{numbers_of}
-use Rattle.merge_module.specs.MergedModule.{host_use, function_type_number, host_uses, use_among, first_use, with_type, types_added, added_types, first_added, type_number, host_type_number, host_imports, merged_imports}
+use Rattle.merge_module.specs.MergedModule.{nullary_number, host_use, function_type_number, host_uses, use_among, first_use, with_type, types_added, added_types, first_added, type_number, host_type_number, host_imports, merged_imports}
 use Rattle.merge_index.proofs.Counted.{few_bytes, few_hosts, few_of}
 use Rattle.merge_module.proofs.AddedTypes.{added_few}
 use Rattle.merge_module.proofs.MergedSpaces.{few_generated_types}
-use Rattle.merge_whole.specs.Built.{joined, generated_in, nullary_in, imported_types}
+use Rattle.merge_whole.specs.Built.{imported_types}
 use Rattle.merge_whole.specs.Hosts.{host_of, given_to, given_at, given_from, use_in, number_by}
-use Rattle.merge_whole.proofs.Joins.{members_are}
-use Rattle.merge_whole.proofs.BuiltParts.{first_is}
 
 -- ---- one or another
 
@@ -87,9 +85,9 @@ one_given (Some (Loader which)) t e = refl
 one_given (Some (Stub m f)) t e = refl
 one_given None t e = refl
 
-module _ (L : LinkedSet) (k : Kept) (linked : IsLinked L k) where
+module _ (L : LinkedSet) where
   functions_given : (m : ℕ) (of g : ℕ → ℕ) (f : ℕ) (ts : List ℕ) (e : ℕ) → ((i t : ℕ) → slice_get ts i ≡ Some t → g (f + i) ≡ of t)
-      → given_at k m of f ts e ≡ use_among (flat_map (λ j. host_use (function_ref L m j) (g j)) (range_with_len f (length ts))) e
+      → given_at L m of f ts e ≡ use_among (flat_map (λ j. host_use (function_ref L m j) (g j)) (range_with_len f (length ts))) e
   functions_given m of g f [] e reads = refl
   functions_given m of g f (t ∷ ts) e reads =
       let place : f ≡ f + 0 = omega arith in
@@ -97,13 +95,12 @@ module _ (L : LinkedSet) (k : Kept) (linked : IsLinked L k) where
       let rest = flat_map (λ j. host_use (function_ref L m j) (g j)) (range_with_len (f + 1) (length ts)) in
       let later = functions_given m of g (f + 1) ts e (λ i u q. let s : f + 1 + i ≡ f + suc i = omega arith in ap g s ∙ reads (suc i) u q) in
       ap₂ or_other
-      (ap (λ o. given_to (host_of o) (of t) e) (linked.functions m f)
-      ∙ ap (λ n. given_to (host_of (function_ref L m f)) n e) number
+      (ap (λ n. given_to (host_of (function_ref L m f)) n e) number
       ∙ one_given (function_ref L m f) (g f) e)
       later
       ∙ sym (use_append (host_use (function_ref L m f) (g f)) rest e)
 
-  member_given : (m : ℕ) (wasm : Module) (e : ℕ) → given_at k m ((numbers_of L).ty m) 0 (imported_types wasm) e ≡ use_among (host_uses L m wasm) e
+  member_given : (m : ℕ) (wasm : Module) (e : ℕ) → given_at L m ((numbers_of L).ty m) 0 (imported_types wasm) e ≡ use_among (host_uses L m wasm) e
   member_given m wasm e =
       functions_given m ((numbers_of L).ty m) (function_type_number L m wasm) 0 (imported_types wasm) e
       (λ i t q.
@@ -111,18 +108,15 @@ module _ (L : LinkedSet) (k : Kept) (linked : IsLinked L k) where
       ap (function_type_number L m wasm) s
       ∙ ap (λ (o : Option ℕ). number_of (type_address L m (unwrap_or o 0))) (in_front (imported_types wasm) wasm.funcs i t q))
 
-  members_given : (m : ℕ) (xs : List Member) (e : ℕ) → given_from k (numbers_of L) m xs e ≡ use_among (joined (host_uses L) m xs) e
+  members_given : (m : ℕ) (xs : List Member) (e : ℕ) → given_from L (numbers_of L) m xs e ≡ use_among (from_members (host_uses L) m xs) e
   members_given m [] e = refl
   members_given m (x ∷ xs) e =
-      ap₂ or_other (member_given m x.checked e) (members_given (m + 1) xs e)
-      ∙ sym (use_append (host_uses L m x.checked) (joined (host_uses L) (m + 1) xs) e)
+      ap₂ or_other (member_given m x.wasm e) (members_given (m + 1) xs e)
+      ∙ sym (use_append (host_uses L m x.wasm) (from_members (host_uses L) (m + 1) xs) e)
 
   -- what is given to a host function is that of the set
-  pub given_is : (n : Numbers) → n ≡ numbers_of L → (e : ℕ) → given_from k n 0 k.set.members e ≡ first_use L e
-  given_is n same e =
-      ap (λ x. given_from k x 0 k.set.members e) same
-      ∙ members_given 0 k.set.members e
-      ∙ ap (λ us. use_among us e) (members_are (host_uses L) L k linked)
+  pub given_is : (n : Numbers) → n ≡ numbers_of L → (e : ℕ) → given_from L n 0 L.set.members e ≡ first_use L e
+  given_is n same e = ap (λ x. given_from L x 0 L.set.members e) same ∙ members_given 0 L.set.members e
 
 -- ---- types that are added, and imports
 
@@ -169,17 +163,15 @@ first_few L set =
     let generated = few_generated_types L in
     omega arith
 
-pub nullary_few : (L : LinkedSet) (k : Kept) → IsLinked L k → nullary_in k < 2147483648
-nullary_few L k linked = (let place = first_is L k linked in let front = first_few L linked.shape in omega arith)
+pub nullary_few : (L : LinkedSet) → IsSet L.set → nullary_number L < 2147483648
+nullary_few L set = (let front = first_few L set in omega arith)
 
-pub added_fit : (L : LinkedSet) (k : Kept) → IsLinked L k → (first : ℕ) (added : List FuncType) (given : ℕ → Option ℕ)
-    → first ≡ nullary_in k + length (generated_in k) → added ≡ types_added given [] 0 k.hosts → first + length added < 4294967296
-added_fit L k linked first added given at is =
-    let place = first_is L k linked in
-    let front = first_few L linked.shape in
-    let few = added_few given [] 0 k.hosts in
+pub added_fit : (L : LinkedSet) → IsSet L.set → (first : ℕ) (added : List FuncType) (given : ℕ → Option ℕ)
+    → first ≡ first_added L → added ≡ types_added given [] 0 (hosts_of L) → first + length added < 4294967296
+added_fit L set first added given at is =
+    let front = first_few L set in
+    let few = added_few given [] 0 (hosts_of L) in
     let long = ap length is in
-    let hosts = few_hosts L linked.shape in
-    let bytes = few_bytes L linked.shape in
-    let same = ap length linked.hosts in
+    let hosts = few_hosts L set in
+    let bytes = few_bytes L set in
     omega arith

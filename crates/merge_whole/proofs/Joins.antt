@@ -1,28 +1,32 @@
--- Tables, memory and data segments of the merged module, by what is kept of a linked set, are those of the set.
-use Rattle.std.proofs.Common.{◌≡◌, ℕ, List, [], ◌∷◌, ◌++◌, Some, ap, ap₂}
-use Rattle.wasm_form.specs.declared.types.ValType.TheVariants.{FuncRef}
-use Rattle.wasm_form.specs.declared.types.TableType.{TableType}
+-- Members one after the other are those of the set.
+use Rattle.std.proofs.Common.{◌≡◌, ◌≤◌, ℕ, List, length, map, ◌+◌, ◌++◌, ◌∷◌, ◌<◌, get_or, drop, ap, ap₂, sym, ◌∙◌, arith, append_assoc}
+use Rattle.std.proofs.lemmas.List.{at_drop_more}
 use Rattle.wasm_form.specs.declared.module.Module.{Module}
-use Rattle.spec_loading.specs.spec_linking.Sets as sets
-use Rattle.spec_loading.specs.spec_linking.Plans.{Plan}
+use Rattle.spec_loading.specs.spec_linking.Gathering.{IsSet}
 use Rattle.spec_loading.specs.spec_linking.LinkedSets.{LinkedSet}
 use Rattle.spec_loading.specs.Members.{from_members}
-use Rattle.dyl_link.specs.Kept.{Kept, IsLinked}
-use Rattle.merge_module.specs.MergedModule.{merged_tables, shared_memory_type, merged_datas}
-use Rattle.merge_whole.specs.Built.{joined, tables_of, tables_in, memory_in, datas_of, texts_at, datas_in}
+use Rattle.dyl_link.specs.dyl_search.declared.set.Member.{Member}
+use Rattle.dyl_link.specs.dyl_search.Gathers.{member_of}
+use Rattle.dyl_link.proofs.Indices.{members_count}
+use Rattle.merge_whole.specs.Built.{joined}
 
-pub members_are : {X : Type 0} (of : ℕ → Module → List X) (L : LinkedSet) (k : Kept) → IsLinked L k
-    → joined of 0 k.set.members ≡ from_members of 0 L.set.members
-members_are of L k h = ap (λ (S : sets.ClosedSet). from_members of 0 S.members) h.set
+pub members_are : {X : Type 0} (of : ℕ → Module → List X) (L : LinkedSet) (xs : List Member) → map member_of xs ≡ L.set.members
+    → joined of 0 xs ≡ from_members of 0 L.set.members
+members_are of L xs same = ap (from_members of 0) same
 
-abbrev shared_table : ℕ → ℕ → TableType
-shared_table min max = record { elem = FuncRef; limits = record { min = min; max = Some max } }
+pub few_members : (L : LinkedSet) → IsSet L.set → (xs : List Member) → map member_of xs ≡ L.set.members → length xs ≤ 256
+few_members L shape xs same = (let few = shape.few in let count = members_count L xs same in omega arith)
 
-pub tables_are : (L : LinkedSet) (k : Kept) → IsLinked L k → tables_in k ≡ merged_tables L
-tables_are L k h = ap₂ (λ a b. a ∷ b) (ap₂ shared_table h.table_entries h.table_max) (members_are tables_of L k h)
-
-pub memory_is : (L : LinkedSet) (k : Kept) → IsLinked L k → memory_in k ∷ [] ≡ shared_memory_type L ∷ []
-memory_is L k h = ap (λ (p : Plan). record { min = p.pages; max = Some p.pages_max } ∷ []) h.plan
-
-pub datas_are : (L : LinkedSet) (k : Kept) → IsLinked L k → datas_in k ≡ merged_datas L
-datas_are L k h = ap₂ (λ a b. a ++ b) (members_are datas_of L k h) (ap (λ (p : Plan). texts_at p.stack_top ∷ []) h.plan)
+-- what a member has comes before what those behind it have
+pub member_next : {X : Type 0} (of : ℕ → Module → List X) (ms : List Member) (j : ℕ) (x : Member) → j < length ms
+    → x ≡ get_or ms j x → (m next : ℕ) → next ≡ m + 1 → (to more all : List X) (wasm : Module) → wasm ≡ (member_of x).wasm
+    → more ≡ to ++ of m wasm → to ++ from_members of m (map member_of (drop j ms)) ≡ all
+    → more ++ from_members of next (map member_of (drop (j + 1) ms)) ≡ all
+member_next {X} of ms j x lt item m next step to more all wasm same put before =
+    let rest = drop (j + 1) ms in
+    let from : List Member → List X = λ l. to ++ from_members of m (map member_of l) in
+    ap₂ (λ (a b : List X). a ++ b) (put ∙ ap (λ (w : Module). to ++ of m w) same) (ap (λ i. from_members of i (map member_of rest)) step)
+    ∙ append_assoc to (of m (member_of x).wasm) (from_members of (m + 1) (map member_of rest))
+    ∙ ap (λ (y : Member). from (y ∷ rest)) item
+    ∙ sym (at_drop_more from ms j x lt)
+    ∙ before

@@ -15,13 +15,11 @@ use Rattle.spec_reading.specs.spec_binary.DecodeAnswers.{DecodeAnswer}
 use Rattle.spec_reading.specs.Laws.{OneModule}
 use Rattle.spec_loading.specs.spec_linking.Sets.{Member}
 use Rattle.spec_loading.specs.spec_linking.Gathering.{total_size}
-use Rattle.spec_loading.specs.spec_linking.Plans.{Plan}
 use Rattle.spec_loading.specs.spec_linking.LinkedSets.{LinkedSet}
-use Rattle.dyl_link.specs.Kept.{Kept, IsLinked}
 use Rattle.wasm_encode.specs.SectionSizes.{IsFirstTooLong}
 use Rattle.merge_module.specs.MergedModule.{members_types, generated_functions_types, added_types, merged_module}
 use Rattle.merge_module.specs.Shape.{HasShape}
-use Rattle.merge_module.specs.Laws.{IsSupported, IsMergeable, MergedStands, SpelledMerges, MergedIsFormed, MergedHasShape, types_bulk, names_bulk, IsBrief, MergedIsShort}
+use Rattle.merge_module.specs.Laws.{IsMergeable, MergedStands, SpelledMerges, MergedIsFormed, MergedHasShape, types_bulk, names_bulk, IsBrief, MergedIsShort}
 use Rattle.merge_index.proofs.FewItems.{total_cons}
 use Rattle.merge_whole.specs.Counts.{sizes}
 use Rattle.merge_whole.specs.Merges.{Merges, bulk_of, bulk, IsTooLongFor}
@@ -63,15 +61,7 @@ bulk_is ms size square one two = (let all = sizes_are ms in omega arith)
 
 -- ---- a set
 
-module _ (L : LinkedSet) (k : Kept) (linked : IsLinked L k) (pages : k.plan.pages_max ≤ 16384) (hosts : All IsSupported k.hosts) where
-  pub mergeable : IsMergeable L
-  mergeable = record {
-    shape = linked.shape;
-    links = linked.links;
-    pages = subst (λ (p : Plan). p.pages_max ≤ 16384) linked.plan pages;
-    hosts = subst (All IsSupported) linked.hosts hosts;
-  }
-
+module _ (L : LinkedSet) (mergeable : IsMergeable L) where
   pub formed : MergedIsFormed → (m : Module) → m ≡ merged_module L → All IsFormedType m.types → IsWellFormed m
   formed law m same types =
       let all = subst (λ (w : Module). All IsFormedType w.types) same types in

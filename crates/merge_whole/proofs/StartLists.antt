@@ -1,5 +1,5 @@
 -- The lists of numbers that are made for generated code are those of a linked set.
-use Rattle.std.proofs.Common.{◌≡◌, ◌<◌, ◌≤◌, ℕ, zero, suc, ◌+◌, ◌-◌, ◌*◌, Bool, true, false, List, [], ◌∷◌, ◌++◌, length, nat_lt, slice_get, Option, Some, None, option_map, if◌then◌else◌, refl, sym, ap, ap₂, ◌∙◌, arith, length-append}
+use Rattle.std.proofs.Common.{◌≡◌, ◌<◌, ◌≤◌, ℕ, zero, suc, ◌+◌, ◌-◌, ◌*◌, Bool, true, false, List, [], ◌∷◌, ◌++◌, length, nat_lt, slice_get, Option, Some, None, option_map, unwrap_or, if◌then◌else◌, refl, sym, ap, ◌∙◌, arith, length-append}
 use Rattle.std.specs.List.{range_with_len}
 use Rattle.std.proofs.lemmas.Bool.Decides.{nat_tests}
 use Rattle.std.proofs.lemmas.List.{length-map}
@@ -17,16 +17,14 @@ use Rattle.spec_loading.specs.declared.task.Phase.TheVariants.{Place, Start, Rel
 use Rattle.spec_loading.specs.Phases.{stage_of, phase_function}
 use Rattle.spec_loading.specs.Addresses.{sum_before, item_address}
 use Rattle.spec_loading.specs.Members.{from_members}
-use Rattle.dyl_link.specs.Kept.{Kept, IsLinked}
 use Rattle.merge_match.specs.Renumbering.{Numbers}
 use Rattle.merge_match.specs.Parts.{nowhere, number_of}
 use Rattle.merge_start.specs.Listed.{AreListed, in_part}
-use Rattle.dyl_addresses.proofs.Linked.{members_are, members_count}
 use Rattle.merge_index.specs.Numbering.{sum_of, first_phase, numbers_of, starts_of}
 use Rattle.dyl_addresses.proofs.Items.{range_item}
 use Rattle.merge_index.proofs.FunctionNumbers.{sum_within}
 use Rattle.merge_whole.specs.declared.built.counts.Space.TheVariants.{Elems}
-use Rattle.merge_whole.specs.Counts.{members_of, size_in, total, tables_by, calls_by, starts_by}
+use Rattle.merge_whole.specs.Counts.{size_in, total, tables_by, calls_by, starts_by}
 
 -- ---- sums
 
@@ -98,7 +96,7 @@ member_at L m wasm e = go (slice_get L.set.members m) refl e
     go None q e = absurd cc
     go (Some x) q e = (x, q, (let same : x.wasm ≡ wasm = cc in same))
 
-module _ (L : LinkedSet) (k : Kept) (h : IsLinked L k) where
+module _ (L : LinkedSet) where
   abbrev members : List Member
   members = L.set.members
 
@@ -109,25 +107,23 @@ module _ (L : LinkedSet) (k : Kept) (h : IsLinked L k) where
 
   segment_is : (size : Module → ℕ) (more m i : ℕ) (wasm : Module) → wasm_of L m ≡ Some wasm
       → number_of (wasm_of L m >>= λ w. item_address (sum_before size members m) (size w) i)
-      ≡ in_part (range_with_len 0 (total size more (members_of k.set.members))) (sum_before size members m) (size wasm) i
+      ≡ in_part (range_with_len 0 (total size more members)) (sum_before size members m) (size wasm) i
   segment_is size more m i wasm e =
       let found = member_at L m wasm e in
       let within = sum_within size members m found.0 found.1 in
       let same = ap size found.2 in
-      let all : total size more (members_of k.set.members) ≡ more + sum_before size members (length members) =
-      ap (total size more) (members_are L k h) ∙ total_is size more members in
+      let all : total size more members ≡ more + sum_before size members (length members) = total_is size more members in
       ap (λ (o : Option Module). number_of (o >>= λ w. item_address (sum_before size members m) (size w) i)) e
-      ∙ part_is (total size more (members_of k.set.members)) (sum_before size members m) (size wasm) i (omega arith)
+      ∙ part_is (total size more members) (sum_before size members m) (size wasm) i (omega arith)
 
   slot_is : (m : ℕ) → m < length members
       → sum_of (λ w. length w.elems) L + m
-      ≡ number_of (slice_get (range_with_len 0 (total (size_in Elems) (length k.set.members) (members_of k.set.members)))
+      ≡ number_of (slice_get (range_with_len 0 (total (size_in Elems) (length members) members))
       (sum_before (λ w. length w.elems) members (length members) + m))
   slot_is m lt =
-      let count = members_count L k h in
-      let all : total (size_in Elems) (length k.set.members) (members_of k.set.members) ≡ length k.set.members + sum_before (size_in Elems) members (length members) =
-      ap (total (size_in Elems) (length k.set.members)) (members_are L k h) ∙ total_is (size_in Elems) (length k.set.members) members in
-      sym (ap number_of (range_at (total (size_in Elems) (length k.set.members) (members_of k.set.members))
+      let all : total (size_in Elems) (length members) members ≡ length members + sum_before (size_in Elems) members (length members) =
+      total_is (size_in Elems) (length members) members in
+      sym (ap number_of (range_at (total (size_in Elems) (length members) members)
       (sum_before (λ w. length w.elems) members (length members) + m) (omega arith)))
 
   -- ---- tables
@@ -154,7 +150,7 @@ module _ (L : LinkedSet) (k : Kept) (h : IsLinked L k) where
   tables_many m wasm = length-map (range_with_len 0 (length (table_space wasm))) (n.table m) ∙ length-range_with_len 0 (length (table_space wasm))
 
   table_is : (m t : ℕ) (wasm : Module) → wasm_of L m ≡ Some wasm
-      → n.table m t ≡ in_part (from_members (tables_by n) 0 (members_of k.set.members)) (sum_before (λ w. length (table_space w)) members m) (length (table_space wasm)) t
+      → n.table m t ≡ in_part (from_members (tables_by n) 0 L.set.members) (sum_before (λ w. length (table_space w)) members m) (length (table_space wasm)) t
   table_is m t wasm e = go (nat_lt t (length (table_space wasm))) refl
     where
       size : Module → ℕ
@@ -162,15 +158,14 @@ module _ (L : LinkedSet) (k : Kept) (h : IsLinked L k) where
 
       go : (b : Bool) → nat_lt t (length (table_space wasm)) ≡ b
           → n.table m t
-          ≡ (if b then number_of (slice_get (from_members (tables_by n) 0 (members_of k.set.members)) (sum_before (λ w. length (table_space w)) L.set.members m + t)) else nowhere)
+          ≡ (if b then number_of (slice_get (from_members (tables_by n) 0 L.set.members) (sum_before (λ w. length (table_space w)) L.set.members m + t)) else nowhere)
       go false q = table_past m t wasm e (grind (arith, nat_tests))
       go true q =
           let found = member_at L m wasm e in
           let lt : t < length (table_space wasm) = grind (arith, nat_tests) in
           let same = ap (λ (w : Module). length (table_space w)) found.2 in
-          let there : slice_get (from_members (tables_by n) 0 (members_of k.set.members)) (sum_before (λ w. length (table_space w)) L.set.members m + t) ≡ Some (n.table m t) =
-          ap (λ ms. slice_get (from_members (tables_by n) 0 ms) (sum_before (λ w. length (table_space w)) L.set.members m + t)) (members_are L k h)
-          ∙ item_of (tables_by n) (λ w. length (table_space w)) tables_many L.set.members m t found.0 found.1 (omega arith)
+          let there : slice_get (from_members (tables_by n) 0 L.set.members) (sum_before (λ w. length (table_space w)) L.set.members m + t) ≡ Some (n.table m t) =
+          item_of (tables_by n) (λ w. length (table_space w)) tables_many L.set.members m t found.0 found.1 (omega arith)
           ∙ slice_get-map (n.table m) (range_with_len 0 (length (table_space found.0.wasm))) t
           ∙ ap (option_map (n.table m)) (range_at (length (table_space found.0.wasm)) t (omega arith)) in
           sym (ap number_of there)
@@ -193,27 +188,27 @@ module _ (L : LinkedSet) (k : Kept) (h : IsLinked L k) where
   call_at Construct m wasm = refl
 
   call_is : (m : ℕ) (p : Phase) (wasm : Module) → wasm_of L m ≡ Some wasm
-      → slice_get (from_members (calls_by n) 0 (members_of k.set.members)) (4 * m + (stage_of p - 1)) ≡ Some (option_map (n.named m) (phase_function p m wasm))
+      → slice_get (from_members (calls_by n) 0 members) (4 * m + (stage_of p - 1)) ≡ Some (option_map (n.named m) (phase_function p m wasm))
   call_is m p wasm e =
       let found = member_at L m wasm e in
       let within = slice_get_within members m found.0 found.1 in
       let place = fours members m (omega arith) in
-      ap₂ (λ ms i. slice_get (from_members (calls_by n) 0 ms) (i + (stage_of p - 1))) (members_are L k h) (sym place)
+      ap (λ i. slice_get (from_members (calls_by n) 0 members) (i + (stage_of p - 1))) (sym place)
       ∙ item_of (calls_by n) (λ w. 4) (λ q w. refl) members m (stage_of p - 1) found.0 found.1 (stage_low p)
       ∙ ap (λ (w : Module). slice_get (calls_by n m w) (stage_of p - 1)) found.2
       ∙ call_at p m wasm
 
-  entry_is : (f : ℕ) → set_entry L.set.members ≡ Some f → n.named 0 f ≡ n.named 0 k.entry
-  entry_is f e = (let same : f ≡ k.entry = (let q = sym e ∙ h.entry in cc) in ap (n.named 0) same)
+  entry_is : (f : ℕ) → set_entry L.set.members ≡ Some f → n.named 0 f ≡ n.named 0 (unwrap_or (set_entry L.set.members) 0)
+  entry_is f e = sym (ap (λ (o : Option ℕ). n.named 0 (unwrap_or o 0)) e)
 
   pub are_listed : (guard first : ℕ) → guard ≡ (starts_of L).guards → first ≡ first_phase L
-      → AreListed L (starts_by k n guard first) n (starts_of L)
+      → AreListed L (starts_by L n guard first) n (starts_of L)
   are_listed guard first is begins = record {
     guards = sym is;
     phases = λ m p. ap (λ f. f + 4 * m + (stage_of p - 1)) (sym begins);
     calls = call_is;
     entry = entry_is;
-    elems = λ m e wasm q. segment_is (λ w. length w.elems) (length k.set.members) m e wasm q;
+    elems = λ m e wasm q. segment_is (λ w. length w.elems) (length members) m e wasm q;
     slots = slot_is;
     datas = λ m d wasm q. segment_is (λ w. length w.datas) 0 m d wasm q;
     tables = table_is;

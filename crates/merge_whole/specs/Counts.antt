@@ -1,16 +1,17 @@
 -- How much there is of a linked set, and the lists of the numbers that generated code names.
-use Rattle.std.specs.Prelude.{ℕ, ◌+◌, List, [], ◌∷◌, length, map, Option, None, option_map}
+use Rattle.std.specs.Prelude.{ℕ, ◌+◌, List, [], ◌∷◌, length, map, Option, None, option_map, unwrap_or}
 use Rattle.std.specs.List.{range_with_len}
 use Rattle.wasm_form.specs.declared.module.Module.{Module}
 use Rattle.spec_reading.specs.spec_binary.IndexSpaces.{table_space, function_space}
 use Rattle.spec_loading.specs.spec_linking.Sets as sets
+use Rattle.spec_loading.specs.spec_linking.LinkedSets.{LinkedSet}
+use Rattle.spec_loading.specs.spec_linking.Links.{set_entry}
 use Rattle.spec_loading.specs.declared.task.Phase.TheVariants.{Start, Relocate, Construct}
 use Rattle.spec_loading.specs.Phases.{phase_function}
 use Rattle.dyl_link.specs.dyl_search.declared.set.Member.{Member}
 use Rattle.dyl_link.specs.dyl_search.Gathers.{member_of}
 use Rattle.merge_match.specs.Renumbering.{Numbers}
 use Rattle.spec_loading.specs.Members.{from_members}
-use Rattle.dyl_link.specs.Kept.{Kept}
 use Rattle.merge_start.specs.declared.numbers.StartNumbers.{StartNumbers}
 use Rattle.merge_dl.specs.declared.numbers.DlNumbers.{DlNumbers}
 use Rattle.merge_index.specs.declared.numbers.LoaderNumbers.{LoaderNumbers}
@@ -48,25 +49,25 @@ calls_by n m wasm =
     None ∷ option_map (n.named m) (phase_function Start m wasm) ∷ option_map (n.named m) (phase_function Relocate m wasm)
     ∷ option_map (n.named m) (phase_function Construct m wasm) ∷ []
 
--- the numbers that generated code names, by what is kept of a set, the numbers of its members and those of the first guard and phase
-abbrev pub starts_by : Kept → Numbers → ℕ → ℕ → StartNumbers
-starts_by k n guard first =
-    let members = members_of k.set.members in
+-- the numbers that generated code names, by the numbers of the members of a set and those of the first guard and phase
+abbrev pub starts_by : LinkedSet → Numbers → ℕ → ℕ → StartNumbers
+starts_by L n guard first =
+    let members = L.set.members in
     record {
       guard = guard;
       first_function = first;
       calls = from_members (calls_by n) 0 members;
-      entry = n.named 0 k.entry;
-      elems = range_with_len 0 (total (size_in Elems) (length k.set.members) members);
+      entry = n.named 0 (unwrap_or (set_entry members) 0);
+      elems = range_with_len 0 (total (size_in Elems) (length members) members);
       datas = range_with_len 0 (total (size_in Datas) 0 members);
       tables = from_members (tables_by n) 0 members;
       functions = from_members (functions_by n) 0 members;
     }
 
 -- the numbers that the functions of the loader name, by those of what there is for them and of the first guard
-abbrev pub loader_by : Kept → ℕ → LoaderNumbers → DlNumbers
-loader_by k guard n =
-    let count = length k.set.members in
+abbrev pub loader_by : LinkedSet → ℕ → LoaderNumbers → DlNumbers
+loader_by L guard n =
+    let count = length L.set.members in
     record {
       error = guard + count;
       guard = guard;

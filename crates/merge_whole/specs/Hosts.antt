@@ -1,13 +1,12 @@
--- The types of host functions, by what is kept of a linked set: which numbers imported functions give them, and where types are added.
+-- The types of host functions: which numbers imported functions give them, and where types are added.
 use Rattle.std.specs.Prelude.{ℕ, ◌+◌, List, [], ◌∷◌, nat_eq, slice_index_or, Option, Some, None, if◌then◌else◌}
 use Rattle.wasm_form.specs.declared.types.FuncType.{FuncType}
 use Rattle.wasm_form.specs.declared.runtime.Ref.{Ref}
 use Rattle.wasm_form.specs.declared.runtime.Ref.TheVariants.{Own, Loader, Host, Stub}
 use Rattle.spec_loading.specs.spec_linking.Definitions.{or_other}
-use Rattle.dyl_link.specs.dyl_search.declared.set.Member.{Member}
-use Rattle.dyl_link.specs.Kept.{Kept, function_in}
+use Rattle.spec_loading.specs.spec_linking.Sets.{Member}
+use Rattle.spec_loading.specs.spec_linking.LinkedSets.{LinkedSet, function_ref}
 use Rattle.merge_match.specs.Renumbering.{Numbers}
-use Rattle.dyl_addresses.specs.Sets.{module_of}
 use Rattle.merge_module.specs.MergedModule.{type_number}
 use Rattle.merge_whole.specs.Built.{imported_types}
 
@@ -25,14 +24,14 @@ given_to (Some h) t e = if nat_eq h e then Some t else None
 given_to None t e = None
 
 -- the first number that functions of member m, which are numbered from f on, give host function e, by their types
-abbrev pub given_at : Kept → ℕ → (ℕ → ℕ) → ℕ → List ℕ → ℕ → Option ℕ
-given_at k m of f [] e = None
-given_at k m of f (t ∷ ts) e = or_other (given_to (host_of (function_in k m f)) (of t) e) (given_at k m of (f + 1) ts e)
+abbrev pub given_at : LinkedSet → ℕ → (ℕ → ℕ) → ℕ → List ℕ → ℕ → Option ℕ
+given_at L m of f [] e = None
+given_at L m of f (t ∷ ts) e = or_other (given_to (host_of (function_ref L m f)) (of t) e) (given_at L m of (f + 1) ts e)
 
 -- the first that functions give which members import, numbered from m on
-abbrev pub given_from : Kept → Numbers → ℕ → List Member → ℕ → Option ℕ
-given_from k n m [] e = None
-given_from k n m (x ∷ xs) e = or_other (given_at k m (n.ty m) 0 (imported_types (module_of x)) e) (given_from k n (m + 1) xs e)
+abbrev pub given_from : LinkedSet → Numbers → ℕ → List Member → ℕ → Option ℕ
+given_from L n m [] e = None
+given_from L n m (x ∷ xs) e = or_other (given_at L m (n.ty m) 0 (imported_types x.wasm) e) (given_from L n (m + 1) xs e)
 
 -- what is listed for a host function
 abbrev pub use_in : List (Option ℕ) → ℕ → Option ℕ

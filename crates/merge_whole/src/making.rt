@@ -1,7 +1,5 @@
 // The merged module of a linked set, with the numbers of what it has.
 ghost use Rattle.std.specs.Prelude.{IfOk};
-ghost use Rattle.spec_loading.specs.spec_linking.LinkedSets.{LinkedSet};
-ghost use Rattle.dyl_link.specs.Kept.{IsLinked};
 ghost use Rattle.merge_whole.specs.Parts.{ArePartsOf};
 
 use crate::built::whole::merged_parts;
@@ -12,9 +10,8 @@ use wasm_form::Memory;
 
 /// The parts of a linked set. `Memory` where no memory could be had.
 pub fn parts(alloc: Global, linked: &Linked) -> Result<Parts, Memory>
-    ensures { IfOk result (λ p. (L : LinkedSet) → IsLinked L linked.now → ArePartsOf L p) }
+    ensures { IfOk result (λ p. ArePartsOf linked.now p) }
 {
-    linked.links();
     let parts = merged_parts(alloc, linked)?;
     Ok(parts)
 }

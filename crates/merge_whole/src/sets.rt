@@ -1,10 +1,9 @@
 // The bytes of the merged module of a linked set.
 ghost use Rattle.std.specs.Prelude.{◌≡◌, ◌+◌, ◌^◌, ◌≤◌, ◌<◌, ◌⊎◌, ◌↔◌, ℕ, min, All, IfOk, OnOk, Err, IsTrue, length};
 ghost use Rattle.spec_merging.specs.declared.fault.MergeFault.TheVariants as faults;
-ghost use Rattle.spec_loading.specs.spec_linking.LinkedSets.{LinkedSet};
 ghost use Rattle.spec_reading.specs.spec_binary.Modules.{SpellsModule};
+ghost use Rattle.spec_loading.specs.spec_linking.LinkedSets.{hosts_of};
 ghost use Rattle.spec_reading.specs.spec_binary.WellFormed.{IsFormedType, IsWellFormed};
-ghost use Rattle.dyl_link.specs.Kept.{IsLinked};
 ghost use Rattle.wasm_encode.specs.SectionSizes.{IsFirstTooLong};
 ghost use Rattle.merge_module.specs.MergedModule.{added_types, merged_module};
 ghost use Rattle.merge_module.specs.Laws.{types_bulk, IsSupported};
@@ -103,19 +102,19 @@ pub fn check_types(types: &[FuncType]) -> Result<(), Memory>
 // The encoding of a merged module. Where there isn't so much of the set, only types that the host table alone brings can make a section
 // too long, and want of memory stands for that.
 fn encoded(alloc: Global, linked: &Linked, wasm: &Module) -> Result<Vec<u8>, MergeFault>
-    requires few { length linked.now.set.members ≤ 256 }
     requires formed { All IsFormedType wasm.now.types → IsWellFormed wasm.now }
     ensures formed { OnOk result (IsWellFormed wasm.now) }
     ensures spelled { IfOk result (λ bytes. SpellsModule wasm.now bytes.items) }
     ensures long { (id : ℕ) → result ≡ Err (faults.SectionSize id) → IsFirstTooLong wasm.now id }
-    ensures big { (id : ℕ) → result ≡ Err (faults.SectionSize id) → 2 ^ 32 ≤ bulk_of (members_of linked.now.set.members) }
+    ensures big { (id : ℕ) → result ≡ Err (faults.SectionSize id) → 2 ^ 32 ≤ bulk linked.now }
     ensures only_long { (id : ℕ) → IsFirstTooLong wasm.now id → (result ≡ Err (faults.SectionSize id)) ⊎ (result ≡ Err faults.Memory) }
 {
+    linked.links();
     check_types(wasm.types.items())?;
     match encode(alloc, wasm) {
         Ok(bytes) => Ok(bytes),
         Err(EncodeFault::SectionSize { id }) => {
-            if is_big(linked.set().members.items()) {
+            if is_big(linked.members()) {
                 Err(MergeFault::SectionSize { id })
             } else {
                 Err(MergeFault::Memory)
@@ -132,13 +131,13 @@ fn encoded(alloc: Global, linked: &Linked, wasm: &Module) -> Result<Vec<u8>, Mer
 /// set has one whose bulk is below 2^32, but for types that the host table alone brings: those of host functions that only `GOT.func` asks
 /// for. Where these make a section too long, and where no memory could be had, comes `Memory`.
 pub fn merge(alloc: Global, linked: &Linked) -> Result<Vec<u8>, MergeFault>
-    requires hosts { All IsSupported linked.now.hosts }
-    ensures merged { IfOk result (λ bytes. (L : LinkedSet) → IsLinked L linked.now → Merges L bytes.items) }
-    ensures spelled { IfOk result (λ bytes. (L : LinkedSet) → IsLinked L linked.now → SpellsModule (merged_module L) bytes.items) }
-    ensures long { (id : ℕ) → result ≡ Err (faults.SectionSize id) → (L : LinkedSet) → IsLinked L linked.now → IsTooLongFor L id }
-    ensures exact { (id : ℕ) → result ≡ Err (faults.SectionSize id) → (L : LinkedSet) → IsLinked L linked.now → IsFirstTooLong (merged_module L) id }
-    ensures only_long { (id : ℕ) (L : LinkedSet) → IsLinked L linked.now → IsFirstTooLong (merged_module L) id → (result ≡ Err (faults.SectionSize id)) ⊎ (result ≡ Err faults.Memory) }
-    ensures little { (id : ℕ) (L : LinkedSet) → IsLinked L linked.now → bulk L < 2 ^ 32 → types_bulk (added_types L) ≤ 33554432 → IsFirstTooLong (merged_module L) id → ⊥ }
+    requires hosts { All IsSupported (hosts_of linked.now) }
+    ensures merged { IfOk result (λ bytes. Merges linked.now bytes.items) }
+    ensures spelled { IfOk result (λ bytes. SpellsModule (merged_module linked.now) bytes.items) }
+    ensures long { (id : ℕ) → result ≡ Err (faults.SectionSize id) → IsTooLongFor linked.now id }
+    ensures exact { (id : ℕ) → result ≡ Err (faults.SectionSize id) → IsFirstTooLong (merged_module linked.now) id }
+    ensures only_long { (id : ℕ) → IsFirstTooLong (merged_module linked.now) id → (result ≡ Err (faults.SectionSize id)) ⊎ (result ≡ Err faults.Memory) }
+    ensures little { (id : ℕ) → bulk linked.now < 2 ^ 32 → types_bulk (added_types linked.now) ≤ 33554432 → IsFirstTooLong (merged_module linked.now) id → ⊥ }
 {
     linked.links();
     linked.has_few_pages();

@@ -11,7 +11,6 @@ use Rattle.spec_traces.specs.declared.trace.TraceFault.{TraceFault}
 use Rattle.spec_traces.specs.declared.trace.TraceFault.TheVariants as fault
 use Rattle.spec_traces.specs.Traces.{Traces, IsAgreeing, IsTraceOf}
 use Rattle.spec_loading.specs.spec_safety.SoundModules.{HoldsNumbers}
-use Rattle.dyl_link.specs.Kept.{IsLinked}
 use Rattle.run_loaded.specs.declared.loaded.Loaded.{Loaded}
 use Rattle.run_loaded.specs.Courses.{Origin, OfModule, OfSet, course_of, TakesAll}
 use Rattle.run_loaded.specs.Programs.{recorded_of, IsOf}
@@ -20,7 +19,7 @@ use Rattle.replay_check.specs.declared.program.Program.TheVariants.{Set, One}
 
 -- the run that a program has, where it opens
 abbrev pub IsOpened : Program → Origin → Type 0
-IsOpened (Set k) (OfSet L) = IsLinked L k.now
+IsOpened (Set k) (OfSet L) = k.now ≡ L
 IsOpened (Set k) (OfModule m opening) = ⊥
 IsOpened (One wasm names) (OfSet L) = ⊥
 IsOpened (One wasm names) (OfModule m opening) = (m ≡ wasm.now) × (module_opening wasm.now names.now ≡ Ok opening)
@@ -43,21 +42,21 @@ abbrev pub IsUnloaded : Program → SingleFault → Type 0
 IsUnloaded p single.Memory = Unit {0}
 IsUnloaded p why = IsRefused p why
 
--- The program opens and is loaded, as each run that it may be said to have, and has made no step; or it isn't, for this cause.
+-- The program opens and is loaded, as the run that it has, and has made no step; or it isn't, for this cause.
 abbrev pub Loads : Program → Result Loaded SingleFault → Type 0
 Loads p (Ok l) = ((o : Origin) × IsOpened p o) × ((o : Origin) → IsOpened p o → IsOf l o) × (recorded_of l ≡ no_steps)
 Loads p (Err why) = IsUnloaded p why
 
 -- ---- checking a trace
 
--- The answer of checking a trace of at most so many steps. A program may be kept of several linked sets, of all of which it is so.
+-- The answer of checking a trace of at most so many steps.
 abbrev pub Checks : Program → Trace → ℕ → Result (Unit {0}) TraceFault → Type 0
-Checks p t most (Ok done) = (t.steps ≤ most) × ((o : Origin) × IsOpened p o) × ((o : Origin) → IsOpened p o → Traces (course_of o) t)
+Checks p t most (Ok done) = (t.steps ≤ most) × (o : Origin) × IsOpened p o × Traces (course_of o) t
 Checks p t most (Err (fault.Line line)) = ⊥
 Checks p t most (Err fault.Steps) = most < t.steps
 Checks p t most (Err (fault.Single why)) = (t.steps ≤ most) × IsRefused p why
 Checks p t most (Err (fault.Differs call)) =
-    (t.steps ≤ most) × ((o : Origin) × IsOpened p o) × ((o : Origin) → IsOpened p o → IsAgreeing (course_of o) t call × (Traces (course_of o) t → ⊥))
+    (t.steps ≤ most) × (o : Origin) × IsOpened p o × IsAgreeing (course_of o) t call × (Traces (course_of o) t → ⊥)
 Checks p t most (Err fault.Memory) = Unit {0}
 
 -- ---- making a trace
@@ -72,6 +71,6 @@ pub record HasRun (C : Course) (r : Ran) : Type 0 where
 abbrev pub WasRun : Program → Ran → Type 0
 WasRun p r = (o : Origin) × IsOpened p o × HasRun (course_of o) r
 
--- a trace is that of the run, whichever run the program may be said to have
+-- a trace is that of the run that the program has, where it was told so
 abbrev pub IsTraced : Program → Ran → Trace → Type 0
 IsTraced p r t = (o : Origin) → IsOpened p o → HasRun (course_of o) r → IsTraceOf (course_of o) r t

@@ -24,13 +24,10 @@ impl<'m> Program<'m> {
         ensures { Loads self.now result }
     {
         match self {
-            Program::Set(linked) => {
-                linked.links();
-                match Store::load(alloc, *linked) {
-                    Ok(store) => Ok(Loaded::Set(store)),
-                    Err(Memory) => Err(SingleFault::Memory),
-                }
-            }
+            Program::Set(linked) => match Store::load(alloc, *linked) {
+                Ok(store) => Ok(Loaded::Set(store)),
+                Err(Memory) => Err(SingleFault::Memory),
+            },
             Program::One(checked, names) => match Single::load(alloc, *checked, *names) {
                 Ok(single) => Ok(Loaded::Module(single)),
                 Err(fault) => Err(fault),

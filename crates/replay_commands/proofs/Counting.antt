@@ -11,7 +11,7 @@ use Rattle.spec_loading.specs.spec_linking.Plans.{LinkOptions}
 use Rattle.spec_loading.specs.spec_execution.declared.fault.SingleFault.{SingleFault}
 use Rattle.spec_loading.specs.spec_linking.declared.fault.SetFault.{SetFault}
 use Rattle.spec_loading.specs.spec_linking.declared.fault.SetFault.TheVariants as set
-use Rattle.dyl_link.specs.Kept.{Kept}
+use Rattle.spec_loading.specs.spec_linking.LinkedSets.{LinkedSet}
 use Rattle.spec_traces.specs.declared.trace.Trace.{Trace}
 use Rattle.run_loaded.specs.Courses.{Origin}
 use Rattle.dyl_front.specs.declared.outcome.Outcome.{Outcome}
@@ -62,11 +62,11 @@ stored_counts : (Is : Origin → Type 0) (r : ran.Ran) (out : List ℕ) (answer 
 stored_counts Is r out answer old new (inl none) = lost_counts answer old new none.0 none.1
 stored_counts Is r out answer old new (inr stored) = stored.3
 
-module _ (o : SetOptions) (l : LinkOptions) (names : HostNames) (k : Kept) (old mid new : FilesState) (gets : Gets names o l (Ok k) old mid) (E : Embedder) (steps : ℕ) (Is : Origin → Type 0) (out : List ℕ) (begun now : Devices) where
-  pub set_trace_counts : (answer : Outcome) → TracesRun (ExecutesSet k E steps) Is out answer mid new begun now → SetCounts (StoresFor answer) o answer old new
+module _ (o : SetOptions) (l : LinkOptions) (names : HostNames) (L : LinkedSet) (old mid new : FilesState) (gets : Gets names o l (Ok L) old mid) (E : Embedder) (steps : ℕ) (Is : Origin → Type 0) (out : List ℕ) (begun now : Devices) where
+  pub set_trace_counts : (answer : Outcome) → TracesRun (ExecutesSet L E steps) Is out answer mid new begun now → SetCounts (StoresFor answer) o answer old new
   set_trace_counts answer (inl h) =
-      then_stored o answer old mid new (got_counts names o l k old mid gets answer (stored_no_fault Is h.0 out answer mid new h.2)) (stored_counts Is h.0 out answer mid new h.2)
-  set_trace_counts Memory (inr h) = then_stored o Memory old mid new (got_counts names o l k old mid gets Memory refl) (lost_counts Memory mid new refl h.2)
+      then_stored o answer old mid new (got_counts names o l L old mid gets answer (stored_no_fault Is h.0 out answer mid new h.2)) (stored_counts Is h.0 out answer mid new h.2)
+  set_trace_counts Memory (inr h) = then_stored o Memory old mid new (got_counts names o l L old mid gets Memory refl) (lost_counts Memory mid new refl h.2)
   set_trace_counts (Ran r) (inr h) = absurd (let ran = h.1 in cc)
   set_trace_counts _ (inr h) = absurd h.0
 
@@ -88,9 +88,9 @@ file_trace_counts path fault old new h = record { reads = h.reads; stores = h.wr
 
 -- ---- a trace that is replayed
 
-pub set_replay_counts : (names : HostNames) (o : SetOptions) (l : LinkOptions) (k : Kept) (old new : FilesState) → Gets names o l (Ok k) old new → (Is : Origin → Type 0) (Refused : SingleFault → Type 0) (t : Trace) (steps : ℕ) (answer : Outcome)
+pub set_replay_counts : (names : HostNames) (o : SetOptions) (l : LinkOptions) (L : LinkedSet) (old new : FilesState) → Gets names o l (Ok L) old new → (Is : Origin → Type 0) (Refused : SingleFault → Type 0) (t : Trace) (steps : ℕ) (answer : Outcome)
     → ChecksTo Is Refused t steps answer → SetCounts Stays o answer old new
-set_replay_counts names o l k old new gets Is Refused t steps answer h = got_counts names o l k old new gets answer (checked_no_fault Is Refused t steps answer h)
+set_replay_counts names o l L old new gets Is Refused t steps answer h = got_counts names o l L old new gets answer (checked_no_fault Is Refused t steps answer h)
 
 pub module_replay_counts : (path : List ℕ) (old new : FilesState) (wasm : Module) → ReadsFile path (Ok wasm) old new → (Is : Origin → Type 0) (Refused : SingleFault → Type 0) (t : Trace) (steps : ℕ) (answer : Outcome)
     → ChecksTo Is Refused t steps answer → FileCounts Stays answer old new

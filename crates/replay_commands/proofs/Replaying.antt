@@ -12,6 +12,7 @@ use Rattle.spec_hosts.specs.spec_runtime.Names.{HostNames}
 use Rattle.spec_loading.specs.spec_execution.declared.fault.SingleFault.{SingleFault}
 use Rattle.spec_loading.specs.spec_execution.declared.fault.SingleFault.TheVariants as single
 use Rattle.spec_loading.specs.spec_execution.OneModule.{module_opening}
+use Rattle.spec_loading.specs.spec_linking.LinkedSets.{LinkedSet}
 use Rattle.spec_loading.specs.spec_linking.declared.fault.SetFault.{SetFault}
 use Rattle.spec_loading.specs.spec_linking.declared.fault.SetFault.TheVariants as set
 use Rattle.spec_traces.specs.declared.trace.Trace.{Trace}
@@ -23,19 +24,17 @@ use Rattle.replay_check.specs.Checks.{IsOpened, IsRefused}
 use Rattle.dyl_link.specs.dyl_search.declared.set.SetOptions.{SetOptions}
 use Rattle.dyl_link.specs.dyl_search.Gathers.{options_of}
 use Rattle.dyl_link.specs.declared.options.LinkOptions.{LinkOptions}
-use Rattle.dyl_link.specs.Kept as links
-use Rattle.dyl_link.specs.Kept.{Kept}
+use Rattle.dyl_link.specs.Sets as links
 use Rattle.dyl_front.specs.declared.order.Order.TheVariants as order
 use Rattle.dyl_front.specs.declared.outcome.Outcome.{Outcome}
 use Rattle.dyl_front.specs.declared.outcome.Outcome.TheVariants.{Done, Set, Link, Single, Memory}
 use Rattle.dyl_front.specs.declared.outcome.Outcome.TheVariants as outcome
 use Rattle.dyl_commands.specs.OneFile.{most_run}
-use Rattle.dyl_commands.specs.Linking.{linked}
 use Rattle.dyl_commands.specs.Traced.{IsProgram, IsLoaded, OpenFault, OfTrace}
 use Rattle.dyl_commands.specs.Causes.{IsOneOrder}
 use Rattle.dyl_commands.specs.Fetched.{FetchesFile, ReadsFile}
 use Rattle.dyl_commands.specs.Served.{Serves, Gets, IsNotGot, set_outcome, BeginsAsModule}
-use Rattle.replay_commands.proofs.Opened.{opened_module, module_opened}
+use Rattle.replay_commands.proofs.Opened.{opened_module}
 use Rattle.replay_commands.specs.Tracing.{ReadsTrace, FindsTrace, ChecksTo, Replays}
 use Rattle.dyl_commands.proofs.Counting.{at_least}
 
@@ -114,18 +113,15 @@ found_serves names one path o l steps t answer old mid new h replays before now 
 module _ (names : HostNames) (one : Bool) (o : SetOptions) (l : LinkOptions) (steps : ℕ) (t : Trace) (old new : FilesState) (same : new.told ≡ old.told) where
   -- It is loaded. What begins so is what the files give, and so is why it isn't opened.
   module _ (Is : Origin → Type 0) (Refused : SingleFault → Type 0) (loaded : ForSome old.told (λ told. IsLoaded names (get told) one (options_of o) (links.options_of l)))
-      (given : (x : Origin) × Is x → (x : Origin) × Is x × ForSome old.told (λ told. IsProgram names (get told) one (options_of o) (links.options_of l) x))
+      (given : (x : Origin) → Is x → ForSome old.told (λ told. IsProgram names (get told) one (options_of o) (links.options_of l) x))
       (refusal : (why : SingleFault) → Refused why → ForSome old.told (λ told. OpenFault names (get told) one (options_of o) why)) (alone : (path : List ℕ) (why : SingleFault) → Refused why → IsOneOrder (order.Replay one path o l steps)) where
     checked_replays : (answer : Outcome) → ChecksTo Is Refused t steps answer → Replays names one o l steps t answer old new
     checked_replays (Done []) h = λ path before now read.
-        let x = given h.1 in
-        record { tells = λ files told. inr (t, read files told, (h.0, (x.0, x.2 files told, h.2 x.0 x.1))); leaves = λ files told. same ∙ told; caused = refl; inner = refl }
+        record { tells = λ files told. inr (t, read files told, (h.0, (h.1, given h.1 h.2 files told, h.3))); leaves = λ files told. same ∙ told; caused = refl; inner = refl }
     checked_replays (outcome.Trace fault.Steps) h = λ path before now read.
         record { tells = λ files told. inr (t, read files told, (loaded files told, h)); leaves = λ files told. same ∙ told; caused = tt; inner = refl }
     checked_replays (outcome.Trace (fault.Differs call)) h = λ path before now read.
-        let x = given h.1 in
-        let so = h.2 x.0 x.1 in
-        record { tells = λ files told. inr (t, read files told, (h.0, (x.0, x.2 files told, so.0, so.1))); leaves = λ files told. same ∙ told; caused = tt; inner = refl }
+        record { tells = λ files told. inr (t, read files told, (h.0, (h.1, given h.1 h.2 files told, h.3, h.4))); leaves = λ files told. same ∙ told; caused = tt; inner = refl }
     checked_replays (Single single.Memory) h = absurd h
     checked_replays (Single why) h = λ path before now read.
         record { tells = λ files told. inr (t, read files told, (h.0, refusal why h.1 files told)); leaves = λ files told. same ∙ told; caused = alone path why h.1; inner = refl }
@@ -135,11 +131,16 @@ module _ (names : HostNames) (one : Bool) (o : SetOptions) (l : LinkOptions) (st
 -- ---- a set
 
 module _ (names : HostNames) (o : SetOptions) (l : LinkOptions) (steps : ℕ) (t : Trace) (old new : FilesState) where
-  pub set_replays : (k : Kept) (gets : Gets names (options_of o) (links.options_of l) (Ok k) old new) (Is : Origin → Type 0) → Is (OfSet (linked names (links.options_of l) gets.got.set))
-      → (answer : Outcome) → ChecksTo Is (λ why. ⊥) t steps answer → Replays names false o l steps t answer old new
-  set_replays k gets Is is answer h =
-      checked_replays names false o l steps t old new gets.files Is (λ why. ⊥) (λ files told. record { set = gets.got.set; gathered = gets.got.gathered files told; links = gets.got.linked.links })
-      (λ some. (OfSet (linked names (links.options_of l) gets.got.set), is, λ files told. (refl, refl, gets.got.gathered files told, gets.got.linked.links))) (λ why none. absurd none) (λ path why none. absurd none) answer h
+  pub set_replays : (k : Bor LinkedSet) (gets : Gets names (options_of o) (links.options_of l) (Ok k.now) old new) (answer : Outcome) → ChecksTo (IsOpened (program.Set k)) (λ why. ⊥) t steps answer
+      → Replays names false o l steps t answer old new
+  set_replays k gets answer h =
+      checked_replays names false o l steps t old new gets.files (IsOpened (program.Set k)) (λ why. ⊥) (λ files told. record { set = gets.got.set; gathered = gets.got.gathered files told; links = gets.got.links })
+      given (λ why none. absurd none) (λ path why none. absurd none) answer h
+    where
+      given : (x : Origin) → IsOpened (program.Set k) x → ForSome old.told (λ told. IsProgram names (get told) false (options_of o) (links.options_of l) x)
+      given (OfModule m opening) is = absurd is
+      given (OfSet L) is =
+          subst (λ (M : LinkedSet). ForSome old.told (λ told. IsProgram names (get told) false (options_of o) (links.options_of l) (OfSet M))) (sym gets.got.is ∙ is) (λ files told. (refl, refl, gets.got.gathered files told, gets.got.links))
 
   pub set_replay_refused : (answer : Outcome) → new.told ≡ old.told → IsNotGot names (options_of o) (links.options_of l) answer old new → Replays names false o l steps t answer old new
   set_replay_refused Memory same h = λ path before now read. record { tells = λ files told. tt; leaves = λ files told. same ∙ told; caused = tt; inner = refl }
@@ -161,9 +162,10 @@ module _ (names : HostNames) (o : SetOptions) (l : LinkOptions) (steps : ℕ) (t
       checked_replays names true o l steps t old new read.files (BeginsAsModule wasm names) (λ why. module_opening wasm names ≡ Err why) (λ files told. (wasm, read.tells files told)) given
       (λ why refused files told. record { wasm = wasm; file = read.tells files told; refused = refused }) (λ path why refused. tt) answer h
     where
-      given : (x : Origin) × BeginsAsModule wasm names x → (x : Origin) × BeginsAsModule wasm names x × ForSome old.told (λ told. IsProgram names (get told) true (options_of o) (links.options_of l) x)
-      given (OfSet L, is) = absurd is
-      given (OfModule m opening, is) = (OfModule wasm opening, (refl, is.1), λ files told. (read.tells files told, is.1))
+      given : (x : Origin) → BeginsAsModule wasm names x → ForSome old.told (λ told. IsProgram names (get told) true (options_of o) (links.options_of l) x)
+      given (OfSet L) is = absurd is
+      given (OfModule m opening) is =
+          subst (λ w. ForSome old.told (λ told. IsProgram names (get told) true (options_of o) (links.options_of l) (OfModule w opening))) (sym is.0) (λ files told. (read.tells files told, is.1))
 
   pub file_replay_refused : (f : SetFault) → ReadsFile o.main (Err f) old new → Replays names true o l steps t (set_outcome f) old new
   file_replay_refused set.Memory h = λ path before now read. record { tells = λ files told. tt; leaves = λ files told. h.files ∙ told; caused = tt; inner = refl }
@@ -181,9 +183,9 @@ module_checks wasm names host same t steps answer h = subst (λ n. ChecksTo (Beg
 
     go : (a : Outcome) → ChecksTo (IsOpened (program.One wasm names)) (IsRefused (program.One wasm names)) t steps a
         → ChecksTo (BeginsAsModule wasm.now names.now) (λ why. module_opening wasm.now names.now ≡ Err why) t steps a
-    go (Done []) h = (h.0, (h.1.0, opened_module wasm names h.1.0 h.1.1), λ x begins. h.2 x (module_opened wasm names x begins))
+    go (Done []) h = (h.0, h.1, opened_module wasm names h.1 h.2, h.3)
     go (outcome.Trace fault.Steps) h = h
-    go (outcome.Trace (fault.Differs call)) h = (h.0, (h.1.0, opened_module wasm names h.1.0 h.1.1), λ x begins. h.2 x (module_opened wasm names x begins))
+    go (outcome.Trace (fault.Differs call)) h = (h.0, h.1, opened_module wasm names h.1 h.2, h.3, h.4)
     go (Single single.Memory) h = absurd h
     go (Single why) h = (h.0, refused why h.1)
     go Memory h = tt

@@ -28,8 +28,7 @@ use Rattle.replay_check.specs.Checks.{IsOpened, HasRun}
 use Rattle.dyl_link.specs.dyl_search.declared.set.SetOptions.{SetOptions}
 use Rattle.dyl_link.specs.dyl_search.Gathers.{options_of}
 use Rattle.dyl_link.specs.declared.options.LinkOptions.{LinkOptions}
-use Rattle.dyl_link.specs.Kept as links
-use Rattle.dyl_link.specs.Kept.{Kept, IsLinked}
+use Rattle.dyl_link.specs.Sets as links
 use Rattle.dyl_front.specs.declared.order.Order.TheVariants as order
 use Rattle.dyl_front.specs.declared.outcome.Outcome.{Outcome}
 use Rattle.dyl_front.specs.declared.outcome.Outcome.TheVariants.{Ran, Set, Link, Single, TooLong, WriteFault, Memory}
@@ -48,21 +47,13 @@ use Rattle.dyl_commands.proofs.Telling.{program_memory}
 
 -- ---- what begins so
 
-pub set_begins : (k : Bor Kept) (x : Origin) → IsOpened (program.Set k) x → BeginsAsSet k.now x
+pub set_begins : (k : Bor LinkedSet) (x : Origin) → IsOpened (program.Set k) x → BeginsAsSet k.now x
 set_begins k (OfSet L) is = is
 set_begins k (OfModule m opening) is = absurd is
 
-pub set_opened : (k : Bor Kept) (x : Origin) → BeginsAsSet k.now x → IsOpened (program.Set k) x
+pub set_opened : (k : Bor LinkedSet) (x : Origin) → BeginsAsSet k.now x → IsOpened (program.Set k) x
 set_opened k (OfSet L) is = is
 set_opened k (OfModule m opening) is = absurd is
-
-pub module_begins : (wasm : Bor Module) (names : Bor HostNames) (also : HostNames) → names.now ≡ also → (x : Origin) → IsOpened (program.One wasm names) x → BeginsAsModule wasm.now also x
-module_begins wasm names also same (OfSet L) is = absurd is
-module_begins wasm names also same (OfModule m opening) is = (is.0, subst (λ n. module_opening wasm.now n ≡ Ok opening) same is.1)
-
-pub module_opened : (wasm : Bor Module) (names : Bor HostNames) (also : HostNames) → names.now ≡ also → (x : Origin) → BeginsAsModule wasm.now also x → IsOpened (program.One wasm names) x
-module_opened wasm names also same (OfSet L) is = absurd is
-module_opened wasm names also same (OfModule m opening) is = (is.0, subst (λ n. module_opening wasm.now n ≡ Ok opening) (sym same) is.1)
 
 -- a trace that is stored for all that begins so is stored for some of it
 pub stores_for : (Is Also : Origin → Type 0) (r : ran.Ran) (out : List ℕ) (answer : Outcome) (old new : FilesState) → ((x : Origin) → Also x → Is x) → StoresTrace Is r out answer old new → StoresTrace Also r out answer old new
@@ -82,16 +73,16 @@ countable n most few allowed = (let top : 9223372036854775807 < 2 ^ 63 = lit< tt
 
 module _ (Is : Origin → Type 0) (r : ran.Ran) (steps : ℕ) (allowed : steps ≤ 9223372036854775807) where
   -- of a linked set
-  pub set_made : (k : Kept) (E : Embedder) (begun now : Devices) → ((x : Origin) → Is x → BeginsAsSet k x) → (L : LinkedSet) → Is (OfSet L) → IsLinked L k
-      → ExecutesSet k E steps (Ran r) begun now → TakesAnswers (BeginsAsSet k) (Ran r) → WasMade Is r
-  set_made k E begun now only L some is h taken = record {
+  pub set_made : (L : LinkedSet) (E : Embedder) (begun now : Devices) → ((x : Origin) → Is x → BeginsAsSet L x) → Is (OfSet L) → ExecutesSet L E steps (Ran r) begun now
+      → TakesAnswers (BeginsAsSet L) (Ran r) → WasMade Is r
+  set_made L E begun now only some h taken = record {
     some = (OfSet L, some);
     runs = λ x begins. has_run x (only x begins);
-    steps = countable r.steps steps (h L is).runs.made.few allowed;
+    steps = countable r.steps steps h.runs.made.few allowed;
   }
     where
-      has_run : (x : Origin) → BeginsAsSet k x → HasRun (course_of x) r
-      has_run (OfSet M) other = record { most = steps; runs = (h M other).runs; taken = taken (OfSet M) other }
+      has_run : (x : Origin) → BeginsAsSet L x → HasRun (course_of x) r
+      has_run (OfSet M) same = subst (λ (N : LinkedSet). HasRun (course_of (OfSet N)) r) same (record { most = steps; runs = h.runs; taken = taken (OfSet L) refl })
       has_run (OfModule m opening) other = absurd other
 
   -- of a module
@@ -214,19 +205,19 @@ module _ (names : HostNames) (one : Bool) (o : SetOptions) (l : LinkOptions) (st
 
 -- ---- a set
 
-module _ (E : Embedder) (o : SetOptions) (l : LinkOptions) (steps : ℕ) (out : List ℕ) (args : List (List ℕ)) (k : Kept) (old mid new : FilesState) (gets : Gets E.names (options_of o) (links.options_of l) (Ok k) old mid) (begun now : Devices) where
+module _ (E : Embedder) (o : SetOptions) (l : LinkOptions) (steps : ℕ) (out : List ℕ) (args : List (List ℕ)) (k : LinkedSet) (old mid new : FilesState) (gets : Gets E.names (options_of o) (links.options_of l) (Ok k) old mid) (begun now : Devices) where
   abbrev L : LinkedSet
   L = linked E.names (links.options_of l) gets.got.set
 
   gives : ForSome old.told (λ told. IsProgram E.names (get told) false (options_of o) (links.options_of l) (OfSet L))
-  gives = λ files told. (refl, refl, gets.got.gathered files told, gets.got.linked.links)
+  gives = λ files told. (refl, refl, gets.got.gathered files told, gets.got.links)
 
   abbrev Came : Outcome → Type 0
   Came answer = TracesRun (ExecutesSet k E steps) (BeginsAsSet k) out answer mid new begun now
 
   pub set_trace_serves : (answer : Outcome) → Came answer → (before after : ℕ) → Serves E.names (Ok (order.Trace false o l steps out args)) answer old new before after
   set_trace_serves answer (inl h) before after =
-      stored_serves E.names false o l steps out args (BeginsAsSet k) (OfSet L) gets.got.linked h.0 old mid new gives gets.files gets.writes answer h.2 before after
+      stored_serves E.names false o l steps out args (BeginsAsSet k) (OfSet L) gets.got.is h.0 old mid new gives gets.files gets.writes answer h.2 before after
   set_trace_serves Memory (inr h) before after = record { tells = λ files told. tt; leaves = λ files told. inl (ap (λ s. s.told) h.2 ∙ gets.files ∙ told); caused = tt; inner = refl }
   set_trace_serves (Ran r) (inr h) before after = absurd (let ran = h.1 in cc)
   set_trace_serves _ (inr h) before after = absurd h.0
@@ -235,10 +226,10 @@ module _ (E : Embedder) (o : SetOptions) (l : LinkOptions) (steps : ℕ) (out : 
   set_trace_works answer (inl h) =
       let run : IsLoadedRun old.told (options_of o) (links.options_of l) steps E h.0 begun now = record {
         set = gets.got.set;
-        there = record { gathered = gets.got.gathered; shape = gets.got.linked.shape; links = gets.got.linked.links };
-        run = h.1 L gets.got.linked;
+        there = record { gathered = gets.got.gathered; shape = gets.got.shape; links = gets.got.links };
+        run = subst (λ (M : LinkedSet). ExecutesSet M E steps (Ran h.0) begun now) gets.got.is h.1;
       } in
-      stored_works E.names false o l steps out args (BeginsAsSet k) (OfSet L) gets.got.linked h.0 old.told E begun now run (λ Size text. (run, text)) answer mid new h.2
+      stored_works E.names false o l steps out args (BeginsAsSet k) (OfSet L) gets.got.is h.0 old.told E begun now run (λ Size text. (run, text)) answer mid new h.2
   set_trace_works Memory (inr h) = run_works E o l steps k old mid gets begun now Memory h.0
   set_trace_works (Ran r) (inr h) = absurd (let ran = h.1 in cc)
   set_trace_works _ (inr h) = absurd h.0

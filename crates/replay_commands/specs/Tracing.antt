@@ -10,6 +10,7 @@ use Rattle.spec_hosts.specs.dyl_outside.Files.{FilesState}
 use Rattle.spec_hosts.specs.declared.ran.Ran as ran
 use Rattle.spec_hosts.specs.spec_runtime.Names.{HostNames}
 use Rattle.spec_hosts.specs.Devices.{Devices, devices}
+use Rattle.spec_loading.specs.spec_linking.LinkedSets.{LinkedSet}
 use Rattle.spec_loading.specs.spec_execution.declared.fault.SingleFault.{SingleFault}
 use Rattle.spec_loading.specs.spec_execution.declared.fault.SingleFault.TheVariants as single
 use Rattle.spec_traces.specs.declared.trace.Trace.{Trace}
@@ -20,7 +21,6 @@ use Rattle.run_loaded.specs.Courses.{Origin, course_of}
 use Rattle.replay_check.specs.Checks.{HasRun}
 use Rattle.dyl_link.specs.host_table.declared.entry.HostTable.{HostTable}
 use Rattle.host_calls.specs.Embedders.{names_of, embedder_of}
-use Rattle.dyl_link.specs.Kept.{Kept}
 use Rattle.dyl_link.specs.dyl_search.declared.set.SetOptions.{SetOptions}
 use Rattle.dyl_link.specs.declared.options.LinkOptions.{LinkOptions}
 use Rattle.dyl_front.specs.declared.order.Order.TheVariants as order
@@ -68,9 +68,9 @@ TracesRun Runs Is out answer old new begun now =
 
 module _ {X : Type 0} {F : X → Type 0} {g : _} where
   -- what running a linked set, or a module that was read, and storing the trace does
-  abbrev pub SetTraces : HostTable X F g → Kept → List (List ℕ) → ℕ → List ℕ → Outcome → FilesState → FilesState → OfParts
-  SetTraces host k args steps out answer old new i o e a input output errors ambient =
-      TracesRun (ExecutesSet k (embedder_of (guest_arguments args) host) steps) (BeginsAsSet k) out answer old new (devices i o e a) (devices input output errors ambient)
+  abbrev pub SetTraces : HostTable X F g → LinkedSet → List (List ℕ) → ℕ → List ℕ → Outcome → FilesState → FilesState → OfParts
+  SetTraces host L args steps out answer old new i o e a input output errors ambient =
+      TracesRun (ExecutesSet L (embedder_of (guest_arguments args) host) steps) (BeginsAsSet L) out answer old new (devices i o e a) (devices input output errors ambient)
 
   abbrev pub ModuleTraces : HostTable X F g → Module → List (List ℕ) → ℕ → List ℕ → Outcome → FilesState → FilesState → OfParts
   ModuleTraces host wasm args steps out answer old new i o e a input output errors ambient =
@@ -110,10 +110,10 @@ pub record FindsTrace (path : List ℕ) (result : Result Trace Outcome) (old new
 
 -- The outcome of checking a trace of at most so many steps, by what begins so, or by why it isn't opened.
 abbrev pub ChecksTo : (Origin → Type 0) → (SingleFault → Type 0) → Trace → ℕ → Outcome → Type 0
-ChecksTo Is IsRefused t most (Done []) = (t.steps ≤ most) × ((x : Origin) × Is x) × ((x : Origin) → Is x → Traces (course_of x) t)
+ChecksTo Is IsRefused t most (Done []) = (t.steps ≤ most) × (x : Origin) × Is x × Traces (course_of x) t
 ChecksTo Is IsRefused t most (outcome.Trace fault.Steps) = most < t.steps
 ChecksTo Is IsRefused t most (outcome.Trace (fault.Differs call)) =
-    (t.steps ≤ most) × ((x : Origin) × Is x) × ((x : Origin) → Is x → IsAgreeing (course_of x) t call × (Traces (course_of x) t → ⊥))
+    (t.steps ≤ most) × (x : Origin) × Is x × IsAgreeing (course_of x) t call × (Traces (course_of x) t → ⊥)
 ChecksTo Is IsRefused t most (Single single.Memory) = ⊥
 ChecksTo Is IsRefused t most (Single why) = (t.steps ≤ most) × IsRefused why
 ChecksTo Is IsRefused t most Memory = Unit {0}

@@ -10,7 +10,6 @@ use Rattle.spec_loading.specs.spec_execution.OneModule.{ModuleState, imports_met
 use Rattle.spec_loading.specs.spec_execution.Segments.{Performed}
 use Rattle.spec_loading.specs.spec_execution.declared.fault.SingleFault.{SingleFault}
 use Rattle.spec_loading.specs.spec_linking.LinkedSets.{LinkedSet}
-use Rattle.dyl_link.specs.Kept.{Kept, IsLinked}
 use Rattle.wasm_single.specs.Starts.{opened}
 use Rattle.wasm_single.specs.Singles as single
 use Rattle.dyl_store.specs.Stores as store
@@ -31,9 +30,9 @@ opening_parts m names opening opens = by (imports_met m names m.imports) refl op
 pub module_loaded : (m : Module) (names : HostNames) (opening : ModuleState) (s : single.SingleRun) → module_opening m names ≡ Ok opening → s ≡ single.new_run m → IsOf (loaded.Module s) (OfModule m opening)
 module_loaded m names opening s opens new = (ap (λ (x : single.SingleRun). x.wasm) new, (opening_parts m names opening opens).1)
 
--- a set that was loaded is a run of it, whichever set it may be said to be
-pub set_loaded : (k : Kept) (s : store.StoreRun) → s ≡ store.new_run k → (L : LinkedSet) → IsLinked L k → IsOf (loaded.Set s) (OfSet L)
-set_loaded k s new L of = subst (IsLinked L) (sym (ap (λ (x : store.StoreRun). x.linked) new)) of
+-- a set that was loaded is a run of it
+pub set_loaded : (L : LinkedSet) (s : store.StoreRun) → s ≡ store.new_run L → IsOf (loaded.Set s) (OfSet L)
+set_loaded L s new = ap (λ (x : store.StoreRun). x.linked) new
 
 opened_moving : (m : Module) (opening : ModuleState) (entry : Option ℕ) (o : Option (Performed ModuleParts)) → opened_with m entry o ≡ Ok opening → opening.status ≡ Moving
 opened_moving m opening None o e = absurd cc

@@ -2,7 +2,6 @@
 use Rattle.std.specs.Prelude.{◌≡◌, Ok}
 use Rattle.spec_hosts.specs.spec_runtime.Recorded.{Recorded}
 use Rattle.wasm_single.specs.Starts.{opened}
-use Rattle.dyl_link.specs.Kept.{IsLinked}
 use Rattle.run_loaded.specs.declared.loaded.Loaded.{Loaded}
 use Rattle.run_loaded.specs.declared.loaded.Loaded.TheVariants as loaded
 use Rattle.run_loaded.specs.Courses.{Origin, OfModule, OfSet}
@@ -17,7 +16,7 @@ abbrev pub IsOf : Loaded → Origin → Type 0
 IsOf (loaded.Module s) (OfModule m opening) = (s.wasm ≡ m) × (opened m ≡ Ok opening)
 IsOf (loaded.Module s) (OfSet L) = ⊥
 IsOf (loaded.Set s) (OfModule m opening) = ⊥
-IsOf (loaded.Set s) (OfSet L) = IsLinked L s.linked
+IsOf (loaded.Set s) (OfSet L) = s.linked ≡ L
 
 -- it stays a run of what it was one of
 abbrev pub Keeps : Loaded → Loaded → Type 0

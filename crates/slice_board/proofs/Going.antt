@@ -11,7 +11,6 @@ use Rattle.spec_boards.proofs.Stops.{first_cause, none_going, none_unasked}
 use Rattle.wasm_machine.specs.declared.event.Event.{Event}
 use Rattle.wasm_machine.specs.declared.event.Event.TheVariants as event
 use Rattle.wasm_machine.specs.Steps.{TellsStatus, StepMade, RunStepped, Advances, AreOfCode}
-use Rattle.dyl_link.specs.Kept.{IsLinked}
 use Rattle.dyl_store.specs.Stores.{StoreRun, set_course, MayWantAt}
 use Rattle.slice_board.specs.Taken.{place_of}
 use Rattle.slice_board.specs.Steps.{first_stop, stop_seen, deep_stop, turn_left, GoesAlong, StopsOrGoes, GoesOn, GetsLost}
@@ -28,20 +27,21 @@ module _ (most until : ℕ) where
         answers = then.answers ∙ first.answers;
         more = omega arith;
         few = then.few;
-        same = λ L linked start end begun least.
-            then.same L (subst (IsLinked L) (sym same) linked) start end (omega arith) least ∙ first.same L linked start end begun least;
+        same = λ start end begun least.
+            subst (λ (L : LinkedSet). turn_left (set_course L) most start end new.run ≡ turn_left (set_course L) most start end middle.run) same (then.same start end (omega arith) least)
+            ∙ first.same start end begun least;
       }
 
   -- ---- steps of code
 
   module _ (old new : StoreRun) (same : new.linked ≡ old.linked) (begun : old.run.steps ≤ until) (along : Advances until old.run new.run)
-      (code : (L : LinkedSet) → IsLinked L old.linked → AreOfCode (set_course L) old.run new.run) where
+      (code : AreOfCode (set_course old.linked) old.run new.run) where
     pub code_along : GoesAlong most until old new
     code_along = record {
       answers = ap (λ (x : Recorded). x.answers) along.same;
       more = along.more;
       few = elim along.few [ inl none ↦ omega arith | inr few ↦ few ];
-      same = λ L linked start end from least. code_left (set_course L) most start end until least old.run new.run from along (code L linked);
+      same = λ start end from least. code_left (set_course old.linked) most start end until least old.run new.run from along code;
     }
 
     -- memory was wanting for one of them, or before
@@ -54,27 +54,29 @@ module _ (most until : ℕ) where
 
     -- a stop is due after them
     pub code_stops : old.run.lost ≡ false → new.run.lost ≡ false → (why : Stop)
-        → ((L : LinkedSet) → IsLinked L new.linked → new.run.lost ≡ false → Some why ≡ stop_seen (set_course L) most until new.run) → GoesOn most until (Some why) old new
+        → (new.run.lost ≡ false → Some why ≡ stop_seen (set_course new.linked) most until new.run) → GoesOn most until (Some why) old new
     code_stops found still why seen = record {
       found = found;
       still = still;
       along = code_along;
-      stops = λ L linked end least.
-          seen_some (set_course L) most 0 end until least new.run why (code_along).few (sym (seen L (subst (IsLinked L) (sym same) linked) still));
+      stops = λ end least.
+          subst (λ (L : LinkedSet). stop_at (set_course L) most (end - new.run.steps) (place_of new.run) ≡ Some why) same
+          (seen_some (set_course new.linked) most 0 end until least new.run why (code_along).few (sym (seen still)));
     }
 
   -- ---- one step more
 
   module _ (old new : StoreRun) (few : old.run.steps ≤ until) (still : old.run.lost ≡ false)
-      (seen : (L : LinkedSet) → IsLinked L old.linked → old.run.lost ≡ false → None ≡ stop_seen (set_course L) most until old.run) where
-    -- it doesn't wait for an answer that isn't recorded
-    pub step_unasked : (L : LinkedSet) → IsLinked L old.linked → IsAt (set_course L) old.run → is_waiting (set_course L) old.run ≡ false
-    step_unasked L linked at =
-        let C = set_course L in
-        none_unasked (reached C old.run).left (memory_at C old.run) _ _ old.run.answered (status_at C old.run) at.left (sym (seen L linked still))
+      (seen : old.run.lost ≡ false → None ≡ stop_seen (set_course old.linked) most until old.run) where
+    abbrev C : Course
+    C = set_course old.linked
 
-    pub step_under : (L : LinkedSet) → IsLinked L old.linked → old.run.steps < until
-    step_under L linked = seen_under (set_course L) most until old.run few (sym (seen L linked still))
+    -- it doesn't wait for an answer that isn't recorded
+    pub step_unasked : IsAt C old.run → is_waiting C old.run ≡ false
+    step_unasked at = none_unasked (reached C old.run).left (memory_at C old.run) _ _ old.run.answered (status_at C old.run) at.left (sym (seen still))
+
+    pub step_under : old.run.steps < until
+    step_under = seen_under C most until old.run few (sym (seen still))
 
     -- memory was wanting for it
     pub step_lost : new.run ≡ as_lost old.run → MayWantAt old.linked old.run → GetsLost most until old new
@@ -85,33 +87,32 @@ module _ (most until : ℕ) where
           answers = ap (λ (x : Recorded). x.answers) lost;
           more = (let e : new.run.steps ≡ old.run.steps = ap (λ (x : Recorded). x.steps) lost in omega arith);
           few = (let e : new.run.steps ≡ old.run.steps = ap (λ (x : Recorded). x.steps) lost in omega arith);
-          same = λ L linked start end begun least. ap (turn_left (set_course L) most start end) lost;
+          same = λ start end begun least. ap (turn_left C most start end) lost;
         }
 
         wanting : MayWantAt old.linked new.run
         wanting = subst (λ (x : Recorded). MayWantAt old.linked x) (sym lost) may
 
     -- what is told of a step that isn't too deep
-    abbrev Made : LinkedSet → Event → Type 0
-    Made L e =
-        StepMade (set_course L) e old.run new.run × (status_at (set_course L) old.run ≡ Moving → (set_course L).deep (state_at (set_course L) old.run) ≡ false)
-        ⊎ (has_ended (status_at (set_course L) old.run) ≡ true) × TellsStatus (set_hosts L) e (status_at (set_course L) old.run) × (new.run ≡ old.run)
+    abbrev Made : Event → Type 0
+    Made e =
+        StepMade C e old.run new.run × (status_at C old.run ≡ Moving → C.deep (state_at C old.run) ≡ false)
+        ⊎ (has_ended (status_at C old.run) ≡ true) × TellsStatus (set_hosts old.linked) e (status_at C old.run) × (new.run ≡ old.run)
 
     -- no stop was due, so it was made
-    made : (L : LinkedSet) → IsLinked L old.linked → (e : Event) → Made L e
-        → (new.run ≡ with_step old.run) × (status_at (set_course L) old.run ≡ Moving → (set_course L).deep (state_at (set_course L) old.run) ≡ false)
-    made L linked e told = elim told [
+    made : (e : Event) → Made e → (new.run ≡ with_step old.run) × (status_at C old.run ≡ Moving → C.deep (state_at C old.run) ≡ false)
+    made e told = elim told [
       | inl this ↦ (this.0.1, this.1)
       | inr ended ↦
-          let C = set_course L in
-          let going = none_going (reached C old.run).left (memory_at C old.run) _ _ (status_at C old.run) (sym (seen L linked still)) in
+          let going = none_going (reached C old.run).left (memory_at C old.run) _ _ (status_at C old.run) (sym (seen still)) in
           absurd (let bad : true ≡ false = sym ended.0 ∙ going in cc)
     ]
 
-    step_goes : (L : LinkedSet) × IsLinked L old.linked → (e : Event) → ((L : LinkedSet) → IsLinked L old.linked → Made L e) → GoesOn most until None old new
-    step_goes some e told =
-        let stepped = (made some.0 some.1 e (told some.0 some.1)).0 in
-        let under = step_under some.0 some.1 in
+    step_goes : (e : Event) → Made e → GoesOn most until None old new
+    step_goes e told =
+        let this = made e told in
+        let stepped = this.0 in
+        let under = step_under in
         let one : new.run.steps ≡ suc old.run.steps = ap (λ (x : Recorded). x.steps) stepped in
         record {
           found = still;
@@ -120,20 +121,17 @@ module _ (most until : ℕ) where
             answers = ap (λ (x : Recorded). x.answers) stepped;
             more = omega arith;
             few = omega arith;
-            same = λ L linked start end begun least.
-                let C = set_course L in
-                let this = made L linked e (told L linked) in
-                let none = seen_none C most start end until least old.run few (sym (seen L linked still)) this.1 in
+            same = λ start end begun least.
+                let none = seen_none C most start end until least old.run few (sym (seen still)) this.1 in
                 ap (turn_left C most start end) this.0 ∙ step_left C most start end until least old.run begun under none;
           };
           stops = omega arith;
         }
 
     -- it would be too deep
-    step_deep : ((L : LinkedSet) → IsLinked L old.linked → RunStepped (set_course L) event.Deep old.run new.run) → (L : LinkedSet) × IsLinked L old.linked
-        → GoesOn most until (Some stop.Deep) old new
-    step_deep told some =
-        let same : new.run ≡ old.run = (told some.0 some.1).2 in
+    step_deep : RunStepped C event.Deep old.run new.run → GoesOn most until (Some stop.Deep) old new
+    step_deep told =
+        let same : new.run ≡ old.run = told.2 in
         let steps : new.run.steps ≡ old.run.steps = ap (λ (x : Recorded). x.steps) same in
         record {
           found = still;
@@ -142,25 +140,22 @@ module _ (most until : ℕ) where
             answers = ap (λ (x : Recorded). x.answers) same;
             more = omega arith;
             few = omega arith;
-            same = λ L linked start end begun least. ap (turn_left (set_course L) most start end) same;
+            same = λ start end begun least. ap (turn_left C most start end) same;
           };
-          stops = λ L linked end least.
-              let C = set_course L in
-              let this = told L linked in
-              let due = seen_deep C most 0 end until least old.run few (sym (seen L linked still)) this.0 this.1 in
+          stops = λ end least.
+              let due = seen_deep C most 0 end until least old.run few (sym (seen still)) told.0 told.1 in
               ap (λ (x : Recorded). stop_at C most (end - x.steps) (place_of x)) same ∙ due;
         }
 
-    pub step_told : (L : LinkedSet) × IsLinked L old.linked → (e : Event) → ((L : LinkedSet) → IsLinked L old.linked → RunStepped (set_course L) e old.run new.run)
-        → GoesOn most until (deep_stop e) old new
-    step_told some event.Deep told = step_deep told some
-    step_told some event.Moved told = step_goes some event.Moved told
-    step_told some (event.Waits asked) told = step_goes some (event.Waits asked) told
-    step_told some (event.Loader call first second) told = step_goes some (event.Loader call first second) told
-    step_told some (event.Marked tag) told = step_goes some (event.Marked tag) told
-    step_told some event.Returned told = step_goes some event.Returned told
-    step_told some (event.Trapped why) told = step_goes some (event.Trapped why) told
-    step_told some (event.Exited code) told = step_goes some (event.Exited code) told
+    pub step_told : (e : Event) → RunStepped C e old.run new.run → GoesOn most until (deep_stop e) old new
+    step_told event.Deep told = step_deep told
+    step_told event.Moved told = step_goes event.Moved told
+    step_told (event.Waits asked) told = step_goes (event.Waits asked) told
+    step_told (event.Loader call first second) told = step_goes (event.Loader call first second) told
+    step_told (event.Marked tag) told = step_goes (event.Marked tag) told
+    step_told event.Returned told = step_goes event.Returned told
+    step_told (event.Trapped why) told = step_goes (event.Trapped why) told
+    step_told (event.Exited code) told = step_goes (event.Exited code) told
 
   -- ---- one after the other
 
@@ -176,7 +171,7 @@ module _ (most until : ℕ) where
     where
       stops : (why : Option Stop) → StopsOrGoes most until why middle new → StopsOrGoes most until why old new
       stops None more = (let a = first.more in omega (arith, more))
-      stops (Some why) due = λ L linked end least. due L (subst (IsLinked L) (sym same) linked) end least
+      stops (Some why) due = λ end least. subst (λ (L : LinkedSet). stop_at (set_course L) most (end - new.run.steps) (place_of new.run) ≡ Some why) same (due end least)
 
   -- or memory was wanting
   pub goes_lost : (old middle new : StoreRun) → middle.linked ≡ old.linked → old.run.lost ≡ false → middle.run.lost ≡ false → GoesAlong most until old middle

@@ -3,3 +3,4 @@ pub mod Going
 pub mod Taking
 pub mod Seating
 pub mod Stuckless
+pub mod Answering

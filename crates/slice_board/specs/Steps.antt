@@ -1,6 +1,5 @@
 -- The steps of a turn.
 use Rattle.std.specs.Prelude.{◌≡◌, ◌≤◌, ◌<◌, ◌-◌, ◌⊎◌, ℕ, min, nat_eq, Bool, true, false, Option, Some, None, if◌then◌else◌}
-use Rattle.spec_loading.specs.spec_linking.LinkedSets.{LinkedSet}
 use Rattle.spec_loading.specs.spec_runtime.Recorded.{Recorded}
 use Rattle.spec_loading.specs.spec_runtime.Courses.{Course, reached, status_at, memory_at}
 use Rattle.spec_boards.specs.declared.turn.Stop.{Stop}
@@ -8,7 +7,6 @@ use Rattle.spec_boards.specs.declared.turn.Stop.TheVariants as stop
 use Rattle.spec_boards.specs.Turns.{Turned, stop_by, stop_at, turned}
 use Rattle.wasm_machine.specs.declared.event.Event.{Event}
 use Rattle.wasm_machine.specs.declared.event.Event.TheVariants as event
-use Rattle.dyl_link.specs.Kept.{IsLinked}
 use Rattle.dyl_store.specs.Stores.{StoreRun, set_course, MayWantAt}
 use Rattle.slice_board.specs.Taken.{place_of}
 
@@ -35,13 +33,13 @@ pub record GoesAlong (most until : ℕ) (old new : StoreRun) : Type 0 where
   pub answers : new.run.answers ≡ old.run.answers
   pub more : old.run.steps ≤ new.run.steps
   pub few : new.run.steps ≤ until
-  pub same : (L : LinkedSet) → IsLinked L old.linked → (start end : ℕ) → start ≤ old.run.steps → until ≡ min most end
-      → turn_left (set_course L) most start end new.run ≡ turn_left (set_course L) most start end old.run
+  pub same : (start end : ℕ) → start ≤ old.run.steps → until ≡ min most end
+      → turn_left (set_course old.linked) most start end new.run ≡ turn_left (set_course old.linked) most start end old.run
 
 -- a cause to stop is due, or a step more was made
 abbrev pub StopsOrGoes : ℕ → ℕ → Option Stop → StoreRun → StoreRun → Type 0
 StopsOrGoes most until (Some why) old new =
-    (L : LinkedSet) → IsLinked L old.linked → (end : ℕ) → until ≡ min most end → stop_at (set_course L) most (end - new.run.steps) (place_of new.run) ≡ Some why
+    (end : ℕ) → until ≡ min most end → stop_at (set_course old.linked) most (end - new.run.steps) (place_of new.run) ≡ Some why
 StopsOrGoes most until None old new = old.run.steps < new.run.steps
 
 -- memory wasn't wanting

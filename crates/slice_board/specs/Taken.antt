@@ -2,13 +2,11 @@
 use Rattle.std.specs.Prelude.{◌≡◌, ◌≤◌, ◌<◌, ◌+◌, ◌-◌, ◌^◌, ◌⊎◌, ℕ, List, length, slice_get, slice_set, min, Some, true, false, Result, Ok, Err}
 use Rattle.spec_loading.specs.wasm_form.declared.memory.Memory.{Memory}
 use Rattle.spec_loading.specs.wasm_form.declared.runtime.Answer.{Answer}
-use Rattle.spec_loading.specs.spec_linking.LinkedSets.{LinkedSet}
 use Rattle.spec_loading.specs.spec_runtime.Recorded.{Recorded}
 use Rattle.spec_loading.specs.spec_runtime.Courses.{with_answer, as_lost}
 use Rattle.spec_boards.specs.declared.turn.Turn.{Turn}
 use Rattle.spec_boards.specs.declared.turn.Stop.{Stop}
 use Rattle.spec_boards.specs.Turns.{Place, Turned, turn_of}
-use Rattle.dyl_link.specs.Kept.{IsLinked}
 use Rattle.dyl_store.specs.Stores.{set_course, MayWantAt}
 use Rattle.slice_board.specs.declared.picker.Picker.{Picker}
 use Rattle.slice_board.specs.declared.board.Seat.{Seat}
@@ -43,7 +41,7 @@ IsTurnOf t steps why new = IsAtPlace new t.place × (t.made ≡ steps) × (t.why
 -- A turn of the program of a seat, of at most so many steps, made these and stopped so. Memory wasn't wanting for it before.
 pub record MadeTurn (slice : ℕ) (old new : Seat) (steps : ℕ) (why : Stop) : Type 0 where
   pub found : old.store.run.lost ≡ false
-  pub taken : (L : LinkedSet) → IsLinked L old.store.linked → IsTurnOf (turn_of (set_course L) old.most slice (place_of old.store.run)) steps why new.store.run
+  pub taken : IsTurnOf (turn_of (set_course old.store.linked) old.most slice (place_of old.store.run)) steps why new.store.run
 
 -- In a turn memory was wanting for a step that may want it. The steps before it were made, as the definition of the turn says.
 pub record LosesStep (slice : ℕ) (old new : Seat) : Type 0 where
@@ -51,7 +49,7 @@ pub record LosesStep (slice : ℕ) (old new : Seat) : Type 0 where
   pub lost : new.store.run.lost ≡ true
   pub answers : new.store.run.answers ≡ old.store.run.answers
   pub more : old.store.run.steps ≤ new.store.run.steps
-  pub within : (L : LinkedSet) → IsLinked L old.store.linked → new.store.run.steps ≤ (turn_of (set_course L) old.most slice (place_of old.store.run)).place.steps
+  pub within : new.store.run.steps ≤ (turn_of (set_course old.store.linked) old.most slice (place_of old.store.run)).place.steps
   pub wanting : MayWantAt old.store.linked new.store.run
 
 -- Memory was wanting: before the turn already, in which nothing was done then, or in it.

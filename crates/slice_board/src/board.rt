@@ -1,10 +1,8 @@
 // A board: the programs, what picks one, and the number of the next turn.
 ghost use Rattle.std.specs.Prelude.{◌≡◌, ◌<◌, ◌≤◌, ◌++◌, ◌∷◌, [], length, IfOk, IfErr, OnErr, OnOk, slice_get, Some};
 ghost use Rattle.std.specs.List.{All};
-ghost use Rattle.spec_loading.specs.spec_linking.LinkedSets.{LinkedSet};
 ghost use Rattle.spec_loading.specs.spec_runtime.Courses.{no_steps};
 ghost use Rattle.wasm_machine.specs.Steps.{Awaits};
-ghost use Rattle.dyl_link.specs.Kept.{IsLinked};
 ghost use Rattle.dyl_store.specs.Stores.{set_course};
 ghost use Rattle.slice_board.specs.Taken.{most_programs, next_turn, picks_of, TakesTurn, Answers, IsFull};
 
@@ -137,7 +135,7 @@ impl<'m> Board<'m> {
     /// Records the answer to the host call that a program waits for. At want of memory that program makes no step any more, and answers `Memory` at
     /// each of its turns.
     pub fn answer(&mut self, alloc: Global, p: u32, a: Answer) -> Result<(), Memory>
-        requires { (L : LinkedSet) × (seat : Seat) × (slice_get self.old.seats.items p ≡ Some seat) × IsLinked L seat.store.linked × Awaits (set_course L) seat.store.run a }
+        requires { (seat : Seat) × (slice_get self.old.seats.items p ≡ Some seat) × Awaits (set_course seat.store.linked) seat.store.run a }
         ensures answered { Answers p a result self.old.seats.items self.new.seats.items }
         ensures turn { self.new.turn ≡ self.old.turn }
         ensures picker { self.new.picker ≡ self.old.picker }

@@ -1,7 +1,5 @@
 // The steps of a turn.
 ghost use Rattle.std.specs.Prelude.{◌≡◌, ◌≤◌, Some, false, IfOk, OnErr};
-ghost use Rattle.spec_loading.specs.spec_linking.LinkedSets.{LinkedSet};
-ghost use Rattle.dyl_link.specs.Kept.{IsLinked};
 ghost use Rattle.dyl_store.specs.Stores.{set_course};
 ghost use Rattle.slice_board.specs.Taken.{MadeTurn, LostTurn};
 ghost use Rattle.slice_board.specs.Steps.{first_stop, stop_seen, deep_stop, GoesOn, GetsLost};
@@ -31,7 +29,7 @@ fn first_stop(ended: bool, limited: bool, waits: bool, spent: bool) -> Option<St
 
 // The cause to stop before the next step, unless that step is too deep.
 fn stop_of(store: &Store, most: u64, until: u64) -> Option<Stop>
-    ensures { (L : LinkedSet) → IsLinked L store.now.linked → store.now.run.lost ≡ false → result ≡ stop_seen (set_course L) most until store.now.run }
+    ensures { store.now.run.lost ≡ false → result ≡ stop_seen (set_course store.now.linked) most until store.now.run }
 {
     let steps = store.steps();
     first_stop(
@@ -64,7 +62,6 @@ fn go_on(store: &mut Store, alloc: Global, most: u64, until: u64) -> Result<Opti
     if let Some(why) = stop_of(store, most, until) {
         return Ok(Some(why));
     }
-    store.links();
     let event = store.run_step(alloc)?;
     let why = deep_stop(&event);
     drop(event);

@@ -13,10 +13,9 @@ use Rattle.spec_hosts.specs.spec_runtime.Recorded.{Recorded, waits}
 use Rattle.spec_hosts.specs.spec_runtime.Courses.{Course, status_at, memory_at, is_waiting}
 use Rattle.spec_hosts.specs.Devices.{Devices}
 use Rattle.spec_hosts.specs.Hosted.{Embedder, CallComesTo}
-use Rattle.spec_loading.specs.spec_linking.LinkedSets.{LinkedSet, set_hosts}
+use Rattle.spec_loading.specs.spec_linking.LinkedSets.{LinkedSet, set_hosts, hosts_of}
 use Rattle.dyl_link.specs.host_table.Names.{host_name_of}
 use Rattle.dyl_link.specs.host_table.declared.host.HostName as code
-use Rattle.dyl_link.specs.Kept.{Kept, IsLinked}
 use Rattle.dyl_store.specs.Stores.{set_course}
 use Rattle.wasm_machine.specs.declared.event.Event.{Event}
 use Rattle.wasm_machine.specs.declared.event.Event.TheVariants as event
@@ -67,10 +66,10 @@ call_told host asked Returned tells = absurd tells
 call_told host asked (Exited code) tells = absurd tells
 call_told host asked (Trapped why) tells = absurd tells
 
-module _ (L : LinkedSet) (k : Kept) (of : IsLinked L k) (all : List code.HostName) (kept : map host_name_of all ≡ k.hosts) where
+module _ (L : LinkedSet) (all : List code.HostName) (kept : map host_name_of all ≡ hosts_of L) where
   -- the host functions of a set, as the code keeps them
   pub hosts_kept : set_hosts L ≡ slice_get (map host_name_of all)
-  hosts_kept = let read : List HostName → ℕ → Option HostName = λ hs entry. slice_get hs entry in ap read (sym (kept ∙ of.hosts))
+  hosts_kept = let read : List HostName → ℕ → Option HostName = λ hs entry. slice_get hs entry in ap read (sym kept)
 
   module _ (asked : Asked) (x : Recorded) (tells : TellsStatus (set_hosts L) (event.Waits asked) (status_at (set_course L) x)) where
     abbrev C : Course
@@ -83,11 +82,8 @@ module _ (L : LinkedSet) (k : Kept) (of : IsLinked L k) (all : List code.HostNam
     asked_within = entry_within (set_hosts L) all hosts_kept asked.entry call.call.host call.there
 
     module _ (h : code.HostName) (at : slice_get all asked.entry ≡ Some h) where
-      there : set_hosts L asked.entry ≡ Some (host_name_of h)
+      pub there : set_hosts L asked.entry ≡ Some (host_name_of h)
       there = host_of_entry (set_hosts L) all hosts_kept asked.entry h at
-
-      pub kept_there : slice_get k.hosts asked.entry ≡ Some (host_name_of h)
-      kept_there = ap (λ (f : ℕ → Option HostName). f asked.entry) (let read : List HostName → ℕ → Option HostName = λ hs entry. slice_get hs entry in ap read of.hosts) ∙ there
 
       same_call : call.call ≡ call_of h asked
       same_call = λ i. record { host = same_Some call.call.host (host_name_of h) (sym call.there ∙ there) i; args = sym call.args i }

@@ -1,4 +1,4 @@
-pub mod Kept
+pub mod Lists
 pub mod Calling
 pub mod Rounds
 pub mod Beginning

@@ -1,5 +1,5 @@
 -- Whether a run is done, and how it ended, by what is told of it.
-use Rattle.std.proofs.Common.{◌≡◌, ℕ, Bool, true, false, true≢false, ◌&&◌, ◌||◌, nat_eq, Option, Some, None, refl, sym, ap, ◌∙◌, subst, arith}
+use Rattle.std.proofs.Common.{◌≡◌, ℕ, Bool, true, false, true≢false, ◌&&◌, ◌||◌, nat_eq, List, slice_get, Option, Some, None, refl, sym, ap, ◌∙◌, subst, arith}
 use Rattle.std.proofs.lemmas.Bool.{eq-eqb, ne_eqb, and_parts, or_left, or_right}
 use Rattle.std.proofs.lemmas.Option.{same_Some}
 use Rattle.spec_hosts.specs.wasm_form.declared.runtime.Trap.{Trap}
@@ -13,8 +13,6 @@ use Rattle.spec_hosts.specs.declared.ran.RunEnd.{RunEnd}
 use Rattle.spec_hosts.specs.declared.ran.RunEnd.TheVariants as end
 use Rattle.spec_boards.specs.BoardRuns.{is_done, EndsBy}
 use Rattle.spec_boards.proofs.Ending.{IsDeep, done_is, ends_at_steps, ends_at_calls}
-use Rattle.spec_loading.specs.spec_linking.LinkedSets.{LinkedSet}
-use Rattle.dyl_link.specs.Kept.{IsLinked}
 use Rattle.dyl_store.specs.Stores.{StoreRun, set_course, is_moving, is_deep_at}
 use Rattle.wasm_machine.specs.declared.event.Event.{Event}
 use Rattle.wasm_machine.specs.declared.event.Event.TheVariants as event
@@ -22,7 +20,7 @@ use Rattle.wasm_machine.specs.Steps.{TellsStatus}
 use Rattle.run_loaded.specs.Events.{end_by}
 use Rattle.slice_board.specs.Taken.{place_of}
 use Rattle.slice_board.specs.declared.board.Seat.{Seat}
-use Rattle.slice_exec.specs.Playing.{IsSeated, IsDone}
+use Rattle.slice_exec.specs.Playing.{IsSeated, SomeGoes, IsDone}
 
 deep_by : (status : Status HostCall Trap) (deep : Bool) → IsDeep (is_moving status && deep) status deep
 deep_by Moving deep = refl
@@ -73,6 +71,16 @@ module _ (C : Course) (most : ℕ) (x : Recorded) where
         ∙ or_right (has_ended (status_at C x)) (nat_eq x.steps most || (is_deep_at C x || (is_waiting C x && are_many x.answers)))
         (or_left (nat_eq x.steps most) (is_deep_at C x || (is_waiting C x && are_many x.answers)) (eq-eqb x.steps most all))
 
+    -- where it has ended, or its next step would be too deep
+    pub done_ended : has_ended (status_at C x) ≡ true → is_done C most (place_of x) ≡ true
+    done_ended ended = seen_done ∙ or_left (has_ended (status_at C x)) (nat_eq x.steps most || (is_deep_at C x || (is_waiting C x && are_many x.answers))) ended
+
+    pub done_deep : is_deep_at C x ≡ true → is_done C most (place_of x) ≡ true
+    done_deep deep =
+        seen_done
+        ∙ or_right (has_ended (status_at C x)) (nat_eq x.steps most || (is_deep_at C x || (is_waiting C x && are_many x.answers)))
+        (or_right (nat_eq x.steps most) (is_deep_at C x || (is_waiting C x && are_many x.answers)) (or_left (is_deep_at C x) (is_waiting C x && are_many x.answers) deep))
+
     -- where neither an end nor another limit is seen
     pub done_last : has_ended (status_at C x) ≡ false → (x.steps ≡ most → ⊥) → is_deep_at C x ≡ false → is_done C most (place_of x) ≡ (is_waiting C x && are_many x.answers)
     done_last going other deep =
@@ -102,6 +110,8 @@ module _ (C : Course) (most : ℕ) (x : Recorded) where
 
 -- ---- the same of a program of a board
 
-pub done_of : (most : ℕ) (s : Seat) (t : StoreRun) (done : Bool) → t ≡ s.store → ((L : LinkedSet) → IsLinked L t.linked → done ≡ is_done (set_course L) most (place_of t.run)) → done ≡ true → IsDone most s
-done_of most s t done same told is =
-    subst (λ (u : StoreRun). (L : LinkedSet) → IsLinked L u.linked → is_done (set_course L) most (place_of u.run) ≡ true) same (λ L of. sym (told L of) ∙ is)
+pub done_of : (most : ℕ) (s : Seat) (t : StoreRun) (done : Bool) → t ≡ s.store → done ≡ is_done (set_course t.linked) most (place_of t.run) → done ≡ true → IsDone most s
+done_of most s t done same told is = subst (λ (u : StoreRun). is_done (set_course u.linked) most (place_of u.run) ≡ true) same (sym told ∙ is)
+
+pub goes_of : (most p : ℕ) (seats : List Seat) (s : Seat) (t : StoreRun) (done : Bool) → slice_get seats p ≡ Some s → t ≡ s.store → done ≡ is_done (set_course t.linked) most (place_of t.run) → done ≡ false → SomeGoes most seats
+goes_of most p seats s t done at same told is = (p, s, at, subst (λ (u : StoreRun). is_done (set_course u.linked) most (place_of u.run) ≡ false) same (sym told ∙ is))

@@ -15,9 +15,7 @@ use Rattle.spec_hosts.specs.spec_runtime.Courses.{status_at, memory_at, with_ans
 use Rattle.spec_hosts.specs.spec_runtime.Recorded.{Recorded}
 use Rattle.spec_hosts.specs.Devices.{Devices}
 use Rattle.spec_hosts.specs.Ends.{bytes_written, are_many}
-use Rattle.spec_loading.specs.spec_linking.LinkedSets.{LinkedSet}
 use Rattle.wasm_machine.specs.Steps.{Awaits}
-use Rattle.dyl_link.specs.Kept.{IsLinked}
 use Rattle.dyl_store.specs.Stores.{StoreRun, set_course}
 use Rattle.host_calls.specs.declared.hosts.Hosts.{Hosts}
 use Rattle.slice_board.specs.Taken.{Answers}
@@ -70,19 +68,11 @@ module _ {X : Type 0} {F : X → Type 0} {g : _} (h : Hosts X F g) (p : ℕ) (se
   pub asking_at : (s : Seat) → slice_get seats p ≡ Some s → IsAsking h s.store → IsAsking h u
   asking_at s there asking = subst (IsAsking h) (ap (λ (x : Seat). x.store) (same_Some s t (sym there ∙ at)) ∙ sym same) asking
 
-  pub awaits_at : (a : Answer) (old new : Devices) → IsAsking h u → Asks h u (Ok a) old new
-      → (L : LinkedSet) × (s : Seat) × (slice_get seats p ≡ Some s) × IsLinked L s.store.linked × Awaits (set_course L) s.store.run a
-  awaits_at a old new asking asks =
-      let L = asking.2.0 in
-      let of = asking.2.1 in
-      let gives = asks L of in (
-        L,
-        t,
-        at,
-        subst (λ (v : StoreRun). IsLinked L v.linked) same of,
-        subst (λ (v : StoreRun). Awaits (set_course L) v.run a) same
-            (unanswered (set_course L) u.run asking.2.2, asking.1 L of, fits_wait a (status_at (set_course L) u.run) (memory_at (set_course L) u.run) gives.0 gives.1 gives.3),
-      )
+  pub awaits_at : (a : Answer) (old new : Devices) → IsAsking h u → Asks h u (Ok a) old new → (s : Seat) × (slice_get seats p ≡ Some s) × Awaits (set_course s.store.linked) s.store.run a
+  awaits_at a old new asking gives =
+      let C = set_course u.linked in
+      let awaits : Awaits C u.run a = (unanswered C u.run asking.waiting, asking.stands, fits_wait a (status_at C u.run) (memory_at C u.run) gives.0 gives.1 gives.3) in
+      (t, at, subst (λ (v : StoreRun). Awaits (set_course v.linked) v.run a) same awaits)
 
   asks_there : (r : Result Answer Memory) (old new : Devices) → Asks h u r old new → (s : Seat) → slice_get seats p ≡ Some s → Asks h s.store r old new
   asks_there r old new asks s there = subst (λ v. Asks h v r old new) (same ∙ ap (λ (x : Seat). x.store) (same_Some t s (sym at ∙ there))) asks

@@ -1,25 +1,14 @@
 -- What came of running linked sets in turns.
-use Rattle.std.specs.Prelude.{ℕ, List, [], ◌∷◌, Result, Ok, Err}
+use Rattle.std.specs.Prelude.{ℕ, List, Result, Ok, Err}
 use Rattle.spec_hosts.specs.wasm_form.declared.memory.Memory.{Memory}
 use Rattle.spec_hosts.specs.Devices.{Devices}
 use Rattle.spec_hosts.specs.Hosted.{Embedder}
 use Rattle.spec_loading.specs.spec_linking.LinkedSets.{LinkedSet}
 use Rattle.spec_boards.specs.declared.ran.BoardRan.{BoardRan}
 use Rattle.spec_boards.specs.BoardRuns.{IsBoardRun, IsBoardCut}
-use Rattle.dyl_link.specs.Kept.{Kept, IsLinked}
 use Rattle.dyl_store.specs.Stores.{set_course}
 
--- these are kept of the sets, one of each
-abbrev pub AreKept : List LinkedSet → List Kept → Type 0
-AreKept [] [] = Unit {0}
-AreKept (L ∷ Ls) (k ∷ ks) = IsLinked L k × AreKept Ls ks
-AreKept _ _ = ⊥
-
 -- They were run in turns, as is told; or memory was wanting, before the first turn or in one, or in answering a call.
-abbrev pub BoardGives : List LinkedSet → Embedder → ℕ → ℕ → ℕ → (ℕ → ℕ → ℕ → Type 0) → Result BoardRan Memory → Devices → Devices → Type 0
-BoardGives Ls embedder most slice turns pick (Ok r) old new = IsBoardRun set_course Ls most slice turns pick embedder r old new
-BoardGives Ls embedder most slice turns pick (Err why) old new = IsBoardCut set_course Ls most slice turns pick embedder old new
-
--- the same of the sets that these are kept of
-abbrev pub ExecutesBoard : List Kept → Embedder → ℕ → ℕ → ℕ → (ℕ → ℕ → ℕ → Type 0) → Result BoardRan Memory → Devices → Devices → Type 0
-ExecutesBoard ks embedder most slice turns pick result old new = (Ls : List LinkedSet) → AreKept Ls ks → BoardGives Ls embedder most slice turns pick result old new
+abbrev pub ExecutesBoard : List LinkedSet → Embedder → ℕ → ℕ → ℕ → (ℕ → ℕ → ℕ → Type 0) → Result BoardRan Memory → Devices → Devices → Type 0
+ExecutesBoard Ls embedder most slice turns pick (Ok r) old new = IsBoardRun set_course Ls most slice turns pick embedder r old new
+ExecutesBoard Ls embedder most slice turns pick (Err why) old new = IsBoardCut set_course Ls most slice turns pick embedder old new

@@ -11,31 +11,28 @@ use Rattle.spec_hosts.specs.Devices.{Devices}
 use Rattle.spec_hosts.specs.Hosted.{Embedder, CallComesTo}
 use Rattle.spec_hosts.specs.Ends.{bytes_written, are_many}
 use Rattle.spec_hosts.specs.declared.ran.Ran.{Ran}
-use Rattle.spec_loading.specs.spec_linking.LinkedSets.{LinkedSet}
+use Rattle.spec_loading.specs.spec_linking.LinkedSets.{LinkedSet, hosts_of}
 use Rattle.spec_boards.specs.Turns.{Place}
 use Rattle.spec_boards.specs.BoardRuns.{is_done, EndsBy, IsBoardCut}
 use Rattle.spec_boards.specs.Played.{Played}
 use Rattle.dyl_link.specs.host_table.declared.entry.HostTable.{HostTable}
-use Rattle.dyl_link.specs.Kept.{Kept, IsLinked}
 use Rattle.dyl_store.specs.Stores.{StoreRun, set_course, new_run}
 use Rattle.host_calls.specs.declared.hosts.Hosts.{Hosts}
 use Rattle.host_calls.specs.Bindings.{AreBindings}
 use Rattle.host_calls.specs.Embedders.{names_of, embedder_of, embedder}
-use Rattle.wasm_exec.specs.Driving.{AreDeclared}
-use Rattle.wasm_exec.specs.Executed.{HaveIntegers, IsLinkedOver}
+use Rattle.wasm_exec.specs.Executed.{HaveIntegers}
 use Rattle.slice_board.specs.Taken.{place_of}
 use Rattle.slice_board.specs.declared.board.Seat.{Seat}
 use Rattle.slice_exec.specs.declared.tally.Tally.{Tally}
-use Rattle.slice_exec.specs.Executed.{AreKept}
 
 -- ---- the programs
 
 -- a set that was loaded, of at most so many steps
-abbrev pub new_seat : ℕ → Kept → Seat
-new_seat most k = record { store = new_run k; most = most }
+abbrev pub new_seat : ℕ → LinkedSet → Seat
+new_seat most L = record { store = new_run L; most = most }
 
--- what is kept of the sets, and how far the programs have come
-abbrev pub sets_in : List Seat → List Kept
+-- the sets, and how far the programs have come
+abbrev pub sets_in : List Seat → List LinkedSet
 sets_in seats = map (λ (s : Seat). s.store.linked) seats
 
 abbrev pub places_in : List Seat → List Place
@@ -56,18 +53,17 @@ pub record IsSeated (most : ℕ) (x : Recorded) : Type 0 where
 
 -- some program could go on, or none
 abbrev pub SomeGoes : ℕ → List Seat → Type 0
-SomeGoes most seats = (i : ℕ) × (s : Seat) × (slice_get seats i ≡ Some s) × ((L : LinkedSet) → IsLinked L s.store.linked → is_done (set_course L) most (place_of s.store.run) ≡ false)
+SomeGoes most seats = (i : ℕ) × (s : Seat) × (slice_get seats i ≡ Some s) × (is_done (set_course s.store.linked) most (place_of s.store.run) ≡ false)
 
 abbrev pub IsDone : ℕ → Seat → Type 0
-IsDone most s = (L : LinkedSet) → IsLinked L s.store.linked → is_done (set_course L) most (place_of s.store.run) ≡ true
+IsDone most s = is_done (set_course s.store.linked) most (place_of s.store.run) ≡ true
 
 abbrev pub AllDone : ℕ → List Seat → Type 0
 AllDone most seats = All (IsDone most) seats
 
 -- what is told of a program at the end, where the turns may be used up
 abbrev pub IsRan : Seat → Ran → Type 0
-IsRan s r = (r.steps ≡ s.store.run.steps) × (r.answers ≡ s.store.run.answers)
-    × ((L : LinkedSet) → IsLinked L s.store.linked → EndsBy true (set_course L) s.most (place_of s.store.run) r.end)
+IsRan s r = (r.steps ≡ s.store.run.steps) × (r.answers ≡ s.store.run.answers) × EndsBy true (set_course s.store.linked) s.most (place_of s.store.run) r.end
 
 -- ---- one call
 
@@ -77,18 +73,21 @@ CallGives embedder C x result old new =
     (call : HostCall) × (status_at C x ≡ Waits call) × CallComesTo embedder (call, memory_at C x) result old new × IfOk result (λ a. answer_fits call (memory_at C x) a ≡ true)
 
 module _ {X : Type 0} {F : X → Type 0} {g : _} where
-  -- what answers the calls of a program with this one argument, over a table, for what is kept of its set
-  abbrev pub IsHostsOf : List ℕ → HostTable X F g → Kept → Hosts X F g → Type 0
-  IsHostsOf name table k h = (h.wasi ≡ name ∷ []) × (h.table.now ≡ table) × AreBindings table k.hosts h.bindings.items
+  -- what answers the calls of a program with this one argument, over a table, for its set
+  abbrev pub IsHostsOf : List ℕ → HostTable X F g → LinkedSet → Hosts X F g → Type 0
+  IsHostsOf name table L h = (h.wasi ≡ name ∷ []) × (h.table.now ≡ table) × AreBindings table (hosts_of L) h.bindings.items
 
-  -- the run waits for a call, and what answers it was found
-  abbrev pub IsAsking : Hosts X F g → StoreRun → Type 0
-  IsAsking h s = (s.run.lost ≡ false) × ((L : LinkedSet) → IsLinked L s.linked → IsAt (set_course L) s.run)
-      × ((L : LinkedSet) × IsLinked L s.linked × (is_waiting (set_course L) s.run ≡ true))
-      × AreDeclared (λ entry. slice_get s.linked.hosts entry) (names_of h.table.now) × AreBindings h.table.now s.linked.hosts h.bindings.items
+  -- The run waits for a call, and what answers it was found. Its set was linked over host functions that have integers.
+  pub record IsAsking (h : Hosts X F g) (s : StoreRun) : Type 0 where
+    pub found : s.run.lost ≡ false
+    pub stands : IsAt (set_course s.linked) s.run
+    pub waiting : is_waiting (set_course s.linked) s.run ≡ true
+    pub names : s.linked.names ≡ names_of h.table.now
+    pub integers : HaveIntegers (names_of h.table.now)
+    pub bound : AreBindings h.table.now (hosts_of s.linked) h.bindings.items
 
   abbrev pub Asks : Hosts X F g → StoreRun → Result Answer Memory → Devices → Devices → Type 0
-  Asks h s result old new = (L : LinkedSet) → IsLinked L s.linked → CallGives (embedder h) (set_course L) s.run result old new
+  Asks h s result old new = CallGives (embedder h) (set_course s.linked) s.run result old new
 
   -- the same of the program of a number, for which a further call is answered
   abbrev pub IsServing : Hosts X F g → ℕ → List Seat → List ℕ → Type 0
@@ -98,9 +97,8 @@ module _ {X : Type 0} {F : X → Type 0} {g : _} where
   abbrev pub ServeGives : Hosts X F g → ℕ → Seat → Result (Unit {0}) Memory → List Seat → List Seat → List ℕ → Devices → Devices → Type 0
   ServeGives h p s (Ok done) olds news written old new =
       (a : Answer) × (t : Seat) × (t.store.linked ≡ s.store.linked) × (t.most ≡ s.most) × (t.store.run ≡ with_answer s.store.run a) × (news ≡ slice_set olds p t) × (written ≡ written_in news)
-      × ((L : LinkedSet) → IsLinked L s.store.linked → CallGives (embedder h) (set_course L) s.store.run (Ok a) old new)
-  ServeGives h p s (Err why) olds news written old new =
-      (r : Result Answer Memory) × ((L : LinkedSet) → IsLinked L s.store.linked → CallGives (embedder h) (set_course L) s.store.run r old new)
+      × CallGives (embedder h) (set_course s.store.linked) s.store.run (Ok a) old new
+  ServeGives h p s (Err why) olds news written old new = (r : Result Answer Memory) × CallGives (embedder h) (set_course s.store.linked) s.store.run r old new
 
   abbrev pub Serves : Hosts X F g → ℕ → Result (Unit {0}) Memory → List Seat → List ℕ → List Seat → List ℕ → Devices → Devices → Type 0
   Serves h p result olds before news written old new = (s : Seat) → slice_get olds p ≡ Some s → ServeGives h p s result olds news written old new
@@ -122,7 +120,7 @@ RoundComes (Err why) Ls most slice turns pick embedder seats turn tally begun no
 
 -- before the first turn
 abbrev pub IsFresh : ℕ → List Seat → ℕ → Tally → Type 0
-IsFresh most seats turn tally = (seats ≡ map (new_seat most) (sets_in seats)) × (turn ≡ 0) × (tally.picks.items ≡ []) × (tally.written.items ≡ map (λ (k : Kept). 0) (sets_in seats))
+IsFresh most seats turn tally = (seats ≡ map (new_seat most) (sets_in seats)) × (turn ≡ 0) × (tally.picks.items ≡ []) × (tally.written.items ≡ map (λ (L : LinkedSet). 0) (sets_in seats))
 
 -- no program was added
 abbrev pub IsUnused : List Seat → ℕ → Tally → Type 0
@@ -137,41 +135,41 @@ abbrev pub PlayComes : Result (Unit {0}) Memory → List LinkedSet → ℕ → �
 PlayComes (Ok done) Ls most slice turns pick embedder seats tally begun now = IsPlayed Ls most slice turns pick embedder seats tally begun now
 PlayComes (Err why) Ls most slice turns pick embedder seats tally begun now = IsBoardCut set_course Ls most slice turns pick embedder begun now
 
--- the same of the sets that these are kept of, from before the first turn
-abbrev pub RunsBoard : List Kept → Embedder → ℕ → ℕ → ℕ → (ℕ → ℕ → ℕ → Type 0) → Result (Unit {0}) Memory → List Seat → Tally → Devices → Devices → Type 0
-RunsBoard ks embedder most slice turns pick result seats tally begun now =
-    OnOk result (sets_in seats ≡ ks) × ((Ls : List LinkedSet) → AreKept Ls ks → PlayComes result Ls most slice turns pick embedder seats tally begun now)
+-- the same of sets that were put onto a board which had none
+abbrev pub RunsBoard : List LinkedSet → Embedder → ℕ → ℕ → ℕ → (ℕ → ℕ → ℕ → Type 0) → Result (Unit {0}) Memory → List Seat → Tally → Devices → Devices → Type 0
+RunsBoard Ls embedder most slice turns pick result seats tally begun now =
+    OnOk result (sets_in seats ≡ Ls) × PlayComes result Ls most slice turns pick embedder seats tally begun now
 
 module _ {X : Type 0} {F : X → Type 0} {g : _} where
-  -- for each set there is what answers its calls, each over host functions that are declared and have integers
-  abbrev pub AreHostsOf : List ℕ → HostTable X F g → List (Hosts X F g) → List Kept → Type 0
-  AreHostsOf name table hosts ks = AllZip (IsHostsOf name table) ks hosts × All (λ k. IsLinkedOver k (names_of table)) ks × HaveIntegers (names_of table)
+  -- for each set there is what answers its calls, each linked over host functions that have integers
+  abbrev pub AreHostsOf : List ℕ → HostTable X F g → List (Hosts X F g) → List LinkedSet → Type 0
+  AreHostsOf name table hosts Ls = AllZip (IsHostsOf name table) Ls hosts × All (λ (L : LinkedSet). L.names ≡ names_of table) Ls × HaveIntegers (names_of table)
 
-  abbrev pub HaveHosts : List (Hosts X F g) → List Kept → Type 0
-  HaveHosts hosts ks = (name : List ℕ) × (table : HostTable X F g) × AreHostsOf name table hosts ks
+  abbrev pub HaveHosts : List (Hosts X F g) → List LinkedSet → Type 0
+  HaveHosts hosts Ls = (name : List ℕ) × (table : HostTable X F g) × AreHostsOf name table hosts Ls
 
   -- a further turn may be taken
   abbrev pub IsReady : ℕ → (ℕ → ℕ → ℕ → Type 0) → List (Hosts X F g) → List Seat → ℕ → Tally → Devices → Type 0
   IsReady slice pick hosts seats turn tally now =
-      (name : List ℕ) × (table : HostTable X F g) × AreHostsOf name table hosts (sets_in seats) × (Ls : List LinkedSet) × AreKept Ls (sets_in seats)
-      × (most turns : ℕ) × (begun : Devices) × IsAtRound Ls most slice turns pick (embedder_of (name ∷ []) table) seats turn tally begun now
+      (name : List ℕ) × (table : HostTable X F g) × AreHostsOf name table hosts (sets_in seats)
+      × (most turns : ℕ) × (begun : Devices) × IsAtRound (sets_in seats) most slice turns pick (embedder_of (name ∷ []) table) seats turn tally begun now
       × (turns < 4294967296) × (length tally.picks.items < turns) × SomeGoes most seats
 
   abbrev pub RoundGives : ℕ → (ℕ → ℕ → ℕ → Type 0) → List (Hosts X F g) → Result (Unit {0}) Memory → List Seat → ℕ → Tally → List Seat → ℕ → Tally → Devices → Devices → Type 0
   RoundGives slice pick hosts result seats turn tally news next told before now =
       OnOk result ((sets_in news ≡ sets_in seats) × (length told.picks.items ≡ length tally.picks.items + 1))
-      × ((name : List ℕ) (table : HostTable X F g) → AreHostsOf name table hosts (sets_in seats) → (Ls : List LinkedSet) → AreKept Ls (sets_in seats) → (most turns : ℕ) (begun : Devices)
-      → IsAtRound Ls most slice turns pick (embedder_of (name ∷ []) table) seats turn tally begun before → turns < 4294967296 → length tally.picks.items < turns → SomeGoes most seats
-      → RoundComes result Ls most slice turns pick (embedder_of (name ∷ []) table) news next told begun now)
+      × ((name : List ℕ) (table : HostTable X F g) → AreHostsOf name table hosts (sets_in seats) → (most turns : ℕ) (begun : Devices)
+      → IsAtRound (sets_in seats) most slice turns pick (embedder_of (name ∷ []) table) seats turn tally begun before → turns < 4294967296 → length tally.picks.items < turns → SomeGoes most seats
+      → RoundComes result (sets_in seats) most slice turns pick (embedder_of (name ∷ []) table) news next told begun now)
 
   -- turns were taken since the board was begun, over the host functions of each of its sets
   abbrev pub IsPlaying : ℕ → ℕ → ℕ → (ℕ → ℕ → ℕ → Type 0) → List (Hosts X F g) → List Seat → List Seat → ℕ → Tally → Devices → Devices → Type 0
   IsPlaying most slice turns pick hosts olds seats turn tally begun now =
-      (name : List ℕ) (table : HostTable X F g) → AreHostsOf name table hosts (sets_in olds) → (Ls : List LinkedSet) → AreKept Ls (sets_in olds)
-      → IsAtRound Ls most slice turns pick (embedder_of (name ∷ []) table) seats turn tally begun now
+      (name : List ℕ) (table : HostTable X F g) → AreHostsOf name table hosts (sets_in olds)
+      → IsAtRound (sets_in olds) most slice turns pick (embedder_of (name ∷ []) table) seats turn tally begun now
 
   abbrev pub PlayGives : ℕ → ℕ → ℕ → (ℕ → ℕ → ℕ → Type 0) → List (Hosts X F g) → Result (Unit {0}) Memory → List Seat → List Seat → Tally → Devices → Devices → Type 0
   PlayGives most slice turns pick hosts result seats news told begun now =
       OnOk result (sets_in news ≡ sets_in seats)
-      × ((name : List ℕ) (table : HostTable X F g) → AreHostsOf name table hosts (sets_in seats) → (Ls : List LinkedSet) → AreKept Ls (sets_in seats)
-      → PlayComes result Ls most slice turns pick (embedder_of (name ∷ []) table) news told begun now)
+      × ((name : List ℕ) (table : HostTable X F g) → AreHostsOf name table hosts (sets_in seats)
+      → PlayComes result (sets_in seats) most slice turns pick (embedder_of (name ∷ []) table) news told begun now)

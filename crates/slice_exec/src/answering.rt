@@ -3,8 +3,6 @@ ghost use Rattle.std.specs.Prelude.{◌≡◌, ◌&&◌, false};
 ghost use Rattle.spec_hosts.specs.Devices.{devices};
 ghost use Rattle.spec_hosts.specs.Ends.{are_many};
 ghost use Rattle.spec_hosts.specs.spec_runtime.Courses.{IsAt, is_waiting};
-ghost use Rattle.spec_loading.specs.spec_linking.LinkedSets.{LinkedSet};
-ghost use Rattle.dyl_link.specs.Kept.{IsLinked};
 ghost use Rattle.dyl_store.specs.Stores.{set_course};
 ghost use Rattle.slice_exec.specs.Playing.{written_by, IsAsking, Asks, Serves, IsServing};
 
@@ -31,6 +29,7 @@ fn ask<I: Source, O: Sink, E: Sink, A: Ambient>(
     requires { IsAsking hosts.now store.now }
     ensures { Asks hosts.now store.now result (devices (I.seen input.old) (O.seen output.old) (E.seen errors.old) (A.seen ambient.old)) (devices (I.seen input.new) (O.seen output.new) (E.seen errors.new) (A.seen ambient.new)) }
 {
+    store.links();
     let Event::Waits(asked) = store.state() else {
         unreachable!()
     };
@@ -51,7 +50,7 @@ fn ask<I: Source, O: Sink, E: Sink, A: Ambient>(
 pub(crate) fn is_full(store: &Store, written: u128) -> bool
     requires { written ≡ written_by store.now.run.answers }
     ensures value { result ≡ are_many store.now.run.answers }
-    ensures stands { (L : LinkedSet) → IsLinked L store.now.linked → store.now.run.lost ≡ false → IsAt (set_course L) store.now.run }
+    ensures stands { store.now.run.lost ≡ false → IsAt (set_course store.now.linked) store.now.run }
 {
     let _steps = store.steps();
     are_many(store.answers(), written)
@@ -61,7 +60,7 @@ pub(crate) fn is_full(store: &Store, written: u128) -> bool
 pub(crate) fn waits_in_vain(store: &Store, written: u128) -> bool
     requires found { store.now.run.lost ≡ false }
     requires written { written ≡ written_by store.now.run.answers }
-    ensures { (L : LinkedSet) → IsLinked L store.now.linked → result ≡ (is_waiting (set_course L) store.now.run && are_many store.now.run.answers) }
+    ensures { result ≡ (is_waiting (set_course store.now.linked) store.now.run && are_many store.now.run.answers) }
 {
     let full = is_full(store, written);
     store.waiting() && full

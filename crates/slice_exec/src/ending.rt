@@ -2,8 +2,6 @@
 ghost use Rattle.std.specs.Prelude.{◌≡◌, [], IfOk, OnOk, true};
 ghost use Rattle.std.specs.List.{All, AllZip};
 ghost use Rattle.spec_boards.specs.BoardRuns.{EndsBy};
-ghost use Rattle.spec_loading.specs.spec_linking.LinkedSets.{LinkedSet};
-ghost use Rattle.dyl_link.specs.Kept.{IsLinked};
 ghost use Rattle.dyl_store.specs.Stores.{set_course};
 ghost use Rattle.slice_board.specs.Taken.{place_of};
 ghost use Rattle.slice_exec.specs.Playing.{written_by, written_in, IsSeated, IsRan};
@@ -23,7 +21,7 @@ use std::alloc::Global;
 fn end_of(store: &Store, most: u64, written: u128) -> RunEnd
     requires seated { IsSeated most store.now.run }
     requires written { written ≡ written_by store.now.run.answers }
-    ensures { (L : LinkedSet) → IsLinked L store.now.linked → EndsBy true (set_course L) most (place_of store.now.run) result }
+    ensures { EndsBy true (set_course store.now.linked) most (place_of store.now.run) result }
 {
     if let Some(end) = end_by(store.state()) {
         return end;

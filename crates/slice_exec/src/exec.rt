@@ -3,7 +3,7 @@ ghost use Rattle.std.specs.Prelude.{◌≡◌, ◌<◌, ◌≤◌, ◌∷◌, []
 ghost use Rattle.std.specs.List.{All};
 ghost use Rattle.spec_hosts.specs.Devices.{devices, KeepsFronts};
 ghost use Rattle.host_calls.specs.Embedders.{names_of, embedder_of};
-ghost use Rattle.wasm_exec.specs.Executed.{HaveIntegers, IsLinkedOver};
+ghost use Rattle.wasm_exec.specs.Executed.{HaveIntegers};
 ghost use Rattle.slice_board.specs.Taken.{picks_of};
 ghost use Rattle.slice_exec.specs.Executed.{ExecutesBoard};
 ghost use Rattle.slice_exec.specs.Playing.{sets_in, IsUnused, IsFresh, RunsBoard};
@@ -43,7 +43,7 @@ pub fn execute_board<I: Source, O: Sink, E: Sink, A: Ambient>(
     requires some { 0 < length sets.now }
     requires few { length sets.now ≤ 64 }
     requires most { most < 18446744073709551615 }
-    requires names { All (λ k. IsLinkedOver k (names_of table.now)) sets.now }
+    requires names { All (λ L. L.names ≡ names_of table.now) sets.now }
     requires integers { HaveIntegers (names_of table.now) }
     ensures executes { ExecutesBoard sets.now (embedder_of (name.now ∷ []) table.now) most slice turns (picks_of picker.now) result (devices (I.seen input.old) (O.seen output.old) (E.seen errors.old) (A.seen ambient.old)) (devices (I.seen input.new) (O.seen output.new) (E.seen errors.new) (A.seen ambient.new)) }
     ensures fronts { KeepsFronts (devices (I.seen input.old) (O.seen output.old) (E.seen errors.old) (A.seen ambient.old)) (devices (I.seen input.new) (O.seen output.new) (E.seen errors.new) (A.seen ambient.new)) }
@@ -84,7 +84,7 @@ fn run_board<'m, I: Source, O: Sink, E: Sink, A: Ambient>(
     ambient: &mut A,
 ) -> Result<(), Memory>
     requires none { IsUnused board.old.seats.items board.old.turn tally.old }
-    requires names { All (λ k. IsLinkedOver k (names_of table.now)) sets.now }
+    requires names { All (λ L. L.names ≡ names_of table.now) sets.now }
     requires integers { HaveIntegers (names_of table.now) }
     ensures { RunsBoard sets.now (embedder_of (name.now ∷ []) table.now) most slice turns (picks_of board.old.picker.now) result board.new.seats.items tally.new (devices (I.seen input.old) (O.seen output.old) (E.seen errors.old) (A.seen ambient.old)) (devices (I.seen input.new) (O.seen output.new) (E.seen errors.new) (A.seen ambient.new)) }
 {
@@ -112,7 +112,7 @@ fn play_seated<I: Source, O: Sink, E: Sink, A: Ambient>(
 ) -> Result<(), Memory>
     requires fresh { IsFresh most board.old.seats.items board.old.turn tally.old }
     requires sets { sets_in board.old.seats.items ≡ sets.now }
-    requires names { All (λ k. IsLinkedOver k (names_of table.now)) sets.now }
+    requires names { All (λ L. L.names ≡ names_of table.now) sets.now }
     requires integers { HaveIntegers (names_of table.now) }
     ensures { RunsBoard sets.now (embedder_of (name.now ∷ []) table.now) most slice turns (picks_of board.old.picker.now) result board.new.seats.items tally.new (devices (I.seen input.old) (O.seen output.old) (E.seen errors.old) (A.seen ambient.old)) (devices (I.seen input.new) (O.seen output.new) (E.seen errors.new) (A.seen ambient.new)) }
 {

@@ -3,8 +3,6 @@ ghost use Rattle.std.specs.Prelude.{◌≡◌, ◌<◌, MatchBool};
 ghost use Rattle.std.specs.List.{All};
 ghost use Rattle.spec_hosts.specs.Devices.{devices};
 ghost use Rattle.spec_boards.specs.BoardRuns.{is_done};
-ghost use Rattle.spec_loading.specs.spec_linking.LinkedSets.{LinkedSet};
-ghost use Rattle.dyl_link.specs.Kept.{IsLinked};
 ghost use Rattle.dyl_store.specs.Stores.{set_course};
 ghost use Rattle.slice_board.specs.Taken.{place_of, picks_of};
 ghost use Rattle.slice_exec.specs.Playing.{written_by, written_in, sets_in, IsSeated, SomeGoes, AllDone, IsReady, RoundGives, IsFresh, HaveHosts, PlayGives};
@@ -22,7 +20,7 @@ use std::alloc::Global;
 fn is_done(store: &Store, most: u64, written: u128) -> bool
     requires seated { IsSeated most store.now.run }
     requires written { written ≡ written_by store.now.run.answers }
-    ensures { (L : LinkedSet) → IsLinked L store.now.linked → result ≡ is_done (set_course L) most (place_of store.now.run) }
+    ensures { result ≡ is_done (set_course store.now.linked) most (place_of store.now.run) }
 {
     if store.steps() == most {
         return true;

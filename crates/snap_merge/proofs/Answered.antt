@@ -17,8 +17,6 @@ use Rattle.spec_loading.specs.SoundSets.{HoldBytes, SetRunIsSound}
 use Rattle.spec_snapshots.specs.declared.fault.SnapFault.{SnapFault}
 use Rattle.spec_snapshots.specs.declared.fault.SnapFault.TheVariants as faults
 use Rattle.dyl_link.specs.dyl_search.declared.set.Member as kept
-use Rattle.dyl_link.specs.Kept.{Kept, IsLinked}
-use Rattle.dyl_addresses.proofs.Linked.{members_are}
 use Rattle.dyl_store.specs.Stores.{StoreRun, set_course, new_run}
 use Rattle.wasm_encode.specs.SectionSizes.{IsFirstTooLong}
 use Rattle.merge_module.specs.Laws.{IsMergeable}
@@ -26,7 +24,7 @@ use Rattle.merge_whole.specs.Counts.{members_of}
 use Rattle.snap_set.specs.Causes.{Takes, IsFirst, state_after}
 use Rattle.snap_set.specs.Laws.{SpelledSnapshot}
 use Rattle.snap_merge.specs.Answers.{Snapped, SnapTells, IsTooLongAfter, amount}
-use Rattle.snap_merge.specs.StartUp.{IsStarting, OfSets, Refuses}
+use Rattle.snap_merge.specs.StartUp.{IsStarting, Refuses}
 use Rattle.snap_merge.specs.Written.{IsHolding, amount_of, IsSpelled, IsWriteFault, WriteTells}
 
 -- ---- results
@@ -39,11 +37,6 @@ pub if_err : {T E : Type 0} {P Q : E → Type 0} (r : Result T E) → ((e : E) �
 if_err (Ok x) f p = tt
 if_err (Err e) f p = f e p
 
--- what is so of each set
-pub if_err_all : {T E : Type 0} (k : Kept) (P : LinkedSet → E → Type 0) (r : Result T E) → ((L : LinkedSet) → IsLinked L k → IfErr r (P L)) → IfErr r (λ e. OfSets k (λ L. P L e))
-if_err_all k P (Ok x) f = tt
-if_err_all k P (Err e) f = λ L of. f L of
-
 -- ---- start-up
 
 pub first_tells : (L : LinkedSet) (most : ℕ) (f : SnapFault) → Refuses L most f → SnapTells L most f
@@ -54,8 +47,8 @@ first_tells L most faults.Depth r = (r.0, record { before = r.1; here = r.2 })
 first_tells L most (faults.SectionSize id) r = absurd r.2
 first_tells L most faults.Memory r = tt
 
-pub opened : (most : ℕ) (v : StoreRun) (k : Kept) → v ≡ new_run k → IsStarting most v
-opened most v k is = subst (IsStarting most) (sym is) (record { found = refl; none = refl; unasked = refl; few = omega arith })
+pub opened : (most : ℕ) (v : StoreRun) (L : LinkedSet) → v ≡ new_run L → IsStarting most v
+opened most v L is = subst (IsStarting most) (sym is) (record { found = refl; none = refl; unasked = refl; few = omega arith })
 
 -- the loader's part of a sound state
 pub sound_loader : SetRunIsSound → (L : LinkedSet) (x : Recorded) → IsMergeable L → HoldBytes L → x.answers ≡ [] → IsSoundLoader (length L.set.members) (state_at (set_course L) x).loader
@@ -73,11 +66,10 @@ too_long_of L s m h id first big = record {
   big = big;
 }
 
-pub amount_is : (L : LinkedSet) (k : Kept) → IsLinked L k → (ms : List kept.Member) → ms ≡ k.set.members → (s : SetState) (memory : MemoryInstance) (tables : List TableInstance) → memory ≡ s.run.memory → tables ≡ s.run.units.tables
+pub amount_is : (L : LinkedSet) (ms : List kept.Member) → members_of ms ≡ L.set.members → (s : SetState) (memory : MemoryInstance) (tables : List TableInstance) → memory ≡ s.run.memory → tables ≡ s.run.units.tables
     → amount_of (members_of ms) memory tables ≡ amount L s
-amount_is L k linked ms are s memory tables space same =
-    ap (λ (xs : List kept.Member). amount_of (members_of xs) memory tables) are
-    ∙ ap (λ (xs : List Member). amount_of xs memory tables) (members_are L k linked)
+amount_is L ms are s memory tables space same =
+    ap (λ (xs : List Member). amount_of xs memory tables) are
     ∙ ap (λ (x : MemoryInstance). amount_of L.set.members x tables) space
     ∙ ap (λ (ts : List TableInstance). amount_of L.set.members s.run.memory ts) same
 

@@ -19,23 +19,24 @@ use Rattle.spec_loading.specs.spec_runtime.Recorded.{Recorded}
 use Rattle.spec_loading.specs.spec_runtime.Courses.{state_at}
 use Rattle.spec_loading.specs.spec_execution.Instances.{ModuleParts}
 use Rattle.spec_loading.specs.spec_linking.Sets.{Member}
+use Rattle.spec_loading.specs.spec_linking.Gathering.{IsSet}
 use Rattle.spec_loading.specs.spec_linking.LinkedSets.{LinkedSet}
-use Rattle.spec_loading.specs.spec_linking.Plans.{Plan}
+use Rattle.spec_loading.specs.spec_linking.Links.{Links}
+use Rattle.spec_loading.specs.spec_linking.Slots.{linked_plan}
 use Rattle.spec_loading.specs.Members.{from_members, opening_store}
 use Rattle.spec_loading.specs.LoadedSet.{SetState, set_system, set_opening}
 use Rattle.spec_loading.specs.SoundSets.{HoldBytes}
 use Rattle.spec_keeping.specs.Keeping.{AreLeft, SetRunKeeps}
-use Rattle.dyl_link.specs.Kept.{Kept, IsLinked}
 use Rattle.dyl_store.specs.Stores.{set_course}
 use Rattle.merge_match.specs.Renumbering.{Numbers, table_instance}
 use Rattle.merge_index.specs.Numbering.{numbers_of, function_number}
 use Rattle.merge_match.specs.Parts.{number_of}
-use Rattle.merge_module.specs.Laws.{IsMergeable, MergedIsReady, MergedIsFormed, IsSupported}
+use Rattle.merge_module.specs.Laws.{IsMergeable, MergedIsReady, MergedIsFormed}
 use Rattle.merge_module.specs.MergedModule.{merged_module}
 use Rattle.merge_module.specs.MergedModule as merged
 use Rattle.merge_whole.specs.declared.made.Parts.{Parts}
 use Rattle.merge_whole.specs.Parts.{ArePartsOf}
-use Rattle.merge_whole.proofs.Little.{mergeable, formed}
+use Rattle.merge_whole.proofs.Little.{formed}
 use Rattle.snap_module.specs.Held.{Stretch, IsWithin, Contents, IsReference, AreTables, CanBeHeld}
 use Rattle.snap_parts.specs.declared.given.Added.{Added}
 use Rattle.snap_parts.specs.Sparse.{IsPart, AreSparse}
@@ -51,9 +52,9 @@ use Rattle.snap_merge.proofs.Formed.{AreBrief, AreAllBrief, IsBrief, held_formed
 
 -- ---- what is made
 
-pub entry_is : MergedIsReady → (L : LinkedSet) (k : Kept) → IsLinked L k → k.plan.pages_max ≤ 16384 → (p : Parts) → ArePartsOf L p → p.entry ≡ start_number L
-entry_is ready L k linked pages p are =
-    let r = (ready L linked.shape linked.links (subst (λ (q : Plan). q.pages_max ≤ 16384) linked.plan pages)).ready.entry in
+pub entry_is : MergedIsReady → (L : LinkedSet) → IsSet L.set → Links L → (linked_plan L).pages_max ≤ 16384 → (p : Parts) → ArePartsOf L p → p.entry ≡ start_number L
+entry_is ready L shape links pages p are =
+    let r = (ready L shape links pages).ready.entry in
     are.entry r.function r.entry
     ∙ ap (λ (o : Option Ref). number_of (option_map (function_number L) o)) r.target
     ∙ sym (ap (λ (o : Option ℕ). function_number L (Own 0 (unwrap_or o 0))) r.entry)
@@ -158,11 +159,7 @@ left_short (x ∷ xs) [] are all = absurd are
 
 -- ---- it holds the state
 
-module _ (keeps : SetRunKeeps) (forms : MergedIsFormed) (holds : PartsCanBeHeld) (refers : TablesRefer) (L : LinkedSet) (k : Kept) (linked : IsLinked L k)
-    (pages : k.plan.pages_max ≤ 16384) (hosts : All IsSupported k.hosts) (bytes : HoldBytes L) where
-  able : IsMergeable L
-  able = mergeable L k linked pages hosts
-
+module _ (keeps : SetRunKeeps) (forms : MergedIsFormed) (holds : PartsCanBeHeld) (refers : TablesRefer) (L : LinkedSet) (able : IsMergeable L) (bytes : HoldBytes L) where
   module _ (n : ℕ) (m : Module) (made : IsMade L (state_after L n) m) where
     abbrev t : SetState
     t = state_after L n
@@ -185,7 +182,7 @@ module _ (keeps : SetRunKeeps) (forms : MergedIsFormed) (holds : PartsCanBeHeld)
     can = (holds L able bytes n c make).can
 
     whole : IsWellFormed (merged_module L)
-    whole = formed L k linked pages hosts forms (merged_module L) refl made.types
+    whole = formed L able forms (merged_module L) refl made.types
 
     brief : IsBrief (snapshot_parts L t) c
     brief = record {

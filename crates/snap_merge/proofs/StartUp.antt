@@ -26,7 +26,7 @@ use Rattle.wasm_machine.proofs.Steps.{few_steps}
 use Rattle.dyl_store.specs.Stores.{StoreRun, set_course, is_moving, is_deep_at, HadCodeOnTop}
 use Rattle.spec_loading.specs.SoundSets.{HoldBytes}
 use Rattle.merge_module.specs.Laws.{IsMergeable}
-use Rattle.snap_set.specs.Causes.{SnapCause, IsFirst, goes_on, is_startup, is_started, Takes, cause_by, cause_at, state_after}
+use Rattle.snap_set.specs.Causes.{SnapCause, IsFirst, goes_on, is_startup, is_started, Takes, IsDeep, cause_by, cause_at, state_after}
 use Rattle.snap_set.specs.Laws.{SomeFirst}
 use Rattle.snap_merge.proofs.Bottom.{Starts, StateStarts, calling_frame, step_over}
 use Rattle.snap_merge.specs.StartUp.{IsStarting, NoneBefore, IsUnstarted, IsMoving}
@@ -51,6 +51,12 @@ module _ (L : LinkedSet) (most n : ℕ) (unstarted : IsUnstarted L n) where
   cause_moving moving lt flat =
       let used = never_used n most lt in
       cause_unstarted L most n unstarted ∙ rw (moving, used, flat) refl
+
+  -- and of one whose next step is too deep, this is to be said
+  pub cause_deep : IsMoving L n → n < most → loaded_too_deep (set_loading L) (state_after L n) ≡ true → cause_at L most n (state_after L n) ≡ Some IsDeep
+  cause_deep moving lt deep =
+      let used = never_used n most lt in
+      cause_unstarted L most n unstarted ∙ rw (moving, used, deep) refl
 
 -- ---- what is told of how it stands
 

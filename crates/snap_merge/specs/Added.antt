@@ -3,10 +3,9 @@ use Rattle.std.specs.Prelude.{◌≡◌, ℕ, List, [], ◌∷◌, map, slice_ge
 use Rattle.spec_loading.specs.wasm_form.declared.module.Module.{Module}
 use Rattle.spec_loading.specs.wasm_form.declared.runtime.Value.TheVariants.{Num}
 use Rattle.spec_loading.specs.spec_linking.LinkedSets.{LinkedSet}
+use Rattle.spec_loading.specs.spec_linking.Slots.{fresh_of}
 use Rattle.spec_loading.specs.Loading.{LoaderState}
-use Rattle.dyl_link.specs.Kept.{Kept}
 use Rattle.merge_start.specs.Started.{place_of}
-use Rattle.merge_whole.specs.Elements.{fresh_by}
 use Rattle.snap_parts.specs.Built.{is_left}
 use Rattle.snap_set.specs.Parts.{more_of}
 use Rattle.snap_merge.specs.declared.added.Behind.{Behind}
@@ -20,11 +19,11 @@ abbrev pub left_at : Option ℕ → Bool → Bool
 left_at None some = false
 left_at (Some stage) some = nat_eq stage 0 && some
 
-abbrev pub left_by : List ℕ → Kept → ℕ → Bool
-left_by stages k m = left_at (slice_get stages m) (is_left (fresh_by k m))
+abbrev pub left_by : List ℕ → LinkedSet → ℕ → Bool
+left_by stages L m = left_at (slice_get stages m) (is_left (fresh_of L m))
 
-abbrev pub one_left : List ℕ → Kept → ℕ → Module → List Bool
-one_left stages k m wasm = left_by stages k m ∷ []
+abbrev pub one_left : List ℕ → LinkedSet → ℕ → Module → List Bool
+one_left stages L m wasm = left_by stages L m ∷ []
 
 -- these are behind what the members have, of a loader that keeps this
 pub record IsBehind (L : LinkedSet) (loader : LoaderState) (b : Behind) : Type 0 where

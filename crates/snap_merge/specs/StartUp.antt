@@ -7,7 +7,6 @@ use Rattle.spec_loading.specs.LoadedSet.{set_loading}
 use Rattle.spec_loading.specs.SoundSets.{HoldBytes}
 use Rattle.spec_snapshots.specs.declared.fault.SnapFault.{SnapFault}
 use Rattle.spec_snapshots.specs.declared.fault.SnapFault.TheVariants as faults
-use Rattle.dyl_link.specs.Kept.{Kept, IsLinked}
 use Rattle.dyl_store.specs.Stores.{StoreRun}
 use Rattle.merge_module.specs.Laws.{IsMergeable}
 use Rattle.snap_set.specs.Causes.{Takes, TrapsSo, Calls, StepsEnd, IsDeep, is_started, cause_at, state_after}
@@ -18,10 +17,6 @@ pub record IsStarting (most : ℕ) (v : StoreRun) : Type 0 where
   pub none : v.run.answers ≡ []
   pub unasked : v.run.answered ≡ false
   pub few : v.run.steps ≤ most
-
--- what is so of the state at which it stands, of any set that it is of
-abbrev pub OfSets : Kept → (LinkedSet → Type 0) → Type 0
-OfSets k P = (L : LinkedSet) → IsLinked L k → P L
 
 -- what laws of start-ups ask of a set
 abbrev pub IsAble : LinkedSet → Type 0

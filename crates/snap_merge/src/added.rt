@@ -2,15 +2,13 @@
 ghost use Rattle.std.specs.Prelude.{◌≡◌, ◌≤◌, ◌<◌, ◌++◌, ◌∷◌, [], length, take, slice_get, false, IfOk, OnOk};
 ghost use Rattle.spec_loading.specs.SoundLoading.{IsSoundLoader};
 ghost use Rattle.spec_loading.specs.spec_runtime.Courses.{state_at};
+ghost use Rattle.spec_loading.specs.spec_linking.Slots.{fresh_of};
 ghost use Rattle.spec_loading.specs.Members.{from_members};
-ghost use Rattle.dyl_link.specs.Kept.{IsOfSet};
 ghost use Rattle.dyl_store.specs.Stores.{set_course};
 ghost use Rattle.merge_start.specs.Started.{place_of};
 ghost use Rattle.merge_whole.specs.Counts.{members_of};
-ghost use Rattle.merge_whole.specs.Elements.{fresh_by};
 ghost use Rattle.snap_parts.specs.Built.{is_left};
 ghost use Rattle.snap_merge.specs.Added.{one_place, left_by, one_left, IsBehind};
-ghost use Rattle.snap_merge.specs.StartUp.{OfSets};
 
 use dyl_link::Linked;
 use dyl_link::dyl_search::Member;
@@ -29,7 +27,7 @@ pub(crate) struct Behind {
 fn stages(alloc: Global, store: &Store, count: u32) -> Result<Vec<u32>, Memory>
     requires count { count ≡ length store.now.linked.set.members }
     requires found { store.now.run.lost ≡ false }
-    ensures { IfOk result (λ v. OfSets store.now.linked (λ L. v.items ≡ take count (state_at (set_course L) store.now.run).loader.stages)) }
+    ensures { IfOk result (λ v. v.items ≡ take count (state_at (set_course store.now.linked) store.now.run).loader.stages) }
 {
     let mut all = Vec::new(alloc);
     for m in 0..count {
@@ -92,17 +90,15 @@ fn stage_at(stages: &[u32], m: u32) -> Option<u32>
 
 // Whether a member has fresh slots.
 fn has_slots(linked: &Linked, m: u32) -> bool
-    requires set { IsOfSet linked.now }
-    requires member { m < length linked.now.set.members }
-    ensures { result ≡ is_left (fresh_by linked.now m) }
+    requires { m < length linked.now.set.members }
+    ensures { result ≡ is_left (fresh_of linked.now m) }
 {
     !linked.fresh(m).is_empty()
 }
 
 // Whether the segment of the fresh slots of a member is left.
 fn is_left(linked: &Linked, stages: &[u32], m: u32) -> bool
-    requires set { IsOfSet linked.now }
-    requires member { m < length linked.now.set.members }
+    requires { m < length linked.now.set.members }
     ensures { result ≡ left_by stages.now linked.now m }
 {
     let some = has_slots(linked, m);
@@ -114,15 +110,11 @@ fn is_left(linked: &Linked, stages: &[u32], m: u32) -> bool
 
 // Of the segments of fresh slots, and of the two behind them, whether they are left.
 fn segments_left(alloc: Global, linked: &Linked, stages: &[u32]) -> Result<Vec<bool>, Memory>
-    requires set { IsOfSet linked.now }
-    requires members { length linked.now.set.members ≤ 256 }
-    ensures { IfOk result (λ v. v.items ≡ from_members (one_left stages.now linked.now) 0 (members_of linked.now.set.members) ++ false ∷ false ∷ []) }
+    ensures { IfOk result (λ v. v.items ≡ from_members (one_left stages.now linked.now) 0 linked.now.set.members ++ false ∷ false ∷ []) }
 {
     let mut all = Vec::new(alloc);
-    let mut m: u32 = 0;
-    for _member in linked.set().members.items() {
+    for m in 0..linked.member_count() {
         all.push(is_left(linked, stages, m))?;
-        m += 1;
     }
     all.push(false)?;
     all.push(false)?;
@@ -131,15 +123,13 @@ fn segments_left(alloc: Global, linked: &Linked, stages: &[u32]) -> Result<Vec<b
 
 /// What a run of a linked set has behind what its members have.
 pub(crate) fn read_behind(alloc: Global, linked: &Linked, store: &Store) -> Result<Behind, Memory>
-    requires set { IsOfSet linked.now }
-    requires members { length linked.now.set.members ≤ 256 }
     requires same { store.now.linked ≡ linked.now }
     requires found { store.now.run.lost ≡ false }
-    requires sound { OfSets linked.now (λ L. IsSoundLoader (length L.set.members) (state_at (set_course L) store.now.run).loader) }
-    ensures { IfOk result (λ b. OfSets linked.now (λ L. IsBehind L (state_at (set_course L) store.now.run).loader b)) }
+    requires sound { IsSoundLoader (length linked.now.set.members) (state_at (set_course linked.now) store.now.run).loader }
+    ensures { IfOk result (λ b. IsBehind linked.now (state_at (set_course linked.now) store.now.run).loader b) }
 {
-    let members = linked.set().members.items();
-    let mut globals = stages(alloc, store, members.len() as u32)?;
+    let members = linked.members();
+    let mut globals = stages(alloc, store, linked.member_count())?;
     let left = segments_left(alloc, linked, &globals)?;
     if !linked.uses_loader() {
         return Ok(Behind { globals, left });

@@ -8,8 +8,7 @@ mod starting;
 mod writing;
 
 ghost use Rattle.std.specs.Prelude.{◌≡◌, ◌<◌, ℕ, All, IfOk, IfErr};
-ghost use Rattle.spec_loading.specs.spec_linking.LinkedSets.{LinkedSet};
-ghost use Rattle.dyl_link.specs.Kept.{IsLinked};
+ghost use Rattle.spec_loading.specs.spec_linking.LinkedSets.{hosts_of};
 ghost use Rattle.dyl_store.specs.Stores.{new_run};
 ghost use Rattle.merge_whole.specs.Merges.{IsSupported};
 ghost use Rattle.snap_set.specs.Causes.{Takes, IsFirst, state_after};
@@ -25,12 +24,13 @@ use std::alloc::Global;
 
 // The same over the run of the set, which has made no step.
 fn taken(alloc: Global, linked: &Linked, store: &mut Store, most: u64) -> Result<Vec<u8>, SnapFault>
-    requires hosts { All IsSupported linked.now.hosts }
+    requires hosts { All IsSupported (hosts_of linked.now) }
     requires most { most < 18446744073709551615 }
     requires fresh { store.old ≡ new_run linked.now }
-    ensures snapped { IfOk result (λ b. (L : LinkedSet) → IsLinked L linked.now → (n : ℕ) × IsFirst L most n Takes × Snapped L b.items (state_after L n)) }
-    ensures tells { IfErr result (λ fault. (L : LinkedSet) → IsLinked L linked.now → SnapTells L most fault) }
+    ensures snapped { IfOk result (λ b. (n : ℕ) × IsFirst linked.now most n Takes × Snapped linked.now b.items (state_after linked.now n)) }
+    ensures tells { IfErr result (λ fault. SnapTells linked.now most fault) }
 {
+    linked.links();
     linked.has_few_pages();
     store.holds_bytes();
     spelled_snapshots_are_snapshots();
@@ -48,10 +48,10 @@ fn taken(alloc: Global, linked: &Linked, store: &mut Store, most: u64) -> Result
 /// the module would take 2^32 bytes or more, with the number of the first such section, and only where there is much of the set and of its
 /// state. Where types that the host table alone brings make a section too long, and where no memory could be had, comes `Memory`.
 pub fn snapshot(alloc: Global, linked: &Linked, most: u64) -> Result<Vec<u8>, SnapFault>
-    requires hosts { All IsSupported linked.now.hosts }
+    requires hosts { All IsSupported (hosts_of linked.now) }
     requires most { most < 18446744073709551615 }
-    ensures snapped { IfOk result (λ b. (L : LinkedSet) → IsLinked L linked.now → (n : ℕ) × IsFirst L most n Takes × Snapped L b.items (state_after L n)) }
-    ensures tells { IfErr result (λ fault. (L : LinkedSet) → IsLinked L linked.now → SnapTells L most fault) }
+    ensures snapped { IfOk result (λ b. (n : ℕ) × IsFirst linked.now most n Takes × Snapped linked.now b.items (state_after linked.now n)) }
+    ensures tells { IfErr result (λ fault. SnapTells linked.now most fault) }
 {
     let mut store = Store::load(alloc, linked)?;
     let bytes = taken(alloc, linked, &mut store, most);

@@ -1,10 +1,10 @@
 // The module of a linked set with the contents of the state at which its run stands.
 ghost use Rattle.std.specs.Prelude.{◌≡◌, ◌≤◌, false, IfOk};
 ghost use Rattle.spec_loading.specs.spec_runtime.Courses.{state_at};
+ghost use Rattle.spec_loading.specs.spec_linking.Slots.{linked_plan};
 ghost use Rattle.dyl_store.specs.Stores.{set_course};
 ghost use Rattle.merge_whole.specs.Parts.{ArePartsOf};
 ghost use Rattle.snap_merge.specs.Added.{IsBehind};
-ghost use Rattle.snap_merge.specs.StartUp.{OfSets};
 ghost use Rattle.snap_merge.specs.Written.{IsMade};
 
 use crate::added::Behind;
@@ -26,11 +26,12 @@ pub(crate) fn made(
 ) -> Result<Module, Memory>
     requires same { store.now.linked ≡ linked.now }
     requires found { store.now.run.lost ≡ false }
-    requires pages { linked.now.plan.pages_max ≤ 16384 }
-    requires parts { OfSets linked.now (λ L. ArePartsOf L parts) }
-    requires behind { OfSets linked.now (λ L. IsBehind L (state_at (set_course L) store.now.run).loader behind.now) }
-    ensures { IfOk result (λ m. OfSets linked.now (λ L. IsMade L (state_at (set_course L) store.now.run) m)) }
+    requires pages { (linked_plan linked.now).pages_max ≤ 16384 }
+    requires parts { ArePartsOf linked.now parts }
+    requires behind { IsBehind linked.now (state_at (set_course linked.now) store.now.run).loader behind.now }
+    ensures { IfOk result (λ m. IsMade linked.now (state_at (set_course linked.now) store.now.run) m) }
 {
+    linked.links();
     merged_modules_are_ready();
     let Parts {
         module,

@@ -2,7 +2,7 @@
 ghost use Rattle.std.specs.Prelude.{◌≡◌, ◌<◌, ◌≤◌, Ok, true, IfOk, OnOk, IfErr};
 ghost use Rattle.spec_loading.specs.spec_runtime.Courses.{with_step};
 ghost use Rattle.snap_set.specs.Causes.{Takes, IsFirst};
-ghost use Rattle.snap_merge.specs.StartUp.{IsStarting, OfSets, IsAble, NoneBefore, IsUnstarted, IsMoving, MayStep, Says, Refuses, Comes};
+ghost use Rattle.snap_merge.specs.StartUp.{IsStarting, IsAble, NoneBefore, IsUnstarted, IsMoving, MayStep, Says, Refuses, Comes};
 
 use dyl_store::{Event, Store};
 use snap_set::first_states_are_one;
@@ -13,11 +13,11 @@ use wasm_form::Memory;
 // Whether a further step may be made of a start-up that goes on by itself.
 fn may_move(store: &Store, most: u64) -> Result<(), SnapFault>
     requires starting { IsStarting most store.now }
-    requires unstarted { OfSets store.now.linked (λ L. IsUnstarted L store.now.run.steps) }
-    requires moving { OfSets store.now.linked (λ L. IsMoving L store.now.run.steps) }
-    ensures may { OnOk result (OfSets store.now.linked (λ L. MayStep L most store.now.run.steps)) }
+    requires unstarted { IsUnstarted store.now.linked store.now.run.steps }
+    requires moving { IsMoving store.now.linked store.now.run.steps }
+    ensures may { OnOk result (MayStep store.now.linked most store.now.run.steps) }
     ensures few { OnOk result (store.now.run.steps < most) }
-    ensures says { IfErr result (λ fault. OfSets store.now.linked (λ L. Says L most store.now.run.steps fault)) }
+    ensures says { IfErr result (λ fault. Says store.now.linked most store.now.run.steps fault) }
 {
     if store.steps() >= most {
         return Err(SnapFault::Steps);
@@ -30,15 +30,14 @@ fn may_move(store: &Store, most: u64) -> Result<(), SnapFault>
 
 // Whether a further step may be made of a start-up whose entry isn't called yet. It has neither returned nor exited.
 fn may_step(store: &Store, most: u64) -> Result<(), SnapFault>
-    requires able { OfSets store.now.linked IsAble }
+    requires able { IsAble store.now.linked }
     requires starting { IsStarting most store.now }
-    requires before { OfSets store.now.linked (λ L. NoneBefore L most store.now.run.steps) }
-    requires unstarted { OfSets store.now.linked (λ L. IsUnstarted L store.now.run.steps) }
-    ensures may { OnOk result (OfSets store.now.linked (λ L. MayStep L most store.now.run.steps)) }
+    requires before { NoneBefore store.now.linked most store.now.run.steps }
+    requires unstarted { IsUnstarted store.now.linked store.now.run.steps }
+    ensures may { OnOk result (MayStep store.now.linked most store.now.run.steps) }
     ensures few { OnOk result (store.now.run.steps < most) }
-    ensures says { IfErr result (λ fault. OfSets store.now.linked (λ L. Says L most store.now.run.steps fault)) }
+    ensures says { IfErr result (λ fault. Says store.now.linked most store.now.run.steps fault) }
 {
-    store.links();
     first_states_are_one();
     match store.state() {
         Event::Moved => may_move(store, most),
@@ -51,11 +50,11 @@ fn may_step(store: &Store, most: u64) -> Result<(), SnapFault>
 // Makes steps of code, which don't call the entry.
 fn advance(alloc: Global, store: &mut Store, most: u64) -> Result<(), Memory>
     requires starting { IsStarting most store.old }
-    requires before { OfSets store.old.linked (λ L. NoneBefore L most store.old.run.steps) }
-    requires unstarted { OfSets store.old.linked (λ L. IsUnstarted L store.old.run.steps) }
+    requires before { NoneBefore store.old.linked most store.old.run.steps }
+    requires unstarted { IsUnstarted store.old.linked store.old.run.steps }
     ensures starting { OnOk result (IsStarting most store.new) }
-    ensures before { OnOk result (OfSets store.new.linked (λ L. NoneBefore L most store.new.run.steps)) }
-    ensures unstarted { OnOk result (OfSets store.new.linked (λ L. IsUnstarted L store.new.run.steps)) }
+    ensures before { OnOk result (NoneBefore store.new.linked most store.new.run.steps) }
+    ensures unstarted { OnOk result (IsUnstarted store.new.linked store.new.run.steps) }
     ensures more { store.old.run.steps ≤ store.new.run.steps }
     ensures same { store.new.linked ≡ store.old.linked }
 {
@@ -68,11 +67,10 @@ fn make_step(alloc: Global, store: &mut Store, most: u64) -> Result<(), Memory>
     requires most { most < 18446744073709551615 }
     requires starting { IsStarting most store.old }
     requires few { store.old.run.steps < most }
-    requires may { OfSets store.old.linked (λ L. MayStep L most store.old.run.steps) }
+    requires may { MayStep store.old.linked most store.old.run.steps }
     ensures made { OnOk result (store.new.run ≡ with_step store.old.run) }
     ensures same { store.new.linked ≡ store.old.linked }
 {
-    store.links();
     let event = store.run_step(alloc)?;
     drop(event);
     Ok(())
@@ -80,15 +78,15 @@ fn make_step(alloc: Global, store: &mut Store, most: u64) -> Result<(), Memory>
 
 // Goes on with a start-up, unless its entry was called. Whether it does.
 fn goes_on(alloc: Global, store: &mut Store, most: u64) -> Result<bool, SnapFault>
-    requires able { OfSets store.old.linked IsAble }
+    requires able { IsAble store.old.linked }
     requires most { most < 18446744073709551615 }
     requires starting { IsStarting most store.old }
-    requires before { OfSets store.old.linked (λ L. NoneBefore L most store.old.run.steps) }
+    requires before { NoneBefore store.old.linked most store.old.run.steps }
     ensures starting { OnOk result (IsStarting most store.new) }
-    ensures before { OnOk result (OfSets store.new.linked (λ L. NoneBefore L most store.new.run.steps)) }
-    ensures comes { IfOk result (λ goes. OfSets store.new.linked (λ L. Comes L most store.new.run.steps goes)) }
+    ensures before { OnOk result (NoneBefore store.new.linked most store.new.run.steps) }
+    ensures comes { IfOk result (λ goes. Comes store.new.linked most store.new.run.steps goes) }
     ensures more { result ≡ Ok true → store.old.run.steps < store.new.run.steps }
-    ensures refuses { IfErr result (λ fault. OfSets store.old.linked (λ L. Refuses L most fault)) }
+    ensures refuses { IfErr result (λ fault. Refuses store.old.linked most fault) }
     ensures same { store.new.linked ≡ store.old.linked }
 {
     if store.started() {
@@ -107,13 +105,13 @@ fn goes_on(alloc: Global, store: &mut Store, most: u64) -> Result<bool, SnapFaul
 /// Runs the start-up of a loaded set to the state in which its entry has just been called, or tells why there is none. At most so many steps are
 /// made.
 pub(crate) fn start_up(alloc: Global, store: &mut Store, most: u64) -> Result<(), SnapFault>
-    requires able { OfSets store.old.linked IsAble }
+    requires able { IsAble store.old.linked }
     requires most { most < 18446744073709551615 }
     requires starting { IsStarting most store.old }
     requires opened { store.old.run.steps ≡ 0 }
     ensures starting { OnOk result (IsStarting most store.new) }
-    ensures first { OnOk result (OfSets store.old.linked (λ L. IsFirst L most store.new.run.steps Takes)) }
-    ensures refuses { IfErr result (λ fault. OfSets store.old.linked (λ L. Refuses L most fault)) }
+    ensures first { OnOk result (IsFirst store.old.linked most store.new.run.steps Takes) }
+    ensures refuses { IfErr result (λ fault. Refuses store.old.linked most fault) }
     ensures same { store.new.linked ≡ store.old.linked }
 {
     'start: while goes_on(alloc, store, most)? {}

@@ -4,11 +4,11 @@ ghost use Rattle.spec_snapshots.specs.declared.fault.SnapFault.TheVariants as fa
 ghost use Rattle.spec_reading.specs.spec_binary.Modules.{SpellsModule};
 ghost use Rattle.spec_reading.specs.spec_binary.WellFormed.{IsWellFormed};
 ghost use Rattle.spec_loading.specs.spec_runtime.Courses.{state_at};
+ghost use Rattle.spec_loading.specs.spec_linking.LinkedSets.{hosts_of};
 ghost use Rattle.dyl_store.specs.Stores.{set_course};
 ghost use Rattle.wasm_encode.specs.SectionSizes.{IsFirstTooLong};
 ghost use Rattle.merge_whole.specs.Counts.{members_of};
 ghost use Rattle.merge_whole.specs.Merges.{IsSupported};
-ghost use Rattle.snap_merge.specs.StartUp.{OfSets};
 ghost use Rattle.snap_merge.specs.Written.{IsTaken, IsHolding, amount_of, IsSpelled, IsWriteFault, WriteTells};
 
 use crate::added::read_behind;
@@ -60,11 +60,11 @@ fn encoded(
 
 // The module that holds the state at which a run stands.
 fn holding(alloc: Global, linked: &Linked, store: &Store) -> Result<Module, Memory>
-    requires hosts { All IsSupported linked.now.hosts }
+    requires hosts { All IsSupported (hosts_of linked.now) }
     requires same { store.now.linked ≡ linked.now }
     requires found { store.now.run.lost ≡ false }
-    requires taken { OfSets linked.now (λ L. IsTaken L store.now.run) }
-    ensures { IfOk result (λ m. OfSets linked.now (λ L. IsHolding L (state_at (set_course L) store.now.run) m)) }
+    requires taken { IsTaken linked.now store.now.run }
+    ensures { IfOk result (λ m. IsHolding linked.now (state_at (set_course linked.now) store.now.run) m) }
 {
     linked.links();
     linked.has_few_pages();
@@ -85,17 +85,17 @@ fn holding(alloc: Global, linked: &Linked, store: &Store) -> Result<Module, Memo
 
 /// The bytes of the module that holds the state at which a run stands.
 pub(crate) fn written(alloc: Global, linked: &Linked, store: &Store) -> Result<Vec<u8>, SnapFault>
-    requires hosts { All IsSupported linked.now.hosts }
+    requires hosts { All IsSupported (hosts_of linked.now) }
     requires same { store.now.linked ≡ linked.now }
     requires found { store.now.run.lost ≡ false }
-    requires taken { OfSets linked.now (λ L. IsTaken L store.now.run) }
-    ensures spelled { IfOk result (λ bytes. OfSets linked.now (λ L. IsSpelled L (state_at (set_course L) store.now.run) bytes.items)) }
-    ensures tells { IfErr result (λ fault. OfSets linked.now (λ L. WriteTells L (state_at (set_course L) store.now.run) fault)) }
+    requires taken { IsTaken linked.now store.now.run }
+    ensures spelled { IfOk result (λ bytes. IsSpelled linked.now (state_at (set_course linked.now) store.now.run) bytes.items) }
+    ensures tells { IfErr result (λ fault. WriteTells linked.now (state_at (set_course linked.now) store.now.run) fault) }
 {
     linked.links();
     let module = holding(alloc, linked, store)?;
     let _steps = store.steps();
-    let members = linked.set().members.items();
+    let members = linked.members();
     let bytes = encoded(alloc, &module, members, store.memory(), store.tables());
     drop(module);
     bytes

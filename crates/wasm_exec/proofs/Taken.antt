@@ -9,7 +9,6 @@ use Rattle.spec_hosts.specs.Devices.{Devices}
 use Rattle.spec_hosts.specs.Hosted.{Embedder, Hosted}
 use Rattle.spec_hosts.specs.declared.ran.Ran as run
 use Rattle.spec_loading.specs.spec_linking.LinkedSets.{LinkedSet}
-use Rattle.dyl_link.specs.Kept.{Kept, IsLinked}
 use Rattle.spec_hosts.specs.spec_runtime.Courses.{Course}
 use Rattle.run_loaded.specs.Courses.{OfSet, course_of, TakesAll}
 use Rattle.wasm_exec.specs.Driving.{CourseGives}
@@ -66,7 +65,7 @@ module _ (embedder : Embedder) (most : ℕ) (begun now : Devices) where
       let answered = hosted_count embedder ran.hosted.0 r.answers begun now ran.hosted.2 in
       none_there at.left (omega arith)
 
-  -- the same of a set, whichever it may be said to be
-  pub set_taken : (k : Kept) (r : Result run.Ran Memory) → ((L : LinkedSet) → IsLinked L k → CourseGives (course_of (OfSet L)) embedder most r begun now) → SetTakesAll k r
-  set_taken k (Ok r) gives = λ L of. all_taken (course_of (OfSet L)) r (gives L of)
-  set_taken k (Err why) gives = tt
+  -- the same of a set
+  pub set_taken : (L : LinkedSet) (r : Result run.Ran Memory) → CourseGives (course_of (OfSet L)) embedder most r begun now → SetTakesAll L r
+  set_taken L (Ok r) gives = all_taken (course_of (OfSet L)) r gives
+  set_taken L (Err why) gives = tt

@@ -10,7 +10,6 @@ use Rattle.spec_loading.specs.spec_execution.OneModule.{ModuleState, module_open
 use Rattle.spec_loading.specs.spec_linking.LinkedSets.{LinkedSet}
 use Rattle.spec_loading.specs.Loading.{loaded_too_deep}
 use Rattle.spec_loading.specs.LoadedSet.{set_loading, set_system, set_opening}
-use Rattle.dyl_link.specs.Kept.{Kept, IsLinked}
 use Rattle.wasm_single.specs.Singles.{module_course}
 use Rattle.dyl_store.specs.Stores.{set_course}
 use Rattle.spec_hosts.specs.declared.ran.Ran.{Ran}
@@ -48,10 +47,6 @@ ModuleTakesAll m names result = IfOk result (λ r. (opening : ModuleState) → m
 abbrev pub HaveIntegers : HostNames → Type 0
 HaveIntegers names = (from name : List ℕ) (ty : FuncType) → host_match names from name ty ≡ Fits → IsTrue (has_integers ty)
 
--- what is kept is that of a set which was linked over these host functions
-abbrev pub IsLinkedOver : Kept → HostNames → Type 0
-IsLinkedOver k names = (L : LinkedSet) × IsLinked L k × (L.names ≡ names)
-
 -- what came of a run of a linked set
 abbrev pub IsSetRun : LinkedSet → Embedder → ℕ → Ran → Devices → Devices → Type 0
 IsSetRun L embedder most r begun now = IsRunOf (set_system L) (loaded_too_deep (set_loading L)) embedder (set_opening L) most r begun now
@@ -65,10 +60,6 @@ abbrev pub ExecutesSet : LinkedSet → Embedder → ℕ → Result Ran Memory �
 ExecutesSet L embedder most (Ok r) begun now = IsSetRun L embedder most r begun now
 ExecutesSet L embedder most (Err why) begun now = IsSetCut L embedder most begun now
 
--- the same of the set that this is kept of
-abbrev pub ExecutesKept : Kept → Embedder → ℕ → Result Ran Memory → Devices → Devices → Type 0
-ExecutesKept k embedder most result begun now = (L : LinkedSet) → IsLinked L k → ExecutesSet L embedder most result begun now
-
 -- all answers of a run of it were taken
-abbrev pub SetTakesAll : Kept → Result Ran Memory → Type 0
-SetTakesAll k result = IfOk result (λ r. (L : LinkedSet) → IsLinked L k → TakesAll (set_course L) r)
+abbrev pub SetTakesAll : LinkedSet → Result Ran Memory → Type 0
+SetTakesAll L result = IfOk result (λ r. TakesAll (set_course L) r)

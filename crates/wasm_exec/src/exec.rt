@@ -2,7 +2,7 @@
 ghost use Rattle.std.specs.Prelude.{◌≡◌, ◌<◌, ◌≤◌, IfOk, OnOk};
 ghost use Rattle.spec_hosts.specs.Devices.{devices, KeepsFronts};
 ghost use Rattle.host_calls.specs.Embedders.{names_of, embedder_of, embedder};
-ghost use Rattle.wasm_exec.specs.Executed.{HaveIntegers, IsLinkedOver, Executes, ExecutesKept, ModuleTakesAll, SetTakesAll};
+ghost use Rattle.wasm_exec.specs.Executed.{HaveIntegers, Executes, ExecutesSet, ModuleTakesAll, SetTakesAll};
 ghost use Rattle.spec_loading.specs.spec_safety.SoundModules.{HoldsNumbers};
 ghost use Rattle.run_loaded.specs.Courses.{Origin};
 ghost use Rattle.run_loaded.specs.Programs.{recorded_of};
@@ -86,12 +86,13 @@ pub fn execute_set<I: Source, O: Sink, E: Sink, A: Ambient>(
     ambient: &mut A,
 ) -> Result<Ran, Memory>
     requires most { most < 18446744073709551615 }
-    requires names { IsLinkedOver linked.now (names_of table.now) }
+    requires names { linked.now.names ≡ names_of table.now }
     requires integers { HaveIntegers (names_of table.now) }
-    ensures executes { ExecutesKept linked.now (embedder_of args table.now) most result (devices (I.seen input.old) (O.seen output.old) (E.seen errors.old) (A.seen ambient.old)) (devices (I.seen input.new) (O.seen output.new) (E.seen errors.new) (A.seen ambient.new)) }
+    ensures executes { ExecutesSet linked.now (embedder_of args table.now) most result (devices (I.seen input.old) (O.seen output.old) (E.seen errors.old) (A.seen ambient.old)) (devices (I.seen input.new) (O.seen output.new) (E.seen errors.new) (A.seen ambient.new)) }
     ensures fronts { KeepsFronts (devices (I.seen input.old) (O.seen output.old) (E.seen errors.old) (A.seen ambient.old)) (devices (I.seen input.new) (O.seen output.new) (E.seen errors.new) (A.seen ambient.new)) }
     ensures taken { SetTakesAll linked.now result }
 {
+    linked.links();
     match Store::load(alloc, linked) {
         Ok(store) => run_program(
             alloc,

@@ -1,11 +1,9 @@
 // The bodies of the merged module.
 ghost use Rattle.std.specs.Prelude.{◌≡◌, ◌≤◌, ◌++◌, ◌<◌, ◌^◌, [], length, map, Some, IfOk, IfSome, OnOk};
-ghost use Rattle.spec_loading.specs.spec_linking.LinkedSets.{LinkedSet};
-ghost use Rattle.dyl_link.specs.Kept.{IsLinked};
 ghost use Rattle.merge_match.specs.Joined.{renumbered_code};
 ghost use Rattle.merge_start.specs.Words.{Starts};
-ghost use Rattle.dyl_addresses.specs.Sets.{IsOfSet};
 ghost use Rattle.merge_start.specs.Listed.{AreListed};
+ghost use Rattle.spec_loading.specs.Members.{from_members};
 ghost use Rattle.merge_index.specs.Kept.{numbers_in};
 ghost use Rattle.merge_module.specs.MergedModule.{merged_codes};
 ghost use Rattle.merge_match.specs.Renumbering as renumbering;
@@ -49,13 +47,11 @@ fn put_members(
     linked: &Linked,
     n: &Numbers,
 ) -> Result<(), Memory>
-    requires few { length linked.now.set.members ≤ 256 }
-    ensures { OnOk result (to.new.items ≡ to.old.items ++ joined (bodies_of (numbers_in n.now)) 0 linked.now.set.members) }
+    ensures { OnOk result (to.new.items ≡ to.old.items ++ from_members (bodies_of (numbers_in n.now)) 0 linked.now.set.members) }
 {
-    let members = linked.set().members.items();
-    for m in 0..members.len() {
-        let codes = members[m].checked.module().codes.items();
-        put_bodies(alloc, to, linked, n, m as u32, codes)?;
+    for m in 0..linked.member_count() {
+        let codes = linked.member(m).checked.module().codes.items();
+        put_bodies(alloc, to, linked, n, m, codes)?;
     }
     Ok(())
 }
@@ -103,10 +99,9 @@ fn put_calls(
     s: &StartNumbers,
     d: &DlNumbers,
 ) -> Result<(), Memory>
-    requires set { IsOfSet linked.now }
     requires first { s.now.first_function < 2 ^ 31 }
     requires numbers { AreSmall d.now }
-    ensures { OnOk result ((L : LinkedSet) (N : renumbering.Numbers) (x : Starts) → IsLinked L linked.now → AreListed L s.now N x → AreDlNumbers L d.now x (finders_of L x) → to.new.items ≡ to.old.items ++ loader_codes L N x) }
+    ensures { OnOk result ((N : renumbering.Numbers) (x : Starts) → AreListed linked.now s.now N x → AreDlNumbers linked.now d.now x (finders_of linked.now x) → to.new.items ≡ to.old.items ++ loader_codes linked.now N x) }
 {
     let opens = open_functions(alloc, linked, s)?;
     put_owned(alloc, to, opens)?;
@@ -126,10 +121,9 @@ fn put_loader(
     s: &StartNumbers,
     loader: &Option<DlNumbers>,
 ) -> Result<(), Memory>
-    requires set { IsOfSet linked.now }
     requires first { s.now.first_function < 2 ^ 31 }
     requires numbers { IfSome loader.now AreSmall }
-    ensures { OnOk result ((L : LinkedSet) (N : renumbering.Numbers) (x : Starts) → IsLinked L linked.now → AreListed L s.now N x → HasLoader L x loader.now → to.new.items ≡ to.old.items ++ with_loader L (loader_codes L N x)) }
+    ensures { OnOk result ((N : renumbering.Numbers) (x : Starts) → AreListed linked.now s.now N x → HasLoader linked.now x loader.now → to.new.items ≡ to.old.items ++ with_loader linked.now (loader_codes linked.now N x)) }
 {
     match loader {
         None => Ok(()),
@@ -148,11 +142,10 @@ fn put_generated(
     s: &StartNumbers,
     loader: &Option<DlNumbers>,
 ) -> Result<(), Memory>
-    requires set { IsOfSet linked.now }
     requires guard { s.now.guard < 2 ^ 31 }
     requires first { s.now.first_function < 2 ^ 31 }
     requires numbers { IfSome loader.now AreSmall }
-    ensures { OnOk result ((L : LinkedSet) (N : renumbering.Numbers) (x : Starts) → IsLinked L linked.now → AreListed L s.now N x → HasLoader L x loader.now → to.new.items ≡ to.old.items ++ generated_codes L N x) }
+    ensures { OnOk result ((N : renumbering.Numbers) (x : Starts) → AreListed linked.now s.now N x → HasLoader linked.now x loader.now → to.new.items ≡ to.old.items ++ generated_codes linked.now N x) }
 {
     let phases = phase_functions(alloc, linked, s)?;
     put_owned(alloc, to, phases)?;
@@ -170,16 +163,15 @@ fn put_codes(
     s: &StartNumbers,
     loader: &Option<DlNumbers>,
 ) -> Result<(), Memory>
-    requires set { IsOfSet linked.now }
-    requires few { length linked.now.set.members ≤ 256 }
     requires guard { s.now.guard < 2 ^ 31 }
     requires first { s.now.first_function < 2 ^ 31 }
     requires numbers { IfSome loader.now AreSmall }
     requires none { to.old.items ≡ [] }
-    ensures { OnOk result ((L : LinkedSet) (x : Starts) → IsLinked L linked.now → AreListed L s.now (numbers_in n.now) x → HasLoader L x loader.now → to.new.items ≡ merged_codes L (numbers_in n.now) x) }
+    ensures { OnOk result ((x : Starts) → AreListed linked.now s.now (numbers_in n.now) x → HasLoader linked.now x loader.now → to.new.items ≡ merged_codes linked.now (numbers_in n.now) x) }
 {
+    linked.links();
     put_members(alloc, to, linked, n)?;
-    put_stubs(alloc, to, linked, linked.set().members.items())?;
+    put_stubs(alloc, to, linked, linked.members())?;
     put_generated(alloc, to, linked, s, loader)?;
     Ok(())
 }
@@ -192,11 +184,10 @@ pub(crate) fn merged_codes(
     s: &StartNumbers,
     loader: &Option<DlNumbers>,
 ) -> Result<List<Code>, Memory>
-    requires set { IsOfSet linked.now }
     requires guard { s.now.guard < 2 ^ 31 }
     requires first { s.now.first_function < 2 ^ 31 }
     requires numbers { IfSome loader.now AreSmall }
-    ensures { IfOk result (λ c. (L : LinkedSet) (x : Starts) → IsLinked L linked.now → AreListed L s.now (numbers_in n.now) x → HasLoader L x loader.now → c ≡ merged_codes L (numbers_in n.now) x) }
+    ensures { IfOk result (λ c. (x : Starts) → AreListed linked.now s.now (numbers_in n.now) x → HasLoader linked.now x loader.now → c ≡ merged_codes linked.now (numbers_in n.now) x) }
 {
     let mut codes = Vec::new(alloc);
     match put_codes(alloc, &mut codes, linked, n, s, loader) {

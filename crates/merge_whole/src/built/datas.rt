@@ -1,10 +1,8 @@
 // The data segments of the merged module.
 ghost use Rattle.std.specs.Prelude.{◌≡◌, ◌++◌, map, IfOk, OnOk};
-ghost use Rattle.spec_loading.specs.spec_linking.LinkedSets.{LinkedSet};
 ghost use Rattle.spec_loading.specs.Texts.{error_texts};
-ghost use Rattle.dyl_link.specs.Kept.{IsLinked};
 ghost use Rattle.merge_module.specs.MergedModule.{number_expr, passive_data, merged_datas};
-ghost use Rattle.merge_whole.specs.Built.{joined, datas_of, texts_at, datas_in};
+ghost use Rattle.merge_whole.specs.Built.{joined, datas_of, texts_at};
 
 use dyl_link::Linked;
 use dyl_link::dyl_search::Member;
@@ -60,18 +58,17 @@ fn texts_segment(alloc: Global, address: u32) -> Result<Data, Memory>
 }
 
 fn datas(alloc: Global, linked: &Linked) -> Result<Vec<Data>, Memory>
-    ensures { IfOk result (λ x. x.items ≡ datas_in linked.now) }
+    ensures { IfOk result (λ x. x.items ≡ merged_datas linked.now) }
 {
     let mut datas = Vec::new(alloc);
-    put_members(alloc, &mut datas, linked.set().members.items())?;
+    put_members(alloc, &mut datas, linked.members())?;
     datas.push(texts_segment(alloc, linked.plan().stack_top())?)?;
     Ok(datas)
 }
 
 // Those of the members, which are passive, and the error texts at their place.
-#[tactic(auto, using(crate::proofs::Joins::datas_are))]
 pub(crate) fn merged_datas(alloc: Global, linked: &Linked) -> Result<List<Data>, Memory>
-    ensures { IfOk result (λ x. (L : LinkedSet) → IsLinked L linked.now → x ≡ merged_datas L) }
+    ensures { IfOk result (λ x. x ≡ merged_datas linked.now) }
 {
     let datas = datas(alloc, linked)?;
     Ok(List::of(datas))

@@ -1,15 +1,12 @@
 // The element segments.
-ghost use Rattle.std.specs.Prelude.{◌≡◌, ◌≤◌, ◌<◌, ◌^◌, ◌++◌, length, map, IfOk, OnOk};
-ghost use Rattle.spec_loading.specs.spec_linking.LinkedSets.{LinkedSet};
+ghost use Rattle.std.specs.Prelude.{◌≡◌, ◌≤◌, ◌+◌, ◌<◌, ◌^◌, ◌++◌, ◌∷◌, [], length, map, IfOk, OnOk};
 ghost use Rattle.spec_loading.specs.Members.{from_members};
-ghost use Rattle.dyl_link.specs.Kept.{IsLinked};
+ghost use Rattle.spec_loading.specs.spec_linking.Slots.{fresh_functions};
 ghost use Rattle.merge_match.specs.Renumbering.{expr};
 ghost use Rattle.merge_index.specs.Kept.{numbers_in};
-ghost use Rattle.merge_index.specs.Numbering.{numbers_of};
-ghost use Rattle.dyl_addresses.specs.Sets.{IsOfSet};
-ghost use Rattle.merge_module.specs.MergedModule.{passive_mode, renumbered_items, passive_elem, functions_elem, number_expr, merged_elems};
+ghost use Rattle.merge_module.specs.MergedModule.{passive_mode, renumbered_items, passive_elem, functions_elem, slots_elem, outside_elem, declared_elem, number_expr, merged_elems};
 ghost use Rattle.merge_whole.specs.Counts.{members_of};
-ghost use Rattle.merge_whole.specs.Elements.{passive_elems, fresh_by, fresh_elem, slots_by, fresh_total, outside_by, export_numbers, exported_numbers, declared_by, elems_by};
+ghost use Rattle.merge_whole.specs.Elements.{passive_elems, fresh_elem, export_numbers, exported_numbers};
 
 use dyl_link::Linked;
 use dyl_link::dyl_search::Member;
@@ -143,44 +140,25 @@ fn fresh_elem(alloc: Global, n: &Numbers, m: u32, fs: &[u32]) -> Result<Elem, Me
     })
 }
 
-// The functions of member m that have fresh slots, none where there is no such member.
-fn fresh_of(linked: &Linked, m: u32) -> &[u32]
-    requires set { IsOfSet linked.now }
-    ensures { result.now ≡ fresh_by linked.now m }
-{
-    if m as usize >= linked.set().members.items().len() {
-        return &[];
-    }
-    linked.fresh(m)
-}
-
 // The segments of fresh slots.
 fn put_slots(alloc: Global, to: &mut Vec<Elem>, linked: &Linked, n: &Numbers) -> Result<(), Memory>
-    requires set { IsOfSet linked.now }
-    requires few { length linked.now.set.members ≤ 256 }
-    ensures { OnOk result (to.new.items ≡ to.old.items ++ from_members (slots_by linked.now (numbers_in n.now)) 0 (members_of linked.now.set.members)) }
+    ensures { OnOk result (to.new.items ≡ to.old.items ++ from_members (λ m wasm. slots_elem linked.now (numbers_in n.now) m ∷ []) 0 linked.now.set.members) }
 {
-    let mut m: u32 = 0;
-    for _member in linked.set().members.items() {
-        to.push(fresh_elem(alloc, n, m, fresh_of(linked, m))?)?;
-        m += 1;
+    for m in 0..linked.member_count() {
+        to.push(fresh_elem(alloc, n, m, linked.fresh(m))?)?;
     }
     Ok(())
 }
 
 // How many fresh slots members have, beside so many.
 fn fresh_total(linked: &Linked, start: u32) -> u32
-    requires set { IsOfSet linked.now }
-    requires few { length linked.now.set.members ≤ 256 }
-    requires total { fresh_total (fresh_by linked.now) start 0 (members_of linked.now.set.members) < 2 ^ 32 }
-    ensures { result ≡ fresh_total (fresh_by linked.now) start 0 (members_of linked.now.set.members) }
+    requires { start + length (fresh_functions linked.now) < 2 ^ 32 }
+    ensures { result ≡ start + length (fresh_functions linked.now) }
 {
     let mut next = start;
-    let mut m: u32 = 0;
-    for _member in linked.set().members.items() {
-        let count = fresh_of(linked, m).len() as u32;
+    for m in 0..linked.member_count() {
+        let count = linked.fresh(m).len() as u32;
         next += count;
-        m += 1;
     }
     next
 }
@@ -196,10 +174,9 @@ pub(crate) fn number_expr(alloc: Global, k: u32) -> Result<Expr, Memory>
 
 // The segment of the host functions that have slots.
 fn outside_elem(alloc: Global, linked: &Linked, n: &Numbers) -> Result<Elem, Memory>
-    requires set { IsOfSet linked.now }
-    requires few { length linked.now.set.members ≤ 256 }
-    ensures { IfOk result (λ x. x ≡ outside_by linked.now (numbers_in n.now)) }
+    ensures { IfOk result (λ x. x ≡ outside_elem linked.now (numbers_in n.now)) }
 {
+    linked.links();
     let first = fresh_total(linked, linked.plan().table_end());
     let offset = number_expr(alloc, first)?;
     let mode = ElemMode::Active { table: 0, offset };
@@ -226,14 +203,11 @@ fn put_exports(to: &mut Vec<u32>, n: &Numbers, m: u32, wasm: &Module) -> Result<
 
 // The segment that declares what members export.
 fn declared_elem(alloc: Global, linked: &Linked, n: &Numbers) -> Result<Elem, Memory>
-    requires few { length linked.now.set.members ≤ 256 }
-    ensures { IfOk result (λ x. x ≡ declared_by linked.now (numbers_in n.now)) }
+    ensures { IfOk result (λ x. x ≡ declared_elem linked.now (numbers_in n.now)) }
 {
     let mut list = Vec::new(alloc);
-    let mut m: u32 = 0;
-    for member in linked.set().members.items() {
-        put_exports(&mut list, n, m, member.checked.module())?;
-        m += 1;
+    for m in 0..linked.member_count() {
+        put_exports(&mut list, n, m, linked.member(m).checked.module())?;
     }
     Ok(Elem {
         mode: ElemMode::Declarative,
@@ -242,11 +216,10 @@ fn declared_elem(alloc: Global, linked: &Linked, n: &Numbers) -> Result<Elem, Me
 }
 
 fn put_elems(alloc: Global, to: &mut Vec<Elem>, linked: &Linked, n: &Numbers) -> Result<(), Memory>
-    requires set { IsOfSet linked.now }
-    requires few { length linked.now.set.members ≤ 256 }
-    ensures { OnOk result (to.new.items ≡ to.old.items ++ elems_by linked.now (numbers_in n.now)) }
+    ensures { OnOk result (to.new.items ≡ to.old.items ++ merged_elems linked.now (numbers_in n.now)) }
 {
-    put_members(alloc, to, linked.set().members.items(), n)?;
+    linked.links();
+    put_members(alloc, to, linked.members(), n)?;
     put_slots(alloc, to, linked, n)?;
     to.push(outside_elem(alloc, linked, n)?)?;
     to.push(declared_elem(alloc, linked, n)?)?;
@@ -259,8 +232,7 @@ pub(crate) fn merged_elems(
     linked: &Linked,
     n: &Numbers,
 ) -> Result<List<Elem>, Memory>
-    requires set { IsOfSet linked.now }
-    ensures { IfOk result (λ x. (L : LinkedSet) → IsLinked L linked.now → numbers_in n.now ≡ numbers_of L → x ≡ merged_elems L (numbers_of L)) }
+    ensures { IfOk result (λ x. x ≡ merged_elems linked.now (numbers_in n.now)) }
 {
     let mut list = Vec::new(alloc);
     match put_elems(alloc, &mut list, linked, n) {

@@ -1,10 +1,9 @@
 // The functions of the merged module, by the numbers of their types.
 ghost use Rattle.std.specs.Prelude.{◌≡◌, ◌≤◌, ◌<◌, ◌^◌, ◌++◌, ◌∷◌, [], length, map, IfOk, OnOk};
-ghost use Rattle.spec_loading.specs.spec_linking.LinkedSets.{LinkedSet};
-ghost use Rattle.dyl_link.specs.Kept.{IsLinked};
 ghost use Rattle.merge_index.specs.Kept.{numbers_in};
-ghost use Rattle.merge_module.specs.MergedModule.{merged_funcs};
-ghost use Rattle.merge_whole.specs.Built.{nullary_in, joined, funcs_of, stub_types_of, four_of, one_of, funcs_for_loader, generated_funcs_in, funcs_in};
+ghost use Rattle.merge_module.specs.MergedModule.{nullary_number, merged_funcs};
+ghost use Rattle.merge_whole.specs.Counts.{members_of};
+ghost use Rattle.merge_whole.specs.Built.{joined, funcs_of, stub_types_of, four_of, one_of, funcs_for_loader, generated_funcs_in, funcs_in};
 
 use crate::built::imports::nullary_number;
 use crate::built::stubs::{imported_types, put_stub_types};
@@ -97,7 +96,7 @@ fn put_calls(to: &mut Vec<u32>, binary: u32, unary: u32, handle: u32) -> Result<
 // The functions of the loader and what they call, where the types of generated functions have the numbers from one on.
 fn put_loader(to: &mut Vec<u32>, nullary: u32, members: &[Member]) -> Result<(), Memory>
     requires { nullary < 2 ^ 31 }
-    ensures { OnOk result (to.new.items ≡ to.old.items ++ funcs_for_loader nullary members.now) }
+    ensures { OnOk result (to.new.items ≡ to.old.items ++ funcs_for_loader nullary (members_of members.now)) }
 {
     let handle = nullary + 1;
     let unary = nullary + 2;
@@ -111,10 +110,10 @@ fn put_loader(to: &mut Vec<u32>, nullary: u32, members: &[Member]) -> Result<(),
 }
 
 fn put_generated(to: &mut Vec<u32>, linked: &Linked) -> Result<(), Memory>
-    requires types { nullary_in linked.now < 2 ^ 31 }
+    requires types { nullary_number linked.now < 2 ^ 31 }
     ensures { OnOk result (to.new.items ≡ to.old.items ++ generated_funcs_in linked.now) }
 {
-    let members = linked.set().members.items();
+    let members = linked.members();
     let nullary = nullary_number(linked);
     put_phases(to, nullary, members)?;
     to.push(nullary)?;
@@ -125,11 +124,11 @@ fn put_generated(to: &mut Vec<u32>, linked: &Linked) -> Result<(), Memory>
 }
 
 fn funcs(alloc: Global, linked: &Linked, n: &Numbers) -> Result<Vec<u32>, Memory>
-    requires few { length linked.now.set.members ≤ 256 }
-    requires types { nullary_in linked.now < 2 ^ 31 }
+    requires types { nullary_number linked.now < 2 ^ 31 }
     ensures { IfOk result (λ x. x.items ≡ funcs_in linked.now (numbers_in n.now)) }
 {
-    let members = linked.set().members.items();
+    linked.links();
+    let members = linked.members();
     let mut funcs = Vec::new(alloc);
     put_members(&mut funcs, n, members)?;
     put_stubs(alloc, &mut funcs, linked, n, members)?;
@@ -139,9 +138,8 @@ fn funcs(alloc: Global, linked: &Linked, n: &Numbers) -> Result<Vec<u32>, Memory
 
 // Those of the members, the stubs, the phases of each member, the entry function and those of the loader.
 pub(crate) fn merged_funcs(alloc: Global, linked: &Linked, n: &Numbers) -> Result<List<u32>, Memory>
-    requires few { length linked.now.set.members ≤ 256 }
-    requires types { nullary_in linked.now < 2 ^ 31 }
-    ensures { IfOk result (λ x. (L : LinkedSet) → IsLinked L linked.now → x ≡ merged_funcs L (numbers_in n.now)) }
+    requires types { nullary_number linked.now < 2 ^ 31 }
+    ensures { IfOk result (λ x. x ≡ merged_funcs linked.now (numbers_in n.now)) }
 {
     let funcs = funcs(alloc, linked, n)?;
     Ok(List::of(funcs))

@@ -1,8 +1,5 @@
 // The numbers of a linked set in its merged module, and its globals and element segments there.
 ghost use Rattle.std.specs.Prelude.{◌≡◌, ◌<◌, ◌^◌, IfOk, IfSome};
-ghost use Rattle.spec_loading.specs.spec_linking.LinkedSets.{LinkedSet};
-ghost use Rattle.dyl_link.specs.Kept.{IsLinked};
-ghost use Rattle.dyl_addresses.specs.Sets.{IsOfSet};
 ghost use Rattle.merge_index.specs.Kept.{numbers_in};
 ghost use Rattle.merge_index.specs.Numbering as numbering;
 ghost use Rattle.merge_index.specs.Numbering.{first_phase, numbers_of};
@@ -38,15 +35,15 @@ struct Rest {
 }
 
 fn rest_of(alloc: Global, linked: &Linked, numbers: &Numbers) -> Result<Rest, Memory>
-    requires set { IsOfSet linked.now }
-    requires first { numbers.now.first_phase < 2 ^ 31 }
-    requires loader { IfSome numbers.now.loader (λ l. l.first_opening < 2 ^ 31) }
-    requires length { IfSome numbers.now.loader (λ l. l.length < 2 ^ 31) }
-    ensures given { IfOk result (λ r. (L : LinkedSet) → IsLinked L linked.now → numbers_in numbers.now ≡ numbers_of L → numbers.now.first_phase ≡ first_phase L → numbers.now.loader ≡ numbering.loader_numbers L → IsGiven L (record { numbers = numbers.now; starts = r.starts; loader = r.loader; globals = r.globals; elems = r.elems })) }
+    requires numbers { numbers_in numbers.now ≡ numbers_of linked.now }
+    requires phase { numbers.now.first_phase ≡ first_phase linked.now }
+    requires loader { numbers.now.loader ≡ numbering.loader_numbers linked.now }
+    ensures given { IfOk result (λ r. IsGiven linked.now (record { numbers = numbers.now; starts = r.starts; loader = r.loader; globals = r.globals; elems = r.elems })) }
     ensures guard { IfOk result (λ r. r.starts.guard < 2 ^ 31) }
     ensures first { IfOk result (λ r. r.starts.first_function < 2 ^ 31) }
     ensures small { IfOk result (λ r. IfSome r.loader AreSmall) }
 {
+    linked.links();
     let (globals, guard) = merged_globals(alloc, linked, numbers)?;
     let elems = merged_elems(alloc, linked, numbers)?;
     let loader = loader_numbers(alloc, linked, numbers, guard)?;
@@ -60,8 +57,7 @@ fn rest_of(alloc: Global, linked: &Linked, numbers: &Numbers) -> Result<Rest, Me
 }
 
 pub(crate) fn make_given(alloc: Global, linked: &Linked) -> Result<Given, Memory>
-    requires set { IsOfSet linked.now }
-    ensures given { IfOk result (λ g. (L : LinkedSet) → IsLinked L linked.now → IsGiven L g) }
+    ensures given { IfOk result (λ g. IsGiven linked.now g) }
     ensures guard { IfOk result (λ g. g.starts.guard < 2 ^ 31) }
     ensures first { IfOk result (λ g. g.starts.first_function < 2 ^ 31) }
     ensures small { IfOk result (λ g. IfSome g.loader AreSmall) }

@@ -1,17 +1,13 @@
 // The globals.
 ghost use Rattle.std.specs.Prelude.{◌≡◌, ℕ, Some, ◌+◌, ◌≤◌, ◌<◌, ◌^◌, ◌++◌, ◌∷◌, [], true, cond, length, map, slice_get, unwrap_or, IfOk, OnOk};
 ghost use Rattle.spec_reading.specs.spec_binary.IndexSpaces.{globals_in};
-ghost use Rattle.spec_loading.specs.spec_linking.LinkedSets.{LinkedSet};
-ghost use Rattle.spec_loading.specs.spec_linking.Slots.{cell_of_import, first_cells};
-ghost use Rattle.dyl_link.specs.Kept.{IsLinked, cell_in};
-ghost use Rattle.merge_index.specs.Numbering.{numbers_of, starts_of};
+ghost use Rattle.spec_loading.specs.spec_linking.Slots.{cell_of_import, first_cells, memory_base, table_base, imported_number};
+ghost use Rattle.merge_index.specs.Numbering.{starts_of};
 ghost use Rattle.dyl_addresses.specs.Globals.{cell_named, cells_in, with_cells};
 ghost use Rattle.merge_index.specs.Kept.{numbers_in};
-ghost use Rattle.dyl_addresses.specs.Sets.{IsOfSet, module_of};
-ghost use Rattle.dyl_link.specs.dyl_search.declared.set.Member as declared;
-ghost use Rattle.merge_module.specs.MergedModule.{number_global, merged_globals};
-ghost use Rattle.merge_whole.specs.Built.{where_used};
-ghost use Rattle.merge_whole.specs.GlobalDefs.{FitsIn, AreFit, bases_by, value_by, own_by, cells_by, globals_by, all_globals, zeros_for, loader_zeros};
+ghost use Rattle.spec_loading.specs.spec_linking.Sets as sets;
+ghost use Rattle.merge_module.specs.MergedModule.{with_loader, number_global, loader_globals, merged_globals};
+ghost use Rattle.merge_whole.specs.GlobalDefs.{FitsIn, AreFit, bases_by, value_by, own_by, cells_by, globals_by, all_globals, zeros_for};
 
 use crate::built::constants::{constant, constant_instr, zero_of};
 use crate::built::elems::number_expr;
@@ -157,7 +153,7 @@ fn is_global(desc: &ImportDesc) -> u32
 }
 
 fn cell_or_zero(linked: &Linked, m: u32, g: u32) -> u32
-    ensures { result ≡ unwrap_or (cell_in linked.now m g) 0 }
+    ensures { result ≡ unwrap_or (imported_number linked.now m g) 0 }
 {
     match linked.find_cell(m, g) {
         Some(value) => value,
@@ -187,22 +183,6 @@ fn put_cells(
     Ok(())
 }
 
-fn memory_base(linked: &Linked, m: u32) -> u32
-    requires set { IsOfSet linked.now }
-    requires member { m < length linked.now.set.members }
-    ensures { result ≡ unwrap_or (slice_get linked.now.plan.bases m) 0 }
-{
-    linked.plan().base(m)
-}
-
-fn table_base(linked: &Linked, m: u32) -> u32
-    requires set { IsOfSet linked.now }
-    requires member { m < length linked.now.set.members }
-    ensures { result ≡ unwrap_or (slice_get linked.now.plan.table_bases m) 0 }
-{
-    linked.plan().table_base(m)
-}
-
 // The bases of a member, its cells and its own globals.
 fn put_member(
     to: &mut Vec<GlobalDef>,
@@ -212,14 +192,13 @@ fn put_member(
     m: u32,
     wasm: &Module,
 ) -> Result<(), Memory>
-    requires set { IsOfSet linked.now }
     requires member { m < length linked.now.set.members }
     requires short { length wasm.now.imports < 2 ^ 32 }
     requires fit { AreFit linked.now (bases_by linked.now m wasm.now) m wasm.now.globals }
     ensures { OnOk result (to.new.items ≡ to.old.items ++ globals_by linked.now (numbers_in n.now) m wasm.now) }
 {
-    let memory = memory_base(linked, m);
-    let table = table_base(linked, m);
+    let memory = linked.memory_base(m);
+    let table = linked.table_base(m);
     let bases = bases_from(alloc, wasm.imports.items(), memory, table)?;
     to.push(number_global(alloc, false, memory)?)?;
     to.push(number_global(alloc, false, table)?)?;
@@ -238,17 +217,14 @@ fn put_member(
 
 // The stack pointer, and then the globals of the members.
 fn all_globals(alloc: Global, linked: &Linked, n: &Numbers) -> Result<Vec<GlobalDef>, Memory>
-    requires set { IsOfSet linked.now }
-    requires few { length linked.now.set.members ≤ 256 }
-    requires fit { (m : ℕ) (x : declared.Member) → slice_get linked.now.set.members m ≡ Some x → AreFit linked.now (bases_by linked.now m (module_of x)) m (module_of x).globals }
+    requires fit { (m : ℕ) (x : sets.Member) → slice_get linked.now.set.members m ≡ Some x → AreFit linked.now (bases_by linked.now m x.wasm) m x.wasm.globals }
     ensures { IfOk result (λ v. v.items ≡ all_globals linked.now (numbers_in n.now)) }
 {
     let mut list = Vec::new(alloc);
-    let mut m: u32 = 0;
     list.push(number_global(alloc, true, linked.plan().stack_top())?)?;
-    for member in linked.set().members.items() {
-        put_member(&mut list, alloc, linked, n, m, member.checked.module())?;
-        m += 1;
+    for m in 0..linked.member_count() {
+        let wasm = linked.member(m).checked.module();
+        put_member(&mut list, alloc, linked, n, m, wasm)?;
     }
     Ok(list)
 }
@@ -265,12 +241,12 @@ fn put_zeros(to: &mut Vec<GlobalDef>, alloc: Global, members: &[Member]) -> Resu
 
 // Where a member uses the loader, the number of the last error, how many members are promoted, and the place of each among these.
 fn put_loader(to: &mut Vec<GlobalDef>, alloc: Global, linked: &Linked) -> Result<(), Memory>
-    ensures { OnOk result (to.new.items ≡ to.old.items ++ where_used linked.now (loader_zeros linked.now)) }
+    ensures { OnOk result (to.new.items ≡ to.old.items ++ with_loader linked.now (loader_globals linked.now)) }
 {
     if linked.uses_loader() {
         to.push(number_global(alloc, true, 0)?)?;
         to.push(number_global(alloc, true, 0)?)?;
-        put_zeros(to, alloc, linked.set().members.items())?;
+        put_zeros(to, alloc, linked.members())?;
     }
     Ok(())
 }
@@ -281,18 +257,18 @@ pub(crate) fn merged_globals(
     linked: &Linked,
     n: &Numbers,
 ) -> Result<(List<GlobalDef>, u32), Memory>
-    requires set { IsOfSet linked.now }
-    ensures globals { IfOk result (λ x. (L : LinkedSet) → IsLinked L linked.now → numbers_in n.now ≡ numbers_of L → x.0 ≡ merged_globals L (numbers_of L)) }
+    ensures globals { IfOk result (λ x. x.0 ≡ merged_globals linked.now (numbers_in n.now)) }
     ensures few { IfOk result (λ x. x.1 < 2 ^ 30) }
-    ensures guards { IfOk result (λ x. (L : LinkedSet) → IsLinked L linked.now → numbers_in n.now ≡ numbers_of L → x.1 ≡ (starts_of L).guards) }
+    ensures guards { IfOk result (λ x. x.1 ≡ (starts_of linked.now).guards) }
 {
+    linked.links();
     linked.has_few_pages();
     linked_code_is_there();
     linked_functions_are_typed();
     slots_fit();
     let mut list = all_globals(alloc, linked, n)?;
     let guard = list.len() as u32;
-    put_zeros(&mut list, alloc, linked.set().members.items())?;
+    put_zeros(&mut list, alloc, linked.members())?;
     put_loader(&mut list, alloc, linked)?;
     Ok((List::of(list), guard))
 }

@@ -3,11 +3,12 @@ ghost use Rattle.std.specs.Prelude.{◌≡◌, ℕ, ◌+◌, ◌<◌, ◌≤◌,
 ghost use Rattle.std.specs.List.{list_any, position_or_len};
 ghost use Rattle.spec_reading.specs.spec_binary.SameTypes.{same_function_type};
 ghost use Rattle.spec_loading.specs.spec_linking.Definitions.{or_other};
+ghost use Rattle.spec_loading.specs.spec_linking.LinkedSets.{hosts_of};
 ghost use Rattle.dyl_link.specs.host_table.Names.{host_name_of};
-ghost use Rattle.dyl_addresses.specs.Sets.{IsOfSet};
 ghost use Rattle.merge_index.specs.Kept.{numbers_in};
 ghost use Rattle.merge_module.specs.MergedModule as merged;
 ghost use Rattle.merge_module.specs.MergedModule.{with_type, types_added};
+ghost use Rattle.merge_whole.specs.Counts.{members_of};
 ghost use Rattle.merge_whole.specs.Hosts as hosted;
 ghost use Rattle.merge_whole.specs.Hosts.{given_to, given_at, given_from, use_in};
 
@@ -73,7 +74,7 @@ fn note_members(
     members: &[Member],
 ) -> Result<(), Memory>
     requires { length members.now < 2 ^ 32 }
-    ensures { OnOk result ((e : ℕ) → e < length uses.old → slice_index_or uses.new e None ≡ or_other (slice_index_or uses.old e None) (given_from linked.now (numbers_in n.now) 0 members.now e)) }
+    ensures { OnOk result ((e : ℕ) → e < length uses.old → slice_index_or uses.new e None ≡ or_other (slice_index_or uses.old e None) (given_from linked.now (numbers_in n.now) 0 (members_of members.now) e)) }
 {
     for m in 0..members.len() {
         let wasm = members[m].checked.module();
@@ -101,12 +102,12 @@ pub(crate) fn first_uses(
     linked: &Linked,
     n: &Numbers,
 ) -> Result<Vec<Option<u32>>, Memory>
-    requires { IsOfSet linked.now }
-    ensures count { IfOk result (λ v. length v.items ≡ length linked.now.hosts) }
-    ensures uses { IfOk result (λ v. (e : ℕ) → e < length linked.now.hosts → use_in v.items e ≡ given_from linked.now (numbers_in n.now) 0 linked.now.set.members e) }
+    ensures count { IfOk result (λ v. length v.items ≡ length (hosts_of linked.now)) }
+    ensures uses { IfOk result (λ v. (e : ℕ) → e < length (hosts_of linked.now) → use_in v.items e ≡ given_from linked.now (numbers_in n.now) 0 linked.now.set.members e) }
 {
+    linked.links();
     let mut uses = no_uses(alloc, linked.hosts().len())?;
-    note_members(alloc, &mut uses, linked, n, linked.set().members.items())?;
+    note_members(alloc, &mut uses, linked, n, linked.members())?;
     Ok(uses)
 }
 

@@ -1,14 +1,11 @@
 // The imports of the merged module.
 ghost use Rattle.std.specs.Prelude.{◌≡◌, ◌≤◌, ◌+◌, ◌<◌, ◌^◌, length, map, IfOk};
 ghost use Rattle.dyl_link.specs.host_table.Names.{host_name_of};
-ghost use Rattle.spec_loading.specs.spec_linking.LinkedSets.{LinkedSet};
-ghost use Rattle.dyl_link.specs.Kept.{IsLinked};
-ghost use Rattle.dyl_addresses.specs.Sets.{IsOfSet};
 ghost use Rattle.merge_index.specs.Kept.{numbers_in};
 ghost use Rattle.merge_index.specs.Numbering.{numbers_of};
 ghost use Rattle.merge_module.specs.MergedModule as merged;
-ghost use Rattle.merge_module.specs.MergedModule.{host_imports, merged_imports};
-ghost use Rattle.merge_whole.specs.Built.{joined, types_of, generated_in, nullary_in, import_of};
+ghost use Rattle.merge_module.specs.MergedModule.{nullary_number, generated_functions_types, host_imports, merged_imports};
+ghost use Rattle.merge_whole.specs.Built.{joined, types_of, import_of};
 ghost use Rattle.merge_whole.specs.Hosts.{number_by};
 
 use crate::built::hosts::{added_types, first_uses, type_number};
@@ -33,7 +30,7 @@ fn type_count(members: &[Member]) -> u32
 
 // How many types generated functions have.
 fn generated_count(linked: &Linked) -> u32
-    ensures is { result ≡ length (generated_in linked.now) }
+    ensures is { result ≡ length (generated_functions_types linked.now) }
     ensures few { result ≤ 5 }
 {
     if linked.uses_loader() { 5 } else { 1 }
@@ -41,16 +38,16 @@ fn generated_count(linked: &Linked) -> u32
 
 // The number of the first type of generated functions.
 pub(crate) fn nullary_number(linked: &Linked) -> u32
-    requires { nullary_in linked.now < 2 ^ 31 }
-    ensures { result ≡ nullary_in linked.now }
+    requires { nullary_number linked.now < 2 ^ 31 }
+    ensures { result ≡ nullary_number linked.now }
 {
-    type_count(linked.set().members.items())
+    type_count(linked.members())
 }
 
 // The number of the first type that is added.
 fn first_added(linked: &Linked) -> u32
-    requires { nullary_in linked.now < 2 ^ 31 }
-    ensures { result ≡ nullary_in linked.now + length (generated_in linked.now) }
+    requires { nullary_number linked.now < 2 ^ 31 }
+    ensures { result ≡ merged.first_added linked.now }
 {
     nullary_number(linked) + generated_count(linked)
 }
@@ -93,10 +90,11 @@ pub(crate) fn merged_imports(
     linked: &Linked,
     n: &Numbers,
 ) -> Result<(List<Import>, Vec<FuncType>), Memory>
-    requires set { IsOfSet linked.now }
-    ensures imports { IfOk result (λ x. (L : LinkedSet) → IsLinked L linked.now → numbers_in n.now ≡ numbers_of L → x.0 ≡ merged_imports L) }
-    ensures types { IfOk result (λ x. (L : LinkedSet) → IsLinked L linked.now → numbers_in n.now ≡ numbers_of L → x.1.items ≡ merged.added_types L) }
+    requires { numbers_in n.now ≡ numbers_of linked.now }
+    ensures imports { IfOk result (λ x. x.0 ≡ merged_imports linked.now) }
+    ensures types { IfOk result (λ x. x.1.items ≡ merged.added_types linked.now) }
 {
+    linked.links();
     let hosts = linked.hosts();
     let uses = first_uses(alloc, linked, n)?;
     let given = uses.as_slice();

@@ -1,7 +1,5 @@
 // The numbers that the functions of the loader name.
-ghost use Rattle.std.specs.Prelude.{◌≡◌, ◌≤◌, ◌<◌, ◌^◌, length, IfOk, IfSome};
-ghost use Rattle.spec_loading.specs.spec_linking.LinkedSets.{LinkedSet};
-ghost use Rattle.dyl_link.specs.Kept.{IsLinked};
+ghost use Rattle.std.specs.Prelude.{◌≡◌, ◌<◌, ◌^◌, IfOk, IfSome};
 ghost use Rattle.merge_index.specs.Numbering as numbering;
 ghost use Rattle.merge_index.specs.Numbering.{starts_of};
 ghost use Rattle.merge_whole.specs.Counts.{loader_by};
@@ -20,14 +18,13 @@ fn loader_by(
     guard: u32,
     n: LoaderNumbers,
 ) -> Result<DlNumbers, Memory>
-    requires few { length linked.now.set.members ≤ 256 }
     requires guard { guard < 2 ^ 30 }
     requires first { n.first_opening < 2 ^ 31 }
     requires length { n.length < 2 ^ 31 }
     ensures is { IfOk result (λ d. d ≡ loader_by linked.now guard n) }
     ensures small { IfOk result AreSmall }
 {
-    let count = linked.set().members.items().len() as u32;
+    let count = linked.member_count();
     let error = guard + count;
     let end = n.first_opening + count;
     let opens = range(alloc, n.first_opening, end)?;
@@ -47,12 +44,13 @@ pub(crate) fn loader_numbers(
     n: &Numbers,
     guard: u32,
 ) -> Result<Option<DlNumbers>, Memory>
-    requires few { length linked.now.set.members ≤ 256 }
     requires guard { guard < 2 ^ 30 }
     requires first { IfSome n.now.loader (λ l. l.first_opening < 2 ^ 31) }
     requires length { IfSome n.now.loader (λ l. l.length < 2 ^ 31) }
+    requires loader { n.now.loader ≡ numbering.loader_numbers linked.now }
+    requires guards { guard ≡ (starts_of linked.now).guards }
     ensures small { IfOk result (λ d. IfSome d AreSmall) }
-    ensures loader { IfOk result (λ d. (L : LinkedSet) → IsLinked L linked.now → n.now.loader ≡ numbering.loader_numbers L → guard ≡ (starts_of L).guards → HasLoader L (starts_of L) d) }
+    ensures loader { IfOk result (λ d. HasLoader linked.now (starts_of linked.now) d) }
 {
     let Some(loader) = n.loader() else {
         return Ok(None);

@@ -4,12 +4,9 @@ ghost use Rattle.std.specs.List.{range_with_len};
 ghost use Rattle.spec_loading.specs.declared.task.Phase.TheVariants as phases;
 ghost use Rattle.spec_loading.specs.Phases.{phase_function};
 ghost use Rattle.spec_loading.specs.Members.{from_members};
-ghost use Rattle.spec_loading.specs.spec_linking.LinkedSets.{LinkedSet};
-ghost use Rattle.dyl_link.specs.Kept.{IsLinked};
 ghost use Rattle.merge_index.specs.Kept.{numbers_in};
 ghost use Rattle.merge_index.specs.Numbering.{first_phase, numbers_of, starts_of};
 ghost use Rattle.dyl_link.specs.dyl_search.declared.set.Member as declared;
-ghost use Rattle.dyl_addresses.specs.Sets.{IsOfSet};
 ghost use Rattle.merge_start.specs.Listed.{AreListed};
 ghost use Rattle.dyl_addresses.specs.Sets.{module_of};
 ghost use Rattle.merge_whole.specs.Counts.{members_of, tables_by, functions_by, calls_by, starts_by};
@@ -135,11 +132,10 @@ fn starts_by(
     n: &Numbers,
     guard: u32,
 ) -> Result<StartNumbers, Memory>
-    requires set { IsOfSet linked.now }
-    requires few { length linked.now.set.members ≤ 256 }
     ensures { IfOk result (λ s. s ≡ starts_by linked.now (numbers_in n.now) guard n.now.first_phase) }
 {
-    let members = linked.set().members.items();
+    linked.links();
+    let members = linked.members();
     let calls = calls(alloc, members, n)?;
     let slots = members.len() as u32;
     let elem_end = total(members, Space::Elems, slots);
@@ -167,12 +163,13 @@ pub(crate) fn set_starts(
     n: &Numbers,
     guard: u32,
 ) -> Result<StartNumbers, Memory>
-    requires set { IsOfSet linked.now }
-    requires few { length linked.now.set.members ≤ 256 }
     requires guard { guard < 2 ^ 31 }
     requires first { n.now.first_phase < 2 ^ 31 }
-    ensures listed { IfOk result (λ s. (L : LinkedSet) → IsLinked L linked.now → numbers_in n.now ≡ numbers_of L → n.now.first_phase ≡ first_phase L → guard ≡ (starts_of L).guards → AreListed L s (numbers_of L) (starts_of L)) }
-    ensures functions { IfOk result (λ s. (L : LinkedSet) → IsLinked L linked.now → numbers_in n.now ≡ numbers_of L → s.functions ≡ from_members (functions_by (numbers_of L)) 0 L.set.members) }
+    requires numbers { numbers_in n.now ≡ numbers_of linked.now }
+    requires phase { n.now.first_phase ≡ first_phase linked.now }
+    requires guards { guard ≡ (starts_of linked.now).guards }
+    ensures listed { IfOk result (λ s. AreListed linked.now s (numbers_of linked.now) (starts_of linked.now)) }
+    ensures functions { IfOk result (λ s. s.functions ≡ from_members (functions_by (numbers_of linked.now)) 0 linked.now.set.members) }
     ensures guard { IfOk result (λ s. s.guard < 2 ^ 31) }
     ensures first { IfOk result (λ s. s.first_function < 2 ^ 31) }
 {

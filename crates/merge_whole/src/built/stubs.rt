@@ -1,7 +1,7 @@
 // What stands for imports that nothing defines.
 ghost use Rattle.std.specs.Prelude.{◌≡◌, ◌++◌, ◌∷◌, [], ◌<◌, ◌^◌, length, Some, IfOk, OnOk, if◌then◌else◌};
 ghost use Rattle.spec_reading.specs.spec_binary.IndexSpaces.{functions_in, imports_of};
-ghost use Rattle.dyl_link.specs.Kept.{function_in};
+ghost use Rattle.spec_loading.specs.spec_linking.LinkedSets.{function_ref};
 ghost use Rattle.merge_index.specs.Kept.{numbers_in};
 ghost use Rattle.merge_index.specs.Numbering as numbering;
 ghost use Rattle.merge_module.specs.MergedModule.{trap_code};
@@ -50,7 +50,7 @@ fn put_stub_type(
     f: u32,
     t: u32,
 ) -> Result<(), Memory>
-    ensures { OnOk result (to.new.items ≡ to.old.items ++ (if numbering.is_stub (function_in linked.now m f) then (numbers_in n.now).ty m t ∷ [] else [])) }
+    ensures { OnOk result (to.new.items ≡ to.old.items ++ (if numbering.is_stub (function_ref linked.now m f) then (numbers_in n.now).ty m t ∷ [] else [])) }
 {
     if is_stub(linked.find_function(m, f)) {
         to.push(n.ty(m, t))?;
@@ -84,7 +84,7 @@ fn put_trap(
     m: u32,
     f: u32,
 ) -> Result<(), Memory>
-    ensures { OnOk result (to.new.items ≡ to.old.items ++ (if numbering.is_stub (function_in linked.now m f) then trap_code ∷ [] else [])) }
+    ensures { OnOk result (to.new.items ≡ to.old.items ++ (if numbering.is_stub (function_ref linked.now m f) then trap_code ∷ [] else [])) }
 {
     if is_stub(linked.find_function(m, f)) {
         to.push(trap(alloc)?)?;

@@ -1,9 +1,7 @@
 // The tables and the memory of the merged module.
 ghost use Rattle.std.specs.Prelude.{◌≡◌, ◌++◌, ◌∷◌, [], IfOk, OnOk};
-ghost use Rattle.spec_loading.specs.spec_linking.LinkedSets.{LinkedSet};
-ghost use Rattle.dyl_link.specs.Kept.{IsLinked};
-ghost use Rattle.merge_module.specs.MergedModule.{merged_tables, shared_memory_type};
-ghost use Rattle.merge_whole.specs.Built.{joined, tables_of, shared_table_in, tables_in};
+ghost use Rattle.merge_module.specs.MergedModule.{shared_table_type, merged_tables, shared_memory_type};
+ghost use Rattle.merge_whole.specs.Built.{joined, tables_of};
 
 use dyl_link::Linked;
 use dyl_link::dyl_search::Member;
@@ -12,7 +10,7 @@ use std::alloc::Global;
 use wasm_form::{Limits, List, Memory, TableType, ValType};
 
 fn shared_table(linked: &Linked) -> TableType
-    ensures { result ≡ shared_table_in linked.now }
+    ensures { result ≡ shared_table_type linked.now }
 {
     TableType {
         elem: ValType::FuncRef,
@@ -42,27 +40,25 @@ fn put_members(to: &mut Vec<TableType>, members: &[Member]) -> Result<(), Memory
 }
 
 fn tables(alloc: Global, linked: &Linked) -> Result<Vec<TableType>, Memory>
-    ensures { IfOk result (λ x. x.items ≡ tables_in linked.now) }
+    ensures { IfOk result (λ x. x.items ≡ merged_tables linked.now) }
 {
     let mut tables = Vec::new(alloc);
     tables.push(shared_table(linked))?;
-    put_members(&mut tables, linked.set().members.items())?;
+    put_members(&mut tables, linked.members())?;
     Ok(tables)
 }
 
 // The shared table, and those of the members.
-#[tactic(auto, using(crate::proofs::Joins::tables_are))]
 pub(crate) fn merged_tables(alloc: Global, linked: &Linked) -> Result<List<TableType>, Memory>
-    ensures { IfOk result (λ x. (L : LinkedSet) → IsLinked L linked.now → x ≡ merged_tables L) }
+    ensures { IfOk result (λ x. x ≡ merged_tables linked.now) }
 {
     let tables = tables(alloc, linked)?;
     Ok(List::of(tables))
 }
 
 // The planned memory.
-#[tactic(auto, using(crate::proofs::Joins::memory_is))]
 pub(crate) fn merged_memories(alloc: Global, linked: &Linked) -> Result<List<Limits>, Memory>
-    ensures { IfOk result (λ x. (L : LinkedSet) → IsLinked L linked.now → x ≡ shared_memory_type L ∷ []) }
+    ensures { IfOk result (λ x. x ≡ shared_memory_type linked.now ∷ []) }
 {
     let plan = linked.plan();
     let mut memories = Vec::new(alloc);

@@ -1,10 +1,8 @@
 // The types of the merged module.
 ghost use Rattle.std.specs.Prelude.{◌≡◌, ◌++◌, ◌∷◌, [], IfOk, OnOk};
 ghost use Rattle.spec_reading.specs.spec_binary.Indices.{nullary};
-ghost use Rattle.spec_loading.specs.spec_linking.LinkedSets.{LinkedSet};
-ghost use Rattle.dyl_link.specs.Kept.{IsLinked};
-ghost use Rattle.merge_module.specs.MergedModule.{added_types, merged_types};
-ghost use Rattle.merge_whole.specs.Built.{joined, types_of, generated_in, types_in};
+ghost use Rattle.merge_module.specs.MergedModule.{generated_functions_types, added_types, merged_types};
+ghost use Rattle.merge_whole.specs.Built.{joined, types_of, types_in};
 
 use dyl_link::Linked;
 use dyl_link::dyl_search::Member;
@@ -43,7 +41,7 @@ fn put_nullary(alloc: Global, to: &mut Vec<FuncType>) -> Result<(), Memory>
 
 // Those of generated functions.
 fn put_generated(alloc: Global, to: &mut Vec<FuncType>, linked: &Linked) -> Result<(), Memory>
-    ensures { OnOk result (to.new.items ≡ to.old.items ++ generated_in linked.now) }
+    ensures { OnOk result (to.new.items ≡ to.old.items ++ generated_functions_types linked.now) }
 {
     put_nullary(alloc, to)?;
     if linked.uses_loader() {
@@ -57,7 +55,7 @@ fn types(alloc: Global, linked: &Linked, mut added: Vec<FuncType>) -> Result<Vec
     ensures { IfOk result (λ x. x.items ≡ types_in linked.now added.items) }
 {
     let mut types = Vec::new(alloc);
-    put_members(alloc, &mut types, linked.set().members.items())?;
+    put_members(alloc, &mut types, linked.members())?;
     put_generated(alloc, &mut types, linked)?;
     let mut more = added;
     types.append(&mut more)?;
@@ -70,7 +68,8 @@ pub(crate) fn merged_types(
     linked: &Linked,
     added: Vec<FuncType>,
 ) -> Result<List<FuncType>, Memory>
-    ensures { IfOk result (λ x. (L : LinkedSet) → IsLinked L linked.now → added.items ≡ added_types L → x ≡ merged_types L) }
+    requires { added.items ≡ added_types linked.now }
+    ensures { IfOk result (λ x. x ≡ merged_types linked.now) }
 {
     let types = types(alloc, linked, added)?;
     Ok(List::of(types))

@@ -1,8 +1,5 @@
 // The parts of a linked set.
-ghost use Rattle.std.specs.Prelude.{◌≡◌, ◌≤◌, ◌+◌, ◌*◌, ◌<◌, ◌^◌, [], length, Some, None, IfOk, IfSome, OnOk};
-ghost use Rattle.spec_loading.specs.spec_linking.LinkedSets.{LinkedSet};
-ghost use Rattle.dyl_link.specs.Kept.{IsLinked};
-ghost use Rattle.dyl_addresses.specs.Sets.{IsOfSet};
+ghost use Rattle.std.specs.Prelude.{◌≡◌, ◌+◌, ◌*◌, ◌<◌, ◌^◌, [], length, Some, None, IfOk, IfSome, OnOk};
 ghost use Rattle.merge_module.specs.MergedModule.{merged_module};
 ghost use Rattle.merge_whole.specs.Given.{IsGiven, AreSmall};
 ghost use Rattle.merge_whole.specs.Parts.{ArePartsOf};
@@ -25,12 +22,10 @@ use wasm_form::{List, Memory, Module};
 
 // The entry function comes behind the four of each member.
 fn starting(linked: &Linked, first: u32) -> u32
-    requires few { length linked.now.set.members ≤ 256 }
-    requires first { first < 2 ^ 31 }
+    requires { first < 2 ^ 31 }
     ensures { result ≡ first + 4 * length linked.now.set.members }
 {
-    let count = linked.set().members.items().len() as u32;
-    first + 4 * count
+    first + 4 * linked.member_count()
 }
 
 // The sections of a module that has the globals and the element segments, but for these.
@@ -42,14 +37,15 @@ fn put_sections(
     loader: &Option<DlNumbers>,
     to: &mut Module,
 ) -> Result<(), Memory>
-    requires set { IsOfSet linked.now }
     requires guard { starts.now.guard < 2 ^ 31 }
     requires first { starts.now.first_function < 2 ^ 31 }
     requires numbers { IfSome loader.now AreSmall }
     requires start { to.old.start ≡ None }
     requires customs { to.old.customs ≡ [] }
-    ensures { OnOk result ((L : LinkedSet) → IsLinked L linked.now → IsGiven L (record { numbers = numbers.now; starts = starts.now; loader = loader.now; globals = to.old.globals; elems = to.old.elems }) → to.new ≡ merged_module L) }
+    requires given { IsGiven linked.now (record { numbers = numbers.now; starts = starts.now; loader = loader.now; globals = to.old.globals; elems = to.old.elems }) }
+    ensures { OnOk result (to.new ≡ merged_module linked.now) }
 {
+    linked.links();
     let starting = starting(linked, starts.first_function);
     let (imports, added) = merged_imports(alloc, linked, numbers)?;
     to.imports = imports;
@@ -74,11 +70,11 @@ fn put_sections(
 
 // The parts, where all but most sections of the module is given.
 fn parts_with(alloc: Global, linked: &Linked, given: Given) -> Result<Parts, Memory>
-    requires set { IsOfSet linked.now }
     requires guard { given.starts.guard < 2 ^ 31 }
     requires first { given.starts.first_function < 2 ^ 31 }
     requires numbers { IfSome given.loader AreSmall }
-    ensures { IfOk result (λ p. (L : LinkedSet) → IsLinked L linked.now → IsGiven L given → ArePartsOf L p) }
+    requires given { IsGiven linked.now given }
+    ensures { IfOk result (λ p. ArePartsOf linked.now p) }
 {
     let Given {
         numbers,
@@ -121,8 +117,7 @@ fn parts_with(alloc: Global, linked: &Linked, given: Given) -> Result<Parts, Mem
 }
 
 pub(crate) fn merged_parts(alloc: Global, linked: &Linked) -> Result<Parts, Memory>
-    requires { IsOfSet linked.now }
-    ensures { IfOk result (λ p. (L : LinkedSet) → IsLinked L linked.now → ArePartsOf L p) }
+    ensures { IfOk result (λ p. ArePartsOf linked.now p) }
 {
     let given = make_given(alloc, linked)?;
     let parts = parts_with(alloc, linked, given)?;

@@ -1,46 +1,52 @@
 use Rattle.std.proofs.Common.{sym, ap, subst}
 use Rattle.spec_loading.specs.spec_runtime.Courses.{state_at}
-use Rattle.dyl_link.specs.Kept.{IsLinked}
+use Rattle.spec_loading.specs.spec_linking.LinkedSets.{LinkedSet}
+use Rattle.spec_loading.specs.SoundSets.{HoldBytes}
 use Rattle.dyl_store.specs.Stores.{StoreRun, set_course}
-use Rattle.merge_whole.proofs.Little.{mergeable}
+use Rattle.merge_module.specs.Laws.{IsMergeable}
+use Rattle.snap_set.specs.Causes.{Takes, IsFirst}
+use Rattle.snap_merge.specs.StartUp.{Refuses}
 use Rattle.snap_merge.proofs.StartUp.{here_is}
 use Rattle.snap_merge.proofs.Answered.{if_ok, if_err, opened, first_tells, snapped_of, written_tells}
 use Rattle.snap_merge.proofs.taken.Goals as goal
 
 pub start_up-requires-clause-able : goal.start_up-requires-clause-able
-start_up-requires-clause-able c = λ L here.
-    let of = subst (IsLinked L) (ap (λ (v : StoreRun). v.linked) c.requires.fresh) here in
-    (mergeable L c.args.linked.now of c.has_few_pages.ensures c.requires.hosts, c.holds_bytes.ensures L here)
+start_up-requires-clause-able c =
+    let same = ap (λ (v : StoreRun). v.linked) c.requires.fresh in
+    let known : IsMergeable c.args.linked.now = record { shape = c.links.ensures.shape; links = c.links.ensures.links; pages = c.has_few_pages.ensures; hosts = c.requires.hosts } in
+    (subst IsMergeable (sym same) known, c.holds_bytes.ensures)
 
 pub start_up-requires-clause-starting : goal.start_up-requires-clause-starting
 start_up-requires-clause-starting c = opened c.args.most c.args.store.now c.args.linked.now c.requires.fresh
 
 pub written-requires-clause-taken : goal.written-requires-clause-taken
-written-requires-clause-taken c = λ L of.
-    let here = subst (IsLinked L) (sym (ap (λ (v : StoreRun). v.linked) c.requires.fresh)) of in
-    record {
-      most = c.args.most;
-      first = c.in-Ok.ensures.first L here;
-      found = c.in-Ok.ensures.starting.found;
-      none = c.in-Ok.ensures.starting.none;
-    }
+written-requires-clause-taken c = record {
+  most = c.args.most;
+  first = subst (λ (M : LinkedSet). IsFirst M c.args.most c.start_up.new.store.run.steps Takes) (ap (λ (v : StoreRun). v.linked) c.requires.fresh) c.in-Ok.ensures.first;
+  found = c.in-Ok.ensures.starting.found;
+  none = c.in-Ok.ensures.starting.none;
+}
 
 pub returns-in-Ok-clause-snapped : goal.returns-in-Ok-clause-snapped
 returns-in-Ok-clause-snapped c =
-    if_ok c.written.result (λ b spelled L of.
-    let here = subst (IsLinked L) (sym (ap (λ (v : StoreRun). v.linked) c.requires.fresh)) of in
+    if_ok c.written.result (λ b spelled.
+    let L = c.args.linked.now in
+    let same = ap (λ (x : StoreRun). x.linked) c.requires.fresh in
     let v = c.start_up.new.store in
-    snapped_of c.spelled_snapshots_are_snapshots.ensures L (mergeable L c.args.linked.now of c.has_few_pages.ensures c.requires.hosts) (c.holds_bytes.ensures L here) c.args.most v.run.steps
-    (c.in-Ok.ensures.first L here) (state_at (set_course L) v.run) (here_is L c.args.most v c.in-Ok.ensures.starting) b.items (spelled L of)) c.written.ensures.spelled
+    let known : IsMergeable L = record { shape = c.links.ensures.shape; links = c.links.ensures.links; pages = c.has_few_pages.ensures; hosts = c.requires.hosts } in
+    snapped_of c.spelled_snapshots_are_snapshots.ensures L known (subst HoldBytes same c.holds_bytes.ensures) c.args.most v.run.steps
+    (subst (λ (M : LinkedSet). IsFirst M c.args.most v.run.steps Takes) same c.in-Ok.ensures.first) (state_at (set_course L) v.run) (here_is L c.args.most v c.in-Ok.ensures.starting) b.items spelled) c.written.ensures.spelled
 
 pub returns-in-Ok-clause-tells : goal.returns-in-Ok-clause-tells
 returns-in-Ok-clause-tells c =
-    if_err c.written.result (λ fault tells L of.
-    let here = subst (IsLinked L) (sym (ap (λ (v : StoreRun). v.linked) c.requires.fresh)) of in
+    if_err c.written.result (λ fault tells.
+    let L = c.args.linked.now in
+    let same = ap (λ (x : StoreRun). x.linked) c.requires.fresh in
     let v = c.start_up.new.store in
-    written_tells L c.args.most v.run.steps (c.in-Ok.ensures.first L here) (state_at (set_course L) v.run) (here_is L c.args.most v c.in-Ok.ensures.starting) fault (tells L of)) c.written.ensures.tells
+    written_tells L c.args.most v.run.steps (subst (λ (M : LinkedSet). IsFirst M c.args.most v.run.steps Takes) same c.in-Ok.ensures.first)
+    (state_at (set_course L) v.run) (here_is L c.args.most v c.in-Ok.ensures.starting) fault tells) c.written.ensures.tells
 
 pub returns-in-Err-clause-tells : goal.returns-in-Err-clause-tells
-returns-in-Err-clause-tells c = λ L of.
-    let here = subst (IsLinked L) (sym (ap (λ (v : StoreRun). v.linked) c.requires.fresh)) of in
-    first_tells L c.args.most c.in-Err.fault (c.in-Err.ensures.refuses L here)
+returns-in-Err-clause-tells c =
+    let same = ap (λ (v : StoreRun). v.linked) c.requires.fresh in
+    first_tells c.args.linked.now c.args.most c.in-Err.fault (subst (λ (M : LinkedSet). Refuses M c.args.most c.in-Err.fault) same c.in-Err.ensures.refuses)

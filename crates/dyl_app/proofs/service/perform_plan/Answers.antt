@@ -1,7 +1,7 @@
 use Rattle.std.proofs.Common.{Ok}
 use Rattle.host_calls.specs.Embedders.{names_of}
 use Rattle.dyl_link.specs.dyl_search.Gathers.{options_of}
-use Rattle.dyl_link.specs.Kept as links
+use Rattle.dyl_link.specs.Sets as links
 use Rattle.dyl_front.specs.declared.order.Order.TheVariants.{Plan}
 use Rattle.dyl_commands.proofs.Telling.{done_silent, told_serves, told_plans}
 use Rattle.dyl_commands.proofs.Counting.{told_counts}

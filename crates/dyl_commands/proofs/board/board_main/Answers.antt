@@ -1,9 +1,9 @@
-use Rattle.std.proofs.Common.{◌<◌, ◌≤◌, [], length, subst, sym}
+use Rattle.std.proofs.Common.{◌≡◌, ◌<◌, ◌≤◌, [], length, subst, sym}
 use Rattle.std.specs.List.{All}
+use Rattle.spec_loading.specs.spec_linking.LinkedSets.{LinkedSet}
 use Rattle.host_calls.specs.Embedders.{names_of, embedder_of}
-use Rattle.wasm_exec.specs.Executed.{IsLinkedOver}
 use Rattle.slice_board.specs.Taken.{picks_of}
-use Rattle.dyl_link.specs.Kept as links
+use Rattle.dyl_link.specs.Sets as links
 use Rattle.dyl_commands.specs.Runs.{guest_arguments}
 use Rattle.dyl_commands.proofs.InTurns.{some_sets, few_sets, all_over, declared_integers, turns_serve, turns_work, turns_count, turns_not_done, unlinked_count, board_refused, board_idle, board_not_done}
 use Rattle.dyl_commands.proofs.board.board_main.Goals as goal
@@ -15,9 +15,9 @@ run_in_turns-outcome-requires g c =
     let old = g.F.Files.seen c.args.files.now in
     let same = sym c.items.ensures in
     record {
-      some = subst (λ ks. 0 < length ks) same (some_sets names l old c.args.mains.now c.in-Ok.sets c.in-Ok.ensures.got c.requires.some);
-      few = subst (λ ks. length ks ≤ 64) same (few_sets names l old c.args.mains.now c.in-Ok.sets c.in-Ok.ensures.got c.requires.few);
-      names = subst (All (λ k. IsLinkedOver k names)) same (all_over names l old c.args.mains.now c.in-Ok.sets c.in-Ok.ensures.got);
+      some = subst (λ Ls. 0 < length Ls) same (some_sets names l old c.args.mains.now c.in-Ok.sets c.in-Ok.ensures.got c.requires.some);
+      few = subst (λ Ls. length Ls ≤ 64) same (few_sets names l old c.args.mains.now c.in-Ok.sets c.in-Ok.ensures.got c.requires.few);
+      names = subst (All (λ (L : LinkedSet). L.names ≡ names)) same (all_over names l old c.args.mains.now c.in-Ok.sets c.in-Ok.ensures.got);
       integers = declared_integers names l old c.args.mains.now c.in-Ok.sets c.in-Ok.ensures.got c.requires.some;
       steps = c.requires.steps;
     }

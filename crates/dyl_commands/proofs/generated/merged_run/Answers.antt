@@ -5,14 +5,11 @@ use Rattle.dyl_commands.proofs.Generating.{opens_of, merged_runs}
 use Rattle.dyl_commands.proofs.HeldNumbers.{merged_numbers}
 use Rattle.dyl_commands.proofs.generated.merged_run.Goals as goal
 
-pub merged_module-requires-clause-set : goal.merged_module-requires-clause-set
-merged_module-requires-clause-set g c = (c.requires.names.0, c.requires.names.1)
-
 pub merged_report-report-requires-clause-opens : goal.merged_report-report-requires-clause-opens
-merged_report-report-requires-clause-opens g c = opens_of c.args.linked.now (names_of c.args.host.now) c.requires.names.0 c.requires.names.1 c.requires.names.2 c.in-Ok.checked c.in-Ok.ensures
+merged_report-report-requires-clause-opens g c = opens_of (names_of c.args.host.now) c.args.linked.now c.requires.names c.in-Ok.checked c.in-Ok.ensures
 
 pub merged_report-report-requires-clause-numbers : goal.merged_report-report-requires-clause-numbers
-merged_report-report-requires-clause-numbers g c = merged_numbers c.requires.names.0 c.in-Ok.checked (c.in-Ok.ensures c.requires.names.0 c.requires.names.1)
+merged_report-report-requires-clause-numbers g c = merged_numbers c.args.linked.now c.in-Ok.checked c.in-Ok.ensures
 
 pub returns-in-Ok : goal.returns-in-Ok
 returns-in-Ok g c =

@@ -1,14 +1,10 @@
 use Rattle.host_calls.specs.Embedders.{names_of}
 use Rattle.dyl_link.specs.dyl_search.Gathers.{options_of}
-use Rattle.dyl_link.specs.Kept as links
-use Rattle.dyl_commands.specs.Linking.{linked}
+use Rattle.dyl_link.specs.Sets as links
 use Rattle.dyl_commands.proofs.Listing.{plan_serves, plan_works}
 use Rattle.dyl_commands.proofs.Refusing.{plan_refused, plan_idle}
 use Rattle.dyl_commands.proofs.Counting.{got_counts, listed_no_fault, refused_counts}
 use Rattle.dyl_commands.proofs.plan.plan_main.Goals as goal
-
-pub put_listing-outcome-requires : goal.put_listing-outcome-requires
-put_listing-outcome-requires g c = let got = c.in-Ok.ensures.got in (linked (names_of c.args.host.now) (links.options_of c.args.link.now) got.set, got.linked)
 
 pub returns-in-Ok-clause-serves : goal.returns-in-Ok-clause-serves
 returns-in-Ok-clause-serves g c = plan_serves (names_of c.args.host.now) c.args.set.now c.args.link.now c.in-Ok.linked _ _ c.in-Ok.ensures _ _ c.put_listing-outcome.result c.put_listing-outcome.ensures

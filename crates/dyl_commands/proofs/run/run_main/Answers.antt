@@ -1,7 +1,7 @@
-use Rattle.std.proofs.Common.{refl}
+use Rattle.std.proofs.Common.{ap}
+use Rattle.spec_loading.specs.spec_linking.LinkedSets.{LinkedSet}
 use Rattle.dyl_link.specs.dyl_search.Gathers.{options_of}
-use Rattle.dyl_link.specs.Kept as links
-use Rattle.dyl_commands.specs.Linking.{linked}
+use Rattle.dyl_link.specs.Sets as links
 use Rattle.host_calls.specs.Embedders.{names_of, embedder_of}
 use Rattle.dyl_commands.specs.Runs.{guest_arguments}
 use Rattle.dyl_commands.proofs.Running.{run_serves, run_works, runs_not_done}
@@ -12,7 +12,7 @@ use Rattle.dyl_commands.proofs.run.run_main.Goals as goal
 pub run_linked-outcome-requires : goal.run_linked-outcome-requires
 run_linked-outcome-requires g c =
     let got = c.in-Ok.ensures.got in
-    record { names = (linked (names_of c.args.host.now) (links.options_of c.args.link.now) got.set, got.linked, refl); integers = got.integers; steps = c.requires.steps }
+    record { names = ap (λ (L : LinkedSet). L.names) got.is; integers = got.integers; steps = c.requires.steps }
 
 pub returns-in-Ok-clause-serves : goal.returns-in-Ok-clause-serves
 returns-in-Ok-clause-serves g c =

@@ -1,7 +1,7 @@
 use Rattle.std.proofs.Common.{◌≡◌, Err, rules, subst}
 use Rattle.std.proofs.lemmas.List.{drop_all}
 use Rattle.host_calls.specs.Embedders.{names_of}
-use Rattle.dyl_link.specs.Kept as links
+use Rattle.dyl_link.specs.Sets as links
 use Rattle.dyl_commands.specs.Served.{GetsAll, all_linked}
 use Rattle.dyl_commands.proofs.Several.{begins, goes_on, breaks, ends, left_more}
 use Rattle.dyl_commands.proofs.sets.link_each.Goals as goal

@@ -1,6 +1,6 @@
 use Rattle.std.proofs.Common.{drop}
 use Rattle.host_calls.specs.Embedders.{names_of}
-use Rattle.dyl_link.specs.Kept as links
+use Rattle.dyl_link.specs.Sets as links
 use Rattle.dyl_commands.proofs.Several.{GoesOn}
 use Rattle.dyl_commands.proofs.sets.link_each.Given as goal
 

@@ -1,6 +1,6 @@
 use Rattle.host_calls.specs.Embedders.{names_of}
 use Rattle.spec_loading.specs.spec_linking.Sets.{default_options}
-use Rattle.dyl_link.specs.Kept as links
+use Rattle.dyl_link.specs.Sets as links
 use Rattle.dyl_commands.proofs.Several.{unlinked}
 use Rattle.dyl_commands.proofs.sets.linked_main.Goals as goal
 

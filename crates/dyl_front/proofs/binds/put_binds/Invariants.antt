@@ -1,10 +1,10 @@
-use Rattle.std.proofs.Common.{◌≡◌, ◌++◌, drop, map}
-use Rattle.dyl_link.specs.dyl_search.Gathers.{member_of, set_of}
-use Rattle.dyl_link.specs.Kept.{function_in, cell_in}
+use Rattle.std.proofs.Common.{◌≡◌, ◌++◌, drop}
+use Rattle.spec_linking.specs.LinkedSets.{function_ref}
+use Rattle.spec_linking.specs.Slots.{imported_number}
 use Rattle.dyl_front.specs.Listing.{bind_lines}
 use Rattle.dyl_front.proofs.binds.put_binds.Given as goal
 
-abbrev pub invariant-loop-member : goal.invariant-loop-member
-invariant-loop-member l = (l.m ≡ l.member-index)
-    × (l.to.items ++ bind_lines (function_in l.linked) (cell_in l.linked) l.m (map member_of (drop l.member-index l.linked.set.members))
-    ≡ l.fn.to.items ++ bind_lines (function_in l.linked) (cell_in l.linked) 0 (set_of l.linked.set).members)
+abbrev pub invariant-loop-m : goal.invariant-loop-m
+invariant-loop-m l =
+    l.to.items ++ bind_lines (function_ref l.linked) (imported_number l.linked) l.m (drop l.m l.linked.set.members)
+    ≡ l.fn.to.items ++ bind_lines (function_ref l.linked) (imported_number l.linked) 0 l.linked.set.members

@@ -1,8 +1,8 @@
-use Rattle.std.proofs.Common.{◌≡◌, ◌++◌, drop, map}
-use Rattle.dyl_link.specs.dyl_search.Gathers.{member_of, set_of}
+use Rattle.std.proofs.Common.{◌≡◌, ◌++◌, drop}
+use Rattle.spec_linking.specs.Slots.{linked_plan}
 use Rattle.dyl_front.specs.Listing.{module_lines}
 use Rattle.dyl_front.proofs.list.put_modules.Given as goal
 
-abbrev pub invariant-loop-member : goal.invariant-loop-member
-invariant-loop-member l = (l.m ≡ l.member-index)
-    × (l.to.items ++ module_lines l.linked.plan l.m (map member_of (drop l.member-index l.linked.set.members)) ≡ l.fn.to.items ++ module_lines l.linked.plan 0 (set_of l.linked.set).members)
+abbrev pub invariant-loop-m : goal.invariant-loop-m
+invariant-loop-m l =
+    l.to.items ++ module_lines (linked_plan l.linked) l.m (drop l.m l.linked.set.members) ≡ l.fn.to.items ++ module_lines (linked_plan l.linked) 0 l.linked.set.members

@@ -3,7 +3,7 @@ use Rattle.std.specs.List.{position_from}
 use Rattle.std.specs.Option.{option_map}
 use Rattle.spec_merging.specs.wasm_form.declared.module.Export.{Export}
 use Rattle.dyl_front.specs.Listing.{is_name_of}
-use Rattle.dyl_front.specs.KeptListing.{name_placed}
+use Rattle.dyl_front.specs.Named.{name_placed}
 use Rattle.dyl_front.proofs.FirstNames.{find_placed}
 use Rattle.dyl_front.proofs.names.name_of.Goals as goal
 

@@ -1,6 +1,6 @@
 use Rattle.std.proofs.Common.{rules, ap, map, sym}
 use Rattle.dyl_slots.specs.dyl_search.Gathers.{member_of, set_of}
-use Rattle.dyl_link.specs.Kept.{linked_set}
+use Rattle.dyl_link.specs.Sets.{linked_set}
 use Rattle.dyl_link.proofs.Sound.{is_over}
 use Rattle.dyl_link.proofs.entry_and_layout.found_of.Goals as goal
 

@@ -6,7 +6,7 @@ use Rattle.dyl_store.proofs.opening.memory_of.Goals as goal
 
 pub new-requires-clause-within : goal.new-requires-clause-within
 new-requires-clause-within c =
-    rw (c.pages.ensures, c.pages_max.ensures) (pages_fit c.requires.set.0 c.args.linked.now c.requires.set.1 c.plan-plan.result.now c.plan-plan.ensures)
+    rw (c.pages.ensures, c.pages_max.ensures) (pages_fit c.args.linked.now c.plan-plan.result.now c.plan-plan.ensures c.links.ensures.links)
 
 pub new-requires-clause-most : goal.new-requires-clause-most
 new-requires-clause-most c =
@@ -16,9 +16,9 @@ new-requires-clause-most c =
 pub put-requires : goal.put-requires
 put-requires c =
     let fresh = c.in_ok-memory.ensures ∙ ap₂ new_memory c.pages.ensures c.pages_max.ensures in
-    texts_lie c.requires.set.0 c.args.linked.now c.requires.set.1 c.plan-plan.result.now c.plan-plan.ensures c.slots_fit.ensures.sizes c.in_ok-memory.memory fresh c.texts.result c.error_texts.result.now c.texts.ensures c.error_texts.ensures
+    texts_lie c.args.linked.now c.plan-plan.result.now c.plan-plan.ensures c.slots_fit.ensures.sizes c.in_ok-memory.memory fresh c.texts.result c.error_texts.result.now c.texts.ensures c.error_texts.ensures
 
 pub returns : goal.returns
-returns c = λ L h.
+returns c =
     let fresh = c.in_ok-memory.ensures ∙ ap₂ new_memory c.pages.ensures c.pages_max.ensures in
-    memory_is L c.args.linked.now h c.plan-plan.result.now c.plan-plan.ensures c.slots_fit.ensures.sizes c.in_ok-memory.memory fresh c.texts.result c.error_texts.result.now c.put.new.memory c.texts.ensures c.error_texts.ensures c.put.ensures
+    memory_is c.args.linked.now c.plan-plan.result.now c.plan-plan.ensures c.slots_fit.ensures.sizes c.in_ok-memory.memory fresh c.texts.result c.error_texts.result.now c.put.new.memory c.texts.ensures c.error_texts.ensures c.put.ensures

@@ -1,6 +1,5 @@
-use Rattle.std.proofs.Common.{subst, arith, ap, ◌∙◌}
+use Rattle.std.proofs.Common.{subst, arith}
 use Rattle.spec_loading.specs.spec_safety.SoundModules.{HoldsBytes}
-use Rattle.dyl_link.specs.dyl_search.declared.set.ClosedSet.{ClosedSet}
 use Rattle.dyl_store.proofs.Runnable.{next_bytes, all_bytes}
 use Rattle.dyl_store.proofs.store.hold_bytes.Goals as goal
 
@@ -10,4 +9,4 @@ loop-member-preserved c =
 
 pub returns : goal.returns
 returns c =
-    all_bytes c.args.linked.now _ c.loop-member.member-index (c.items-member-items.ensures ∙ ap (λ (S : ClosedSet). S.members) c.set.ensures) (omega arith) c.loop-member.invariant
+    all_bytes c.args.linked.now _ c.loop-member.member-index c.members-member-items.ensures (omega arith) c.loop-member.invariant

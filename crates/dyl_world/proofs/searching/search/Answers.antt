@@ -5,7 +5,8 @@ use Rattle.dyl_world.proofs.Found.{found_searched}
 use Rattle.dyl_world.proofs.searching.search.Goals as goal
 
 pub returns : goal.returns
-returns c = λ L is.
-    let same = c.definition.ensures L is in
+returns c =
+    let L = c.args.linked.now in
+    let same = c.definition.ensures in
     let name = c.args.name.now in
-    c.number_of.ensures L name is (subst IsFound (sym same) (found_searched L.set c.args.members.now name)) ∙ ap (cell_number L name) same
+    c.number_of.ensures name (subst IsFound (sym same) (found_searched L.set c.args.members.now name)) ∙ ap (cell_number L name) same

@@ -6,8 +6,9 @@ use Rattle.dyl_world.proofs.Found.{found_searched}
 use Rattle.dyl_world.proofs.searching.search_handle.Goals as goal
 
 pub returns : goal.returns
-returns c = λ L is.
-    let same = c.definition_by.ensures L is in
+returns c =
+    let L = c.args.linked.now in
+    let same = c.definition_by.ensures in
     let name = c.args.name.now in
     let found = found_searched L.set (handle_list L.set c.args.promoted.now.list c.args.handle) name in
-    c.number_of.ensures L name is (subst IsFound (sym same) found) ∙ ap (cell_number L name) same
+    c.number_of.ensures name (subst IsFound (sym same) found) ∙ ap (cell_number L name) same

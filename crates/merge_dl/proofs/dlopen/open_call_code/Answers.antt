@@ -3,5 +3,5 @@ use Rattle.merge_dl.proofs.Making.{open_made}
 use Rattle.merge_dl.proofs.dlopen.open_call_code.Goals as goal
 
 pub returns : goal.returns
-returns c = λ L h.
-    open_made L (starts_in c.args.n.now) (finders_in c.args.n.now) _ _ _ c.in_ok-code.ensures (c.in_ok-search.ensures L h) c.in_ok-append.ensures.items
+returns c =
+    open_made c.args.linked.now (starts_in c.args.n.now) (finders_in c.args.n.now) _ _ _ c.in_ok-code.ensures c.in_ok-search.ensures c.in_ok-append.ensures.items

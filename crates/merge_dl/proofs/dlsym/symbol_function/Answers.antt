@@ -3,5 +3,5 @@ use Rattle.merge_dl.proofs.Making.{symbol_part}
 use Rattle.merge_dl.proofs.dlsym.symbol_function.Goals as goal
 
 pub returns : goal.returns
-returns c = λ L x d h numbers.
-    c.part.ensures ∙ symbol_part L c.args.n.now x d numbers _ _ _ c.in_ok-ty.ensures c.in_ok-locals.ensures (c.in_ok-code.ensures L h)
+returns c = λ x d numbers.
+    c.part.ensures ∙ symbol_part c.args.linked.now c.args.n.now x d numbers _ _ _ c.in_ok-ty.ensures c.in_ok-locals.ensures c.in_ok-code.ensures

@@ -7,8 +7,7 @@ pub loop-e-preserved : goal.loop-e-preserved
 loop-e-preserved c =
     let lt : c.loop-e.e-index < length c.args.exports.now = omega (arith, c.loop-e-test.true) in
     record {
-      names = λ L h.
-          flat_next (export_names L c.args.m) c.args.exports.now c.loop-e.e-index c.e-item.result lt c.e-item.is _ _ _
-          (c.in_ok-put_export.ensures.names L h) (c.loop-e.invariant.names L h);
+      names = flat_next (export_names c.args.linked.now c.args.m) c.args.exports.now c.loop-e.e-index c.e-item.result lt c.e-item.is _ _ _
+          c.in_ok-put_export.ensures.names c.loop-e.invariant.names;
       texts = c.in_ok-put_export.ensures.texts;
     }

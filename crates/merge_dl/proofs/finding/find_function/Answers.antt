@@ -9,7 +9,8 @@ use Rattle.merge_dl.proofs.Searches.{exports_named}
 use Rattle.merge_dl.proofs.finding.find_function.Goals as goal
 
 pub returns : goal.returns
-returns c = λ L h.
+returns c =
+    let L = c.args.linked.now in
     let m = c.args.m in
-    let names = c.in_ok-names.ensures.names L h ∙ ap (λ es. flat_map (export_names L m) es) c.items.ensures ∙ sym (exports_named L m c.args.wasm.now.exports) in
+    let names = c.in_ok-names.ensures.names ∙ ap (λ es. flat_map (export_names L m) es) c.items.ensures ∙ sym (exports_named L m c.args.wasm.now.exports) in
     c.part.ensures ∙ part_same _ search_type _ [] _ _ c.in_ok-ty.ensures c.new.ensures.items (c.in_ok-code.ensures ∙ ap (search_code number_goal) names)

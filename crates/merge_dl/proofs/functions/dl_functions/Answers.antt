@@ -4,4 +4,5 @@ use Rattle.merge_dl.specs.Listed.{call_parts}
 use Rattle.merge_dl.proofs.functions.dl_functions.Goals as goal
 
 pub returns-in-Ok : goal.returns-in-Ok
-returns-in-Ok c = λ L x d h numbers. c.of.ensures ∙ c.in-Ok.ensures L x d h numbers ∙ ap (λ (l : List Part). l ++ call_parts L x d) c.new-parts.ensures.items
+returns-in-Ok c = λ x d numbers.
+    c.of.ensures ∙ c.in-Ok.ensures x d numbers ∙ ap (λ (l : List Part). l ++ call_parts c.args.linked.now x d) c.new-parts.ensures.items

@@ -1,28 +1,16 @@
-use Rattle.std.proofs.Common.{◌≡◌, ◌<◌, ◌≤◌, ◌+◌, List, [], ◌∷◌, ◌++◌, length, Some, sym, ap, ◌∙◌, refl, arith}
-use Rattle.std.specs.List.{slice_get}
+use Rattle.std.proofs.Common.{◌≡◌, ◌≤◌, ◌+◌, List, [], ◌∷◌, ◌++◌, length, ap, ◌∙◌, refl, arith}
 use Rattle.wasm_form.specs.declared.module.Elem.{Elem}
 use Rattle.wasm_form.specs.declared.module.Module.{Module}
 use Rattle.spec_loading.specs.spec_binary.IndexSpaces.{function_space}
-use Rattle.dyl_link.specs.dyl_search.declared.set.Member.{Member}
-use Rattle.dyl_link.specs.dyl_search.declared.set.ClosedSet.{ClosedSet}
-use Rattle.dyl_addresses.specs.Sets.{module_of}
-use Rattle.dyl_addresses.proofs.Linked.{members_count, at_index}
+use Rattle.dyl_link.specs.dyl_search.Gathers.{member_of}
 use Rattle.merge_start.specs.Passive.{fresh_elems}
-use Rattle.merge_start.proofs.Linked.{few_members}
 use Rattle.merge_start.proofs.Made.{next_sum, next_made}
-use Rattle.merge_start.proofs.Items.{few_functions, fresh_is, one_list}
+use Rattle.merge_start.proofs.Items.{few_functions, fresh_is}
 use Rattle.merge_start.proofs.passive.slots_elems.Goals as goal
 
 pub functions_elem-requires : goal.functions_elem-requires
 functions_elem-requires c =
-    let k = c.args.linked.now in
-    let m = c.loop-m.m in
-    let x = c.index-members-m.result in
-    let list : c.items-members.result.now ≡ k.set.members = c.items-members.ensures ∙ ap (λ (S : ClosedSet). S.members) c.set.ensures in
-    let many : length c.items-members.result.now ≡ length k.set.members = ap (λ (l : List Member). length l) list in
-    let inside : m < length c.items-members.result.now = omega (arith, c.loop-m-test.true) in
-    let set = c.requires.set in
-    let few : m ≤ 256 = (let all = few_members set.0 k set.1 in omega arith) in
+    let few : c.loop-m.m ≤ 256 = omega (arith, c.loop-m-test.true, c.member_count-m-end.ensures.few) in
     let within = c.loop-m.invariant.within in
     let all = few_functions _ c.module.ensures.formed in
     let same = c.function_count.ensures ∙ ap (λ (w : Module). length (function_space w)) c.module.ensures.same in
@@ -30,14 +18,7 @@ functions_elem-requires c =
 
 pub overflow_add-at : goal.overflow_add-at
 overflow_add-at c =
-    let k = c.args.linked.now in
-    let m = c.loop-m.m in
-    let x = c.index-members-m.result in
-    let list : c.items-members.result.now ≡ k.set.members = c.items-members.ensures ∙ ap (λ (S : ClosedSet). S.members) c.set.ensures in
-    let many : length c.items-members.result.now ≡ length k.set.members = ap (λ (l : List Member). length l) list in
-    let inside : m < length c.items-members.result.now = omega (arith, c.loop-m-test.true) in
-    let set = c.requires.set in
-    let few : m ≤ 256 = (let all = few_members set.0 k set.1 in omega arith) in
+    let few : c.loop-m.m ≤ 256 = omega (arith, c.loop-m-test.true, c.member_count-m-end.ensures.few) in
     let within = c.loop-m.invariant.within in
     let all = few_functions _ c.module.ensures.formed in
     let same = c.function_count.ensures ∙ ap (λ (w : Module). length (function_space w)) c.module.ensures.same in
@@ -45,31 +26,20 @@ overflow_add-at c =
 
 pub loop-m-preserved : goal.loop-m-preserved
 loop-m-preserved c =
-    let k = c.args.linked.now in
+    let L = c.args.linked.now in
     let m = c.loop-m.m in
-    let x = c.index-members-m.result in
-    let list : c.items-members.result.now ≡ k.set.members = c.items-members.ensures ∙ ap (λ (S : ClosedSet). S.members) c.set.ensures in
-    let many : length c.items-members.result.now ≡ length k.set.members = ap (λ (l : List Member). length l) list in
-    let inside : m < length c.items-members.result.now = omega (arith, c.loop-m-test.true) in
-    let here : slice_get k.set.members m ≡ Some x =
-    ap (λ (l : List Member). slice_get l m) (sym list) ∙ at_index c.items-members.result.now m x inside c.index-members-m.is in
-    let wasm : c.module.result.now ≡ module_of x = c.module.ensures.same ∙ ap (λ (y : Member). module_of y) (sym c.index-members-m.is) in
-    let count : c.function_count.result ≡ length (function_space (module_of x)) =
+    let x = member_of c.member.result.now in
+    let wasm : c.module.result.now ≡ x.wasm = c.module.ensures.same in
+    let count : c.function_count.result ≡ length (function_space x.wasm) =
     c.function_count.ensures ∙ ap (λ (w : Module). length (function_space w)) wasm in
     let all = few_functions _ c.module.ensures.formed in
     let low = c.loop-m.invariant.within in
-    let same = c.function_count.ensures ∙ ap (λ (w : Module). length (function_space w)) c.module.ensures.same in
+    let own = fresh_is L c.args.n.now m x.wasm c.items.result.now c.loop-m.at c.function_count.result c.items.ensures
+    c.loop-m.invariant.at count c.fresh.result.now c.fresh.ensures in
     record {
-      made = λ L h.
-          let lt : m < length L.set.members = (let number = members_count L k h in omega arith) in
-          let fresh = one_list _ _ (c.fresh.ensures ∙ h.fresh m lt) in
-          let own = fresh_is L c.args.n.now m (module_of x) c.items.result.now c.loop-m.at c.function_count.result c.items.ensures
-          (c.loop-m.invariant.at L h) count c.fresh.result.now fresh in
-          next_made L k h m x here (fresh_elems L c.args.n.now) c.loop-m.list.items (fresh_elems L c.args.n.now m (module_of x)) c.push.new.self.items _
-          (c.loop-m.invariant.made L h) refl
+      made = next_made L m x c.member.ensures (fresh_elems L c.args.n.now) c.loop-m.list.items (fresh_elems L c.args.n.now m x.wasm) c.push.new.self.items _
+          c.loop-m.invariant.made refl
           (c.in_ok-push.ensures.items ∙ ap (λ (l : List Elem). c.loop-m.list.items ++ l) (ap (λ (e : Elem). e ∷ []) c.in_ok-one.ensures ∙ own));
-      at = λ L h.
-          ap (λ n. c.loop-m.at + n) count
-          ∙ next_sum L k h m x here (λ w. length (function_space w)) c.loop-m.at (c.loop-m.invariant.at L h);
-      within = omega (arith, all, same, low);
+      at = ap (λ n. c.loop-m.at + n) count ∙ next_sum L m x c.member.ensures (λ w. length (function_space w)) c.loop-m.at c.loop-m.invariant.at;
+      within = omega (arith, all, count, low);
     }

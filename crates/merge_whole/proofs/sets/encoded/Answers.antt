@@ -3,6 +3,7 @@ use Rattle.spec_merging.specs.declared.fault.MergeFault.{MergeFault}
 use Rattle.spec_merging.specs.declared.fault.MergeFault.TheVariants as faults
 use Rattle.wasm_encode.specs.declared.fault.EncodeFault.{EncodeFault}
 use Rattle.wasm_encode.specs.declared.fault.EncodeFault.TheVariants as encode
+use Rattle.merge_whole.proofs.Joins.{few_members}
 use Rattle.merge_whole.proofs.sets.encoded.Goals as goal
 
 abbrev Encoded : Type 0
@@ -29,3 +30,6 @@ returns-in-Ok-clause-only_long c = λ id too. written c.in-Ok.bytes id (c.in-Ok.
 pub returns-then-is_big-clause-only_long : goal.returns-then-is_big-clause-only_long
 returns-then-is_big-clause-only_long c = λ id too.
     passed c.in-Err-SectionSize.field-0 c.in-Err-SectionSize.id c.in-Err-SectionSize.field-0-is id (c.in-Err-SectionSize.ensures.only_too_long id too)
+
+pub is_big-requires : goal.is_big-requires
+is_big-requires c = few_members c.args.linked.now c.links.ensures.shape c.members.result.now c.members.ensures

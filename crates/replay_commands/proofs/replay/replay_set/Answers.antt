@@ -1,5 +1,5 @@
 use Rattle.dyl_link.specs.dyl_search.Gathers.{options_of}
-use Rattle.dyl_link.specs.Kept as links
+use Rattle.dyl_link.specs.Sets as links
 use Rattle.host_calls.specs.Embedders.{names_of}
 use Rattle.replay_commands.proofs.Replaying.{set_replays, set_replay_refused}
 use Rattle.dyl_commands.proofs.Counting.{refused_counts}
@@ -8,7 +8,7 @@ use Rattle.replay_commands.proofs.replay.replay_set.Goals as goal
 
 pub returns-in-Ok-clause-replays : goal.returns-in-Ok-clause-replays
 returns-in-Ok-clause-replays g c =
-    set_replays (names_of c.args.host.now) c.args.set.now c.args.link.now c.args.steps c.args.trace.now _ _ c.in-Ok.linked c.in-Ok.ensures _ c.in-Ok.ensures.got.linked c.check_outcome-outcome.result c.check_outcome-outcome.ensures
+    set_replays (names_of c.args.host.now) c.args.set.now c.args.link.now c.args.steps c.args.trace.now _ _ (record { ref_ptr = c.args.set.ref_ptr; now = c.in-Ok.linked }) c.in-Ok.ensures c.check_outcome-outcome.result c.check_outcome-outcome.ensures
 
 pub returns-in-Err-clause-replays : goal.returns-in-Err-clause-replays
 returns-in-Err-clause-replays g c =

@@ -10,7 +10,7 @@ use Rattle.replay_commands.proofs.trace.trace_linked.Goals as goal
 pub store_trace-requires-clause-made : goal.store_trace-requires-clause-made
 store_trace-requires-clause-made g c =
     set_made (IsOpened (program.Set c.args.linked)) c.in-Ran.ran c.args.steps c.requires.steps c.args.linked.now (embedder_of (guest_arguments c.args.args.now) c.args.host.now) _ _ (set_begins c.args.linked)
-    c.requires.names.0 c.requires.names.1 c.requires.names.1 c.in-Ran.ensures.runs c.in-Ran.ensures.taken
+    refl c.in-Ran.ensures.runs c.in-Ran.ensures.taken
 
 pub returns-in-Ran : goal.returns-in-Ran
 returns-in-Ran g c =

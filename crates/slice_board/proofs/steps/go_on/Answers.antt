@@ -19,16 +19,14 @@ returns-in-Some-clause-goes c =
 pub run_step-requires-clause-answered : goal.run_step-requires-clause-answered
 run_step-requires-clause-answered c =
     let a = c.in_ok-advance.ensures in
-    let L = c.links.ensures.0 in
-    let linked = c.links.ensures.1 in
     let along = code_along c.args.most c.args.until c.args.store.now c.advance.new.self a.same c.requires.few a.advances a.code in
-    (L, linked, step_unasked c.args.most c.args.until c.advance.new.self c.advance.new.self along.few a.found c.in_default.ensures L linked)
+    step_unasked c.args.most c.args.until c.advance.new.self c.advance.new.self along.few a.found c.in_default.ensures
 
 pub run_step-requires-clause-few : goal.run_step-requires-clause-few
 run_step-requires-clause-few c =
     let a = c.in_ok-advance.ensures in
     let along = code_along c.args.most c.args.until c.args.store.now c.advance.new.self a.same c.requires.few a.advances a.code in
-    let under = step_under c.args.most c.args.until c.advance.new.self c.advance.new.self along.few a.found c.in_default.ensures c.links.ensures.0 c.links.ensures.1 in
+    let under = step_under c.args.most c.args.until c.advance.new.self c.advance.new.self along.few a.found c.in_default.ensures in
     omega (arith, under, c.requires.limit, c.ranges.most)
 
 pub returns-in_err-event-clause-lost : goal.returns-in_err-event-clause-lost
@@ -56,6 +54,5 @@ returns-clause-goes c =
     let a = c.in_ok-advance.ensures in
     let found = was_found old.run.lost (λ e. (let bad = a.again e in cc)) in
     let along = code_along most until old middle a.same c.requires.few a.advances a.code in
-    let step = step_told most until middle new along.few a.found c.in_default.ensures c.links.ensures c.in_ok-event.event
-    (λ L linked. (c.in_ok-event.ensures.stepped L linked).1) in
+    let step = step_told most until middle new along.few a.found c.in_default.ensures c.in_ok-event.event c.in_ok-event.ensures.stepped.1 in
     rw c.deep_stop-why.ensures (goes_then most until old middle new _ a.same found along step)

@@ -29,7 +29,7 @@ returns-clause-made c =
     let least : c.min-until.result ≡ min c.args.seat.now.most (old.run.steps + c.args.slice) = omega (arith, c.min-until.ensures, c.saturating_add.ensures, c.steps-start.ensures.value) in
     record {
       found = goes.found;
-      taken = λ L linked.
+      taken =
           rw (c.steps.ensures.value, c.steps-start.ensures.value)
-          (turn_made c.args.slice c.args.seat.now.most c.min-until.result old new least c.in_ok-why.why goes L linked);
+          (turn_made c.args.slice c.args.seat.now.most c.min-until.result old new least c.in_ok-why.why goes);
     }

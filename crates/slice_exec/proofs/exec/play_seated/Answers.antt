@@ -4,7 +4,7 @@ use Rattle.std.specs.List.{AllZip}
 use Rattle.std.proofs.lemmas.List.{take_all}
 use Rattle.slice_exec.specs.Playing.{IsHostsOf}
 use Rattle.slice_exec.proofs.HostsBound.{bound_so}
-use Rattle.slice_exec.proofs.Kept.{zip_more}
+use Rattle.slice_exec.proofs.Lists.{zip_more}
 use Rattle.slice_exec.proofs.Whole.{runs_none, have_hosts, runs_played}
 use Rattle.slice_exec.proofs.exec.play_seated.Goals as goal
 

@@ -6,7 +6,7 @@ use Rattle.slice_exec.specs.declared.tally.Tally.{Tally}
 use Rattle.dyl_store.specs.Stores.{StoreRun}
 use Rattle.slice_exec.specs.Playing.{written_by}
 use Rattle.slice_exec.proofs.Serving.{written_at}
-use Rattle.slice_exec.proofs.TakenRounds.{lost_round, silent_round, seen_full, program_within, written_so, serving_so, answered_round}
+use Rattle.slice_exec.proofs.TakenRounds.{lost_round, lost_by, silent_round, seen_full, program_within, written_so, serving_so, answered_round}
 use Rattle.slice_exec.proofs.playing.round.Goals as goal
 
 pub returns-in_err-turn-clause-round : goal.returns-in_err-turn-clause-round
@@ -14,6 +14,13 @@ returns-in_err-turn-clause-round g c =
     let b = c.args.board.now in
     let r = err_from_is_err_and c.from_residual.result c.from_residual.ensures.1 in
     rw r.1 (lost_round c.args.slice (picks_of b.picker.now) c.args.hosts.now b.seats.items b.turn c.args.tally.now r.0 b.seats.items b.turn c.args.tally.now _)
+
+pub returns-in_err-push-clause-round : goal.returns-in_err-push-clause-round
+returns-in_err-push-clause-round g c =
+    let b = c.args.board.now in
+    let told : Tally = record c.args.tally.now { picks = c.push.new.self } in
+    lost_by c.args.slice (picks_of b.picker.now) c.args.hosts.now b.seats.items b.turn c.args.tally.now c.from_residual-in_err-push.result c.from_residual-in_err-push.ensures.0 c.turn.new.self.seats.items c.turn.new.self.turn
+    told _
 
 pub returns-in_default-clause-round : goal.returns-in_default-clause-round
 returns-in_default-clause-round g c =

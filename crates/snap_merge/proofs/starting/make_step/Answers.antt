@@ -6,14 +6,11 @@ use Rattle.snap_merge.proofs.StartUp.{here_is, status_is, not_waiting, step_made
 use Rattle.snap_merge.proofs.starting.make_step.Goals as goal
 
 pub run_step-requires-clause-answered : goal.run_step-requires-clause-answered
-run_step-requires-clause-answered c =
-    let set = c.links.ensures in
-    (set.0, set.1, λ at. not_waiting set.0 c.args.most c.args.store.now c.requires.starting (c.requires.may set.0 set.1).0)
+run_step-requires-clause-answered c = λ at. not_waiting c.args.store.now.linked c.args.most c.args.store.now c.requires.starting c.requires.may.0
 
 pub returns-clause-made : goal.returns-clause-made
 returns-clause-made c =
-    let set = c.links.ensures in
     let v = c.args.store.now in
-    let may = c.requires.may set.0 set.1 in
-    step_made (set_course set.0) v.run c.run_step.new.self.run (status_is set.0 c.args.most v c.requires.starting ∙ may.0)
-    (ap (loaded_too_deep (set_loading set.0)) (here_is set.0 c.args.most v c.requires.starting) ∙ may.1) c.in_ok-event.event (c.in_ok-event.ensures.stepped set.0 set.1).1
+    let L = v.linked in
+    step_made (set_course L) v.run c.run_step.new.self.run (status_is L c.args.most v c.requires.starting ∙ c.requires.may.0)
+    (ap (loaded_too_deep (set_loading L)) (here_is L c.args.most v c.requires.starting) ∙ c.requires.may.1) c.in_ok-event.event c.in_ok-event.ensures.stepped.1

@@ -7,17 +7,17 @@ use Rattle.snap_merge.proofs.StartUp.{told_moving, status_is, IsOver, over_told,
 use Rattle.snap_merge.proofs.starting.may_step.Goals as goal
 
 pub may_move-requires-clause-moving : goal.may_move-requires-clause-moving
-may_move-requires-clause-moving c = λ L of.
+may_move-requires-clause-moving c =
     let v = c.args.store.now in
+    let L = v.linked in
     sym (status_is L c.args.most v c.requires.starting)
-    ∙ told_moving (set_hosts L) (status_at (set_course L) v.run) (subst (λ e. TellsStatus (set_hosts L) e (status_at (set_course L) v.run)) c.in-Moved.is (c.state.ensures.tells L of c.requires.starting.found))
+    ∙ told_moving (set_hosts L) (status_at (set_course L) v.run) (subst (λ e. TellsStatus (set_hosts L) e (status_at (set_course L) v.run)) c.in-Moved.is (c.state.ensures.tells c.requires.starting.found))
 
 pub unreachable-requires : goal.unreachable-requires
 unreachable-requires c =
-    let set = c.links.ensures in
-    let L = set.0 in
     let v = c.args.store.now in
-    let able = c.requires.able L set.1 in
-    let over = over_told (set_hosts L) c.state.result.now (status_at (set_course L) v.run) (c.state.ensures.tells L set.1 c.requires.starting.found) c.in_default.not-Moved c.in_default.not-Waits c.in_default.not-Trapped in
-    never_over L c.first_states_are_one.ensures.some able.0 able.1 c.args.most v.run.steps (c.requires.before L set.1) (c.requires.unstarted L set.1)
+    let L = v.linked in
+    let able = c.requires.able in
+    let over = over_told (set_hosts L) c.state.result.now (status_at (set_course L) v.run) (c.state.ensures.tells c.requires.starting.found) c.in_default.not-Moved c.in_default.not-Waits c.in_default.not-Trapped in
+    never_over L c.first_states_are_one.ensures.some able.0 able.1 c.args.most v.run.steps c.requires.before c.requires.unstarted
     (subst IsOver (status_is L c.args.most v c.requires.starting) over)

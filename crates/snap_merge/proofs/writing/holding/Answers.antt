@@ -1,18 +1,17 @@
-use Rattle.std.proofs.Common.{sym, subst}
-use Rattle.dyl_link.specs.Kept.{IsLinked}
-use Rattle.merge_whole.proofs.Little.{mergeable}
+use Rattle.std.proofs.Common.{subst}
+use Rattle.spec_loading.specs.SoundSets.{HoldBytes}
+use Rattle.merge_module.specs.Laws.{IsMergeable}
 use Rattle.snap_merge.proofs.Answered.{if_ok, sound_loader}
 use Rattle.snap_merge.proofs.Made.{holding_of}
 use Rattle.snap_merge.proofs.writing.holding.Goals as goal
 
 pub read_behind-requires-clause-sound : goal.read_behind-requires-clause-sound
-read_behind-requires-clause-sound c = λ L of.
-    let here = subst (IsLinked L) (sym c.requires.same) of in
-    sound_loader c.linked_sets_never_get_stuck.ensures.sound L c.args.store.now.run (mergeable L c.args.linked.now of c.has_few_pages.ensures c.requires.hosts) (c.holds_bytes.ensures L here) (c.requires.taken L of).none
+read_behind-requires-clause-sound c =
+    let known : IsMergeable c.args.linked.now = record { shape = c.links.ensures.shape; links = c.links.ensures.links; pages = c.has_few_pages.ensures; hosts = c.requires.hosts } in
+    sound_loader c.linked_sets_never_get_stuck.ensures.sound c.args.linked.now c.args.store.now.run known (subst HoldBytes c.requires.same c.holds_bytes.ensures) c.requires.taken.none
 
 pub returns : goal.returns
 returns c =
-    if_ok c.made-module.result (λ m made L of.
-    let here = subst (IsLinked L) (sym c.requires.same) of in
-    holding_of c.linked_sets_keep.ensures c.merged_modules_are_formed.ensures.formed c.parts_can_be_held.ensures.held c.parts_can_be_held.ensures.refer L c.args.linked.now of
-    c.has_few_pages.ensures c.requires.hosts (c.holds_bytes.ensures L here) c.args.store.now.run (c.requires.taken L of) m (made L of)) c.made-module.ensures
+    let known : IsMergeable c.args.linked.now = record { shape = c.links.ensures.shape; links = c.links.ensures.links; pages = c.has_few_pages.ensures; hosts = c.requires.hosts } in
+    if_ok c.made-module.result (holding_of c.linked_sets_keep.ensures c.merged_modules_are_formed.ensures.formed c.parts_can_be_held.ensures.held c.parts_can_be_held.ensures.refer
+    c.args.linked.now known (subst HoldBytes c.requires.same c.holds_bytes.ensures) c.args.store.now.run c.requires.taken) c.made-module.ensures

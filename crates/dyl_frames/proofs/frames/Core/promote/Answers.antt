@@ -15,14 +15,14 @@ pub add-requires-clause-room : goal.add-requires-clause-room
 add-requires-clause-room g c = ap (λ (p : PromotedMembers). p.room) c.drop_top.ensures.promoted ∙ c.requires.core.few.room ∙ c.requires.linked
 
 pub returns-clause-stepped : goal.returns-clause-stepped
-returns-clause-stepped g c D L is promotes s k =
+returns-clause-stepped g c D promotes s k =
     let w = g.V.View.seen c.args.view.now in
     let old = c.args.self.now in
     let f = c.drop_top.ensures in
     let new : Core = record c.drop_top.new.self { promoted = c.add.new.self } in
     handed_steps w old c.requires.core.sound c.requires.marked c.args.member (GiveAndPromote c.args.member) tt c.requires.handle c.unmark.new.self c.unmark.ensures.unmarked c.give.new.self c.give.ensures.received new
     f.machine f.stages f.frames D c.requires.last s k (promoting D s c.args.member).loader (λ under. refl)
-    (promoted_kept D old c.give.new.self c.drop_top.new.self f w.units w.memory s k L c.args.member promotes c.add.new.self (c.add.ensures.list L is))
+    (promoted_kept D old c.give.new.self c.drop_top.new.self f w.units w.memory s k c.args.linked.now c.args.member promotes c.add.new.self c.add.ensures.list)
 
 pub returns-clause-core : goal.returns-clause-core
 returns-clause-core g c =

@@ -10,8 +10,9 @@ pub is_deep-requires : goal.is_deep-requires
 is_deep-requires c κs =
     let running = c.requires.running in
     let callable = subst (λ (V : View ModuleParts). type_of V c.entry_of.result ≡ Some nullary) (sym running.fixed) c.entry_of.ensures.nullary in
-    ((refl, tt), (running.core, (c.requires.moving, (running.set, (running.members, ((λ r. ap (λ (V : View ModuleParts). type_of V r) running.fixed), callable))))))
+    ((refl, tt), (running.core, (c.requires.moving, (running.members, ((λ r. ap (λ (V : View ModuleParts). type_of V r) running.fixed), callable)))))
 
 pub returns : goal.returns
-returns c = λ L linked.
-    c.is_deep.ensures (set_loading L) L (loaded c.args.self.now c.requires.running L linked) linked (serves L c.args.self.now.linked.now linked c.entry_of.result c.entry_of.ensures.is)
+returns c =
+    let L = c.args.self.now.linked.now in
+    c.is_deep.ensures (set_loading L) (loaded c.args.self.now c.requires.running) (serves L c.entry_of.result c.entry_of.ensures.is)

@@ -6,7 +6,6 @@ use Rattle.spec_loading.specs.spec_binary.Indices.{nullary}
 use Rattle.spec_loading.specs.spec_execution.Views.{View, type_of}
 use Rattle.spec_loading.specs.spec_execution.Instances.{ModuleParts}
 use Rattle.spec_loading.specs.LoadedSet.{set_loading}
-use Rattle.dyl_frames.specs.Cores.{IsOwn}
 use Rattle.dyl_store.specs.Runs.{IsPlacing, NonePlaces}
 use Rattle.dyl_store.specs.declared.running.Running.{Running}
 use Rattle.dyl_store.proofs.Loads.{loaded, running_after, serves, both_ok}
@@ -21,13 +20,12 @@ proceed-requires c κs =
     let running = c.requires.running in
     let none = subst (λ (o : Option Task). MatchOption o (NonePlaces c.args.self.now.core) (IsPlacing c.args.self.now.core)) c.in-None.is c.placing.ensures in
     let callable = subst (λ (V : View ModuleParts). type_of V c.entry_of.result ≡ Some nullary) (sym running.fixed) c.entry_of.ensures.nullary in
-    let own = subst IsOwn (sym c.entry_of.ensures.is) tt in
-    ((refl, tt), (running.core, (c.requires.marked, (none, (running.set, (running.members, ((λ r. ap (λ (V : View ModuleParts). type_of V r) running.fixed), (callable, own))))))))
+    ((refl, tt), (running.core, (c.requires.marked, (none, (running.members, ((λ r. ap (λ (V : View ModuleParts). type_of V r) running.fixed), (callable, c.entry_of.ensures.own)))))))
 
 pub returns-in-None-clause-stepped : goal.returns-in-None-clause-stepped
 returns-in-None-clause-stepped c =
     IfOk-weaker c.proceed.result _ _
-    (λ e s L linked. s (set_loading L) L (loaded c.args.self.now c.requires.running L linked) linked (serves L c.args.self.now.linked.now linked c.entry_of.result c.entry_of.ensures.is))
+    (λ e s. s (set_loading c.args.self.now.linked.now) (loaded c.args.self.now c.requires.running) (serves c.args.self.now.linked.now c.entry_of.result c.entry_of.ensures.is))
     c.proceed.ensures.stepped
 
 pub returns-in-None-clause-wanting : goal.returns-in-None-clause-wanting

@@ -28,10 +28,10 @@ load-requires-clause-marked c =
 pub returns-then-is_mark-clause-stepped : goal.returns-then-is_mark-clause-stepped
 returns-then-is_mark-clause-stepped c =
     let mark = c.in_ok-event.ensures.marked (sym c.is_mark.ensures ∙ c.if-is_mark.true) in
-    IfOk-weaker c.load.result _ _ (λ e s L linked. steps_same L e c.args.self.now c.load.new.self c.step.new.self (seen_of c.step.new.view) mark.0 mark.1 (s L linked)) c.load.ensures.stepped
+    IfOk-weaker c.load.result _ _ (λ e s. steps_same c.args.self.now.linked.now e c.args.self.now c.load.new.self c.step.new.self (seen_of c.step.new.view) mark.0 mark.1 s) c.load.ensures.stepped
 
 pub returns-in_err-event-clause-wanting : goal.returns-in_err-event-clause-wanting
-returns-in_err-event-clause-wanting c = on_lost c.from_residual.result (WantsTo c.args.self.now) (λ L of. c.in_err-event.ensures.wanting (set_loading L))
+returns-in_err-event-clause-wanting c = on_lost c.from_residual.result (WantsTo c.args.self.now) (c.in_err-event.ensures.wanting (set_loading c.args.self.now.linked.now))
 
 pub returns-then-is_mark-clause-wanting : goal.returns-then-is_mark-clause-wanting
 returns-then-is_mark-clause-wanting c =
@@ -39,7 +39,7 @@ returns-then-is_mark-clause-wanting c =
     wants_still c.args.self.now c.step.new.self (seen_of c.step.new.view) mark.0 mark.1 c.load.result c.load.ensures.wanting
 
 pub returns-clause-stepped : goal.returns-clause-stepped
-returns-clause-stepped c = λ L linked. c.in_ok-event.ensures.stepped (sym c.is_mark.ensures ∙ c.if-is_mark.false) (set_loading L) (loaded c.args.self.now c.requires.running L linked)
+returns-clause-stepped c = c.in_ok-event.ensures.stepped (sym c.is_mark.ensures ∙ c.if-is_mark.false) (set_loading c.args.self.now.linked.now) (loaded c.args.self.now c.requires.running)
 
 pub returns-clause-running : goal.returns-clause-running
 returns-clause-running c =

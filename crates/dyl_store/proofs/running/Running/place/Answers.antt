@@ -1,9 +1,10 @@
 use Rattle.std.proofs.Common.{◌<◌, ℕ, length, refl, sym, ap, subst, ◌∙◌, arith}
 use Rattle.std.proofs.lemmas.Option.{slice_get_read}
 use Rattle.spec_loading.specs.LoadedSet.{set_loading}
-use Rattle.dyl_link.specs.Kept.{Kept}
+use Rattle.spec_loading.specs.spec_linking.LinkedSets.{LinkedSet}
+use Rattle.spec_loading.specs.Members.{set_view}
 use Rattle.dyl_frames.specs.Cores.{IsCore}
-use Rattle.dyl_store.specs.Worlds.{kept_view, seen_of}
+use Rattle.dyl_store.specs.Worlds.{seen_of}
 use Rattle.dyl_store.specs.declared.running.Running.{Running}
 use Rattle.dyl_store.proofs.Loads.{running_after, placed_core}
 use Rattle.dyl_store.proofs.running.Running.place.Goals as goal
@@ -12,14 +13,14 @@ pub place-outcome-requires-clause-member : goal.place-outcome-requires-clause-me
 place-outcome-requires-clause-member c = subst (λ (n : ℕ). c.args.task.member < n) c.requires.running.members c.requires.placing.member
 
 pub returns-clause-stepped : goal.returns-clause-stepped
-returns-clause-stepped c = λ L linked. c.placed.ensures.stepped (set_loading L) (seen_of c.args.self.now.world) (c.place-outcome.ensures.placed L linked)
+returns-clause-stepped c = c.placed.ensures.stepped (set_loading c.args.self.now.linked.now) (seen_of c.args.self.now.world) c.place-outcome.ensures.placed
 
 pub returns-clause-running : goal.returns-clause-running
 returns-clause-running c =
     let world = c.place-outcome.new.self in
     let new : Running = record c.args.self.now { world = world; core = c.placed.new.self } in
-    running_after c.args.self.now new c.requires.running refl refl (ap kept_view c.place-outcome.ensures.linked)
-    (subst (λ (k : Kept). IsCore (kept_view k) world.store world.memory c.placed.new.self) c.place-outcome.ensures.linked c.placed.ensures.core) c.placed.ensures.members
+    running_after c.args.self.now new c.requires.running refl refl (ap set_view c.place-outcome.ensures.linked)
+    (subst (λ (L : LinkedSet). IsCore (set_view L) world.store world.memory c.placed.new.self) c.place-outcome.ensures.linked c.placed.ensures.core) c.placed.ensures.members
 
 pub index-placement-requires : goal.index-placement-requires
 index-placement-requires c =
@@ -37,4 +38,4 @@ placed-requires c κs =
     let world = c.place-outcome.new.self in
     let lt = subst (λ (n : ℕ). c.args.task.member < n) c.requires.running.members c.requires.placing.member in
     let core = placed_core c.linked_sets_step_soundly.ensures.set c.args.self.now c.requires.running c.requires.stands c.args.task.member lt c.place-outcome.result world c.place-outcome.ensures.placed in
-    ((refl, tt), (subst (λ (k : Kept). IsCore (kept_view k) world.store world.memory c.args.self.now.core) (sym c.place-outcome.ensures.linked) core, (c.requires.marked, (c.requires.placing.next, (c.requires.placing.member, (c.requires.placing.behind, c.requires.placing.places))))))
+    ((refl, tt), (subst (λ (L : LinkedSet). IsCore (set_view L) world.store world.memory c.args.self.now.core) (sym c.place-outcome.ensures.linked) core, (c.requires.marked, (c.requires.placing.next, (c.requires.placing.member, (c.requires.placing.behind, c.requires.placing.places))))))

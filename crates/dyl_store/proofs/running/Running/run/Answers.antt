@@ -5,7 +5,7 @@ use Rattle.dyl_store.proofs.Loads.{loaded, running_after}
 use Rattle.dyl_store.proofs.running.Running.run.Goals as goal
 
 pub returns-clause-ran : goal.returns-clause-ran
-returns-clause-ran c = λ L linked. c.run.ensures.ran (set_loading L) (loaded c.args.self.now c.requires.running L linked)
+returns-clause-ran c = c.run.ensures.ran (set_loading c.args.self.now.linked.now) (loaded c.args.self.now c.requires.running)
 
 pub returns-clause-running : goal.returns-clause-running
 returns-clause-running c = λ found.

@@ -2,4 +2,4 @@ use Rattle.spec_loading.specs.LoadedSet.{set_loading}
 use Rattle.dyl_store.proofs.running.Running.started.Goals as goal
 
 pub returns : goal.returns
-returns c = λ L. c.started.ensures (set_loading L)
+returns c = c.started.ensures (set_loading c.args.self.now.linked.now)

@@ -5,7 +5,7 @@ use Rattle.dyl_store.proofs.Loads.{loaded, running_after}
 use Rattle.dyl_store.proofs.running.Running.take.Goals as goal
 
 pub returns-clause-taken : goal.returns-clause-taken
-returns-clause-taken c = λ L linked. c.take.ensures.taken (set_loading L) (loaded c.args.self.now c.requires.running L linked)
+returns-clause-taken c = c.take.ensures.taken (set_loading c.args.self.now.linked.now) (loaded c.args.self.now c.requires.running)
 
 pub returns-clause-running : goal.returns-clause-running
 returns-clause-running c =

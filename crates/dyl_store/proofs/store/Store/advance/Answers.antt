@@ -3,7 +3,6 @@ use Rattle.wasm_machine.specs.declared.machine.Standing.TheVariants as standing
 use Rattle.wasm_machine.specs.Steps.{event_of}
 use Rattle.dyl_store.specs.Stores.{MayWantAt}
 use Rattle.dyl_store.specs.Kept.{run_of}
-use Rattle.dyl_store.proofs.Stepping.{linked_of}
 use Rattle.dyl_store.proofs.Stopping.{HasNoneLeft, idle_left, on_either}
 use Rattle.dyl_store.proofs.Advancing.{counted, advanced_run}
 use Rattle.dyl_store.proofs.store.Store.advance.Goals as goal
@@ -12,7 +11,7 @@ use Rattle.dyl_store.proofs.store.Store.advance.Goals.{in-Moving, in_default, th
 pub returns-then-not-matches-clause-left : goal.returns-then-not-matches-clause-left
 returns-then-not-matches-clause-left c = elim c.match-matches.branch [
   | in-Moving w ↦ absurd (let clash : true ≡ false = sym w.matches-is ∙ c.if-not-matches.true in cc)
-  | in_default w ↦ λ L of. subst (HasNoneLeft L c.args.most) c.self.view_is (idle_left L c.args.most c.self.inside c.self.invariant (λ moving. w.in_default.not-Moving (c.standing.ensures ∙ moving)) (linked_of c.args.self.now c.self.inside L c.self.view_is of))
+  | in_default w ↦ subst (HasNoneLeft c.args.most) c.self.view_is (idle_left c.args.most c.self.inside c.self.invariant (λ moving. w.in_default.not-Moving (c.standing.ensures ∙ moving)))
 ]
 
 pub invariant_of-self : goal.invariant_of-self
@@ -23,7 +22,7 @@ invariant_of-self c =
 pub returns-clause-left : goal.returns-clause-left
 returns-clause-left c =
     let moving : c.self.inside.running.core.machine.standing ≡ standing.Moving = search rules in
-    λ L of. on_either c.if-self-2.result _ ((advanced_run c.args.most c.args.self.now c.self.inside c.self.view_is c.self.invariant c.if-self.false moving c.run_code.new.running c.run_code.new.steps c.run_code.new.lost c.run_code.ensures.linked c.run_code.ensures.running c.run_code.ensures.counted).left L of)
+    on_either c.if-self-2.result _ (advanced_run c.args.most c.args.self.now c.self.inside c.self.view_is c.self.invariant c.if-self.false moving c.run_code.new.running c.run_code.new.steps c.run_code.new.lost c.run_code.ensures.linked c.run_code.ensures.running c.run_code.ensures.counted).left
 
 pub returns-clause-advances : goal.returns-clause-advances
 returns-clause-advances c =

@@ -1,8 +1,10 @@
-use Rattle.std.proofs.Common.{arith, rules, refl, sym, ◌∙◌, ◌≡◌, ◌<◌, ◌≤◌, inr, true, false}
+use Rattle.std.proofs.Common.{arith, rules, refl, sym, ◌∙◌, ◌≡◌, ◌<◌, ◌≤◌, inr, true, false, subst}
 use Rattle.spec_loading.specs.spec_runtime.Courses.{state_at}
-use Rattle.dyl_store.specs.Stores.{set_course}
+use Rattle.spec_loading.specs.spec_linking.LinkedSets.{set_hosts}
+use Rattle.wasm_machine.specs.Steps.{ArgumentsFit}
+use Rattle.dyl_store.specs.Stores.{set_course, StoreRun}
 use Rattle.dyl_store.specs.Kept.{run_of}
-use Rattle.dyl_store.proofs.Stepping.{one_at_most, somewhere, moving_store, moving_stepped, wants_at, linked_of, last_found, last_taken, last_bytes, taken_store, taken_stepped, end_so, ended_stepped, end_asks_nothing}
+use Rattle.dyl_store.proofs.Stepping.{one_at_most, somewhere, moving_store, moving_stepped, wants_at, last_found, last_taken, last_bytes, taken_store, taken_stepped, end_so, ended_stepped, end_asks_nothing}
 use Rattle.dyl_store.proofs.Wanting.{wait_wants}
 use Rattle.dyl_store.proofs.Arguments.{arguments_told}
 use Rattle.dyl_store.proofs.store.Store.run_step.Goals as goal
@@ -60,10 +62,11 @@ returns-in_default-tell_step-clause-wanting c =
     (wait_wants c.in-Ok.event c.in_default-tell_step.ensures.wanting c.self.inside.running c.step.new.self (sym c.standing.ensures ∙ c.in-Moving.is) c.in-Ok.ensures.stepped))
 
 pub returns-in-Ok-tell_step-clause-arguments : goal.returns-in-Ok-tell_step-clause-arguments
-returns-in-Ok-tell_step-clause-arguments c = λ L linked.
-    let before = linked_of c.args.self.now c.self.inside L c.self.view_is linked in
+returns-in-Ok-tell_step-clause-arguments c =
+    let L = c.self.inside.running.linked.now in
     let s = state_at (set_course L) (run_of c.self.inside).run in
-    arguments_told L c.in-Ok.event s c.step.new.self (c.in-Ok.ensures.stepped L before s (c.self.invariant.stands c.if-self.false L before).1) c.are_numbers.ensures
+    subst (λ (v : StoreRun). ArgumentsFit (set_hosts v.linked) c.in-Ok.event) c.self.view_is
+    (arguments_told L c.in-Ok.event s c.step.new.self (c.in-Ok.ensures.stepped s (c.self.invariant.stands c.if-self.false).1) c.are_numbers.ensures)
 
 pub returns-in_default : goal.returns-in_default
 returns-in_default c = record {
@@ -72,5 +75,5 @@ returns-in_default c = record {
   lost = tt;
   again = λ lost. absurd (let clash : true ≡ false = search rules in cc);
   same = refl;
-  arguments = λ L of. end_asks_nothing c.event_of-in_default.result c.standing.result c.event_of-in_default.ensures L;
+  arguments = end_asks_nothing c.event_of-in_default.result c.standing.result c.event_of-in_default.ensures c.args.self.now.linked;
 }

@@ -1,19 +1,18 @@
 use Rattle.std.proofs.Common.{length}
 use Rattle.spec_loading.specs.spec_linking.LinkedSets.{wasm_of}
 use Rattle.spec_loading.specs.Addresses.{sum_before}
-use Rattle.dyl_store.specs.Worlds.{set_in}
 use Rattle.dyl_store.proofs.Members.{counted_elems, segment_at, first_elem_kept}
 use Rattle.dyl_store.proofs.world.World.elem_address.Goals as goal
 
 pub unit-requires : goal.unit-requires
-unit-requires c = counted_elems (wasm_of (set_in c.args.self.now.linked) c.args.m) c.args.e c.requires
+unit-requires c = counted_elems (wasm_of c.args.self.now.linked c.args.m) c.args.e c.requires
 
 pub returns-clause-found : goal.returns-clause-found
 returns-clause-found c =
-    (segment_at (wasm_of (set_in c.args.self.now.linked) c.args.m) c.unit.result.now.checked.now c.unit.ensures.unit.member (sum_before (λ x. length x.elems) (set_in c.args.self.now.linked).set.members c.args.m) c.args.e (λ x. length x.elems) c.args.self.now.store.elems
+    (segment_at (wasm_of c.args.self.now.linked c.args.m) c.unit.result.now.checked.now c.unit.ensures.unit.member (sum_before (λ x. length x.elems) c.args.self.now.linked.set.members c.args.m) c.args.e (λ x. length x.elems) c.args.self.now.store.elems
     (c.unit.ensures.places.elems c.args.m c.args.e c.requires) c.unit.result.now.first_elem (first_elem_kept c.args.self.now.linked c.args.m c.unit.result.now c.unit.ensures.unit c.args.e c.requires)).0
 
 pub returns-clause-inside : goal.returns-clause-inside
 returns-clause-inside c =
-    (segment_at (wasm_of (set_in c.args.self.now.linked) c.args.m) c.unit.result.now.checked.now c.unit.ensures.unit.member (sum_before (λ x. length x.elems) (set_in c.args.self.now.linked).set.members c.args.m) c.args.e (λ x. length x.elems) c.args.self.now.store.elems
+    (segment_at (wasm_of c.args.self.now.linked c.args.m) c.unit.result.now.checked.now c.unit.ensures.unit.member (sum_before (λ x. length x.elems) c.args.self.now.linked.set.members c.args.m) c.args.e (λ x. length x.elems) c.args.self.now.store.elems
     (c.unit.ensures.places.elems c.args.m c.args.e c.requires) c.unit.result.now.first_elem (first_elem_kept c.args.self.now.linked c.args.m c.unit.result.now c.unit.ensures.unit c.args.e c.requires)).1

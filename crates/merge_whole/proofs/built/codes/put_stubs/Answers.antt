@@ -4,7 +4,7 @@ use Rattle.merge_whole.proofs.HostUses.{types_short}
 use Rattle.spec_reading.specs.spec_binary.IndexSpaces.{functions_in, imports_of}
 use Rattle.merge_module.specs.MergedModule.{trap_code}
 use Rattle.merge_whole.specs.Built.{stubs_at, traps_of}
-use Rattle.merge_dl.proofs.Making.{member_next}
+use Rattle.merge_whole.proofs.Joins.{member_next}
 use Rattle.merge_whole.proofs.built.codes.put_stubs.Goals as goal
 
 pub put_traps-requires : goal.put_traps-requires

@@ -1,12 +1,10 @@
 use Rattle.std.proofs.Common.{◌≡◌, ◌++◌, drop}
 use Rattle.spec_loading.specs.Members.{from_members}
-use Rattle.merge_whole.specs.Counts.{members_of}
 use Rattle.merge_whole.specs.Elements.{exported_numbers}
 use Rattle.merge_index.specs.Kept.{numbers_in}
 use Rattle.merge_whole.proofs.built.elems.declared_elem.Given as goal
 
-abbrev pub invariant-loop-member : goal.invariant-loop-member
-invariant-loop-member l = record {
-  put : l.list.items ++ from_members (exported_numbers (numbers_in l.n)) l.m (members_of (drop l.member-index l.member-items)) ≡ from_members (exported_numbers (numbers_in l.n)) 0 (members_of l.linked.set.members);
-  at : l.m ≡ l.member-index;
-}
+abbrev pub invariant-loop-m : goal.invariant-loop-m
+invariant-loop-m l =
+    l.list.items ++ from_members (exported_numbers (numbers_in l.n)) l.m (drop l.m l.linked.set.members)
+    ≡ from_members (exported_numbers (numbers_in l.n)) 0 l.linked.set.members

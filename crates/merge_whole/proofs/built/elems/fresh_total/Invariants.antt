@@ -1,10 +1,6 @@
-use Rattle.std.proofs.Common.{◌≡◌, drop}
-use Rattle.merge_whole.specs.Counts.{members_of}
-use Rattle.merge_whole.specs.Elements.{fresh_by, fresh_total}
+use Rattle.std.proofs.Common.{◌≡◌, ◌+◌, length, drop}
+use Rattle.spec_loading.specs.spec_linking.Slots.{fresh_from, fresh_functions}
 use Rattle.merge_whole.proofs.built.elems.fresh_total.Given as goal
 
-abbrev pub invariant-loop-member : goal.invariant-loop-member
-invariant-loop-member l = record {
-  put : fresh_total (fresh_by l.linked) l.next l.m (members_of (drop l._member-index l._member-items)) ≡ fresh_total (fresh_by l.linked) l.start 0 (members_of l.linked.set.members);
-  at : l.m ≡ l._member-index;
-}
+abbrev pub invariant-loop-m : goal.invariant-loop-m
+invariant-loop-m l = l.next + length (fresh_from l.linked l.m (drop l.m l.linked.set.members)) ≡ l.start + length (fresh_functions l.linked)

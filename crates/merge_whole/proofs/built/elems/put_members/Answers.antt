@@ -2,7 +2,7 @@ use Rattle.std.proofs.Common.{◌<◌, ◌+◌, ◌++◌, length, map, refl, ap,
 use Rattle.merge_index.specs.Kept.{numbers_in}
 use Rattle.merge_module.specs.MergedModule.{passive_elem}
 use Rattle.merge_whole.specs.Elements.{passive_elems}
-use Rattle.merge_dl.proofs.Making.{member_next}
+use Rattle.merge_whole.proofs.Joins.{member_next}
 use Rattle.merge_whole.proofs.built.elems.put_members.Goals as goal
 
 pub loop-member-preserved : goal.loop-member-preserved

@@ -1,7 +1,7 @@
 use Rattle.std.proofs.Common.{ap, arith, length, map, refl, ◌++◌, ◌+◌, ◌<◌, ◌∙◌}
 use Rattle.merge_index.specs.Kept.{numbers_in}
 use Rattle.merge_whole.specs.Built.{funcs_of}
-use Rattle.merge_dl.proofs.Making.{member_next}
+use Rattle.merge_whole.proofs.Joins.{member_next}
 use Rattle.merge_whole.proofs.built.funcs.put_members.Goals as goal
 
 pub loop-member-preserved : goal.loop-member-preserved

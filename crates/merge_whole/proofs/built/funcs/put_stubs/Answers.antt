@@ -4,7 +4,7 @@ use Rattle.merge_whole.proofs.HostUses.{types_short}
 use Rattle.merge_index.specs.Kept.{numbers_in}
 use Rattle.spec_reading.specs.spec_binary.IndexSpaces.{functions_in, imports_of}
 use Rattle.merge_whole.specs.Built.{stubs_at, stub_types_of}
-use Rattle.merge_dl.proofs.Making.{member_next}
+use Rattle.merge_whole.proofs.Joins.{member_next}
 use Rattle.merge_whole.proofs.built.funcs.put_stubs.Goals as goal
 
 pub put_stub_types-requires : goal.put_stub_types-requires

@@ -1,4 +1,4 @@
-use Rattle.std.proofs.Common.{◌≡◌, List, sym, ap, ap₂, subst, ◌∙◌}
+use Rattle.std.proofs.Common.{◌≡◌, ℕ, Option, unwrap_or, List, sym, ap, ap₂, subst, ◌∙◌}
 use Rattle.wasm_form.specs.declared.module.GlobalDef.{GlobalDef}
 use Rattle.merge_index.specs.Kept.{numbers_in}
 use Rattle.dyl_addresses.specs.Bases.{bases_from}
@@ -21,11 +21,11 @@ returns c =
 
 pub put_own-requires : goal.put_own-requires
 put_own-requires c =
-    let k = c.args.linked.now in
+    let L = c.args.linked.now in
     let m = c.args.m in
     let wasm = c.args.wasm.now in
-    let bases : c.as_slice.result.now ≡ bases_by k m wasm =
+    let bases : c.as_slice.result.now ≡ bases_by L m wasm =
     c.as_slice.ensures.value ∙ c.in_ok-bases.ensures ∙ ap (bases_from c.memory_base-memory.result c.table_base-table.result) c.items.ensures
-    ∙ ap₂ (λ a b. bases_from a b wasm.imports) c.memory_base-memory.ensures c.table_base-table.ensures in
-    let own : AreFit k (bases_by k m wasm) m c.items-3.result.now = subst (λ (gs : List GlobalDef). AreFit k (bases_by k m wasm) m gs) (sym c.items-3.ensures) c.requires.fit in
-    subst (λ bs. AreFit k bs m c.items-3.result.now) (sym bases) own
+    ∙ ap₂ (λ a b. bases_from a b wasm.imports) (sym (ap (λ (o : Option ℕ). unwrap_or o 0) c.memory_base-memory.ensures)) (sym (ap (λ (o : Option ℕ). unwrap_or o 0) c.table_base-table.ensures)) in
+    let own : AreFit L (bases_by L m wasm) m c.items-3.result.now = subst (λ (gs : List GlobalDef). AreFit L (bases_by L m wasm) m gs) (sym c.items-3.ensures) c.requires.fit in
+    subst (λ bs. AreFit L bs m c.items-3.result.now) (sym bases) own

@@ -5,6 +5,7 @@ use Rattle.merge_whole.proofs.LoaderNumbers.{has_loader}
 use Rattle.merge_whole.proofs.built.loader.loader_numbers.Goals as goal
 
 pub returns-clause-loader : goal.returns-clause-loader
-returns-clause-loader c = λ L h found is.
+returns-clause-loader c =
+    let L = c.args.linked.now in
     subst (λ d. HasLoader L (starts_of L) (Some d)) (sym c.in_ok-numbers.ensures.is)
-    (has_loader L c.args.linked.now h c.args.guard is (Some c.in-Some.loader) (sym c.in-Some.is ∙ c.loader.ensures ∙ found))
+    (has_loader L c.args.guard c.requires.guards (Some c.in-Some.loader) (sym c.in-Some.is ∙ c.loader.ensures ∙ c.requires.loader))

@@ -1,7 +1,7 @@
 use Rattle.std.proofs.Common.{ap, arith, length, refl, ◌+◌, ◌<◌}
 use Rattle.merge_index.specs.Kept.{numbers_in}
 use Rattle.merge_whole.specs.Counts.{calls_by}
-use Rattle.merge_dl.proofs.Making.{member_next}
+use Rattle.merge_whole.proofs.Joins.{member_next}
 use Rattle.merge_whole.proofs.built.starts.calls.Goals as goal
 
 pub loop-member-preserved : goal.loop-member-preserved

@@ -5,7 +5,7 @@ use Rattle.dyl_addresses.proofs.Linked.{at_index}
 use Rattle.merge_index.specs.Kept.{numbers_in}
 use Rattle.std.specs.List.{range_with_len}
 use Rattle.merge_whole.specs.Counts.{functions_by}
-use Rattle.merge_dl.proofs.Making.{member_next}
+use Rattle.merge_whole.proofs.Joins.{member_next}
 use Rattle.merge_whole.proofs.built.starts.functions.Goals as goal
 
 pub function_count-count-requires : goal.function_count-count-requires

@@ -5,7 +5,7 @@ use Rattle.dyl_addresses.proofs.Linked.{at_index}
 use Rattle.merge_index.specs.Kept.{numbers_in}
 use Rattle.std.specs.List.{range_with_len}
 use Rattle.merge_whole.specs.Counts.{tables_by}
-use Rattle.merge_dl.proofs.Making.{member_next}
+use Rattle.merge_whole.proofs.Joins.{member_next}
 use Rattle.merge_whole.proofs.built.starts.tables.Goals as goal
 
 pub table_count-count-requires : goal.table_count-count-requires

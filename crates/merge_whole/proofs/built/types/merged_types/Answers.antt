@@ -1,6 +1,6 @@
-use Rattle.std.proofs.Common.{◌∙◌}
-use Rattle.merge_whole.proofs.BuiltParts.{types_are}
+use Rattle.std.proofs.Common.{ap, ◌∙◌}
+use Rattle.merge_whole.specs.Built.{types_in}
 use Rattle.merge_whole.proofs.built.types.merged_types.Goals as goal
 
 pub returns : goal.returns
-returns c = λ L h is. c.of.ensures ∙ c.in_ok-types.ensures ∙ types_are L c.args.linked.now h c.args.added.items is
+returns c = c.of.ensures ∙ c.in_ok-types.ensures ∙ ap (types_in c.args.linked.now) c.requires

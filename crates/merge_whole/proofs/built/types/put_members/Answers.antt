@@ -1,6 +1,6 @@
 use Rattle.std.proofs.Common.{ap, arith, length, refl, ◌++◌, ◌+◌, ◌<◌, ◌∙◌}
 use Rattle.merge_whole.specs.Built.{types_of}
-use Rattle.merge_dl.proofs.Making.{member_next}
+use Rattle.merge_whole.proofs.Joins.{member_next}
 use Rattle.merge_whole.proofs.built.types.put_members.Goals as goal
 
 pub loop-member-preserved : goal.loop-member-preserved

@@ -19,8 +19,7 @@ pub run_step-requires-in-Set-clause-answered : goal.run_step-requires-in-Set-cla
 run_step-requires-in-Set-clause-answered c =
     let r = rw c.in-Set.is at c.requires.answered in
     let s = c.in-Set.store in
-    let set = set_at s (λ o. is_waiting (course_of o) s.run ≡ false) r.0 r.1 r.3 in
-    (set.0, set.1, λ at. set.2)
+    λ at. set_at s (λ o. is_waiting (course_of o) s.run ≡ false) r.0 r.1 r.3
 
 pub returns-in-Module-clause-stepped : goal.returns-in-Module-clause-stepped
 returns-in-Module-clause-stepped c =

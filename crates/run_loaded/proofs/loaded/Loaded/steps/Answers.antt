@@ -12,4 +12,4 @@ returns-in-Module-clause-stands c =
 pub returns-in-Set-clause-stands : goal.returns-in-Set-clause-stands
 returns-in-Set-clause-stands c =
     let s = c.in-Set.store in
-    rw c.in-Set.is (λ found. by_set s (λ o. IsAt (course_of o) s.run) (λ L of. c.steps-in-Set.ensures.stands L of found))
+    rw c.in-Set.is (λ found. by_set s (λ o. IsAt (course_of o) s.run) (c.steps-in-Set.ensures.stands found))
