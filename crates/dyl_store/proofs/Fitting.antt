@@ -15,7 +15,6 @@ use Rattle.wasm_machine.specs.declared.machine.Standing.{Standing}
 use Rattle.wasm_machine.specs.declared.machine.Standing.TheVariants as standing
 use Rattle.wasm_machine.proofs.Courses.{waited_call}
 use Rattle.dyl_frames.specs.Cores.{StandsAs, FitsHost}
-use Rattle.dyl_frames.proofs.Answering.{asking}
 use Rattle.dyl_store.specs.declared.running.Running.{Running}
 use Rattle.dyl_store.specs.Runs.{IsRunning, RunsAt}
 use Rattle.dyl_store.proofs.Loads.{loaded}
@@ -63,12 +62,3 @@ module _ (x : Running) (h : IsRunning x) (s : SetState) (at : RunsAt x.linked.no
       let status = asking_status asks.0 asks.1 asks.2 in
       let same : status.0 ≡ waited.0 = let e : Waits status.0 ≡ Waits waited.0 = sym status.1 ∙ waited.1 in cc in
       fits_host a asks.0 asks.1 status.0 asks.2 status.2 (subst (λ (call : HostCall). IsTrue (answer_fits call s.run.memory a)) (sym same) waited.2)
-
-  -- and the other way round
-  pub host_fits_call : (a : Answer) → FitsHost (set_view x.world.linked) x.world.memory a x.core.machine.standing → (call : HostCall) × (s.run.status ≡ Waits call) × IsTrue (answer_fits call s.run.memory a)
-  host_fits_call a fits =
-      let asks = asking (set_view x.world.linked) x.world.memory a x.core.machine.standing fits in
-      let status = asking_status asks.0 asks.1 asks.2 in
-      let there : FitsType x.world.memory a ((set_view x.world.linked).host asks.0) = subst (FitsHost (set_view x.world.linked) x.world.memory a) asks.2 fits in
-      let here : FitsType x.world.memory a (Some status.0.host.ty) = subst (FitsType x.world.memory a) (host_named asks.0 status.0 status.2) there in
-      (status.0, status.1, subst (λ (memory : MemoryInstance). IsTrue (answer_fits status.0 memory a)) (sym at.space) here)

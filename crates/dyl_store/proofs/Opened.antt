@@ -1,15 +1,13 @@
 -- A linked set begins with what its definition says.
-use Rattle.std.proofs.Common.{◌≡◌, ℕ, ◌+◌, ◌*◌, ◌<◌, ◌≤◌, List, [], ◌∷◌, ◌++◌, length, map, take, drop, Option, Some, refl, sym, ap, ap₂, ◌∙◌, subst, arith, length-append, length-drop, false}
-use Rattle.std.specs.Prelude.{reverse, replicate, Bool, None, Vec, if◌then◌else◌, Result, Ok}
+use Rattle.std.proofs.Common.{◌≡◌, ℕ, ◌+◌, ◌*◌, ◌<◌, ◌≤◌, List, [], ◌∷◌, ◌++◌, length, map, take, drop, Option, Some, refl, sym, ap, ap₂, ◌∙◌, subst, arith, length-append, length-drop}
+use Rattle.std.specs.Prelude.{reverse, replicate, Bool, None, if◌then◌else◌, Result, Ok}
 use Rattle.std.specs.List.{All}
-use Rattle.std.specs.declared.alloc.Global.{Global}
 use Rattle.std.proofs.lemmas.Bool.{le-leb}
 use Rattle.std.proofs.lemmas.List.{length-map, length-take, length-replicate, reverse-reverse}
 use Rattle.std.proofs.lemmas.List.Elements.{All-nil, All-cons}
 use Rattle.wasm_form.specs.declared.runtime.Ref.{Ref}
 use Rattle.wasm_form.specs.declared.runtime.Trap.{Trap}
 use Rattle.wasm_form.specs.declared.runtime.Value.{Value}
-use Rattle.wasm_form.specs.declared.runtime.Answer.{Answer}
 use Rattle.wasm_space.specs.Access.{ChangesOrTraps}
 use Rattle.spec_loading.specs.spec_runtime.Memories.{MemoryInstance, page_size, zeros, new_memory, overwritten, written}
 use Rattle.spec_loading.specs.spec_runtime.Tables.{TableInstance}
@@ -23,7 +21,7 @@ use Rattle.spec_loading.specs.spec_linking.Links.{Links}
 use Rattle.spec_loading.specs.spec_linking.Orders.{closure, post_order}
 use Rattle.spec_loading.specs.spec_linking.Slots.{linked_plan}
 use Rattle.spec_loading.proofs.of_spec_linking.LinkedFacts.{linked_limits}
-use Rattle.spec_loading.specs.spec_safety.ValueTypes.{IsOfBytes, IsMemory}
+use Rattle.spec_loading.specs.spec_safety.ValueTypes.{IsMemory}
 use Rattle.spec_loading.specs.spec_safety.TypedViews.{HoldTypes, IsSoundView}
 use Rattle.spec_loading.proofs.of_spec_safety.Lookups.{All-reverse}
 use Rattle.spec_loading.specs.Texts.{error_texts}
@@ -34,7 +32,6 @@ use Rattle.spec_loading.specs.Loading.{LoaderState}
 use Rattle.spec_loading.specs.LoadedSet.{set_loading, set_opening, opening_memory}
 use Rattle.spec_loading.specs.Laws.{LinkedIsThere, OpeningHolds, SizesArePlanned}
 use Rattle.spec_loading.specs.SoundSets.{IsSoundState, SetIsSound, SetOpensSound, SetViewIsSound}
-use Rattle.wasm_machine.specs.declared.event.Event.TheVariants as event
 use Rattle.dyl_addresses.specs.Sets.{AreOf}
 use Rattle.dyl_addresses.proofs.Ranges.{of_open}
 use Rattle.spec_loading.specs.declared.task.Task.{Task}
@@ -42,12 +39,10 @@ use Rattle.dyl_frames.specs.declared.frames.Core.{Core}
 use Rattle.dyl_frames.specs.Cores.{IsCore, IsState, OpensAt}
 use Rattle.dyl_store.specs.declared.world.World.TheInside.{Inside}
 use Rattle.dyl_store.specs.declared.running.Running.{Running}
-use Rattle.dyl_store.specs.declared.store.Store.TheInside as kept
 use Rattle.dyl_store.specs.Worlds.{WorldState, HasSizes}
 use Rattle.dyl_store.specs.Units.{AreUnits, IsWorld, store_of}
 use Rattle.dyl_store.specs.Opened.{IsOpened}
 use Rattle.dyl_store.specs.Runs.{IsRunning, IsRunnable, RunsAt, ArePlacements}
-use Rattle.dyl_store.specs.Kept.{IsStore}
 use Rattle.dyl_store.proofs.Views.{all_fit}
 
 -- ---- the memory
@@ -188,15 +183,3 @@ running_is x shape links runnable opened core at placements =
       members = ap (λ (l : LoaderState). length l.stages) (sym at.loader) ∙ length-map L.set.members (λ (m : Member). 0);
       placements = placements;
     }
-
-abbrev inside_of : Running → Vec Answer Global → kept.Inside
-inside_of x answers = record { running = x; steps = 0; answers = answers; answered = false; lost = false; event = event.Moved }
-
--- no step was made
-pub store_is : (x : Running) (answers : Vec Answer Global) → IsRunning x → RunsAt x.linked.now x (set_opening x.linked.now) → answers.items ≡ [] → IsStore (inside_of x answers)
-store_is x answers running at none = record {
-  running = λ e. running;
-  bytes = subst (All IsOfBytes) (sym none) (All-nil IsOfBytes);
-  stands = λ e. (record { found = refl; run = refl; real = tt; left = none }, at);
-  told = λ e. (tt, tt);
-}

@@ -4,7 +4,6 @@ pub mod Units
 pub mod Placements
 pub mod Runs
 pub mod Calls
-pub mod Steps
-pub mod Kept
+pub mod SetRuns
 pub mod Opening
 pub mod Opened

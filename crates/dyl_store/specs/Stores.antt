@@ -24,10 +24,6 @@ set_course L = record { system = set_system L; deep = loaded_too_deep (set_loadi
 abbrev pub new_run : LinkedSet → StoreRun
 new_run L = record { linked = L; run = no_steps }
 
--- the next step is one of code
-abbrev pub IsCodeNext : LinkedSet → SetState → Type 0
-IsCodeNext L s = next.IsCodeNext (set_loading L) s
-
 -- Code was on top of the call stack at each state from which one of the further steps was made.
 abbrev pub HadCodeOnTop : LinkedSet → Recorded → Recorded → Type 0
 HadCodeOnTop L old new = (k : ℕ) → old.steps ≤ k → k < new.steps → next.HasCodeOnTop (after (set_course L) k old.answers).state

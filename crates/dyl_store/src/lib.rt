@@ -15,6 +15,7 @@ mod run_member;
 mod running;
 mod segment_places;
 mod segments;
+mod set_run;
 mod shared;
 mod store;
 mod tasks;

@@ -8,86 +8,40 @@ ghost use Rattle.spec_loading.specs.spec_linking.Links.{Links};
 ghost use Rattle.spec_loading.specs.Loading.{stage_in};
 ghost use Rattle.spec_loading.specs.Members.{set_view, shared_table};
 ghost use Rattle.spec_keeping.specs.Started.{is_started};
-ghost use Rattle.spec_loading.specs.LoadedSet.{SetState};
 ghost use Rattle.spec_loading.specs.spec_runtime.Courses.{state_at, status_at, memory_at, IsAt, is_waiting, with_answer, as_lost};
-ghost use Rattle.wasm_machine.specs.Steps.{RunStepped, TellsStatus, ArgumentsFit, Advances, AreOfCode, Awaits, stands_told, is_wait};
+ghost use Rattle.wasm_machine.specs.Steps.{RunStepped, TellsStatus, ArgumentsFit, Advances, AreOfCode, Awaits};
 ghost use Rattle.dyl_link.specs.host_table.Names.{host_name_of};
-ghost use Rattle.dyl_store.specs.Stores.{set_course, new_run, is_deep_at, units_at, IsDroppedTold, HadCodeOnTop, IsCodeNext, MayWantAt};
-ghost use Rattle.dyl_store.specs.Runs.{IsRunning, RunsAt};
-ghost use Rattle.dyl_store.specs.Steps.{Counted};
+ghost use Rattle.dyl_store.specs.Stores.{set_course, new_run, is_deep_at, units_at, IsDroppedTold, HadCodeOnTop, MayWantAt};
+ghost use Rattle.dyl_store.specs.Runs.{IsRunning};
+ghost use Rattle.dyl_store.specs.SetRuns.{IsTold, IsCodeNext};
 
 use crate::running::Running;
+use crate::set_run::SetRun;
 use dyl_link::Linked;
 use dyl_link::host_table::HostName;
-use spec_loading::linked_sets_never_get_stuck;
 use std::alloc::Global;
 use std::marker::Model;
 use wasm_form::{List, Memory, Ref, Value};
-use wasm_machine::{
-    Answer, Done, Event, Standing, View, are_numbers, event_of, holds_bytes, is_of_bytes,
-    stands_told, steps_told,
-};
+use wasm_machine::{Answer, Event, Standing, View, holds_bytes};
+use wasm_recorder::Recorder;
 use wasm_space::{Slots, Space};
 
 /// The run of a linked set: its steps, and the answers of its host. Contracts see it as a `StoreRun`.
 #[derive(Drop)]
 pub struct Store<'m> {
-    pub(crate) running: Running<'m>,
-    pub(crate) steps: u64,
-    pub(crate) answers: Vec<Answer>,
-    pub(crate) answered: bool,
-    pub(crate) lost: bool,
-    pub(crate) event: Event,
+    run: Recorder<Linked, SetRun<'m>>,
 }
 
 impl<'m> Model for Store<'m> {
     ghost use Rattle.wasm_form.specs.contracts.module.Module as modules;
     ghost use Rattle.std.specs.Coded.{codes};
     ghost use Rattle.dyl_store.specs.Stores.{StoreRun};
-    ghost use Rattle.dyl_store.specs.Kept.{run_of, IsStore};
 
     ghost Value = { StoreRun };
 
     ghost coded = { Prim.hlevel (codes, modules.the_row.coded) };
 
-    ghost view = { run_of };
-
-    ghost invariant = { IsStore };
-}
-
-// Keeps what is told of a run.
-fn tell(kept: &mut Event, event: Event)
-    ensures { kept.new ≡ event }
-{
-    *kept = event;
-}
-
-// Keeps what is told of a step.
-fn tell_step(kept: &mut Event, alloc: Global, event: &Event) -> Result<(), Memory>
-    ensures told { OnOk result (kept.new ≡ stands_told event.now) }
-    ensures wanting { OnErr result (is_wait event.now ≡ true) }
-{
-    tell(kept, stands_told(alloc, event)?);
-    Ok(())
-}
-
-// Makes steps of code, up to so many in all, and counts them.
-fn run_code(running: &mut Running, alloc: Global, most: u64, steps: &mut u64, lost: &mut bool)
-    requires running { IsRunning running.old }
-    requires moving { running.old.core.machine.standing ≡ Standing.Moving }
-    requires few { steps.old < most }
-    requires found { lost.old ≡ false }
-    ensures counted { (s : SetState) → RunsAt running.old.linked.now running.old s → Counted running.old.linked.now most s running.new steps.old steps.new lost.new }
-    ensures running { lost.new ≡ false → IsRunning running.new }
-    ensures linked { running.new.linked ≡ running.old.linked }
-{
-    let (made, done) = running.run(alloc, most - *steps);
-    *steps += made;
-    match done {
-        Done::Returned | Done::Trapped(_) => *steps += 1,
-        Done::NoMemory => *lost = true,
-        Done::Goes | Done::Exited | Done::Marked | Done::Deep | Done::Outside => {}
-    }
+    ghost view = { λ i. record { linked = i.run.of; run = i.run.run } };
 }
 
 // The data segments of all members are of bytes.
@@ -109,14 +63,26 @@ impl<'m> Store<'m> {
         linked.has_few_pages();
         hold_bytes(linked);
         let running = Running::open(alloc, linked)?;
+        let event = Event::Moved;
         Ok(Store {
-            running,
-            steps: 0,
-            answers: Vec::new(alloc),
-            answered: false,
-            lost: false,
-            event: Event::Moved,
+            run: Recorder::new(alloc, SetRun { running, event }),
         })
+    }
+
+    // Whether memory was wanting.
+    fn is_lost(&self) -> bool
+        ensures { result ≡ self.now.run.lost }
+    {
+        self.run.is_lost()
+    }
+
+    // What is run, without what is counted and recorded of it.
+    fn bare(&self) -> &SetRun<'m>
+        ensures linked { result.now.running.linked.now ≡ self.now.linked }
+        ensures running { self.now.run.lost ≡ false → IsRunning result.now.running }
+        ensures told { self.now.run.lost ≡ false → IsTold self.now.linked result.now (state_at (set_course self.now.linked) self.now.run) }
+    {
+        self.run.bare()
     }
 
     /// What is run is a set, and it links. The call does nothing: a proof gets these facts by it.
@@ -124,14 +90,14 @@ impl<'m> Store<'m> {
         ensures shape { IsSet self.now.linked.set }
         ensures links { Links self.now.linked }
     {
-        self.running.linked.links();
+        self.bare().running.linked.links();
     }
 
     /// The data segments of the members are of bytes. The call changes nothing: a proof gets this fact by it.
     pub fn holds_bytes(&self)
         ensures { HoldBytes self.now.linked }
     {
-        hold_bytes(self.running.linked);
+        hold_bytes(self.bare().running.linked);
     }
 
     /// Makes one step, which takes the answer that is recorded for a wait, and tells how the run stands then. An end is told again,
@@ -147,38 +113,8 @@ impl<'m> Store<'m> {
         ensures arguments { IfOk result (λ e. ArgumentsFit (set_hosts self.old.linked) e) }
         ensures same { self.new.linked ≡ self.old.linked }
     {
-        if self.lost {
-            return Err(Memory);
-        }
-        match self.running.core.standing() {
-            Standing::Moving => {
-                linked_sets_never_get_stuck();
-                let Ok(event) = self.running.step(alloc) else {
-                    self.lost = true;
-                    return Err(Memory);
-                };
-                are_numbers(&event);
-                let Ok(()) = tell_step(&mut self.event, alloc, &event) else {
-                    drop(event);
-                    self.lost = true;
-                    return Err(Memory);
-                };
-                self.steps += steps_told(&event);
-                Ok(event)
-            }
-            Standing::Asking(..) => {
-                let Some(answer) = self.answers.last() else {
-                    unreachable!();
-                };
-                self.running.take(answer);
-                self.answered = false;
-                self.steps += 1;
-                let standing = self.running.core.standing();
-                tell(&mut self.event, event_of(standing));
-                Ok(event_of(standing))
-            }
-            end => Ok(event_of(end)),
-        }
+        self.run.stands();
+        self.run.run_step(alloc)
     }
 
     /// Makes steps of code, up to so many in all, until one is left for `run_step`: a step of the loader, a call of a host function, or
@@ -187,7 +123,7 @@ impl<'m> Store<'m> {
         ensures advances { Advances most self.old.run self.new.run }
         ensures code { AreOfCode (set_course self.old.linked) self.old.run self.new.run }
         ensures tops { HadCodeOnTop self.old.linked self.old.run self.new.run }
-        ensures left { OnOk result (IsAt (set_course self.old.linked) self.new.run → self.new.run.steps < most → IsCodeNext self.old.linked (state_at (set_course self.old.linked) self.new.run) → ⊥) }
+        ensures left { OnOk result (self.new.run.steps < most → IsCodeNext self.old.linked (state_at (set_course self.old.linked) self.new.run) → ⊥) }
         ensures found { OnOk result (self.new.run.lost ≡ false) }
         ensures wanting { OnErr result ((self.old.run.lost ≡ true) ⊎ MayWantAt self.old.linked self.new.run) }
         ensures lost { OnErr result (self.new.run.lost ≡ true) }
@@ -195,25 +131,7 @@ impl<'m> Store<'m> {
         ensures stays { self.old.run.lost ≡ true → self.new.run ≡ self.old.run }
         ensures same { self.new.linked ≡ self.old.linked }
     {
-        if self.lost {
-            return Err(Memory);
-        }
-        if !matches!(self.running.core.standing(), Standing::Moving) {
-            return Ok(());
-        }
-        if self.steps >= most {
-            return Ok(());
-        }
-        run_code(
-            &mut self.running,
-            alloc,
-            most,
-            &mut self.steps,
-            &mut self.lost,
-        );
-        let standing = self.running.core.standing();
-        tell(&mut self.event, event_of(standing));
-        if self.lost { Err(Memory) } else { Ok(()) }
+        self.run.advance(alloc, most)
     }
 
     /// Records the answer that the next step takes.
@@ -223,30 +141,21 @@ impl<'m> Store<'m> {
         ensures lost { OnErr result (self.new.run ≡ as_lost self.old.run) }
         ensures same { self.new.linked ≡ self.old.linked }
     {
-        is_of_bytes(&a);
-        let Ok(()) = self.answers.push(a) else {
-            self.lost = true;
-            return Err(Memory);
-        };
-        self.answered = true;
-        Ok(())
+        self.run.answer(alloc, a)
     }
 
     /// Whether it waits for an answer that isn't recorded.
     pub fn waiting(&self) -> bool
         ensures { IsAt (set_course self.now.linked) self.now.run → result ≡ is_waiting (set_course self.now.linked) self.now.run }
     {
-        !self.answered && matches!(self.running.core.standing(), Standing::Asking(..))
+        self.run.waiting()
     }
 
     /// Whether it has returned, exited or trapped.
     pub fn has_ended(&self) -> bool
         ensures { IsAt (set_course self.now.linked) self.now.run → result ≡ has_ended (status_at (set_course self.now.linked) self.now.run) }
     {
-        matches!(
-            self.running.core.standing(),
-            Standing::Returned | Standing::Trapped(_) | Standing::Exited(_)
-        )
+        self.run.has_ended()
     }
 
     /// How the run stands: `Moved`, `Waits` with the pending call, `Returned`, `Trapped` or `Exited`. It takes no memory. Of a run that
@@ -255,7 +164,7 @@ impl<'m> Store<'m> {
         ensures tells { self.now.run.lost ≡ false → TellsStatus (set_hosts self.now.linked) result.now (status_at (set_course self.now.linked) self.now.run) }
         ensures arguments { self.now.run.lost ≡ false → ArgumentsFit (set_hosts self.now.linked) result.now }
     {
-        &self.event
+        &self.bare().event
     }
 
     /// Whether a limit of depth is due: the run goes on by itself, and its next step would pass one. It takes no memory. Of a run that
@@ -263,11 +172,12 @@ impl<'m> Store<'m> {
     pub fn deep(&self) -> bool
         ensures { self.now.run.lost ≡ false → result ≡ is_deep_at (set_course self.now.linked) self.now.run }
     {
-        if self.lost {
+        if self.is_lost() {
             return false;
         }
-        match self.running.core.standing() {
-            Standing::Moving => self.running.deep(),
+        let running = &self.bare().running;
+        match running.core.standing() {
+            Standing::Moving => running.deep(),
             _ => false,
         }
     }
@@ -278,41 +188,42 @@ impl<'m> Store<'m> {
         requires { m < length self.now.linked.set.members }
         ensures { self.now.run.lost ≡ false → stage_in (state_at (set_course self.now.linked) self.now.run).loader m ≡ Some result }
     {
-        if self.lost {
+        if self.is_lost() {
             return 0;
         }
-        self.running.core.stages().get(m)
+        self.bare().running.core.stages().get(m)
     }
 
     /// The last error of the loader, by its number, or 0. It takes no memory. Of a run that answered `Memory` nothing is said.
     pub fn error(&self) -> u8
         ensures { self.now.run.lost ≡ false → result ≡ (state_at (set_course self.now.linked) self.now.run).loader.error }
     {
-        self.running.core.errors().get()
+        self.bare().running.core.errors().get()
     }
 
     /// The promoted members, in the order in which they were promoted. It takes no memory. Of a run that answered `Memory` nothing is said.
     pub fn promoted(&self) -> &[u32]
         ensures { self.now.run.lost ≡ false → result.now ≡ (state_at (set_course self.now.linked) self.now.run).loader.promoted }
     {
-        self.running.core.promoted().list()
+        self.bare().running.core.promoted().list()
     }
 
     /// The table that all members share. It takes no memory. Of a run that answered `Memory` nothing is said.
     pub fn shared_table(&self) -> &Slots
         ensures { self.now.run.lost ≡ false → shared_table (state_at (set_course self.now.linked) self.now.run).run.units ≡ Some result.now }
     {
-        &self.running.world.tables[0]
+        let world = &self.bare().running.world;
+        &world.tables[0]
     }
 
     /// Whether the entry was called, and the run goes on. It takes no memory. Of a run that answered `Memory` nothing is said.
     pub fn started(&self) -> bool
         ensures { self.now.run.lost ≡ false → result ≡ is_started (state_at (set_course self.now.linked) self.now.run) }
     {
-        if self.lost {
+        if self.is_lost() {
             return false;
         }
-        self.running.started()
+        self.bare().running.started()
     }
 
     /// A global of member m, by its number there. It takes no memory. Of a run that answered `Memory` nothing is said.
@@ -320,10 +231,10 @@ impl<'m> Store<'m> {
         requires { g < ((set_view self.now.linked).counts m).globals }
         ensures { self.now.run.lost ≡ false → (set_view self.now.linked).global (units_at self.now.linked self.now.run) m g ≡ Some result }
     {
-        if self.lost {
+        if self.is_lost() {
             return Value::Num(0);
         }
-        self.running.world.global(m, g)
+        self.bare().running.world.global(m, g)
     }
 
     /// A table of member m, by its number there. It takes no memory. Of a run that answered `Memory` nothing is said.
@@ -331,10 +242,10 @@ impl<'m> Store<'m> {
         requires { t < ((set_view self.now.linked).counts m).tables }
         ensures { self.now.run.lost ≡ false → (set_view self.now.linked).table (units_at self.now.linked self.now.run) m t ≡ Some result.now }
     {
-        if self.lost {
+        if self.is_lost() {
             return self.shared_table();
         }
-        self.running.world.table(m, t)
+        self.bare().running.world.table(m, t)
     }
 
     /// Whether an element segment of member m, by its number there, is empty, as it is once it is dropped. It takes no memory. Of a run that
@@ -343,10 +254,10 @@ impl<'m> Store<'m> {
         requires { e < ((set_view self.now.linked).counts m).elems }
         ensures { self.now.run.lost ≡ false → IsDroppedTold result ((set_view self.now.linked).elem (units_at self.now.linked self.now.run) m e) }
     {
-        if self.lost {
+        if self.is_lost() {
             return true;
         }
-        self.running.world.elem_dropped(m, e)
+        self.bare().running.world.elem_dropped(m, e)
     }
 
     /// Whether a data segment of member m, by its number there, is empty, as it is once it is dropped. It takes no memory. Of a run that
@@ -355,24 +266,26 @@ impl<'m> Store<'m> {
         requires { d < ((set_view self.now.linked).counts m).datas }
         ensures { self.now.run.lost ≡ false → IsDroppedTold result ((set_view self.now.linked).bytes (units_at self.now.linked self.now.run) m d) }
     {
-        if self.lost {
+        if self.is_lost() {
             return true;
         }
-        self.running.world.data_dropped(m, d)
+        self.bare().running.world.data_dropped(m, d)
     }
 
     /// The globals of all members, by their addresses in the store. It takes no memory. Of a run that answered `Memory` nothing is said.
     pub fn globals(&self) -> &[Value]
         ensures { self.now.run.lost ≡ false → result.now ≡ (units_at self.now.linked self.now.run).globals }
     {
-        &self.running.world.globals
+        let world = &self.bare().running.world;
+        &world.globals
     }
 
     /// The tables of all members, by their addresses in the store. It takes no memory. Of a run that answered `Memory` nothing is said.
     pub fn tables(&self) -> &[Slots]
         ensures { self.now.run.lost ≡ false → result.now ≡ (units_at self.now.linked self.now.run).tables }
     {
-        &self.running.world.tables
+        let world = &self.bare().running.world;
+        &world.tables
     }
 
     /// What is left of the element segments of all members, by their addresses in the store. It takes no memory. Of a run that answered
@@ -380,7 +293,8 @@ impl<'m> Store<'m> {
     pub fn elems(&self) -> &[Vec<Option<Ref>>]
         ensures { self.now.run.lost ≡ false → map (λ v. v.items) result.now ≡ (units_at self.now.linked self.now.run).elems }
     {
-        &self.running.world.elems
+        let world = &self.bare().running.world;
+        &world.elems
     }
 
     /// What is left of the data segments of all members, by their addresses in the store. It takes no memory. Of a run that answered `Memory`
@@ -388,7 +302,8 @@ impl<'m> Store<'m> {
     pub fn datas(&self) -> &[&'m [u8]]
         ensures { self.now.run.lost ≡ false → map (λ d. d.now) result.now ≡ (units_at self.now.linked self.now.run).datas }
     {
-        &self.running.world.datas
+        let world = &self.bare().running.world;
+        &world.datas
     }
 
     /// How many steps were made. The run stands where these lead.
@@ -396,36 +311,35 @@ impl<'m> Store<'m> {
         ensures value { result ≡ self.now.run.steps }
         ensures stands { self.now.run.lost ≡ false → IsAt (set_course self.now.linked) self.now.run }
     {
-        self.steps
+        self.run.stands();
+        self.run.steps()
     }
 
     /// The answers that are recorded, in order.
     pub fn answers(&self) -> &[Answer]
         ensures { result.now ≡ self.now.run.answers }
     {
-        &self.answers
+        self.run.answers()
     }
 
     /// The answers themselves.
     pub fn into_answers(self) -> List<Answer>
         ensures { result ≡ self.entry.run.answers }
     {
-        drop(self.running);
-        drop(self.event);
-        List::of(self.answers)
+        self.run.into_answers()
     }
 
     /// The memory as the run stands.
     pub fn memory(&self) -> &Space
         ensures { IsAt (set_course self.now.linked) self.now.run → result.now ≡ memory_at (set_course self.now.linked) self.now.run }
     {
-        &self.running.world.memory
+        self.run.memory()
     }
 
     /// The host functions that the set imports, by their entries.
     pub fn hosts(&self) -> &[HostName]
         ensures { map host_name_of result.now ≡ hosts_of self.now.linked }
     {
-        self.running.linked.hosts()
+        self.run.hosts()
     }
 }

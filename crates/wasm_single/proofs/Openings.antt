@@ -1,16 +1,15 @@
 -- The opening of a run.
-use Rattle.std.proofs.Common.{◌≡◌, ℕ, false, List, [], length, map, Some, None, Ok, refl, ap, ◌∙◌, sym, subst}
+use Rattle.std.proofs.Common.{◌≡◌, ℕ, List, length, Some, None, Ok, refl, ap, ◌∙◌, sym, subst}
 use Rattle.std.specs.Prelude.{Vec}
 use Rattle.std.specs.Borrow.{Bor}
 use Rattle.std.specs.declared.alloc.Global.{Global}
 use Rattle.std.proofs.lemmas.List.{length-map}
 use Rattle.wasm_form.specs.declared.module.Import.{Import}
 use Rattle.wasm_form.specs.declared.module.Module.{Module}
-use Rattle.wasm_form.specs.declared.runtime.Answer.{Answer}
 use Rattle.spec_safety.specs.spec_binary.WellFormed.{IsWellFormed}
 use Rattle.spec_safety.specs.spec_validation.Faults.{fault}
 use Rattle.spec_safety.specs.spec_runtime.Names.{HostNames}
-use Rattle.spec_safety.specs.spec_execution.Instances.{module_view, imported_hosts}
+use Rattle.spec_safety.specs.spec_execution.Instances.{module_view}
 use Rattle.spec_safety.specs.spec_binary.IndexSpaces.{imported_count}
 use Rattle.spec_safety.specs.spec_execution.OneModule.{ModuleState, imports_met, module_entry, segments_performed, opened_state, opened_with, opened_after}
 use Rattle.spec_safety.specs.Laws.{IsAlone}
@@ -24,11 +23,8 @@ use Rattle.wasm_machine.specs.Stacks.{empty_stack}
 use Rattle.wasm_machine.specs.declared.machine.Standing.TheVariants.{Moving}
 use Rattle.wasm_single.specs.declared.bare_run.Core.{Core}
 use Rattle.wasm_single.specs.declared.bare_run.Phase.TheVariants.{Opened}
-use Rattle.wasm_single.specs.declared.single.Single.TheInside.{Inside}
 use Rattle.wasm_single.specs.Starts.{Meets, opened}
-use Rattle.wasm_single.specs.Singles.{Loads}
 use Rattle.wasm_single.specs.Cores.{IsCore}
-use Rattle.wasm_single.specs.Kept.{IsSingle}
 use Rattle.wasm_single.proofs.Entries.{entry_is, start_is}
 use Rattle.wasm_single.proofs.Imports.{hosts_counted, functions_alone}
 
@@ -47,24 +43,20 @@ hosts_are_counted m names hosts met = sym (length-map hosts.items host_name_of) 
 abbrev core_of : Bor Module → ℕ → InstanceState → Core
 core_of checked entry i = record { checked = checked; instance = i; machine = record { stack = empty_stack; standing = Moving }; start = checked.now.start; entry = entry; phase = Opened }
 
-abbrev inside_of : Core → Vec HostName Global → Vec Answer Global → Inside
-inside_of core hosts answers = record { core = core; hosts = hosts; steps = 0; answers = answers; answered = false; lost = false }
-
 -- the instance is that of the module in its opening state
 abbrev IsOpened : Module → InstanceState → Type 0
 IsOpened m i = (i.wasm ≡ m) × (segments_performed m ≡ Some (goes_on i.parts i.memory))
 
 module _ (m : Module) (entry : ℕ) (i : InstanceState) (found : module_entry m ≡ Some entry) (is : IsOpened m i) where
-  opening : ModuleState
+  pub opening : ModuleState
   opening = opened_state m entry i.parts i.memory
 
   opens : opened m ≡ Ok opening
   unfolding opening
   opens = ap (λ e. opened_with m e (segments_performed m)) found ∙ ap (opened_with m (Some entry)) is.1
 
-  pub loaded : (names : HostNames) (answers : List Answer) → imports_met m names m.imports ≡ Ok tt → answers ≡ []
-      → Loads m names (Ok (record { wasm = m; run = record { steps = 0; answers = answers; answered = false; lost = false } }))
-  loaded names answers met none = (rw none refl, (opening, ap (opened_after m) met ∙ opens))
+  pub origin_is : (o : ModuleState) × (opened m ≡ Ok o)
+  origin_is = (opening, opens)
 
 -- what was found of the module says that the run is kept as it should
 module _ (checked : Bor Module) (entry : ℕ) (i : InstanceState) (found : module_entry checked.now ≡ Some entry) (is : IsOpened checked.now i)
@@ -78,7 +70,7 @@ module _ (checked : Bor Module) (entry : ℕ) (i : InstanceState) (found : modul
       let m = checked.now in
       opens_sound m names (opening m entry i found is) alone numbers bytes (ap (opened_after m) met ∙ opens m entry i found is)
 
-  core_is : IsCore (core_of checked entry i)
+  pub core_is : IsCore (core_of checked entry i)
   unfolding opening
   core_is =
       let m = checked.now in
@@ -98,18 +90,4 @@ module _ (checked : Bor Module) (entry : ℕ) (i : InstanceState) (found : modul
         start = start_is m valid;
         entry = e.startable;
         own = e.own;
-      }
-
-  pub single_is : (hosts : Vec HostName Global) (answers : Vec Answer Global) → map host_name_of hosts.items ≡ imported_hosts checked.now checked.now.imports → answers.items ≡ []
-      → IsSingle (inside_of (core_of checked entry i) hosts answers)
-  unfolding opening
-  single_is hosts answers listed none =
-      let m = checked.now in
-      record {
-        hosts_are = listed;
-        core = λ e. core_is;
-        stands = λ e. (
-          opening m entry i found is,
-          (opens m entry i found is, record { found = refl; run = refl; real = tt; left = none }, record { units = refl; memory = refl; standing = (refl, refl) }),
-        );
       }

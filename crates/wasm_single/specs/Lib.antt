@@ -1,5 +1,4 @@
 pub mod Starts
 pub mod Cores
 pub mod Singles
-pub mod Steps
-pub mod Kept
+pub mod ModuleRuns

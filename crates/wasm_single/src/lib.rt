@@ -4,8 +4,10 @@
 mod bare_run;
 mod hosts;
 mod load;
+mod module_run;
 mod single;
 
+pub use module_run::ModuleRun;
 pub use single::Single;
 pub use spec_safety::spec_execution::SingleFault;
 pub use wasm_machine::{Answer, Asked, Event};

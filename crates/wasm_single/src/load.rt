@@ -7,6 +7,7 @@ ghost use Rattle.wasm_single.specs.Singles.{Loads};
 
 use crate::bare_run::{Core, Phase};
 use crate::hosts::hosts_of;
+use crate::module_run::ModuleRun;
 use crate::single::Single;
 use host_table::HostNames;
 use spec_safety::spec_execution::SingleFault;
@@ -16,6 +17,7 @@ use wasm_check::{Checked, exported_function};
 use wasm_form::FuncType;
 use wasm_instance::Instance;
 use wasm_machine::{Machine, holds_bytes};
+use wasm_recorder::Recorder;
 
 impl<'m> Single<'m> {
     /// A module in its opening state, or why there is none. In order: the first import that isn't a declared host function
@@ -53,12 +55,7 @@ impl<'m> Single<'m> {
             phase: Phase::Opened,
         };
         Ok(Single {
-            core,
-            hosts,
-            steps: 0,
-            answers: Vec::new(alloc),
-            answered: false,
-            lost: false,
+            run: Recorder::new(alloc, ModuleRun { core, hosts }),
         })
     }
 }

@@ -1,5 +1,5 @@
 // The run of one module.
-ghost use Rattle.std.specs.Prelude.{◌≡◌, ◌≢◌, ◌<◌, ◌⊎◌, map, true, false, IfOk, OnOk, OnErr, Ok, Err};
+ghost use Rattle.std.specs.Prelude.{◌≡◌, ◌<◌, ◌⊎◌, map, true, false, IfOk, OnOk, OnErr, Ok, Err};
 ghost use Rattle.spec_safety.specs.spec_runtime.Recorded.{has_ended};
 ghost use Rattle.spec_safety.specs.spec_execution.Instances.{imported_hosts, module_hosts};
 ghost use Rattle.spec_safety.specs.spec_execution.OneModule.{ModuleState};
@@ -7,62 +7,35 @@ ghost use Rattle.host_table.specs.Names.{host_name_of};
 ghost use Rattle.spec_safety.specs.spec_runtime.Courses.{state_at, status_at, memory_at, IsAt, is_waiting, with_answer, as_lost};
 ghost use Rattle.wasm_machine.specs.Steps.{RunStepped, ArgumentsFit, Advances, AreOfCode, Awaits};
 ghost use Rattle.wasm_single.specs.Starts.{opened};
-ghost use Rattle.wasm_single.specs.Cores.{IsCore, IsState, IsCodeNext};
+ghost use Rattle.wasm_single.specs.Cores.{IsCodeNext};
 ghost use Rattle.wasm_single.specs.Singles.{module_course, MayWantAt};
-ghost use Rattle.wasm_single.specs.Steps.{Counted};
 
-use crate::bare_run::{Core, Phase};
+use crate::module_run::ModuleRun;
 use host_table::HostName;
 use std::alloc::Global;
 use std::marker::Model;
+use wasm_check::Checked;
 use wasm_form::{List, Memory};
-use wasm_machine::{Answer, Done, Event, Standing, View, are_numbers, event_of, steps_told};
+use wasm_machine::{Answer, Event};
+use wasm_recorder::Recorder;
 use wasm_space::Space;
 
 /// The run of one module with host imports alone: its steps, and the answers of its host. Contracts see it as a `SingleRun`.
 #[derive(Drop)]
 pub struct Single<'m> {
-    pub(crate) core: Core<'m>,
-    pub(crate) hosts: Vec<HostName>,
-    pub(crate) steps: u64,
-    pub(crate) answers: Vec<Answer>,
-    pub(crate) answered: bool,
-    pub(crate) lost: bool,
+    pub(crate) run: Recorder<Checked, ModuleRun<'m>>,
 }
 
 impl<'m> Model for Single<'m> {
     ghost use Rattle.wasm_form.specs.contracts.module.Module as modules;
     ghost use Rattle.std.specs.Coded.{codes};
     ghost use Rattle.wasm_single.specs.Singles.{SingleRun};
-    ghost use Rattle.wasm_single.specs.Kept.{run_of, IsSingle};
 
     ghost Value = { SingleRun };
 
     ghost coded = { Prim.hlevel (codes, modules.the_row.coded) };
 
-    ghost view = { run_of };
-
-    ghost invariant = { IsSingle };
-}
-
-/// Makes steps of code, up to so many in all, and counts them.
-fn run_code(core: &mut Core, alloc: Global, most: u64, steps: &mut u64, lost: &mut bool)
-    requires core { IsCore core.old }
-    requires moving { core.old.machine.standing ≡ Standing.Moving }
-    requires called { core.old.phase ≢ Phase.Opened }
-    requires few { steps.old < most }
-    requires found { lost.old ≡ false }
-    ensures counted { (s : ModuleState) → IsState core.old s → Counted most s core.new steps.old steps.new lost.new }
-    ensures core { lost.new ≡ false → IsCore core.new }
-    ensures wasm { core.new.checked ≡ core.old.checked }
-{
-    let (made, done) = core.run(alloc, most - *steps);
-    *steps += made;
-    match done {
-        Done::Returned | Done::Trapped(_) => *steps += 1,
-        Done::NoMemory => *lost = true,
-        Done::Goes | Done::Exited | Done::Marked | Done::Deep | Done::Outside => {}
-    }
+    ghost view = { λ i. record { wasm = i.run.of; run = i.run.run } };
 }
 
 impl<'m> Single<'m> {
@@ -79,30 +52,8 @@ impl<'m> Single<'m> {
         ensures arguments { IfOk result (λ e. ArgumentsFit (module_hosts self.old.wasm) e) }
         ensures same { self.new.wasm ≡ self.old.wasm }
     {
-        if self.lost {
-            return Err(Memory);
-        }
-        match self.core.machine.standing() {
-            Standing::Moving => {
-                let Ok(event) = self.core.step(alloc) else {
-                    self.lost = true;
-                    return Err(Memory);
-                };
-                are_numbers(&event);
-                self.steps += steps_told(&event);
-                Ok(event)
-            }
-            Standing::Asking(..) => {
-                let Some(answer) = self.answers.last() else {
-                    unreachable!();
-                };
-                self.core.take(answer);
-                self.answered = false;
-                self.steps += 1;
-                Ok(event_of(self.core.machine.standing()))
-            }
-            end => Ok(event_of(end)),
-        }
+        self.run.stands();
+        self.run.run_step(alloc)
     }
 
     /// Makes steps of code, up to so many in all, until one is left for `run_step`: a call of the module's start or entry, of a host
@@ -110,27 +61,15 @@ impl<'m> Single<'m> {
     pub fn advance(&mut self, alloc: Global, most: u64) -> Result<(), Memory>
         ensures advances { Advances most self.old.run self.new.run }
         ensures code { (opening : ModuleState) → opened self.old.wasm ≡ Ok opening → AreOfCode (module_course self.old.wasm opening) self.old.run self.new.run }
-        ensures left { OnOk result ((opening : ModuleState) → opened self.new.wasm ≡ Ok opening → IsAt (module_course self.new.wasm opening) self.new.run → self.new.run.steps < most → IsCodeNext self.new.wasm (state_at (module_course self.new.wasm opening) self.new.run) → ⊥) }
+        ensures left { (opening : ModuleState) → opened self.old.wasm ≡ Ok opening → OnOk result (self.new.run.steps < most → IsCodeNext self.old.wasm (state_at (module_course self.old.wasm opening) self.new.run) → ⊥) }
         ensures found { OnOk result (self.new.run.lost ≡ false) }
         ensures wanting { OnErr result ((self.old.run.lost ≡ true) ⊎ MayWantAt self.old.wasm self.new.run) }
         ensures lost { OnErr result (self.new.run.lost ≡ true) }
         ensures again { self.old.run.lost ≡ true → result ≡ Err (record {}) }
         ensures same { self.new.wasm ≡ self.old.wasm }
     {
-        if self.lost {
-            return Err(Memory);
-        }
-        if self.core.phase == Phase::Opened {
-            return Ok(());
-        }
-        if !matches!(self.core.machine.standing(), Standing::Moving) {
-            return Ok(());
-        }
-        if self.steps >= most {
-            return Ok(());
-        }
-        run_code(&mut self.core, alloc, most, &mut self.steps, &mut self.lost);
-        if self.lost { Err(Memory) } else { Ok(()) }
+        self.run.stands();
+        self.run.advance(alloc, most)
     }
 
     /// Records the answer that the next step takes.
@@ -140,29 +79,21 @@ impl<'m> Single<'m> {
         ensures lost { OnErr result (self.new.run ≡ as_lost self.old.run) }
         ensures same { self.new.wasm ≡ self.old.wasm }
     {
-        let Ok(()) = self.answers.push(a) else {
-            self.lost = true;
-            return Err(Memory);
-        };
-        self.answered = true;
-        Ok(())
+        self.run.answer(alloc, a)
     }
 
     /// Whether it waits for an answer that isn't recorded.
     pub fn waiting(&self) -> bool
         ensures { (opening : ModuleState) → opened self.now.wasm ≡ Ok opening → IsAt (module_course self.now.wasm opening) self.now.run → result ≡ is_waiting (module_course self.now.wasm opening) self.now.run }
     {
-        !self.answered && matches!(self.core.machine.standing(), Standing::Asking(..))
+        self.run.waiting()
     }
 
     /// Whether it has returned, exited or trapped.
     pub fn has_ended(&self) -> bool
         ensures { (opening : ModuleState) → opened self.now.wasm ≡ Ok opening → IsAt (module_course self.now.wasm opening) self.now.run → result ≡ has_ended (status_at (module_course self.now.wasm opening) self.now.run) }
     {
-        matches!(
-            self.core.machine.standing(),
-            Standing::Returned | Standing::Trapped(_) | Standing::Exited(_)
-        )
+        self.run.has_ended()
     }
 
     /// How many steps were made. The run stands where these lead.
@@ -170,36 +101,35 @@ impl<'m> Single<'m> {
         ensures value { result ≡ self.now.run.steps }
         ensures stands { self.now.run.lost ≡ false → (opening : ModuleState) × (opened self.now.wasm ≡ Ok opening) × IsAt (module_course self.now.wasm opening) self.now.run }
     {
-        self.steps
+        self.run.stands();
+        self.run.steps()
     }
 
     /// The answers that are recorded, in order.
     pub fn answers(&self) -> &[Answer]
         ensures { result.now ≡ self.now.run.answers }
     {
-        &self.answers
+        self.run.answers()
     }
 
     /// The answers themselves.
     pub fn into_answers(self) -> List<Answer>
         ensures { result ≡ self.entry.run.answers }
     {
-        drop(self.core);
-        drop(self.hosts);
-        List::of(self.answers)
+        self.run.into_answers()
     }
 
     /// The memory as the run stands.
     pub fn memory(&self) -> &Space
         ensures { (opening : ModuleState) → opened self.now.wasm ≡ Ok opening → IsAt (module_course self.now.wasm opening) self.now.run → result.now ≡ memory_at (module_course self.now.wasm opening) self.now.run }
     {
-        self.core.instance.memory()
+        self.run.memory()
     }
 
     /// The host functions that the module imports, in order.
     pub fn hosts(&self) -> &[HostName]
         ensures { map host_name_of result.now ≡ imported_hosts self.now.wasm self.now.wasm.imports }
     {
-        &self.hosts
+        self.run.hosts()
     }
 }

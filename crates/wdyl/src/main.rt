@@ -1,7 +1,7 @@
 //! `wdyl run MAIN` runs a main WebAssembly module with the libraries that it needs, `wdyl merge MAIN OUT` makes one module of them,
 //! `wdyl plan MAIN` lists how they are placed and linked, `wdyl exec FILE` runs one module, `wdyl gen N` makes a set and runs it as
-//! loaded and as merged, `wdyl trace MAIN OUT` writes what a run was, `wdyl replay TRACE MAIN` checks that, and `wdyl board MAIN ..`
-//! runs the sets of several main modules in turns.
+//! loaded and as merged, `wdyl trace MAIN OUT` writes what a run was, `wdyl replay TRACE MAIN` checks that, `wdyl snap MAIN OUT` writes
+//! one module that goes on where start-up ended, and `wdyl board MAIN ..` runs the sets of several main modules in turns.
 #![tactic(auto)]
 
 ghost use Rattle.std.specs.Prelude.{◌<◌};

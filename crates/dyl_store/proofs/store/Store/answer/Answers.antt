@@ -1,5 +1,7 @@
-use Rattle.dyl_store.proofs.Recording.{recorded_store}
+use Rattle.std.proofs.Common.{sym, subst}
+use Rattle.wasm_machine.specs.Steps.{Awaits}
+use Rattle.dyl_store.specs.Stores.{StoreRun, set_course}
 use Rattle.dyl_store.proofs.store.Store.answer.Goals as goal
 
-pub invariant_of-self-2 : goal.invariant_of-self-2
-invariant_of-self-2 c = recorded_store c.args.a c.args.self.now c.self.inside c.push.new.self c.self.view_is c.self.invariant c.requires c.is_of_bytes.ensures c.in-Ok.ensures.items
+pub answer-requires : goal.answer-requires
+answer-requires c = (tt, tt, subst (λ (v : StoreRun). Awaits (set_course v.linked) v.run c.args.a) (sym c.self.view_is) c.requires)

@@ -1,7 +1,6 @@
 use Rattle.std.proofs.Common.{sym, ap, ◌∙◌}
 use Rattle.spec_loading.specs.Loading.{LoaderState}
-use Rattle.dyl_store.proofs.Standing.{state_here}
 use Rattle.dyl_store.proofs.store.Store.error.Goals as goal
 
 pub returns : goal.returns
-returns c = λ found. c.get.ensures.value ∙ c.errors.ensures ∙ ap (λ (l : LoaderState). l.error) (sym (state_here c.args.self.now c.self.inside c.self.view_is c.self.invariant found).loader)
+returns c = λ found. c.get.ensures.value ∙ c.errors.ensures ∙ ap (λ (l : LoaderState). l.error) (sym (c.bare.ensures.told found).at.loader)

@@ -1,7 +1,8 @@
-use Rattle.std.proofs.Common.{sym, ap, ◌∙◌}
-use Rattle.dyl_store.specs.declared.store.Store.TheInside.{Inside}
-use Rattle.dyl_store.proofs.Standing.{state_here}
+use Rattle.std.proofs.Common.{◌≡◌, false, subst}
+use Rattle.spec_loading.specs.spec_runtime.Courses.{memory_at}
+use Rattle.dyl_store.specs.Stores.{StoreRun, set_course}
 use Rattle.dyl_store.proofs.store.Store.memory.Goals as goal
 
 pub returns : goal.returns
-returns c = λ at. ap (λ (i : Inside). i.running.world.memory) c.self-inside.view_is ∙ sym (state_here c.args.self.now c.self.inside c.self.view_is c.self.invariant at.found).space
+returns c = λ at.
+    subst (λ (v : StoreRun). v.run.lost ≡ false → c.memory.result.now ≡ memory_at (set_course v.linked) v.run) c.self.view_is (λ found. c.memory.ensures found tt tt) at.found

@@ -1,9 +1,8 @@
 use Rattle.std.proofs.Common.{sym, ap, ◌∙◌}
 use Rattle.spec_loading.specs.spec_execution.Instances.{ModuleParts}
-use Rattle.dyl_store.specs.declared.store.Store.TheInside.{Inside}
-use Rattle.dyl_store.proofs.Standing.{state_here}
+use Rattle.dyl_store.specs.Worlds.{WorldState}
 use Rattle.dyl_store.proofs.store.Store.tables.Goals as goal
 
 pub returns : goal.returns
 returns c = λ found.
-    c.deref.ensures.value ∙ ap (λ (i : Inside). i.running.world.store.tables) c.self-inside.view_is ∙ ap (λ (us : ModuleParts). us.tables) (sym (state_here c.args.self.now c.self.inside c.self.view_is c.self.invariant found).units)
+    c.deref.ensures.value ∙ ap (λ (w : WorldState). w.store.tables) c.world.view_is ∙ ap (λ (us : ModuleParts). us.tables) (sym (c.bare.ensures.told found).at.units)

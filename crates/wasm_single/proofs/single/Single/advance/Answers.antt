@@ -1,55 +1,17 @@
-use Rattle.std.proofs.Common.{rules, subst, sym, ◌∙◌, ◌≡◌, ◌⊎◌, inr, OnErr, true, false}
-use Rattle.wasm_machine.specs.declared.machine.Standing.TheVariants as standing
-use Rattle.wasm_single.specs.declared.bare_run.Phase.TheVariants as phase
-use Rattle.wasm_single.specs.Singles.{MayWantAt}
-use Rattle.wasm_single.specs.Kept.{run_of}
-use Rattle.wasm_single.proofs.Stopping.{HasNoneLeft, stopped_idle, stopped_opened, none_left, on_either}
-use Rattle.wasm_single.proofs.Advancing.{counted, advanced_run}
+use Rattle.std.proofs.Common.{◌≡◌, ◌<◌, Ok, OnOk, subst}
+use Rattle.spec_safety.specs.spec_runtime.Courses.{state_at}
+use Rattle.spec_safety.specs.spec_execution.OneModule.{ModuleState}
+use Rattle.wasm_machine.specs.Steps.{AreOfCode}
+use Rattle.wasm_single.specs.Starts.{opened}
+use Rattle.wasm_single.specs.Cores.{IsCodeNext}
+use Rattle.wasm_single.specs.Singles.{SingleRun, module_course}
 use Rattle.wasm_single.proofs.single.Single.advance.Goals as goal
-use Rattle.wasm_single.proofs.single.Single.advance.Goals.{in-Moving, in_default, then-self-2, else-self-2}
-
-pub returns-then-eq-clause-left : goal.returns-then-eq-clause-left
-returns-then-eq-clause-left c =
-    let opened : c.self.inside.core.phase ≡ phase.Opened = search rules in
-    subst (HasNoneLeft c.args.most) c.self.view_is (none_left c.args.most c.self.inside c.self.invariant (λ found few. stopped_opened c.self.inside.core opened))
-
-pub returns-then-not-matches-clause-left : goal.returns-then-not-matches-clause-left
-returns-then-not-matches-clause-left c = elim c.match-matches.branch [
-  | in-Moving w ↦ absurd (let clash : true ≡ false = sym w.matches-is ∙ c.if-not-matches.true in cc)
-  | in_default w ↦ subst (HasNoneLeft c.args.most) c.self.view_is (none_left c.args.most c.self.inside c.self.invariant (λ found few. stopped_idle c.self.inside.core (λ moving. w.in_default.not-Moving (c.standing.ensures ∙ moving))))
-]
-
-pub invariant_of-self : goal.invariant_of-self
-invariant_of-self c =
-    let moving : c.self.inside.core.machine.standing ≡ standing.Moving = search rules in
-    (advanced_run c.args.most c.args.self.now c.self.inside c.self.view_is c.self.invariant c.if-self.false moving c.run_code.new.core c.run_code.new.steps c.run_code.new.lost c.run_code.ensures.wasm c.run_code.ensures.core c.run_code.ensures.counted).single
-
-pub returns-clause-left : goal.returns-clause-left
-returns-clause-left c =
-    let moving : c.self.inside.core.machine.standing ≡ standing.Moving = search rules in
-    on_either c.if-self-2.result _ (advanced_run c.args.most c.args.self.now c.self.inside c.self.view_is c.self.invariant c.if-self.false moving c.run_code.new.core c.run_code.new.steps c.run_code.new.lost c.run_code.ensures.wasm c.run_code.ensures.core c.run_code.ensures.counted).left
-
-pub returns-clause-advances : goal.returns-clause-advances
-returns-clause-advances c =
-    let moving : c.self.inside.core.machine.standing ≡ standing.Moving = search rules in
-    (advanced_run c.args.most c.args.self.now c.self.inside c.self.view_is c.self.invariant c.if-self.false moving c.run_code.new.core c.run_code.new.steps c.run_code.new.lost c.run_code.ensures.wasm c.run_code.ensures.core c.run_code.ensures.counted).advances
 
 pub returns-clause-code : goal.returns-clause-code
 returns-clause-code c =
-    let moving : c.self.inside.core.machine.standing ≡ standing.Moving = search rules in
-    (advanced_run c.args.most c.args.self.now c.self.inside c.self.view_is c.self.invariant c.if-self.false moving c.run_code.new.core c.run_code.new.steps c.run_code.new.lost c.run_code.ensures.wasm c.run_code.ensures.core c.run_code.ensures.counted).code
+    subst (λ (v : SingleRun). (opening : ModuleState) → opened v.wasm ≡ Ok opening → AreOfCode (module_course v.wasm opening) v.run c.advance.new.self.run) c.self.view_is c.advance.ensures.code
 
-pub returns-clause-wanting : goal.returns-clause-wanting
-returns-clause-wanting c =
-    let moving : c.self.inside.core.machine.standing ≡ standing.Moving = search rules in
-    let so = advanced_run c.args.most c.args.self.now c.self.inside c.self.view_is c.self.invariant c.if-self.false moving c.run_code.new.core c.run_code.new.steps c.run_code.new.lost c.run_code.ensures.wasm c.run_code.ensures.core c.run_code.ensures.counted in
-    let Q : Type 0 = (c.args.self.now.run.lost ≡ true) ⊎ MayWantAt c.args.self.now.wasm (run_of (counted c.self.inside c.run_code.new.core c.run_code.new.steps c.run_code.new.lost)).run in
-    elim c.if-self-2.branch [
-      | then-self-2 w ↦ subst (λ r. OnErr r Q) (sym w.result-is) (inr (so.wants w.if-self-2.true))
-      | else-self-2 w ↦ subst (λ r. OnErr r Q) (sym w.result-is) tt
-    ]
-
-pub returns-clause-same : goal.returns-clause-same
-returns-clause-same c =
-    let moving : c.self.inside.core.machine.standing ≡ standing.Moving = search rules in
-    (advanced_run c.args.most c.args.self.now c.self.inside c.self.view_is c.self.invariant c.if-self.false moving c.run_code.new.core c.run_code.new.steps c.run_code.new.lost c.run_code.ensures.wasm c.run_code.ensures.core c.run_code.ensures.counted).same
+pub returns-clause-left : goal.returns-clause-left
+returns-clause-left c =
+    let y = c.advance.new.self.run in
+    subst (λ (v : SingleRun). (opening : ModuleState) → opened v.wasm ≡ Ok opening → OnOk c.advance.result (y.steps < c.args.most → IsCodeNext v.wasm (state_at (module_course v.wasm opening) y) → ⊥)) c.self.view_is c.advance.ensures.left

@@ -1,0 +1,3 @@
+pub mod Bares
+pub mod Runs
+pub mod Kept

@@ -1,5 +1,0 @@
-use Rattle.wasm_single.proofs.Recording.{recorded_single}
-use Rattle.wasm_single.proofs.single.Single.answer.Goals as goal
-
-pub invariant_of-self-2 : goal.invariant_of-self-2
-invariant_of-self-2 c = recorded_single c.args.a c.args.self.now c.self.inside c.push.new.self c.self.view_is c.self.invariant c.requires c.in-Ok.ensures.items
