@@ -27,8 +27,13 @@ compile() {
     "${CLANG:-clang}" --target=wasm32-unknown-emscripten -O2 -fPIC -fvisibility=default -ffreestanding -mbulk-memory \
         $options "$@" -c "$file" -o "${name%.*}.o"
 }
-for file in "$source"/*.c; do compile "$file"; done
-for file in "$source"/*.cpp; do compile "$file" -fno-exceptions -fno-rtti -fno-threadsafe-statics; done
+# what wdyl-libc makes libc.so and libcxx.so of isn't for these programs
+for file in "$source"/*.c; do
+    [ "${file##*/}" = libc_more.c ] || compile "$file"
+done
+for file in "$source"/*.cpp; do
+    case ${file##*/} in cxx_*) ;; *) compile "$file" -fno-exceptions -fno-rtti -fno-threadsafe-statics ;; esac
+done
 
 # The first word is the module, the others are what it is linked of.
 library() {
@@ -58,10 +63,19 @@ library librot13.so rot13.o libletters.so
 main filters.wasm --import-undefined start.o filters.o libio.so
 
 main count.wasm start.o count.o libio.so
+main numbers.wasm start.o numbers.o libio.so
+main errors.wasm start.o errors.o libio.so
+main blocks.wasm --allow-undefined start.o blocks.o heap.o libio.so
+main growing.wasm --allow-undefined start.o growing.o heap.o libio.so
+
+library libdoor.so --import-undefined door.o libio.so
+main visits.wasm start.o visits.o libdoor.so libio.so
 
 library libruntime.so --allow-undefined runtime.o heap.o io.o
 library libsquare.so square.o libruntime.so
 main shapes.wasm start_cxx.o shapes.o libsquare.so libruntime.so
+main words.wasm start_cxx.o words.o libruntime.so
+main huge.wasm start_cxx.o huge.o libruntime.so
 
 chmod a-x ./*.so ./*.wasm
 cp ./*.so ./*.wasm "$to"

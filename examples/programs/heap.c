@@ -8,10 +8,11 @@ extern char __heap_base[], __heap_end[];
 void *take(unsigned long size) {
   static char *next, *end;
   if (!next) next = __heap_base, end = __heap_end;
-  size = (size + 15) & -16ul;
+  if (size > -16ul) return 0;
+  size = size ? (size + 15) & -16ul : 16;
   unsigned long left = end - next;
   if (size > left) {
-    unsigned long pages = (size - left + 65535) / 65536;
+    unsigned long pages = (size - left - 1) / 65536 + 1;
     if (__builtin_wasm_memory_grow(0, pages) == -1ul) return 0;
     end += pages * 65536;
   }

@@ -3,7 +3,15 @@
 #ifndef HEAP_H
 #define HEAP_H
 
-// So many bytes at a multiple of 16, or 0 where the memory can't grow any more.
+#ifdef __cplusplus
+extern "C" {
+#endif
+
+// So many bytes at a multiple of 16 which nothing else has, or 0 where the memory can't grow any more.
 void *take(unsigned long size);
+
+#ifdef __cplusplus
+}
+#endif
 
 #endif

@@ -10,10 +10,11 @@ struct vector {
 WASI(fd_read) int fd_read(int fd, const struct vector *vectors, unsigned count, unsigned *taken);
 WASI(fd_write) int fd_write(int fd, const struct vector *vectors, unsigned count, unsigned *put);
 
-static void write_out(const char *at, unsigned length) {
+// How many of the bytes were put out: 0 where none can be.
+static unsigned write_some(const char *at, unsigned length) {
   struct vector vector = {at, length};
-  unsigned put;
-  fd_write(1, &vector, 1, &put);
+  unsigned done;
+  return fd_write(1, &vector, 1, &done) == 0 ? done : 0;
 }
 
 static unsigned read_in(char *at, unsigned length) {
@@ -24,8 +25,9 @@ static unsigned read_in(char *at, unsigned length) {
 #else
 #include <unistd.h>
 
-static void write_out(const char *at, unsigned length) {
-  if (write(1, at, length) < 0) return;
+static unsigned write_some(const char *at, unsigned length) {
+  long done = write(1, at, length);
+  return done < 0 ? 0 : done;
 }
 
 static unsigned read_in(char *at, unsigned length) {
@@ -35,9 +37,10 @@ static unsigned read_in(char *at, unsigned length) {
 #endif
 
 void put(const char *text) {
-  unsigned length = 0;
+  unsigned length = 0, done = 1;
   while (text[length]) length++;
-  write_out(text, length);
+  // one call need not put all of it
+  for (; length && done; text += done, length -= done) done = write_some(text, length);
 }
 
 static void put_digits(unsigned number, unsigned base, int fewest) {

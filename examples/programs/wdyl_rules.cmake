@@ -1,0 +1,15 @@
+# What wdyl.cmake lets CMake know of sets: there are shared libraries, and main modules are named as such.
+
+set_property(GLOBAL PROPERTY TARGET_SUPPORTS_SHARED_LIBS TRUE)
+set(CMAKE_SHARED_LIBRARY_PREFIX lib)
+set(CMAKE_SHARED_LIBRARY_SUFFIX .so)
+set(CMAKE_SHARED_MODULE_PREFIX lib)
+set(CMAKE_SHARED_MODULE_SUFFIX .so)
+set(CMAKE_EXECUTABLE_SUFFIX .wasm)
+set(CMAKE_FIND_LIBRARY_PREFIXES lib)
+set(CMAKE_FIND_LIBRARY_SUFFIXES .so .a)
+foreach(language C CXX)
+  set(CMAKE_SHARED_LIBRARY_CREATE_${language}_FLAGS -shared)
+  set(CMAKE_SHARED_MODULE_CREATE_${language}_FLAGS -shared)
+  set(CMAKE_SHARED_LIBRARY_LINK_${language}_FLAGS "")
+endforeach()
