@@ -1,32 +1,35 @@
 #!/bin/sh
-# Runs the commands of docs/GUIDE.md, and then those of README.md, and compares what they print with what is shown there.
+# Runs the commands of docs/GUIDE.md, then those of README.md and of docs/TOOLS.md, and compares what they print with what is shown there.
 #
 #     sh examples/guide.sh bin/wdyl
 #
 # A block that begins with ```console has commands, each behind `$ ` (and `> ` where it goes on), with what it prints.
 # The words behind `console` tell what it needs. Where something is missing, this is said, and the block is skipped. With the word
-# `repository` it is run beside a copy of examples/, else in a folder of its own. A block whose first line names a file, as ```c say.c,
-# is written into both. In all commands $share is examples/programs.
+# `repository` it is run beside a copy of examples/, else in a folder of its own, which the guide and the README share. A block whose
+# first line names a file, as ```c say.c, is written into both. In all commands $share is examples/programs.
 #
-# CLANG and WASM_LD name other tools than `clang` and `wasm-ld`. WASI_LIBC_SOURCE is a folder with the sources of wasi-libc.
+# CLANG and WASM_LD name other tools than `clang` and `wasm-ld`. WASI_LIBC_SOURCE is a folder with the sources of wasi-libc, of which
+# wdyl-libc makes a C library where WDYL_LIBC has none.
 set -eu
 
 program=$(cd "$(dirname "$1")" && pwd)/$(basename "$1")
 top=$(cd "$(dirname "$0")/.." && pwd)
-guide=$top/docs/GUIDE.md
+reference=$top/docs/TOOLS.md
 work=$(mktemp -d)
 trap 'rm -rf "$work"' EXIT
-mkdir "$work/tools" "$work/blocks" "$work/own" "$work/repository"
+mkdir "$work/tools" "$work/blocks" "$work/guide" "$work/reference" "$work/repository"
 cp -R "$top/examples" "$work/repository/examples"
 ln -s "$program" "$work/tools/wdyl"
 for name in clang wasm-ld; do
     case $name in clang) named=${CLANG:-} ;; *) named=${WASM_LD:-} ;; esac
     [ -z "$named" ] || ln -s "$(command -v "$named")" "$work/tools/$name"
 done
-PATH=$work/tools:$PATH
+PATH=$work/tools:$top/tools:$PATH
+libc=${WDYL_LIBC:-}
+export WDYL_LIBC="$work/none"
 export share="$work/repository/examples/programs"
 
-# Each block becomes a file of its words, one of its text, and one of the commands that print that text.
+# Each block becomes a file of its words, one of its text, one of the commands that print that text, and one of its folder.
 awk -v to="$work/blocks" '
 function ended() {
     if (shown == "") return
@@ -42,6 +45,8 @@ function ended() {
     at = sprintf("%s/%03d", to, ++count)
     print substr($0, 4) > (at ".words")
     close(at ".words")
+    print (FILENAME ~ /TOOLS/ ? "reference" : "guide") > (at ".folder")
+    close(at ".folder")
     printf "" > (at ".text")
     has_commands = $1 == "```console"
     next
@@ -51,7 +56,7 @@ at == "" { if (/^\$ /) { print "a command stands in a block that is not run: " $
 { print > (at ".text") }
 has_commands && /^\$ / { ended(); shown = $0 "\n"; command = substr($0, 3) "\n"; next }
 has_commands && /^> / { shown = shown $0 "\n"; command = command substr($0, 3) "\n"; next }
-' "$guide" "$top/README.md"
+' "$top/docs/GUIDE.md" "$top/README.md" "$reference"
 
 links_for_wasi() {
     echo 'int main(void) { return 0; }' >"$work/try.c"
@@ -69,6 +74,15 @@ keeps_data_apart() {
     ! wasm-ld --unresolved-symbols=import-dynamic 2>&1 | grep -q 'unknown --unresolved-symbols'
 }
 
+# The C library of WDYL_LIBC, or one that is made at the first block that takes it.
+has_c_library() {
+    if [ ! -e "$libc/libc.so" ] && [ -n "${WASI_LIBC_SOURCE:-}" ] && [ -e "$top/tools/wdyl-libc" ]; then
+        libc=$work/libc
+        python3 "$top/tools/wdyl-libc" "$WASI_LIBC_SOURCE" "$libc" || exit 1
+    fi
+    [ -e "$libc/libc.so" ]
+}
+
 # Whether there is what a word tells of. What is missing is named.
 has() {
     missing=$1
@@ -77,6 +91,7 @@ has() {
     data-apart) missing="a wasm-ld that keeps all data of main apart (15 and later)" && keeps_data_apart ;;
     rpath) missing="the option -rpath of wasm-ld" && wasm-ld --help 2>/dev/null | grep -q -e -rpath ;;
     wasi-libc) missing="wasi-libc, with the library and the linker that clang takes with it" && links_for_wasi ;;
+    c-library) missing="a C library, in WDYL_LIBC" && has_c_library ;;
     wasi-libc-source) missing="the sources of wasi-libc, in WASI_LIBC_SOURCE" && [ -n "${WASI_LIBC_SOURCE:-}" ] ;;
     pic-for-wasi) missing="position-independent code for wasm32-wasi, by this clang and this wasm-ld" && makes_position_independent ;;
     *) command -v "$1" >/dev/null ;;
@@ -87,22 +102,24 @@ ran=0 skipped=0
 for words in "$work"/blocks/*.words; do
     block=${words%.words}
     read -r kind needs <"$words"
+    read -r folder <"$block.folder"
     if [ "$kind" != console ]; then
-        cp "$block.text" "$work/own/$needs"
+        cp "$block.text" "$work/$folder/$needs"
         cp "$block.text" "$work/repository/$needs"
         continue
     fi
-    folder=own lacks=
+    lacks= chosen=$work/none
     for need in $needs; do
         [ "$need" != repository ] || folder=repository
         [ -n "$lacks" ] || has "$need" || lacks=$missing
+        [ "$need" != c-library ] || chosen=$libc
     done
     if [ -n "$lacks" ]; then
         skipped=$((skipped + 1))
         echo "$lacks" >>"$work/lacking"
         continue
     fi
-    (cd "$work/$folder" && sh "$block.sh" >"$block.printed" 2>&1 </dev/null)
+    (cd "$work/$folder" && WDYL_LIBC=$chosen sh "$block.sh" >"$block.printed" 2>&1 </dev/null)
     if ! cmp -s "$block.text" "$block.printed"; then
         echo "This is shown, and printed is:"
         diff "$block.text" "$block.printed"
@@ -111,7 +128,7 @@ for words in "$work"/blocks/*.words; do
     ran=$((ran + 1))
 done
 
-# The guide and the manual page tell of each line that the program may put.
+# The reference and the manual page tell of each line that the program may put.
 awk '
 /^##/ { is_in = $0 == "### The line" }
 is_in && /^- `/ {
@@ -125,7 +142,7 @@ is_in && /^- `/ {
 [ "$(wc -l <"$work/lines")" -ge 35 ] || { echo "docs/FORMATS.md has other lines than this script reads"; exit 1; }
 sed 's/\\-/-/g' "$top/man/wdyl.1" >"$work/manual"
 while IFS= read -r line; do
-    grep -qF -e "\`$line\`" "$guide" || { echo "docs/GUIDE.md doesn't tell of the line: $line"; exit 1; }
+    grep -qF -e "\`$line\`" "$reference" || { echo "docs/TOOLS.md doesn't tell of the line: $line"; exit 1; }
     grep -qF -e "$line" "$work/manual" || { echo "man/wdyl.1 doesn't tell of the line: $line"; exit 1; }
 done <"$work/lines"
 
