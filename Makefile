@@ -1,15 +1,18 @@
-# make        builds bin/wdyl
-# make demo   builds it, and lists, merges and runs the examples, which are built again where clang and wasm-ld are there
-# make guide  runs the commands of docs/GUIDE.md, and compares what they print with what stands there
+# make try    builds a slow program without a proof, and shows that it works, in some two minutes
+# make        proves the program and builds bin/wdyl; a line tells each time a crate is done
+# make demo   builds it, and lists, merges and runs the examples, which are built again where clang and wasm-ld are there, and opens the
+#             page of a merged file where Chromium is there
+# make guide  runs the commands of docs/GUIDE.md, README.md and docs/TOOLS.md, and compares what they print with what stands there
 # make docs   sees that README.md and docs/ name what there is: links, paths, crates, calls, counts, what one has to believe
-# make install    puts the program, its manual page, and the headers and start files of the examples under PREFIX, which is
-#                 /usr/local if not given; make uninstall removes them
+# make install    puts the program, wdyl-cc, the manual page, completions for shells, and the headers and start files of the examples
+#                 under PREFIX, which is /usr/local if not given; make uninstall removes them
+# make dist   packs what make install installs into dist/, with the commit and checksums
 # make bench  builds it and measures it
 # make speed  measures runs of whole programs beside other engines, and beside another program of wdyl, OTHER, where one is given
 # make codec  measures decoding, encoding and checking beside wabt, and merging beside these
 # make inner  measures the memories and integer operators of a run beside C
-# make compare  runs random modules and random sets by wdyl and by node, validates changed ones by wdyl and by wabt, and replays traces
-#               of runs and changed ones
+# make compare  runs random modules and random sets by wdyl and by node, validates changed ones by wdyl and by wabt, replays traces
+#               of runs and changed ones, and runs the merged examples by the engines of three browsers
 # make boards  runs random sets in turns, and sees that each does what it does alone
 # make snapshots  runs the snapshots of random sets by wdyl and by node, and sees that they do what the sets do
 # make adapters  runs wdyl over files, streams and a random source of the system that fail
@@ -26,24 +29,41 @@ SEED = 0
 programs = $(DESTDIR)$(PREFIX)/bin
 manuals = $(DESTDIR)$(PREFIX)/share/man/man1
 shared = $(DESTDIR)$(PREFIX)/share/wdyl
+bash_completions = $(DESTDIR)$(PREFIX)/share/bash-completion/completions
+zsh_completions = $(DESTDIR)$(PREFIX)/share/zsh/site-functions
+fish_completions = $(DESTDIR)$(PREFIX)/share/fish/vendor_completions.d
 
-# what programs are compiled with: the entry and its arguments, dlopen and its like, text out and in; and a merged file run by node
-SHARED := start.c dl.h io.h io.c heap.h heap.c start_cxx.cpp runtime.cpp wasi.mjs
+# what programs are compiled with: entries, dlopen and its like, text out and in, memory; a merged file run by node or a page; and what
+# looks into a plan
+SHARED := start.c start_wasi.c dl.h io.h io.c heap.h heap.c start_cxx.cpp runtime.cpp wasi.mjs
+# what lets CMake and Meson know of sets
+SHARED += wdyl.cmake wdyl_rules.cmake wdyl.meson
+# what wdyl-libc makes a C library and a runtime of C++ of
+SHARED += dlfcn.h libc_more.c cxx_types.cpp cxx_library.cpp
+# what shows what modules and plans say
+SCRIPTS := check-plan module-names plan-picture
 
-.PHONY: all demo guide docs install uninstall bench speed codec inner compare boards snapshots adapters refused hostile test clean
+.PHONY: all try demo guide docs dist install uninstall bench speed codec inner compare boards snapshots adapters refused hostile test clean
 
 all: bin/wdyl
 
-# `rt run` proves the program, builds it and runs it without words; it ends with the status of that run, which is 64.
 bin/wdyl: $(SOURCES)
-	cd crates/wdyl && { rt run >../../build.log 2>&1; test $$? -eq 64 || { cat ../../build.log; exit 1; }; }
+	python3 tools/prove.py crates/wdyl build.log
 	mkdir -p bin
 	cp crates/wdyl/out/wdyl bin/wdyl
+
+try:
+	sh tools/try.sh
 
 demo: bin/wdyl
 	sh examples/demo.sh bin/wdyl
 	sh examples/greetings.sh bin/wdyl
 	sh examples/programs/demo.sh bin/wdyl
+	sh examples/hosted.sh bin/wdyl
+	sh examples/tools.sh bin/wdyl
+	sh examples/unchanged.sh bin/wdyl
+	sh examples/libraries.sh bin/wdyl
+	python3 examples/web/test.py bin/wdyl
 
 guide: bin/wdyl
 	sh examples/guide.sh bin/wdyl
@@ -53,14 +73,26 @@ docs:
 	python3 docs/believe.py --check
 
 install: bin/wdyl
-	install -d "$(programs)" "$(manuals)" "$(shared)"
-	install -m 755 bin/wdyl "$(programs)/wdyl"
+	install -d "$(programs)" "$(manuals)" "$(shared)" "$(bash_completions)" "$(zsh_completions)" "$(fish_completions)"
+	install -m 755 bin/wdyl tools/wdyl-cc tools/wdyl-libc tools/wdyl-rustc "$(programs)"
+	ln -sf wdyl-cc "$(programs)/wdyl-c++"
+	install -m 644 tools/completions/wdyl.bash "$(bash_completions)/wdyl"
+	install -m 644 tools/completions/_wdyl "$(zsh_completions)/_wdyl"
+	install -m 644 tools/completions/wdyl.fish "$(fish_completions)/wdyl.fish"
 	install -m 644 man/wdyl.1 "$(manuals)/wdyl.1"
 	install -m 644 $(SHARED:%=examples/programs/%) "$(shared)"
+	install -m 755 $(SCRIPTS:%=examples/programs/%) "$(shared)"
 
 uninstall:
-	rm -f "$(programs)/wdyl" "$(manuals)/wdyl.1" $(SHARED:%="$(shared)/%")
+	rm -f "$(programs)/wdyl" "$(programs)/wdyl-cc" "$(programs)/wdyl-c++" "$(programs)/wdyl-libc" "$(programs)/wdyl-rustc" "$(manuals)/wdyl.1"
+	rm -f $(SHARED:%="$(shared)/%") $(SCRIPTS:%="$(shared)/%")
+	rm -f "$(bash_completions)/wdyl" "$(zsh_completions)/_wdyl" "$(fish_completions)/wdyl.fish"
 	test ! -d "$(shared)" || rmdir --ignore-fail-on-non-empty "$(shared)"
+
+dist: bin/wdyl
+	rm -rf dist
+	$(MAKE) --no-print-directory -o bin/wdyl install DESTDIR= PREFIX="$(CURDIR)/dist/installed"
+	sh tools/dist.sh dist/installed
 
 bench: bin/wdyl
 	python3 bench/merge.py bin/wdyl
@@ -90,6 +122,7 @@ compare: bin/wdyl
 	python3 compare/compare.py bin/wdyl
 	python3 compare/compare_sets.py bin/wdyl
 	python3 compare/traces.py bin/wdyl
+	sh compare/engines.sh bin/wdyl
 
 boards: bin/wdyl
 	python3 compare/boards.py bin/wdyl
@@ -110,4 +143,4 @@ test: docs
 	rt ci
 
 clean:
-	rm -rf bin build.log
+	rm -rf bin build.log dist

@@ -8,6 +8,7 @@ and counts, lists of crates and of edits, and the length of lines. It needs noth
 """
 import re
 import sys
+from collections import Counter
 from pathlib import Path
 
 TOP = Path(__file__).resolve().parent.parent
@@ -17,7 +18,7 @@ PAGES = [path for path in [TOP / "README.md", TOP / "CONTRIBUTING.md", TOP / "CH
 # crates of which pages tell that they were there
 PAST = {"test_commands", "test_hosts"}
 FRONTS = ("spec_", "wasm_", "host_", "dyl_", "merge_", "test_", "rows_", "run_", "replay_", "slice_", "snap_")
-COUNTS = {"one": 1, "two": 2, "three": 3, "four": 4, "five": 5, "six": 6}
+COUNTS = {word: number for number, word in enumerate("one two three four five six seven eight nine ten eleven twelve".split(), 1)}
 faults = []
 
 
@@ -91,8 +92,8 @@ def paths(path, text, names):
             if not is_there(word):
                 fault(path, f"there is no {word}")
         elif re.fullmatch(r"[\w-]+\.(py|sh|mjs|md|rattle)", word):
-            # the guide's own files are written by examples/guide.sh
-            own = re.search(r"^```\w+ " + re.escape(word) + "$", read(TOP / "docs/GUIDE.md"), re.M)
+            # the own files of the guide and of the reference are written by examples/guide.sh
+            own = any(re.search(r"^```\w+ " + re.escape(word) + "$", read(TOP / name), re.M) for name in ("docs/GUIDE.md", "docs/TOOLS.md"))
             if not own and not any("out" not in file.parts for file in TOP.rglob(word)):
                 fault(path, f"no file is named {word}")
 
@@ -192,8 +193,8 @@ def edits():
     for name in there - named:
         fault(path, f"the edit {name} isn't told of")
     house = read(TOP / "docs/ARCHITECTURE.md")
-    told = re.search(r"so they stand in small crates: ([^.]*)\.", house)
-    if told and set(re.findall(r"`(\w+)`", told[1])) != {name.split("/")[0] for name in there}:
+    told = re.search(r"Those\s+that\s+have\s+some\s+are\s([^.]*)\.", house)
+    if not told or set(re.findall(r"`(\w+)`", told[1])) != {name.split("/")[0] for name in there}:
         fault(TOP / "docs/ARCHITECTURE.md", "the crates with edits are others")
 
 
@@ -214,6 +215,76 @@ def rows():
             fault(TOP / "docs/TESTED.md", f"{crate} has {wrong} rows that are told wrongly")
 
 
+def rows_by_kind():
+    """How many rows there are of a kind: of `rows_modules` by their verb, less those that are told wrongly; of `rows_commands` by the
+    heading that they stand under."""
+    found = Counter()
+    lines = read(CRATES / "rows_modules/stdout").split("\n")
+    wrong = {line.split(": ")[0] for line in lines if not line.endswith(": as told")}
+    for name, verb in re.findall(r"^row ([^:\n]+):.*\n(?:#.*\n)*(\w+)", read(CRATES / "rows_modules/stdin"), re.M):
+        found[verb] += name not in wrong
+    head = ""
+    for line in read(CRATES / "rows_commands/stdin").split("\n"):
+        title = re.match(r"# (?:---- (\w+)|(Words of `\w+`))", line)
+        head = (title[1] or title[2]) if title else head
+        found[head] += bool(re.match(r" *row [^:]+:", line))
+    return found
+
+
+def counted_rows():
+    """The table of TESTED.md has as many rows of a kind as there are."""
+    found = rows_by_kind()
+    wanted = {
+        "decoding": (found["decode"],), "writing": (found["encode"],), "records": (found["record"],),
+        "checking, heights": (found["check"] + found["heights"],), "files of generated sets": (found["file"],),
+        "snapshots (`snap`)": (found["snapshots"], found["Words of `snap`"]),
+        "traces (`trace`, `replay`)": (found["traces"], found["Words of `trace`"]),
+        "programs in turns (`board`)": (found["boards"],),
+    }
+    text = read(TOP / "docs/TESTED.md")
+    for group, counts in wanted.items():
+        row = re.search(r"^\| " + re.escape(group) + r" \|[^|]*\|([^|]*)\|$", text, re.M)
+        told = tuple(int(n) for n in re.findall(r"\b(\d+)\b", row[1]))[:len(counts)] if row else ()
+        if told != counts:
+            fault(TOP / "docs/TESTED.md", f"{group}: there are {', '.join(map(str, counts))} rows")
+
+
+def house(names):
+    """What ARCHITECTURE.md and DECISIONS.md say of all crates together."""
+    page, reasons = TOP / "docs/ARCHITECTURE.md", TOP / "docs/DECISIONS.md"
+    text = read(page)
+    drawn = set(re.findall(r"\w+", re.search(r"^## The rooms$.*?^```$(.*?)^```$", text, re.M | re.S)[1]))
+    told = re.search(r"Not\s+drawn\s+are\s([^;]*)\sand\s+the\s+crates\s+of\s+tests", text)
+    others = {name for name in names if not name.startswith(("test_", "rows_"))} - drawn
+    if not told or set(re.findall(r"`(\w+)`", told[1])) != others:
+        fault(page, f"not drawn are {', '.join(sorted(others))}")
+    sources = {name: [file for file in (CRATES / name).rglob("*") if file.suffix in (".rt", ".antt") and "out" not in file.parts] for name in names}
+    unnamed = 0
+    for line in read(TOP / "crates.txt").split("\n"):
+        if line and not line.startswith("#"):
+            name, below = line.split(":")
+            text_of = "\n".join(map(read, sources[name.split()[0]]))
+            unnamed += sum(not re.search(r"\b" + other + r"\b", text_of) for other in below.split())
+    for path, pattern in ((page, r"(\w+)\s+entries\s+are\s+named\s+by\s+no\s+file"), (reasons, r"name,\s+and\s+(\w+)\s+entries\s+that\s+none\s+does")):
+        told = re.search(pattern, read(path))
+        if not told or COUNTS.get(told[1]) != unnamed:
+            fault(path, f"{unnamed} entries of crates.txt are named by no file of their crate")
+    size = {name: sum(read(file).count("\n") for file in sources[name] if file.suffix == ".rt") for name in names}
+    told = re.search(r"the\s+largest,\s+with\s+([\d,]+)\s+to\s+([\d,]+),\s+are\s([^.]*)\.", read(reasons))
+    largest = sorted(names, key=size.get)[-3:]
+    low, high = (int(told[n].replace(",", "")) for n in (1, 2)) if told else (0, 0)
+    if set(re.findall(r"`(\w+)`", told[3] if told else "")) != set(largest) or any(not low <= size[name] <= high for name in largest):
+        fault(reasons, "the largest crates are " + ", ".join(f"{name} of {size[name]} lines" for name in largest))
+
+
+def gate():
+    """`.ci/run` runs `make test`, which is the documents and a plain `rt ci`."""
+    if not re.search(r"^time make test\n\Z", read(TOP / ".ci/run"), re.M):
+        fault(TOP / ".ci/run", "it doesn't end by `make test`")
+    if not re.search(r"^test: docs\n\trt ci\n(?!\t)", read(TOP / "Makefile"), re.M):
+        fault(TOP / "Makefile", "`make test` isn't `make docs` and a plain `rt ci`")
+
+
 def make_targets():
     makefile = read(TOP / "Makefile")
     targets = set(re.findall(r"^([a-z]+):", makefile, re.M))
@@ -231,11 +302,15 @@ def make_targets():
         for name in re.findall(r"share/wdyl/(\w+\.\w+)", read(path)):
             if name not in installed:
                 fault(path, f"make install puts no {name} into share/wdyl")
+    for name in installed:
+        if f"`{name}`" not in read(TOP / "README.md"):
+            fault(TOP / "README.md", f"nothing is said of {name}, which make install puts into share/wdyl")
 
 
 def numbers():
     """Statuses, options, lines and limits are those of the definitions."""
-    pages = {name: read(TOP / name) for name in ("README.md", "docs/FORMATS.md", "docs/GUIDE.md", "man/wdyl.1")}
+    pages = {name: read(TOP / name) for name in ("README.md", "docs/FORMATS.md", "docs/TOOLS.md", "man/wdyl.1",
+                                                 "tools/completions/wdyl.bash", "tools/completions/_wdyl", "tools/completions/wdyl.fish")}
     plain = {name: text.replace("\\-", "-") for name, text in pages.items()}
     statuses = set(re.findall(r"^(?:status_of|end_status) .*= (\d+)$", read(CRATES / "dyl_front/specs/Status.antt"), re.M))
     for name in ("README.md", "docs/FORMATS.md", "man/wdyl.1"):
@@ -249,9 +324,19 @@ def numbers():
         fault(CRATES / "dyl_words/specs/Words.antt", "no commands or options are found here")
     for word in options + commands:
         for name in plain:
-            # the guide is for those who have a compiler, and tells nothing of `gen`
-            if not re.search(re.escape(word) + r"(?![\w-])", plain[name]) and (name, word) != ("docs/GUIDE.md", "wdyl gen"):
+            # the completions have the words alone
+            word_there = word if not name.startswith("tools/") else word.split(" ")[-1].lstrip("-")
+            # the reference is for those who have a compiler, and tells nothing of `gen`
+            if not re.search(r"(?<!\w)" + re.escape(word_there) + r"(?![\w-])", plain[name]) and (name, word) != ("docs/TOOLS.md", "wdyl gen"):
                 fault(TOP / name, f"nothing is said of {word}")
+    head = read(CRATES / "wdyl/src/main.rt").split("#![")[0]
+    for word in commands:
+        if f"`{word} " not in head:
+            fault(CRATES / "wdyl/src/main.rt", f"nothing is said of {word}")
+    written = re.search(r"^\.SH FILES AND ENVIRONMENT$(.*?)^\.SH", pages["man/wdyl.1"], re.M | re.S)[1]
+    for word in re.findall(r"^\| `wdyl (\w+)[^|`]* OUT\b", pages["README.md"], re.M):
+        if word not in re.findall(r"\w+", written):
+            fault(TOP / "man/wdyl.1", f"nothing is said of the file that {word} writes")
     shown = re.sub(r"\s+", " ", pages["docs/FORMATS.md"])
     for text in re.findall(r'codes "([^"]+)"', read(CRATES / "dyl_front/specs/Lines.antt") + read(CRATES / "dyl_print/specs/Printed.antt")):
         if text.strip() and text.strip() not in shown:
@@ -295,12 +380,15 @@ def main():
     known = {**code, "": others}
     for path in PAGES:
         # the guide, the formats, the examples and the benches tell of names that aren't of this code
-        if path.parent != TOP / "examples" and path.parent != TOP / "bench" and path.stem not in ("GUIDE", "FORMATS"):
+        if path.parent != TOP / "examples" and path.parent != TOP / "bench" and path.stem not in ("GUIDE", "TOOLS", "LIBRARIES", "FORMATS"):
             calls(path, without_blocks(read(path)), names, known)
     contracts(TOP / "README.md", read(TOP / "README.md"), names, code)
     lists(names)
     edits()
     rows()
+    counted_rows()
+    house(names)
+    gate()
     make_targets()
     numbers()
     if faults:
