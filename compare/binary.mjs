@@ -1,5 +1,5 @@
-// What a loader has to read of a module's file, which is valid: imports, types, exports, globals, element segments, the start
-// function and the record `dylink.0`. By the WebAssembly Core Specification 2.0, chapter 5, and DynamicLinking.md.
+// What a loader has to read of a module's file, which is valid: imports, types, exports, globals, segments, the start function
+// and the record `dylink.0`. By the WebAssembly Core Specification 2.0, chapter 5, and DynamicLinking.md.
 
 const HEADER = Buffer.from("\0asm\x01\0\0\0", "latin1");
 
@@ -69,6 +69,14 @@ class Reader {
     const items = this.list((r) => (flags & 4 ? r.constant() : { function: r.unsigned() }));
     return { active, table, offset, items };
   }
+  data() {
+    const flags = this.unsigned();
+    if (flags === 2) this.unsigned();
+    const offset = flags === 1 ? undefined : this.constant();
+    const length = this.unsigned();
+    this.at += length;
+    return { active: offset !== undefined };
+  }
 }
 
 function recordOf(reader) {
@@ -95,10 +103,11 @@ const readers = {
   7: (module, r) => { module.exports = r.list((s) => ({ name: s.name(), kind: s.byte(), index: s.unsigned() })); },
   8: (module, r) => { module.start = r.unsigned(); },
   9: (module, r) => { module.elements = r.list((s) => s.element()); },
+  11: (module, r) => { module.datas = r.list((s) => s.data()); },
 };
 
 export function read(bytes) {
-  const module = { types: [], imports: [], functions: [], memories: [], globals: [], exports: [], elements: [], sections: [] };
+  const module = { types: [], imports: [], functions: [], memories: [], globals: [], exports: [], elements: [], datas: [], sections: [] };
   const reader = new Reader(bytes, 8);
   while (reader.at < bytes.length) {
     const begin = reader.at;

@@ -1,6 +1,7 @@
 // Loads and runs sets of modules, and prints a line of JSON for each: how its run ended or why it isn't run, what it wrote, the
-// listing of its plan, and how often it opened members, did so while one was being opened, was told errors or gave a string without
-// an end.
+// listing of its plan, how often it opened members, did so while one was being opened, was told errors or gave a string without
+// an end, how many more steps than its own a merged module may make for what the loader did, and how many host calls it made before
+// its entry was called, if it was.
 //
 //     node compare/load.mjs < ORDERS
 //
@@ -26,10 +27,19 @@ function ran(order) {
     if (error instanceof Refusal) return { end: "refused", line: error.message };
     throw error;
   }
-  const held = { output: [] };
-  const program = new Program(linked, held, wasi(held));
-  const { counts } = program.openings;
-  const told = (end) => ({ end, output: Buffer.concat(held.output).toString("hex"), listing: linked.listing(), counts });
+  const held = { output: [], calls: 0 };
+  const counted = ([name, given]) => [name, (...words) => (held.calls++, given(...words))];
+  const program = new Program(linked, held, Object.fromEntries(Object.entries(wasi(held)).map(counted)));
+  const { openings } = program;
+  const told = (end) => ({
+    end,
+    output: Buffer.concat(held.output).toString("hex"),
+    listing: linked.listing(),
+    counts: openings.counts,
+    more: openings.more,
+    asked: openings.asked,
+    begun: program.begun,
+  });
   try {
     globalThis.go = () => program.run();
     vm.runInThisContext("go()", { timeout: 5000 });

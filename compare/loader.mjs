@@ -35,6 +35,7 @@ class Member {
   constructor(number, name, path) {
     Object.assign(this, { number, name, path, bytes: readFileSync(path) });
     Object.assign(this, read(this.bytes));
+    this.actives = [...this.elements, ...this.datas].filter(({ active }) => active).length;
     this.of = (kind) => this.imports.filter((i) => i.kind === kind);
     this.shared = (field, kind) => this.imports.filter((i) => i.module === "env" && i.field === field && i.kind === kind);
   }
@@ -333,9 +334,13 @@ export class Program {
   run() {
     const [main] = this.linked.members;
     this.openings.begin(main);
+    // the entry is called, and it returns
+    this.openings.more += 2;
+    this.begun = this.held.calls;
     this.instances[0].exports[entryOf(main).name]();
   }
-  // The work of the four phases. The first applies a member's segments, and then writes its fresh slots.
+  // The work of the four phases. The first applies a member's segments, and then writes its fresh slots. The others tell whether they
+  // called a function.
   place(member) {
     const compiled = new WebAssembly.Module(startExported(member.bytes, member, START));
     this.instances[member.number] = new WebAssembly.Instance(compiled, this.importsOf(member));
@@ -344,16 +349,19 @@ export class Program {
   }
   start(member) {
     if (member.start !== undefined) this.instances[member.number].exports[START]();
+    return member.start !== undefined;
   }
   relocate(member) {
-    this.callOwn(member, "__wasm_apply_data_relocs");
+    return this.callOwn(member, "__wasm_apply_data_relocs");
   }
   // An entry `_start` calls the constructors of the main module itself.
   construct(member) {
-    if (member.number !== 0 || entryOf(member).name !== "_start") this.callOwn(member, "__wasm_call_ctors");
+    return (member.number !== 0 || entryOf(member).name !== "_start") && this.callOwn(member, "__wasm_call_ctors");
   }
   callOwn(member, name) {
-    if (member.ownFunction(name) !== undefined) this.instances[member.number].exports[name]();
+    const own = member.ownFunction(name) !== undefined;
+    if (own) this.instances[member.number].exports[name]();
+    return own;
   }
   importsOf(member) {
     const given = {};

@@ -35,7 +35,11 @@ export class Openings {
     this.promoted = [];
     // what was done, for those who want to know
     this.counts = { opened: 0, nested: 0, promoted: 0, errors: 0, endless: 0 };
-    const given = Object.keys(LOADER_TYPES).map((name) => [name, (...words) => this[name](...words.map((word) => word >>> 0))]);
+    // how many more steps than the set a merged module may make for this, by docs/FORMATS.md: "What a merged module costs"
+    this.more = 0;
+    // whether a member called one of the functions
+    this.asked = false;
+    const given = Object.keys(LOADER_TYPES).map((name) => [name, (...words) => ((this.asked = true), this[name](...words.map((word) => word >>> 0)))]);
     this.functions = passedOn(Object.fromEntries(given), LOADER_TYPES);
   }
 
@@ -46,14 +50,22 @@ export class Openings {
     this.open++;
     phases.forEach(([members, work], before) => {
       for (const other of members) {
+        this.more += 9 + (work === "place" ? 8 * other.actives + 4 : 0);
         if (this.stages[other.number] > before) continue;
         this.stages[other.number] = before + 1;
-        this.program[work](other);
+        // what was called returns to the loader
+        if (this.program[work](other)) this.more += 2;
       }
     });
     this.open--;
   }
 
+  // The bytes that a string is read for: those before its end, or those of the memory where it has none.
+  length(at) {
+    const memory = new Uint8Array(this.program.memory.buffer);
+    const end = memory.indexOf(0, at);
+    return end < 0 ? memory.length : end - at;
+  }
   // The bytes from an address up to a zero byte, as a text; none where they spell none, and so are the name of nothing.
   string(at) {
     const memory = new Uint8Array(this.program.memory.buffer);
@@ -76,6 +88,7 @@ export class Openings {
   }
 
   dlopen(name, flags) {
+    this.more += 228 + 205 * this.length(name);
     if (name === 0) return 1;
     const text = this.string(name);
     if (flags & ~FLAGS) return this.refused(ERRORS.badFlags, 0);
@@ -84,11 +97,13 @@ export class Openings {
     if (this.stages[member.number] === 0) this.counts.opened++;
     if (this.open) this.counts.nested++;
     this.begin(member);
+    this.more += 4;
     if (flags & GLOBAL) this.promote(member);
     return member.number + 1;
   }
   // What a member reaches is searched through handles 0 and 1 from here on.
   promote(member) {
+    this.more += 10 * breadthFirst(member).filter((other) => !this.program.linked.links.startup.includes(other)).length;
     const searched = this.searchedByAll();
     const added = breadthFirst(member).filter((other) => !searched.includes(other));
     this.promoted.push(...added);
@@ -97,17 +112,26 @@ export class Openings {
   searchedByAll() {
     return [...this.program.linked.links.startup, ...this.promoted];
   }
+  searched(handle) {
+    const { members } = this.program.linked;
+    if (handle <= 1) return this.searchedByAll();
+    return handle <= members.length ? breadthFirst(members[handle - 1]) : [];
+  }
   dlsym(handle, name) {
+    const { length } = this.program.linked.members;
+    this.more += 31 + 8 * this.length(name) + 7 * length + this.searched(handle).length * (215 + 53 * this.length(name));
     const text = this.string(name);
     if (handle !== 0 && !this.isHandle(handle)) return this.refused(ERRORS.badHandle, 0);
-    const { members, links } = this.program.linked;
-    const found = links.searched(handle <= 1 ? this.searchedByAll() : breadthFirst(members[handle - 1]), text);
+    const { links } = this.program.linked;
+    const found = links.searched(this.searched(handle), text);
     return found ? this.program.linked.place(found) : this.refused(ERRORS.noSymbol, 0);
   }
   dlclose(handle) {
+    this.more += 8 + 5 * this.program.linked.members.length;
     return this.isHandle(handle) ? 0 : this.refused(ERRORS.badClose, NOT_CLOSED);
   }
   dlerror() {
+    this.more += 31;
     const text = this.error ? this.textsAt[this.error - 1] : 0;
     this.error = 0;
     return text;

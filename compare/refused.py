@@ -7,7 +7,8 @@ Each order below is performed once, and its requests for memory are counted: cal
 for each number of a request, once with this one refused, and once with this one and all that follow. Where there are more than 20,000,
 a sample is taken: the first and the last 1,000 and 2,000 between them, at equal distances. Each time the order has to end as if none was
 refused, or with status 71. Then it has put a part of the output, perhaps none, and the line of that status, or a part of it where the
-line's own memory was refused. No file may have changed but what `merge` writes, and at status 71 that neither.
+line's own memory was refused. No file may have changed but what `merge`, `snap` and `trace` write, and at status 71 that neither; but
+`trace` may have written the trace of the whole run by then.
 
 It needs cc, since what counts and refuses is refused.c, which is loaded before the C library. Any other end is printed with the number
 of the request, and the exit status is 1. --only takes the orders with a word in their names alone, --jobs is how many run at once.
@@ -98,12 +99,16 @@ def numbers(count):
     return [*range(1, EDGE + 1), *middle, *range(count - EDGE + 1, count + 1)]
 
 
-def kind(whole, ended):
+def kind(whole, ended, is_trace):
     """What came of a refusal, in words, or nothing where it is none of these."""
     if ended == whole:
         return "as if none was refused"
-    if ended.status == WANT and whole.output.startswith(ended.output) and LINE.startswith(ended.errors) and ended.out == BEFORE:
-        return f"with status {WANT}" if ended.errors == LINE else f"with status {WANT} and a part of the line"
+    if ended.status == WANT and whole.output.startswith(ended.output) and LINE.startswith(ended.errors):
+        told = f"with status {WANT}" if ended.errors == LINE else f"with status {WANT} and a part of the line"
+        if ended.out == BEFORE:
+            return told
+        if is_trace and ended.out == whole.out:
+            return f"{told}, and the trace is written"
     return None
 
 
@@ -112,7 +117,7 @@ def refused(place, whole, listed, is_last):
     ends, others = collections.Counter(), []
     for n in listed:
         ended, made, count, is_changed = place.perform(n, LAST if is_last else n)
-        told = None if is_changed or not count else kind(whole, ended)
+        told = None if is_changed or not count else kind(whole, ended, place.order.words[0] == "trace")
         if told:
             ends[told] += 1
         else:
@@ -153,13 +158,23 @@ def performed(wdyl, shim, order):
 
 
 def orders_of_set(wdyl, shim, name, files, options, main, input):
-    """The orders over a set: it is listed, run, merged, and the merged file is run."""
+    """The orders over a set: it is listed, run, merged, and the merged file is run; its run is traced and held against the trace; and two
+    of it run in turns."""
     merge = Order(f"{name}: merge", ["merge", *options, main, OUT], files)
     merged, _ = performed(wdyl, shim, merge)
+    trace = Order(f"{name}: trace", ["trace", *options, main, OUT], files, input)
+    traced, _ = performed(wdyl, shim, trace)
     yield Order(f"{name}: plan", ["plan", *options, main], files)
     yield Order(f"{name}: run", ["run", *options, main], files, input)
     yield merge
     yield Order(f"{name}: exec of the merged file", ["exec", "merged.wasm"], {"merged.wasm": merged}, input)
+    yield trace
+    yield Order(f"{name}: replay", ["replay", *options, "its.trace", main], {**files, "its.trace": traced})
+    snap = Order(f"{name}: snap", ["snap", *options, main, OUT], files)
+    if performed(wdyl, shim, snap)[0] != BEFORE:
+        yield snap
+    if not options:
+        yield Order(f"{name}: board of two", ["board", main, main], files, input)
 
 
 def largest_plan(wdyl, shim, listed):

@@ -11,8 +11,12 @@ TEXT = os.path.join(HERE, "..", "crates", "rows_commands", "stdin")
 HEADER = b"\x00asm\x01\x00\x00\x00"
 # the parts that are sections, with their numbers, in the order in which they stand in a file
 SECTIONS = {"types": 1, "imports": 2, "functions": 3, "tables": 4, "memories": 5, "globals": 6, "exports": 7, "start": 8, "elems": 9, "count": 12, "bodies": 10, "datas": 11}
-TOLD = ("status", "out", "err", "wrote", "has", "end", "steps", "answers")
-COMMANDS = ("wdyl", "words", "both", "order", "line")
+# what is told of a command, the first words of commands, and what else a command finds than files and an input
+TOLD = ("status", "out", "err", "wrote", "holds", "has", "end", "steps", "answers", "picks", "calls")
+COMMANDS = ("wdyl", "words", "both", "snapped", "order", "line")
+OTHERS = ("generated", "cut", "fails", "clock", "random", "picker", "table")
+# the lines of a module's parts
+PARTS = ("memory", "notes", "record", "needed", *SECTIONS, "further", "bytes", "text", "first")
 
 
 def escaped(text):
@@ -96,10 +100,8 @@ class Parts:
         return HEADER + record + b"".join(part(number, key) for key, number in SECTIONS.items()) + self.contents("further")
 
     def bytes(self):
-        whole = self.contents("bytes") or self.whole()
+        whole = escaped(self.text["text"]) if "text" in self.text else self.contents("bytes") or self.whole()
         return whole[:int(self.text["first"])] if "first" in self.text else whole
-
-
 
 
 class Command(collections.namedtuple("Command", "key text told parts input others")):
@@ -148,10 +150,12 @@ class Reader:
             row.add_files(text, self.modules)
         elif key in ("input", "reads"):
             row.input = escaped(text) if key == "input" else self.words.of(text)
-        elif key in ("generated", "fails", "clock", "random", "table"):
+        elif key in OTHERS:
             row.others.append((key, text))
-        else:
+        elif key in PARTS:
             self.last.text[key] = text
+        else:
+            raise ValueError(f"no line of a row begins so: {key}")
 
 
 def rows():
