@@ -12,11 +12,13 @@
 # make codec  measures decoding, encoding and checking beside wabt, and merging beside these
 # make inner  measures the memories and integer operators of a run beside C
 # make compare  runs random modules and random sets by wdyl and by node, validates changed ones by wdyl and by wabt, replays traces
-#               of runs and changed ones, and runs the merged examples by the engines of three browsers
+#               of runs and changed ones, compares what is written of a set in two folders, by OTHER too where that is given, and runs
+#               the merged examples by the engines of three browsers
 # make boards  runs random sets in turns, and sees that each does what it does alone
 # make snapshots  runs the snapshots of random sets by wdyl and by node, and sees that they do what the sets do
 # make adapters  runs wdyl over files, streams and a random source of the system that fail
 # make refused  refuses each request for memory in turn, of several orders, which have to end for want of memory or as if none was refused
+# make spec  holds exec and the checker against the specification's own tests, in TESTS, a folder of which compare/spec.py tells
 # make hostile  gives wdyl damaged files for MINUTES, from the seed SEED on, with a limit on memory and time
 # make test   makes docs, and proves, builds and tests everything
 
@@ -24,6 +26,7 @@ SOURCES := crates.txt $(shell find crates -name out -prune -o -type f \( -name '
 
 PREFIX = /usr/local
 OTHER =
+TESTS =
 MINUTES = 10
 SEED = 0
 programs = $(DESTDIR)$(PREFIX)/bin
@@ -43,7 +46,7 @@ SHARED += dlfcn.h libc_more.c cxx_types.cpp cxx_library.cpp
 # what shows what modules and plans say
 SCRIPTS := check-plan module-names plan-picture
 
-.PHONY: all try demo guide docs dist install uninstall bench speed codec inner compare boards snapshots adapters refused hostile test clean
+.PHONY: all try demo guide docs dist install uninstall bench speed codec inner compare boards snapshots adapters refused spec hostile test clean
 
 all: bin/wdyl
 
@@ -122,6 +125,8 @@ compare: bin/wdyl
 	python3 compare/compare.py bin/wdyl
 	python3 compare/compare_sets.py bin/wdyl
 	python3 compare/traces.py bin/wdyl
+	python3 compare/costs.py bin/wdyl
+	python3 compare/same_bytes.py bin/wdyl $(OTHER)
 	sh compare/engines.sh bin/wdyl
 
 boards: bin/wdyl
@@ -135,6 +140,9 @@ adapters: bin/wdyl
 
 refused: bin/wdyl
 	python3 compare/refused.py bin/wdyl
+
+spec: bin/wdyl
+	python3 compare/spec.py bin/wdyl $(TESTS)
 
 hostile: bin/wdyl
 	python3 compare/hostile.py bin/wdyl --minutes $(MINUTES) --seed $(SEED)

@@ -9,7 +9,9 @@
 It begins with the names in the clauses of `serve`, finds each in the file that `use` names, and goes on with the names in its
 definition. Where it can't tell a name of a definition from one that is bound there, it takes it for a definition, so the list may have
 too much, and not too little. Names that a definition binds itself (parameters, fields, what stands behind a lambda or `let`) count as no names of others.
-Words of `std` are passed over. Apart stands what only `gen`, or only the answer that a section is too long, leads to.
+Words of `std` are passed over. Apart stands what one command alone leads to (`gen`, `snap`, `trace` with `replay`, `board`), or only the answer
+that a section is too long, only the costs of a merged module, or only that its bytes are the shortest, and what some of these lead to together,
+and nothing else.
 """
 import re
 import sys
@@ -25,8 +27,24 @@ BEGIN, END = "<!-- made by docs/believe.py -->\n\n", "\n<!-- to here -->\n"
 # What is left out to see what it alone leads to.
 ALONE = {
     "`gen`": ["dyl_commands.Generated.GenDue", "dyl_commands.Runs.GenWorks"],
-    "the answer that a section is too long": ["merge_whole.Merges.IsTooLongFor"],
+    "the answer that a section is too long": ["merge_whole.Merges.IsTooLongFor", "merge_whole.Merges.HasNoLongSection"],
+    "what a merged module costs": ["spec_runs.Costs.AgreeWithin", "spec_loading.SetCosts.step_cost", "spec_loading.SetCosts.set_room",
+                                   "spec_loading.SetCosts.module_depth"],
+    "the shortest bytes of a merged module": ["merge_whole.Merges.AreShortestFor"],
+    "`snap`": ["dyl_commands.StartUp.SnapDue", "dyl_commands.StartUp.StartsUp", "dyl_commands.StartUp.HasNoSnapshot",
+               "dyl_commands.Due.SnapFaultTells", "dyl_commands.Files.IsSnapped", "dyl_commands.Causes.IsSnapOrder",
+               "snap_merge.Answers.amount", "spec_snapshots.Causes.state_after"],
+    "`trace` and `replay`": ["dyl_commands.Traced.IsProgram", "dyl_commands.Traced.ProgramTries", "dyl_commands.Traced.ReplayDue",
+                             "dyl_commands.Due.TraceDue", "dyl_commands.Due.TooLongTells", "dyl_commands.Due.is_traced",
+                             "dyl_commands.Files.TraceLeaves", "dyl_commands.Runs.TraceWorks", "dyl_commands.Causes.ProgramCause",
+                             "dyl_commands.Causes.TraceFileCause", "dyl_commands.Causes.TraceCause", "dyl_commands.Causes.IsTraceOrder",
+                             "dyl_commands.Counts.ProgramCounts", "dyl_commands.Counts.ReplayCounts", "run_loaded.Courses.Origin"],
+    "`board`": ["dyl_commands.Sets.AllLink", "dyl_commands.Sets.FirstFault", "dyl_commands.Sets.SetsTry", "dyl_commands.Due.BoardDue",
+                "dyl_commands.Due.is_board", "dyl_commands.Runs.BoardWorks", "dyl_commands.Causes.IsBoardOrder",
+                "dyl_commands.Counts.BoardCounts"],
 }
+
+TOGETHER = "two or more of these together"
 
 USE = re.compile(r"^(?:unfoldable )?(?:pub |ghost )?use\s+([\w.]+?)(?:\.\{([^}]*)\})?(?:\s+as\s+(\w+))?;?\s*$", re.M)
 HEAD = re.compile(r"^( *)(?:(?:abbrev|unfoldable) (?:pub )?|(?:pub )?record |(?:pub )?data |pub )(\S+)")
@@ -272,6 +290,7 @@ def listing(reach):
     """The crates with their files, in the order of crates.txt; apart those that one thing alone leads to; and the types of code."""
     order = [line.split(":")[0].split()[0] for line in (TOP / "crates.txt").read_text().split("\n") if line and not line.startswith("#")]
     less = {what: set(Reach(without).found) for what, without in ALONE.items()}
+    less[TOGETHER] = set(Reach([root for roots in ALONE.values() for root in roots]).found)
     groups = {}
     for (crate, name), found in files_of(reach).items():
         whole = len(Reach.files[f"Rattle.{crate}.specs.{name}"].texts)
@@ -284,8 +303,10 @@ def listing(reach):
                 text += " (" + ", ".join(f"`{known.rsplit('.', 1)[1]}`" for known in sorted(some)) + ")"
             groups.setdefault(what, {}).setdefault(crate, []).append(text)
     lines = []
-    for what in ["", *ALONE]:
-        lines += ["", f"For {what} alone:" if what else "For all of it:", ""]
+    for what in ["", *ALONE, TOGETHER]:
+        if what and what not in groups:
+            continue
+        lines += ["", f"For {what}{' alone' if what in ALONE else ''}:" if what else "For all of it:", ""]
         for crate in sorted(groups.get(what, {}), key=order.index):
             lines += shown(f"`{crate}`: {', '.join(sorted(groups[what][crate]))}")
     types = {}

@@ -192,10 +192,46 @@ def edits():
                 named.add(word if "/" in word else f"{crate}/{word}")
     for name in there - named:
         fault(path, f"the edit {name} isn't told of")
+    bodies = re.search(r"^## Wrong bodies$(.*?)^## ", text, re.M | re.S)[1]
+    for row in re.findall(r"^\| (?!What it does).*$", bodies, re.M):
+        cells = [cell.strip() for cell in row.strip("|").split(" | ")]
+        *words, file = re.findall(r"`([\w/.]+)`", cells[2]) or [""]
+        if cells[-1] not in ("definition", "equation", "row") or (cells[-1] == "row") != (file == ""):
+            fault(path, f"nothing is said of what refuses this: {cells[0]}")
+        for word in words if (CRATES / file).is_file() else []:
+            if not re.search(r"\b" + word + r"\b", read(CRATES / file)):
+                fault(path, f"{file} has no {word}")
     house = read(TOP / "docs/ARCHITECTURE.md")
     told = re.search(r"Those\s+that\s+have\s+some\s+are\s([^.]*)\.", house)
     if not told or set(re.findall(r"`(\w+)`", told[1])) != {name.split("/")[0] for name in there}:
         fault(TOP / "docs/ARCHITECTURE.md", "the crates with edits are others")
+
+
+def plain_statement(text):
+    """A statement in one line, without what says that it is public, and in which universe."""
+    return re.sub(r"\s+", " ", re.sub(r"\babbrev\b|\bpub\b|: Type 0 where\b|\bwhere\b", " ", text)).strip()
+
+
+def laws():
+    """LAWS.md names each law, a public function that takes nothing and does nothing, and the file in which each of its statements stands."""
+    path = TOP / "docs/LAWS.md"
+    text = read(path)
+    pattern = r"^pub fn (\w+)\(\)\s*\n((?: +ensures[^\n]*\n)+)\{\s*(?:\w+\(\);\s*)*\}"
+    files = {name for name in re.findall(r"`(crates/[\w/]+\.antt)`", text) if (TOP / name).exists()}
+    stated = set(re.findall(r"^abbrev pub (\w+)", "\n".join(read(TOP / name) for name in sorted(files)), re.M))
+    for crate in sorted(CRATES.iterdir()):
+        for file in sorted((crate / "src").rglob("*.rt")) if (crate / "src").is_dir() else []:
+            for law, clauses in re.findall(pattern, read(file), re.M):
+                if not re.search(r"`(\w+::)?" + law + "`", text):
+                    fault(path, f"nothing is said of the law {law} of {crate.name}")
+                for name in re.findall(r"\{ (\w+) \}$", clauses, re.M):
+                    if name not in stated:
+                        fault(path, f"{name}, of the law {law} of {crate.name}, stands in no file that is named here")
+    written = {plain_statement(re.sub(r"--.*", "", read(TOP / name))) for name in files}
+    for block in re.findall(r"^```$(.*?)^```$", text, re.M | re.S):
+        for item in re.split(r"\n(?=record |[A-Z]\w+ =)", block):
+            if item.strip() and not any(plain_statement(item) in whole for whole in written):
+                fault(path, f"this stands otherwise in the files that are named: {item.strip().splitlines()[0]}")
 
 
 def rows():
@@ -243,7 +279,7 @@ def counted_rows():
     }
     text = read(TOP / "docs/TESTED.md")
     for group, counts in wanted.items():
-        row = re.search(r"^\| " + re.escape(group) + r" \|[^|]*\|([^|]*)\|$", text, re.M)
+        row = re.search(r"^\| " + re.escape(group) + r" \|([^|]*)\|$", text, re.M)
         told = tuple(int(n) for n in re.findall(r"\b(\d+)\b", row[1]))[:len(counts)] if row else ()
         if told != counts:
             fault(TOP / "docs/TESTED.md", f"{group}: there are {', '.join(map(str, counts))} rows")
@@ -385,6 +421,7 @@ def main():
     contracts(TOP / "README.md", read(TOP / "README.md"), names, code)
     lists(names)
     edits()
+    laws()
     rows()
     counted_rows()
     house(names)

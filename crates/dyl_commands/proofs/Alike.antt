@@ -14,7 +14,7 @@ use Rattle.spec_loading.specs.spec_linking.Links.{link_fault}
 use Rattle.spec_loading.specs.spec_linking.Laws.{OneAnswer, OneRecord, OneGathered}
 use Rattle.spec_snapshots.specs.declared.fault.SnapFault.{SnapFault}
 use Rattle.spec_snapshots.specs.declared.fault.SnapFault.TheVariants as snap
-use Rattle.snap_set.specs.Causes.{SnapCause, Takes, TrapsSo, Calls, StepsEnd, IsDeep, IsFirst}
+use Rattle.spec_snapshots.specs.Causes.{SnapCause, Takes, TrapsSo, Calls, StepsEnd, IsDeep, IsFirst}
 use Rattle.snap_set.specs.Laws.{OneFirst}
 use Rattle.dyl_gen.specs.Laws.{NeedsThreePages}
 use Rattle.spec_traces.specs.Laws.{OneTrace}

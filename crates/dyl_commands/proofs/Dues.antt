@@ -14,13 +14,14 @@ use Rattle.spec_loading.specs.spec_linking.declared.fault.SetFault.{SetFault}
 use Rattle.spec_loading.specs.spec_linking.declared.fault.SetFault.TheVariants.{ReadFault}
 use Rattle.spec_loading.specs.spec_linking.Sets.{Files, ClosedSet, SetOptions}
 use Rattle.spec_loading.specs.spec_linking.Plans.{LinkOptions, limit}
+use Rattle.spec_loading.specs.spec_linking.LinkedSets.{LinkedSet}
 use Rattle.spec_loading.specs.spec_linking.Laws.{OneGathered}
 use Rattle.spec_reading.specs.Laws.{ReadingAnswers}
 use Rattle.spec_traces.specs.Laws.{OneTrace}
 use Rattle.replay_check.specs.Laws.{OneAgreeing}
 use Rattle.spec_snapshots.specs.declared.fault.SnapFault.{SnapFault}
 use Rattle.spec_snapshots.specs.declared.fault.SnapFault.TheVariants as snap
-use Rattle.snap_set.specs.Causes.{state_after}
+use Rattle.spec_snapshots.specs.Causes.{state_after}
 use Rattle.snap_set.specs.Laws.{OneFirst}
 use Rattle.snap_merge.specs.Answers.{amount}
 use Rattle.dyl_link.specs.dyl_section.Laws.{OneRecordAnswer}
@@ -29,7 +30,7 @@ use Rattle.dyl_gen.specs.declared.fault.GenFault.TheVariants.{Range}
 use Rattle.dyl_gen.specs.Laws.{CanWrite, NeedsThreePages}
 use Rattle.spec_merging.specs.declared.fault.MergeFault.{MergeFault}
 use Rattle.spec_merging.specs.declared.fault.MergeFault.TheVariants as merge
-use Rattle.merge_whole.specs.Merges.{bulk}
+use Rattle.merge_whole.specs.Merges.{bulk, IsTooLongFor}
 use Rattle.dyl_link.specs.dyl_search.declared.set.SetOptions as search
 use Rattle.dyl_link.specs.dyl_search.Gathers.{options_of}
 use Rattle.dyl_link.specs.declared.options.LinkOptions as linking
@@ -44,7 +45,7 @@ use Rattle.dyl_commands.specs.Traced.{LoadFault, ReplayDue}
 use Rattle.dyl_commands.specs.Generated.{GenDue}
 use Rattle.dyl_commands.specs.StartUp.{StartsUp, SnapDue}
 use Rattle.dyl_commands.specs.Sets.{FirstFault}
-use Rattle.dyl_commands.specs.Due.{MergeDue, RunDue, PlanDue, ExecDue, TraceDue, BoardDue, DueFor, TellsFor, MergeFaultTells, TooLongTells, SnapFaultTells, WriteFaultTells, is_run, is_board, is_done, is_written, is_traced, Yields, IsComplete}
+use Rattle.dyl_commands.specs.Due.{MergeDue, RunDue, PlanDue, ExecDue, TraceDue, BoardDue, DueFor, TellsFor, MergeFaultTells, TooLongTells, SnapFaultTells, WriteFaultTells, is_run, is_board, is_done, is_written, is_traced, Yields, MayBeWritten, IsComplete}
 use Rattle.dyl_commands.specs.Causes.{ProgramCause, FaultCause, WriteCause, IsTraceOrder, Caused}
 use Rattle.dyl_commands.specs.Served.{Serves}
 use Rattle.dyl_commands.proofs.Alike.{Laws, any_run, any_board, canon, Alike, verdict, one_merge_due, one_run_due, one_plan_due, one_exec_due, same_set, same_start, one_snap_due, one_board_due}
@@ -255,35 +256,39 @@ module _ (laws : Laws) (names : HostNames) (can : CanWrite names) (files : Files
   too_big : (n : ℕ) → 2 ^ 32 ≤ n → n < 2 ^ 32 → ⊥
   too_big n big few = omega arith
 
+  none_long : (L : LinkedSet) (id : ℕ) → IsTooLongFor L id → MayBeWritten L → ⊥
+  none_long L id long (inl none) = none id long.first
+  none_long L id long (inr few) = too_big (bulk L) long.big few
+
   within : (amount most : ℕ) → amount ≤ most → limit MemoryLimit amount most ≡ None
   within amount most few = (let so : nat_le amount most ≡ true = grind (arith, nat_tests, few) in ap (λ b. cond b None (Some (MemoryLimit amount most))) so)
 
   module _ (old new : FilesState) (before now : ℕ) where
     -- what is answered in place of Done, and of a run
     not_long : (o : search.SetOptions) (l : linking.LinkOptions) (out : List ℕ) (fault : MergeFault) (m : LinksAt names files (options_of o) (links.options_of l))
-        → MergeFaultTells names files (Ok (order.Merge o l out)) fault → bulk (linked names (links.options_of l) m.set) < 2 ^ 32 → ⊥
-    not_long o l out merge.Memory m tells few = tells
-    not_long o l out (merge.SectionSize id) m tells few =
-        too_big (bulk (linked names (links.options_of l) m.set))
-        (subst (λ S. 2 ^ 32 ≤ bulk (linked names (links.options_of l) S)) (same_set laws names files (options_of o) (links.options_of l) tells.merges m) tells.long.big) few
+        → MergeFaultTells names files (Ok (order.Merge o l out)) fault → MayBeWritten (linked names (links.options_of l) m.set) → ⊥
+    not_long o l out merge.Memory m tells may = tells
+    not_long o l out (merge.SectionSize id) m tells may =
+        none_long (linked names (links.options_of l) m.set) id
+        (subst (λ S. IsTooLongFor (linked names (links.options_of l) S) id) (same_set laws names files (options_of o) (links.options_of l) tells.merges m) tells.long) may
 
     merged_whole : (o : search.SetOptions) (l : linking.LinkOptions) (out : List ℕ) (answer : Outcome) (m : LinksAt names files (options_of o) (links.options_of l))
         → TellsFor names files (Ok (order.Merge o l out)) answer → Yields (Ok (order.Merge o l out)) (Done []) answer → Caused names (Ok (order.Merge o l out)) answer old new before now
-        → bulk (linked names (links.options_of l) m.set) < 2 ^ 32 → ¬ Rose old.read_faults new.read_faults → ¬ Rose old.write_faults new.write_faults → (answer ≡ Done []) ⊎ (answer ≡ Memory)
-    merged_whole o l out (Done runs) m tells y caused few reads writes = inl (ap Done caused)
-    merged_whole o l out Memory m tells y caused few reads writes = inr refl
-    merged_whole o l out (Merge fault) m tells y caused few reads writes = absurd (not_long o l out fault m tells few)
-    merged_whole o l out WriteFault m tells y caused few reads writes = absurd (writes caused.rose)
-    merged_whole o l out (Ran run) m tells y caused few reads writes = absurd cc
-    merged_whole o l out (Board run) m tells y caused few reads writes = absurd cc
-    merged_whole o l out (TooLong run) m tells y caused few reads writes = absurd cc
-    merged_whole o l out (Snap why) m tells y caused few reads writes = absurd caused
-    merged_whole o l out (Trace fault) m tells y caused few reads writes = absurd cc
-    merged_whole o l out (Usage kind) m tells y caused few reads writes = absurd cc
-    merged_whole o l out (Link fault) m tells y caused few reads writes = absurd cc
-    merged_whole o l out (Single fault) m tells y caused few reads writes = absurd cc
-    merged_whole o l out (Gen fault) m tells y caused few reads writes = absurd cc
-    merged_whole o l out (Set fault) m tells y caused few reads writes = of_set fault y caused
+        → MayBeWritten (linked names (links.options_of l) m.set) → ¬ Rose old.read_faults new.read_faults → ¬ Rose old.write_faults new.write_faults → (answer ≡ Done []) ⊎ (answer ≡ Memory)
+    merged_whole o l out (Done runs) m tells y caused may reads writes = inl (ap Done caused)
+    merged_whole o l out Memory m tells y caused may reads writes = inr refl
+    merged_whole o l out (Merge fault) m tells y caused may reads writes = absurd (not_long o l out fault m tells may)
+    merged_whole o l out WriteFault m tells y caused may reads writes = absurd (writes caused.rose)
+    merged_whole o l out (Ran run) m tells y caused may reads writes = absurd cc
+    merged_whole o l out (Board run) m tells y caused may reads writes = absurd cc
+    merged_whole o l out (TooLong run) m tells y caused may reads writes = absurd cc
+    merged_whole o l out (Snap why) m tells y caused may reads writes = absurd caused
+    merged_whole o l out (Trace fault) m tells y caused may reads writes = absurd cc
+    merged_whole o l out (Usage kind) m tells y caused may reads writes = absurd cc
+    merged_whole o l out (Link fault) m tells y caused may reads writes = absurd cc
+    merged_whole o l out (Single fault) m tells y caused may reads writes = absurd cc
+    merged_whole o l out (Gen fault) m tells y caused may reads writes = absurd cc
+    merged_whole o l out (Set fault) m tells y caused may reads writes = of_set fault y caused
       where
         of_set : (fault : SetFault) → Yields (Ok (order.Merge o l out)) (Done []) (Set fault) → Caused names (Ok (order.Merge o l out)) (Set fault) old new before now → (Set fault ≡ Done []) ⊎ (Set fault ≡ Memory)
         of_set (ReadFault at) y caused = absurd (reads caused.rose)

@@ -86,7 +86,6 @@ module _ (names : HostNames) (can : CanWrite names) (n pages : ℕ) (files : Fil
       shape = h.got.shape;
       links = h.got.links;
       is = h.got.is;
-      integers = h.got.integers;
     }
     made_from (Err Memory) h = tt
     made_from (Err (Set fault)) h = absurd (no_set_fault fault h.fault)
@@ -152,7 +151,7 @@ merged_to L wasm (Ok m) same merges = subst (MergesTo L) (sym same) merges
 merged_to L wasm (Err why) same merges = tt
 
 pub merges_to : (L : LinkedSet) (wasm : Module) (bytes : List ℕ) → whole.Merges L bytes → ((m : Module) → DecodeAnswer bytes (Ok m) → m ≡ wasm) → MergesTo L wasm
-merges_to L wasm bytes merges told = record { bytes = bytes; merges = merges.merged; is = told merges.merged.wasm merges.decoded }
+merges_to L wasm bytes merges told = record { bytes = bytes; merges = merges.merged; decoded = merges.decoded; is = told merges.merged.wasm merges.decoded }
 
 pub opens_of : (names : HostNames) (L : LinkedSet) → L.names ≡ names → (wasm : Module) → MergesTo L wasm → (opening : ModuleState) × (module_opening wasm names ≡ Ok opening)
 opens_of names L same wasm has =
@@ -188,6 +187,7 @@ module _ (L : LinkedSet) (embedder : Embedder) (names : L.names ≡ embedder.nam
       loaded_run = runs;
       bytes = has.bytes;
       merges = has.merges;
+      decoded = has.decoded;
       merged = merged;
       merged_run = run_of has.merges.wasm has.is has.merges.opening (same_opening has.merges.wasm has.is has.merges.opening has.merges.opens);
       two = two;

@@ -16,7 +16,6 @@ use Rattle.spec_loading.specs.spec_linking.LinkedSets.{LinkedSet}
 use Rattle.spec_boards.specs.BoardRuns.{IsBoardRun, IsBoardCut}
 use Rattle.dyl_link.specs.declared.options.LinkOptions.{LinkOptions}
 use Rattle.dyl_link.specs.Sets as links
-use Rattle.wasm_exec.specs.Executed.{HaveIntegers}
 use Rattle.dyl_store.specs.Stores.{set_course}
 use Rattle.dyl_front.specs.declared.order.Order.TheVariants as order
 use Rattle.dyl_front.specs.declared.outcome.Outcome.{Outcome}
@@ -49,11 +48,6 @@ module _ (names : HostNames) (l : plans.LinkOptions) (old : FilesState) where
   all_over (main ∷ mains) (L ∷ Ls) h = All-cons (λ (M : LinkedSet). M.names ≡ names) L Ls (ap (λ (M : LinkedSet). M.names) h.0.is) (all_over mains Ls h.1)
   all_over [] (L ∷ Ls) h = absurd h
   all_over (main ∷ mains) [] h = absurd h
-
-  pub declared_integers : (mains : List (List ℕ)) (Ls : List LinkedSet) → AreGot names mains l Ls old → 0 < length mains → HaveIntegers names
-  declared_integers [] Ls h some = absurd (omega arith)
-  declared_integers (main ∷ mains) (L ∷ Ls) h some = h.0.integers
-  declared_integers (main ∷ mains) [] h some = absurd h
 
   abbrev sets_of : (mains : List (List ℕ)) (Ls : List LinkedSet) → AreGot names mains l Ls old → List ClosedSet
   sets_of [] Ls h = []

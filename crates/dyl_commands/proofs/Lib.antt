@@ -11,6 +11,7 @@ pub mod Generating
 pub mod Linking
 pub mod Refusing
 pub mod Merging
+pub mod MergedFiles
 pub mod Snapping
 pub mod Listing
 pub mod Running

@@ -1,19 +1,12 @@
 -- What comes of gathering and linking.
-use Rattle.std.proofs.Common.{◌≡◌, ◌≤◌, ℕ, List, [], ◌∷◌, true, Result, Ok, Err, refl, sym, subst}
-use Rattle.std.specs.List.{All, list_all}
-use Rattle.std.proofs.lemmas.Bool.{true≢false, and_from, and_parts}
-use Rattle.std.proofs.lemmas.List.Elements.{All-weaker}
+use Rattle.std.proofs.Common.{◌≡◌, ◌≤◌, ℕ, List, [], Result, Ok, Err, refl, subst}
 use Rattle.std.specs.Option.{ForSome}
 use Rattle.std.specs.FinMap.{get}
 use Rattle.spec_hosts.specs.dyl_outside.Faults.{Rises}
 use Rattle.spec_hosts.specs.dyl_outside.Files.{FilesState}
 use Rattle.spec_reading.specs.spec_binary.declared.fault.DecodeFault.TheVariants as decode
 use Rattle.spec_loading.specs.spec_validation.declared.fault.CheckFault.TheVariants as check
-use Rattle.wasm_form.specs.declared.types.ValType.{ValType}
-use Rattle.wasm_form.specs.declared.types.ValType.TheVariants.{I32, I64, F32, F64, FuncRef, ExternRef}
-use Rattle.wasm_form.specs.declared.types.FuncType.{FuncType}
-use Rattle.spec_loading.specs.spec_validation.Faults.{is_supported, is_function_supported}
-use Rattle.spec_hosts.specs.spec_runtime.Names.{HostNames, is_integer, has_integers}
+use Rattle.spec_hosts.specs.spec_runtime.Names.{HostNames}
 use Rattle.spec_loading.specs.spec_linking.declared.fault.RecordFault.TheVariants as records
 use Rattle.spec_loading.specs.spec_linking.declared.fault.SetFault.{SetFault}
 use Rattle.spec_loading.specs.spec_linking.declared.fault.SetFault.TheVariants as set
@@ -22,15 +15,12 @@ use Rattle.spec_loading.specs.spec_linking.declared.fault.LinkFault.TheVariants 
 use Rattle.spec_loading.specs.spec_linking.Sets.{ClosedSet, SetOptions}
 use Rattle.spec_loading.specs.spec_linking.Gathering.{IsGathered, IsSet}
 use Rattle.spec_loading.specs.spec_linking.Plans.{LinkOptions}
-use Rattle.spec_loading.specs.spec_linking.LinkedSets.{LinkedSet, hosts_of}
+use Rattle.spec_loading.specs.spec_linking.LinkedSets.{LinkedSet}
 use Rattle.spec_loading.specs.spec_linking.Links.{Links, link_fault}
 use Rattle.dyl_link.specs.dyl_search.Absents.{CountsFor}
 use Rattle.dyl_link.specs.dyl_search.Found.{ReadsOf}
 use Rattle.dyl_link.specs.dyl_search.Gathers.{Stops, IsWhole}
 use Rattle.dyl_link.specs.Answers.{IsFirst}
-use Rattle.wasm_exec.specs.Executed.{HaveIntegers}
-use Rattle.wasm_exec.proofs.SetHosts.{IsDeclared, set_declared}
-use Rattle.merge_whole.specs.Merges.{IsSupported}
 use Rattle.dyl_front.specs.declared.outcome.Outcome.{Outcome}
 use Rattle.dyl_front.specs.declared.outcome.Outcome.TheVariants.{Set, Link, Memory}
 use Rattle.dyl_commands.specs.Linking.{linked}
@@ -39,42 +29,15 @@ use Rattle.dyl_commands.specs.Served.{IsNotGot, Gets, LinksTo, set_outcome, link
 use Rattle.dyl_commands.proofs.Counting.{at_least, tried_wanting}
 
 -- a set that links, by the names that were declared
-pub links_to : (l : LinkOptions) (S : ClosedSet) (names also : HostNames) (L : LinkedSet) → names ≡ also → L ≡ linked names l S → Links L → HaveIntegers also → LinksTo (linked also l S) (Ok L)
-links_to l S names also L same is links integers =
+pub links_to : (l : LinkOptions) (S : ClosedSet) (names also : HostNames) (L : LinkedSet) → names ≡ also → L ≡ linked names l S → Links L → LinksTo (linked also l S) (Ok L)
+links_to l S names also L same is links =
     let here : L ≡ linked also l S = subst (λ n. L ≡ linked n l S) same is in
-    (here, subst Links here links, integers)
+    (here, subst Links here links)
 
 -- one that doesn't
 first_fault_to : (L : LinkedSet) (fault : LinkFault) → IsFirst fault (link_fault L) → LinksTo L (Err (link_outcome fault))
 first_fault_to L link.Memory h = tt
 first_fault_to L fault h = h (λ is. cc)
-
--- integers are supported, so host functions are that have integers alone
-integer_supported : (t : ValType) → is_integer t ≡ true → is_supported t ≡ true
-integer_supported I32 h = refl
-integer_supported I64 h = refl
-integer_supported F32 h = absurd (true≢false (sym h))
-integer_supported F64 h = absurd (true≢false (sym h))
-integer_supported FuncRef h = refl
-integer_supported ExternRef h = absurd (true≢false (sym h))
-
-integers_supported : (ts : List ValType) → list_all is_integer ts ≡ true → list_all is_supported ts ≡ true
-integers_supported [] h = refl
-integers_supported (t ∷ ts) h =
-    let both = and_parts (is_integer t) (list_all is_integer ts) h in
-    and_from (is_supported t) (list_all is_supported ts) (integer_supported t both.0) (integers_supported ts both.1)
-
-function_supported : (ty : FuncType) → has_integers ty ≡ true → is_function_supported ty ≡ true
-function_supported ty h =
-    let both = and_parts (list_all is_integer ty.params) (list_all is_integer ty.results) h in
-    and_from (list_all is_supported ty.params) (list_all is_supported ty.results) (integers_supported ty.params both.0) (integers_supported ty.results both.1)
-
-pub hosts_supported : (l : LinkOptions) (S : ClosedSet) (names : HostNames) (L : LinkedSet) → L ≡ linked names l S → Links (linked names l S) → HaveIntegers names → All IsSupported (hosts_of L)
-hosts_supported l S names L is links integers =
-    let M = linked names l S in
-    let supported : All IsSupported (hosts_of M) =
-    All-weaker (IsDeclared M) IsSupported (λ host declared. function_supported host.ty (integers host.module_name host.name host.ty declared)) (hosts_of M) (set_declared M links) in
-    subst (λ (N : LinkedSet). All IsSupported (hosts_of N)) (sym is) supported
 
 pub links_not : (l : LinkOptions) (S : ClosedSet) (names also : HostNames) (fault : LinkFault) → names ≡ also → IsFirst fault (link_fault (linked names l S)) → LinksTo (linked also l S) (Err (link_outcome fault))
 links_not l S names also fault same h = first_fault_to (linked also l S) fault (subst (λ n. IsFirst fault (link_fault (linked n l S))) same h)
@@ -91,7 +54,7 @@ module _ (names : HostNames) (o : SetOptions) (l : LinkOptions) (old new : Files
   pub got : (S : ClosedSet) (r : Result LinkedSet Outcome) → ForSome old.told (λ m. IsGathered (get m) o (Ok S)) → IsSet S → new.read_faults ≡ old.read_faults
       → CountsFor old.told o (Ok S) old.absents new.absents → LinksTo (linked names l S) r → Gets names o l r old new
   got S (Ok L) gathered shape reads tried links = record {
-    got = record { set = S; gathered = gathered; shape = shape; links = links.1; is = links.0; integers = links.2 };
+    got = record { set = S; gathered = gathered; shape = shape; links = links.1; is = links.0 };
     fault = tt;
     files = files;
     reads = reads;

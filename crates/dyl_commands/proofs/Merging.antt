@@ -47,6 +47,8 @@ module _ (names : HostNames) (o : SetOptions) (l : LinkOptions) (out : List ℕ)
         output = h.output;
         merged = merges.merged;
         shape = merges.shape;
+        decoded = merges.decoded;
+        shortest = merges.shortest;
         written = h.written;
       }
 

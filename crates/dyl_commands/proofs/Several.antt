@@ -46,7 +46,6 @@ module _ (names : HostNames) (l : LinkOptions) (old mid : FilesState) (same : mi
     shape = h.shape;
     links = h.links;
     is = h.is;
-    integers = h.integers;
   }
 
   are_got_before : (mains : List (List ℕ)) (Ls : List LinkedSet) → AreGot names mains l Ls mid → AreGot names mains l Ls old

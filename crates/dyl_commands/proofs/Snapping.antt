@@ -1,5 +1,5 @@
 -- What comes of the snapshot of a set that links.
-use Rattle.std.proofs.Common.{◌≡◌, ◌<◌, ◌≤◌, arith, ℕ, List, [], Option, Some, None, Ok, Err, refl, sym, ◌∙◌, subst, inl}
+use Rattle.std.proofs.Common.{◌≡◌, ℕ, List, [], Option, Some, None, Ok, Err, refl, sym, ◌∙◌, subst, inl}
 use Rattle.std.specs.Prelude.{IsSomeAnd}
 use Rattle.std.specs.FinMap.{get}
 use Rattle.spec_hosts.specs.dyl_outside.FileMap.{FileMap}
@@ -9,7 +9,7 @@ use Rattle.spec_hosts.specs.spec_runtime.Names.{HostNames}
 use Rattle.spec_loading.specs.spec_linking.LinkedSets.{LinkedSet}
 use Rattle.spec_snapshots.specs.declared.fault.SnapFault.{SnapFault}
 use Rattle.spec_snapshots.specs.declared.fault.SnapFault.TheVariants as snap
-use Rattle.snap_set.specs.Causes.{Takes, IsFirst, state_after}
+use Rattle.spec_snapshots.specs.Causes.{Takes, IsFirst, state_after}
 use Rattle.snap_merge.specs.Answers.{Snapped, SnapTells}
 use Rattle.dyl_link.specs.dyl_search.declared.set.SetOptions.{SetOptions}
 use Rattle.dyl_link.specs.dyl_search.Gathers.{options_of}
@@ -22,10 +22,6 @@ use Rattle.dyl_commands.specs.Linking.{linked, LinksAt}
 use Rattle.dyl_commands.specs.StartUp.{StartsUp}
 use Rattle.dyl_commands.specs.Files.{IsSnapped}
 use Rattle.dyl_commands.specs.Served.{Serves, Gets, Starts, HoldsSnapshot, StoresOutput, WritesSnapshot, snap_outcome}
-
--- steps that an order may have are ones that a snapshot may take
-pub few_steps : (n : ℕ) → n ≤ 9223372036854775807 → n < 18446744073709551615
-few_steps n few = omega arith
 
 module _ (L : LinkedSet) (most : ℕ) (out : List ℕ) where
   abbrev IsSnapshot : List ℕ → Type 0

@@ -10,12 +10,13 @@ use Rattle.spec_loading.specs.spec_linking.declared.fault.SetFault.TheVariants.{
 use Rattle.spec_loading.specs.spec_linking.Sets.{Files, SetOptions}
 use Rattle.spec_loading.specs.spec_linking.Gathering as gathering
 use Rattle.spec_loading.specs.spec_linking.Plans.{LinkOptions}
+use Rattle.spec_loading.specs.spec_linking.LinkedSets.{LinkedSet}
 use Rattle.spec_merging.specs.declared.fault.MergeFault.{MergeFault}
 use Rattle.spec_merging.specs.declared.fault.MergeFault.TheVariants as merge
-use Rattle.merge_whole.specs.Merges.{bulk, IsTooLongFor}
+use Rattle.merge_whole.specs.Merges.{bulk, IsTooLongFor, HasNoLongSection}
 use Rattle.spec_snapshots.specs.declared.fault.SnapFault.{SnapFault}
 use Rattle.spec_snapshots.specs.declared.fault.SnapFault.TheVariants as snap
-use Rattle.snap_set.specs.Causes.{state_after}
+use Rattle.spec_snapshots.specs.Causes.{state_after}
 use Rattle.snap_merge.specs.Answers.{amount}
 use Rattle.dyl_link.specs.dyl_search.Gathers.{options_of}
 use Rattle.dyl_link.specs.Sets as links
@@ -97,7 +98,7 @@ Tries names files (Ok (order.Replay one trace o link steps)) path = (path ≡ tr
 Tries names files (Ok (order.Snap o link steps out)) path = gathering.Tries files (options_of o) path
 Tries names files (Ok (order.Board mains link steps slice turns)) path = SetsTry names files mains (links.options_of link) path
 
--- a set that is merged has a section that is too long
+-- the merged module of a set has a section that is too long
 pub record HasLongSection (names : HostNames) (files : Files) (o : SetOptions) (link : LinkOptions) (id : ℕ) : Type 0 where
   pub merges : LinksAt names files o link
   pub long : IsTooLongFor (linked names link merges.set) id
@@ -167,19 +168,23 @@ Yields asked due answer = due ≡ answer
 
 -- ---- completeness
 
+-- no section of its merged module is too long, or there isn't too much of it
+abbrev pub MayBeWritten : LinkedSet → Type 0
+MayBeWritten L = HasNoLongSection L ⊎ (bulk L < 2 ^ 32)
+
 -- the run came to an end, whether its trace is too long or not
 abbrev pub is_traced : Outcome → Bool
 is_traced (TooLong run) = true
 is_traced answer = is_run answer
 
--- Where the command can be done over these files, and no read and nothing that it writes has failed, it is: merged where there isn't too much
--- of the set, listed, run whatever the devices did, generated and run: a generated set needs three pages; replayed where the trace is that of
+-- Where the command can be done over these files, and no read and nothing that it writes has failed, it is: merged where no section of its
+-- merged module is too long, or there isn't too much of the set, listed, run whatever the devices did, generated and run: a generated set needs three pages; replayed where the trace is that of
 -- a run; written as a snapshot where its start-up comes to the entry and there isn't too much of it then; or run in turns, where each of the
 -- sets links. The numbers are the counts of the puts to the output that failed.
 abbrev pub IsComplete : HostNames → Files → Result Order UsageKind → Outcome → FilesState → FilesState → ℕ → ℕ → Type 0
 IsComplete names files (Err kind) answer old new before now = Unit {0}
 IsComplete names files (Ok (order.Merge o link out)) answer old new before now =
-    (merges : LinksAt names files (options_of o) (links.options_of link)) → bulk (linked names (links.options_of link) merges.set) < 2 ^ 32
+    (merges : LinksAt names files (options_of o) (links.options_of link)) → MayBeWritten (linked names (links.options_of link) merges.set)
     → ¬ Rose old.read_faults new.read_faults → ¬ Rose old.write_faults new.write_faults → (answer ≡ Done []) ⊎ (answer ≡ Memory)
 IsComplete names files (Ok (order.Run o link steps args)) answer old new before now =
     LinksAt names files (options_of o) (links.options_of link) → ¬ Rose old.read_faults new.read_faults → (is_run answer ≡ true) ⊎ (answer ≡ Memory)

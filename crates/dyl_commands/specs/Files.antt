@@ -11,10 +11,11 @@ use Rattle.spec_loading.specs.spec_linking.Sets.{ClosedSet, SetOptions}
 use Rattle.spec_loading.specs.spec_linking.Gathering.{IsGathered}
 use Rattle.spec_loading.specs.spec_linking.Plans.{LinkOptions}
 use Rattle.spec_loading.specs.spec_linking.Links.{Links}
+use Rattle.spec_reading.specs.spec_binary.DecodeAnswers.{DecodeAnswer}
 use Rattle.spec_loading.specs.Merged.{Merged}
-use Rattle.snap_set.specs.Causes.{Takes, IsFirst, state_after}
+use Rattle.spec_snapshots.specs.Causes.{Takes, IsFirst, state_after}
 use Rattle.snap_merge.specs.Answers.{Snapped}
-use Rattle.merge_whole.specs.Merges.{HasShape}
+use Rattle.merge_whole.specs.Merges.{HasShape, AreShortestFor}
 use Rattle.spec_traces.specs.declared.trace.Trace.{Trace}
 use Rattle.spec_traces.specs.Texts.{IsTextOf}
 use Rattle.spec_traces.specs.Traces.{Traces, IsTraceOf}
@@ -29,8 +30,9 @@ use Rattle.dyl_front.specs.declared.order.Order.TheVariants as order
 use Rattle.dyl_commands.specs.Linking.{linked}
 use Rattle.dyl_commands.specs.Traced.{IsProgram}
 
--- The set is gathered from the files and links, and the path of the output holds bytes that merge it, whose module has the shape of a merged
--- one. Every other path is as it was.
+-- The set is gathered from the files and links, and the path of the output holds bytes that merge it: the module that they spell has the shape
+-- of a merged one, and is what they are decoded to; and no bytes that spell the merged module of the set are shorter. Every other path is as
+-- it was.
 pub record IsMerged (names : HostNames) (o : SetOptions) (link : LinkOptions) (out : List ℕ) (files after : FileMap) : Type 0 where
   pub set : ClosedSet
   pub gathered : IsGathered (get files) o (Ok set)
@@ -38,6 +40,8 @@ pub record IsMerged (names : HostNames) (o : SetOptions) (link : LinkOptions) (o
   pub output : List ℕ
   pub merged : Merged (linked names link set) output
   pub shape : HasShape (linked names link set) merged.wasm
+  pub decoded : DecodeAnswer output (Ok merged.wasm)
+  pub shortest : AreShortestFor (linked names link set) output
   pub written : after ≡ insert files out output
 
 -- The set is gathered from the files and links, and the path of the output holds bytes that are a snapshot of it, as it stands where its entry

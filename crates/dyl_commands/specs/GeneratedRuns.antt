@@ -9,6 +9,7 @@ use Rattle.spec_hosts.specs.dyl_outside.FileMap.{FileMap}
 use Rattle.spec_hosts.specs.dyl_outside.MemFiles.{MemFilesState}
 use Rattle.spec_hosts.specs.dyl_outside.Sink.{SinkState, Puts}
 use Rattle.spec_hosts.specs.spec_runtime.Names.{HostNames}
+use Rattle.spec_reading.specs.spec_binary.DecodeAnswers.{DecodeAnswer}
 use Rattle.spec_loading.specs.spec_execution.OneModule.{ModuleState, module_opening}
 use Rattle.spec_loading.specs.spec_linking.Sets.{ClosedSet}
 use Rattle.spec_loading.specs.spec_linking.Gathering.{IsGathered, IsSet}
@@ -17,7 +18,7 @@ use Rattle.spec_loading.specs.spec_linking.Links.{Links}
 use Rattle.spec_loading.specs.Merged.{Merged}
 use Rattle.spec_hosts.specs.declared.ran.Ran.{Ran}
 use Rattle.spec_hosts.specs.Hosted.{Embedder}
-use Rattle.wasm_exec.specs.Executed.{HaveIntegers, IsSetRun, IsModuleRun}
+use Rattle.wasm_exec.specs.Executed.{IsSetRun, IsModuleRun}
 use Rattle.merge_whole.specs.Merges.{bulk}
 use Rattle.dyl_gen.specs.declared.fault.GenFault.TheVariants.{Range}
 use Rattle.dyl_gen.specs.Laws.{set_options}
@@ -51,7 +52,6 @@ pub record IsMade (names : HostNames) (n pages : ℕ) (L : LinkedSet) : Type 0 w
   pub shape : IsSet set
   pub links : Links (linked names (with_pages pages) set)
   pub is : L ≡ linked names (with_pages pages) set
-  pub integers : HaveIntegers names
 
 abbrev pub MakesSet : HostNames → ℕ → ℕ → Result LinkedSet Outcome → Type 0
 MakesSet names n pages (Ok L) = IsMade names n pages L
@@ -65,10 +65,11 @@ IsLittle L = bulk L < 2 ^ 32
 abbrev pub RunsLoaded : LinkedSet → Embedder → ℕ → Report → Type 0
 RunsLoaded L embedder steps r = IsRunInside (IsSetRun L embedder steps r.ran) r.output
 
--- a module that some bytes spell which merge the set
+-- a module that is decoded of some bytes which merge the set
 pub record MergesTo (L : LinkedSet) (wasm : Module) : Type 0 where
   pub bytes : List ℕ
   pub merges : Merged L bytes
+  pub decoded : DecodeAnswer bytes (Ok merges.wasm)
   pub is : merges.wasm ≡ wasm
 
 -- a run of a module from its opening state

@@ -4,6 +4,7 @@ use Rattle.std.specs.Prelude.{◌≡◌, ◌⊎◌, ℕ, List, [], ◌∷◌, ma
 use Rattle.std.specs.Option.{ForSome}
 use Rattle.std.specs.FinMap.{get}
 use Rattle.wasm_form.specs.declared.module.Module.{Module}
+use Rattle.spec_reading.specs.spec_binary.DecodeAnswers.{DecodeAnswer}
 use Rattle.spec_loading.specs.spec_validation.Faults as validation
 use Rattle.spec_hosts.specs.spec_runtime.Names.{HostNames}
 use Rattle.spec_loading.specs.spec_execution.OneModule.{ModuleState, module_opening}
@@ -185,12 +186,13 @@ pub record IsRunInside (Run : Devices → Devices → Type 0) (output : List ℕ
   pub input : after.input.faults ≡ 0
   pub outputs : (after.output.faults ≡ 0) × (after.errors.faults ≡ 0)
 
--- A linked set was run as loaded, and a module that merges it was run, each for steps of its own. These are the two runs, and their summary.
+-- A linked set was run as loaded, and the module that is decoded of bytes which merge it was run, each for steps of its own. These are the two runs, and their summary.
 pub record AreBothRun (L : LinkedSet) (embedder : Embedder) (steps : ℕ) (runs : List ran.Ran) (summary : List ℕ) : Type 0 where
   pub loaded : Report
   pub loaded_run : IsRunInside (IsSetRun L embedder steps loaded.ran) loaded.output
   pub bytes : List ℕ
   pub merges : Merged L bytes
+  pub decoded : DecodeAnswer bytes (Ok merges.wasm)
   pub merged : Report
   pub merged_run : IsRunInside (IsModuleRun merges.wasm embedder merges.opening steps merged.ran) merged.output
   pub two : runs ≡ loaded.ran ∷ merged.ran ∷ []

@@ -27,12 +27,12 @@ use Rattle.spec_merging.specs.declared.fault.MergeFault.{MergeFault}
 use Rattle.spec_merging.specs.declared.fault.MergeFault.TheVariants as merge
 use Rattle.spec_snapshots.specs.declared.fault.SnapFault.{SnapFault}
 use Rattle.spec_snapshots.specs.declared.fault.SnapFault.TheVariants as snap
-use Rattle.snap_set.specs.Causes.{Takes, IsFirst, state_after}
+use Rattle.spec_snapshots.specs.Causes.{Takes, IsFirst, state_after}
 use Rattle.snap_merge.specs.Answers.{Snapped, SnapTells}
 use Rattle.spec_boards.specs.BoardRuns.{IsBoardRun, IsBoardCut}
 use Rattle.dyl_store.specs.Stores.{set_course}
 use Rattle.wasm_exec.specs.Executed as executed
-use Rattle.wasm_exec.specs.Executed.{HaveIntegers, IsModuleRun, IsModuleCut}
+use Rattle.wasm_exec.specs.Executed.{IsModuleRun, IsModuleCut}
 use Rattle.merge_whole.specs.Merges.{IsTooLongFor}
 use Rattle.merge_whole.specs.Merges as whole
 use Rattle.dyl_link.specs.dyl_search.Absents.{CountsFor}
@@ -65,7 +65,6 @@ pub record IsGot (names : HostNames) (o : SetOptions) (l : LinkOptions) (L : Lin
   pub shape : IsSet set
   pub links : Links (linked names l set)
   pub is : L ≡ linked names l set
-  pub integers : HaveIntegers names
 
 -- an outcome where there is none: a fault of the set, a link fault, or want of memory
 abbrev pub GotCause : Outcome → FilesState → FilesState → Type 0
@@ -145,7 +144,7 @@ all_linked (Err outcome) Ls = Err outcome
 
 -- What linking a set comes to: this very set where it links, or why it doesn't.
 abbrev pub LinksTo : LinkedSet → Result LinkedSet Outcome → Type 0
-LinksTo L (Ok M) = (M ≡ L) × Links L × HaveIntegers L.names
+LinksTo L (Ok M) = (M ≡ L) × Links L
 LinksTo L (Err (Link link.Memory)) = ⊥
 LinksTo L (Err (Link fault)) = link_fault L ≡ Some fault
 LinksTo L (Err Memory) = Unit {0}

@@ -7,7 +7,7 @@ use Rattle.spec_loading.specs.spec_linking.Sets.{Files, SetOptions}
 use Rattle.spec_loading.specs.spec_linking.Plans.{LinkOptions}
 use Rattle.spec_snapshots.specs.declared.fault.SnapFault.{SnapFault}
 use Rattle.spec_snapshots.specs.declared.fault.SnapFault.TheVariants as fault
-use Rattle.snap_set.specs.Causes.{Takes, IsFirst}
+use Rattle.spec_snapshots.specs.Causes.{Takes, IsFirst}
 use Rattle.snap_merge.specs.Answers.{SnapTells}
 use Rattle.dyl_front.specs.declared.outcome.Outcome.{Outcome}
 use Rattle.dyl_front.specs.declared.outcome.Outcome.TheVariants.{Done, Snap}

@@ -3,7 +3,6 @@ ghost use Rattle.std.specs.Prelude.{◌≡◌, ◌<◌, ◌≤◌, length, false
 ghost use Rattle.std.specs.List.{All};
 ghost use Rattle.spec_loading.specs.spec_linking.LinkedSets.{LinkedSet};
 ghost use Rattle.host_calls.specs.Embedders.{names_of};
-ghost use Rattle.wasm_exec.specs.Executed.{HaveIntegers};
 ghost use Rattle.slice_board.specs.Taken.{picks_of};
 ghost use Rattle.dyl_front.specs.Orders.{IsLinkInRange};
 ghost use Rattle.dyl_commands.specs.Due.{is_done};
@@ -37,7 +36,6 @@ fn run_in_turns<I: Source, O: Sink, E: Sink, A: Ambient>(
     requires some { 0 < length sets.now }
     requires few { length sets.now ≤ 64 }
     requires names { All (λ (L : LinkedSet). L.names ≡ names_of host.now) sets.now }
-    requires integers { HaveIntegers (names_of host.now) }
     requires steps { steps ≤ 9223372036854775807 }
     ensures { SetsRun host.now (picks_of picker.now) sets.now steps slice turns result (I.seen input.old) (O.seen output.old) (E.seen errors.old) (A.seen ambient.old) (I.seen input.new) (O.seen output.new) (E.seen errors.new) (A.seen ambient.new) }
 {

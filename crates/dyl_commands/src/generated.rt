@@ -1,15 +1,12 @@
 // Making a set, and running it loaded and merged.
-ghost use Rattle.std.specs.Prelude.{◌≡◌, ◌≤◌, ◌∷◌, [], All, IfOk, None, Ok};
+ghost use Rattle.std.specs.Prelude.{◌≡◌, ◌≤◌, ◌∷◌, [], IfOk, None, Ok};
 ghost use Rattle.spec_hosts.specs.dyl_outside.Files.{FilesState};
 ghost use Rattle.spec_reading.specs.spec_binary.DecodeAnswers.{DecodeAnswer};
 ghost use Rattle.spec_reading.specs.spec_binary.WellFormed.{IsWellFormed};
 ghost use Rattle.spec_loading.specs.spec_validation.Faults as validation;
 ghost use Rattle.spec_loading.specs.spec_execution.OneModule.{ModuleState, module_opening};
 ghost use Rattle.spec_loading.specs.spec_safety.SoundModules.{HoldsNumbers};
-ghost use Rattle.spec_loading.specs.spec_linking.LinkedSets.{hosts_of};
 ghost use Rattle.host_calls.specs.Embedders.{names_of, embedder_of};
-ghost use Rattle.wasm_exec.specs.Executed.{HaveIntegers};
-ghost use Rattle.merge_whole.specs.Merges.{IsSupported};
 ghost use Rattle.dyl_link.specs.dyl_search.Gathers.{options_of};
 ghost use Rattle.dyl_link.specs.Sets as links;
 ghost use Rattle.dyl_commands.specs.Generated.{with_pages};
@@ -90,7 +87,6 @@ fn loaded_report(
     host: &HostTable,
 ) -> Result<Report, Memory>
     requires names { linked.now.names ≡ names_of host.now }
-    requires integers { HaveIntegers (names_of host.now) }
     requires steps { steps ≤ 9223372036854775807 }
     ensures { IfOk result (RunsLoaded linked.now (embedder_of (guest_arguments []) host.now) steps) }
 {
@@ -150,7 +146,6 @@ fn checked(alloc: Global, wasm: Module) -> Result<Checked, Memory>
 
 /// The merged module of a linked set of which there is little, read from its bytes.
 fn merged_module(alloc: Global, linked: &Linked) -> Result<Checked, Memory>
-    requires hosts { All IsSupported (hosts_of linked.now) }
     requires little { IsLittle linked.now }
     ensures { IfOk result (MergesTo linked.now) }
 {
@@ -207,7 +202,6 @@ fn merged_run(
     host: &HostTable,
 ) -> Result<Report, Memory>
     requires names { linked.now.names ≡ names_of host.now }
-    requires hosts { All IsSupported (hosts_of linked.now) }
     requires little { IsLittle linked.now }
     requires steps { steps ≤ 9223372036854775807 }
     ensures { IfOk result (λ report. (wasm : Module) × MergesTo linked.now wasm × RunsModule wasm (embedder_of (guest_arguments []) host.now) steps report) }
@@ -264,8 +258,6 @@ fn run_both<O: Sink>(
     host: &HostTable,
 ) -> Outcome
     requires names { linked.now.names ≡ names_of host.now }
-    requires integers { HaveIntegers (names_of host.now) }
-    requires hosts { All IsSupported (hosts_of linked.now) }
     requires little { IsLittle linked.now }
     requires steps { steps ≤ 9223372036854775807 }
     ensures { RunsBoth linked.now (embedder_of (guest_arguments []) host.now) steps result (O.seen output.old) (O.seen output.new) }

@@ -1,8 +1,6 @@
 // Merging a set.
-ghost use Rattle.std.specs.Prelude.{◌≡◌, ℕ, All, Ok};
+ghost use Rattle.std.specs.Prelude.{◌≡◌, ℕ, Ok};
 ghost use Rattle.host_calls.specs.Embedders.{names_of};
-ghost use Rattle.spec_loading.specs.spec_linking.LinkedSets.{hosts_of};
-ghost use Rattle.merge_whole.specs.Merges.{IsSupported};
 ghost use Rattle.dyl_front.specs.Orders.{IsLinkInRange};
 ghost use Rattle.dyl_commands.specs.Counts.{StoresFor, Counts};
 ghost use Rattle.dyl_commands.specs.Served.{Serves, StoreCounts, WritesMerged, merge_outcome};
@@ -30,7 +28,6 @@ fn unmerged(fault: MergeFault) -> Outcome
 
 /// Writes the merged module of a linked set.
 fn write_merged<F: Files>(alloc: Global, linked: &Linked, out: &str, files: &mut F) -> Outcome
-    requires { All IsSupported (hosts_of linked.now) }
     ensures written { WritesMerged linked.now out.now result (F.seen files.old) (F.seen files.new) }
     ensures counts { StoreCounts (StoresFor result) (F.seen files.old) (F.seen files.new) }
 {

@@ -2,7 +2,6 @@
 ghost use Rattle.std.specs.Prelude.{◌≡◌, ◌≤◌, false, Ok};
 ghost use Rattle.host_calls.specs.Embedders.{names_of};
 ghost use Rattle.dyl_front.specs.Orders.{IsLinkInRange};
-ghost use Rattle.wasm_exec.specs.Executed.{HaveIntegers};
 ghost use Rattle.dyl_commands.specs.Due.{is_done};
 ghost use Rattle.dyl_commands.specs.Counts.{Counts};
 ghost use Rattle.dyl_commands.specs.Served.{Serves, BeginsAsSet, TakesAnswers};
@@ -32,7 +31,6 @@ pub fn run_linked<I: Source, O: Sink, E: Sink, A: Ambient>(
     host: &HostTable,
 ) -> Outcome
     requires names { linked.now.names ≡ names_of host.now }
-    requires integers { HaveIntegers (names_of host.now) }
     requires steps { steps ≤ 9223372036854775807 }
     ensures taken { TakesAnswers (BeginsAsSet linked.now) result }
     ensures runs { SetRuns host.now linked.now args.now steps result (I.seen input.old) (O.seen output.old) (E.seen errors.old) (A.seen ambient.old) (I.seen input.new) (O.seen output.new) (E.seen errors.new) (A.seen ambient.new) }

@@ -1,8 +1,6 @@
 // Writing the snapshot of a set.
-ghost use Rattle.std.specs.Prelude.{◌≡◌, ◌≤◌, ℕ, All, Ok};
-ghost use Rattle.spec_loading.specs.spec_linking.LinkedSets.{hosts_of};
+ghost use Rattle.std.specs.Prelude.{◌≡◌, ◌≤◌, ℕ, Ok};
 ghost use Rattle.host_calls.specs.Embedders.{names_of};
-ghost use Rattle.merge_whole.specs.Merges.{IsSupported};
 ghost use Rattle.dyl_front.specs.Orders.{IsLinkInRange};
 ghost use Rattle.dyl_commands.specs.Counts.{StoresFor, Counts};
 ghost use Rattle.dyl_commands.specs.Served.{Serves, StoreCounts, WritesSnapshot, snap_outcome};
@@ -35,7 +33,6 @@ fn write_snapshot<F: Files>(
     out: &str,
     files: &mut F,
 ) -> Outcome
-    requires hosts { All IsSupported (hosts_of linked.now) }
     requires steps { steps ≤ 9223372036854775807 }
     ensures written { WritesSnapshot linked.now steps out.now result (F.seen files.old) (F.seen files.new) }
     ensures counts { StoreCounts (StoresFor result) (F.seen files.old) (F.seen files.new) }

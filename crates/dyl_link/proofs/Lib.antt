@@ -11,3 +11,5 @@ pub mod InitialValues
 mod NamedFunctions
 mod Sound
 mod Pages
+pub mod SetHosts
+mod SupportedHosts

@@ -6,6 +6,7 @@ use Rattle.spec_loading.specs.spec_linking.Gathering.{IsSet}
 use Rattle.spec_loading.specs.spec_linking.LinkedSets.{LinkedSet}
 use Rattle.spec_loading.specs.spec_linking.Slots.{linked_plan}
 use Rattle.spec_loading.specs.spec_linking.Links.{Links}
+use Rattle.dyl_slots.specs.host_table.Names.{HaveIntegers}
 use Rattle.dyl_slots.specs.dyl_scope.Scopes.{AreOf}
 use Rattle.dyl_link.specs.declared.linked_set.LoaderTypes.{LoaderTypes}
 use Rattle.dyl_link.specs.declared.linked_set.Ready.{Ready}
@@ -27,9 +28,10 @@ pub record IsReady (L : LinkedSet) (r : Ready) : Type 0 where
 abbrev pub set_in : Parts → LinkedSet
 set_in p = linked_set p.set p.options p.names
 
--- a set links, its memory has 16,384 pages at most, and what is kept is what there is of it
+-- a set links, its memory has 16,384 pages at most, its host names have integers alone, and what is kept is what there is of it
 pub record IsLinked (L : LinkedSet) (r : Ready) : Type 0 where
   pub shape : IsSet L.set
   pub links : Links L
   pub pages : (linked_plan L).pages_max ≤ 16384
+  pub integers : HaveIntegers L.names
   pub ready : IsReady L r

@@ -92,6 +92,7 @@ pub fn link(
     ensures complete { link_fault (linked_set set o.now hosts.now) ≡ None → IfErr result (λ refused. refused.fault ≡ faults.Memory) }
     ensures back { IfErr result (λ refused. refused.set ≡ set) }
 {
+    hosts.integers();
     match found_over(alloc, &set, o, hosts) {
         Ok((names, ready)) => Ok(Linked::of(set, *o, names, ready)),
         Err(fault) => Err(LinkRefused { fault, set }),

@@ -1,5 +1,6 @@
 // What is kept of a set that links, and what it tells of the set.
 ghost use Rattle.std.specs.Prelude.{◌≡◌, ◌<◌, ◌≤◌, ◌∷◌, [], IfOk, length, map, slice_get, is_some, Some, IsTrue};
+ghost use Rattle.std.specs.List.{All};
 ghost use Rattle.wasm_form.specs.declared.types.ValType.TheVariants.{I32};
 ghost use Rattle.wasm_form.specs.declared.runtime.Ref.TheVariants as references;
 ghost use Rattle.spec_loading.specs.spec_execution.Views as views;
@@ -13,10 +14,10 @@ ghost use Rattle.spec_loading.specs.LoadedSet as loading;
 ghost use Rattle.spec_loading.specs.Members as members;
 ghost use Rattle.dyl_slots.specs.Fresh.{slot_at};
 ghost use Rattle.dyl_slots.specs.Tables.{AreTables};
-ghost use Rattle.dyl_slots.specs.host_table.Names.{host_name_of};
+ghost use Rattle.dyl_slots.specs.host_table.Names.{host_name_of, HaveIntegers};
 ghost use Rattle.dyl_slots.specs.dyl_scope.Scopes.{AreOf};
 ghost use Rattle.dyl_slots.specs.dyl_search.Gathers.{member_of, set_of};
-ghost use Rattle.dyl_link.specs.Sets.{linked_set, imported_globals_in};
+ghost use Rattle.dyl_link.specs.Sets.{linked_set, imported_globals_in, IsSupported};
 ghost use Rattle.dyl_link.specs.Functions.{AreFunctions};
 ghost use Rattle.dyl_link.specs.Parts.{AreTypes, IsLinked};
 
@@ -149,6 +150,15 @@ impl Linked {
     /// The memory has 16,384 pages at most. The call does nothing: a proof gets this fact by it.
     pub fn has_few_pages(&self)
         ensures { (linked_plan self.now).pages_max ≤ 16384 }
+    {
+        let _parts = &self.parts;
+    }
+
+    /// The host names have integers alone, so its host functions have types that modules may use. The call does nothing: a proof gets these facts
+    /// by it.
+    pub fn hosts_have_integers(&self)
+        ensures integers { HaveIntegers self.now.names }
+        ensures supported { All IsSupported (hosts_of self.now) }
     {
         let _parts = &self.parts;
     }

@@ -104,7 +104,7 @@ impl<'m> Store<'m> {
     /// and `Deep` where the step would pass a limit of depth, with nothing changed. It takes memory only where a frame of the loader is
     /// on top, or code that next calls a function or grows a memory or a table; a run that answered `Memory` answers it from then on.
     pub fn run_step(&mut self, alloc: Global) -> Result<Event, Memory>
-        requires answered { IsAt (set_course self.old.linked) self.old.run → is_waiting (set_course self.old.linked) self.old.run ≡ false }
+        requires answered { self.old.run.lost ≡ false → is_waiting (set_course self.old.linked) self.old.run ≡ false }
         requires few { self.old.run.steps < 18446744073709551615 }
         ensures stepped { IfOk result (λ e. IsAt (set_course self.old.linked) self.old.run × RunStepped (set_course self.old.linked) e self.old.run self.new.run) }
         ensures wanting { OnErr result ((self.old.run.lost ≡ true) ⊎ MayWantAt self.old.linked self.old.run) }
@@ -113,7 +113,6 @@ impl<'m> Store<'m> {
         ensures arguments { IfOk result (λ e. ArgumentsFit (set_hosts self.old.linked) e) }
         ensures same { self.new.linked ≡ self.old.linked }
     {
-        self.run.stands();
         self.run.run_step(alloc)
     }
 
@@ -146,14 +145,14 @@ impl<'m> Store<'m> {
 
     /// Whether it waits for an answer that isn't recorded.
     pub fn waiting(&self) -> bool
-        ensures { IsAt (set_course self.now.linked) self.now.run → result ≡ is_waiting (set_course self.now.linked) self.now.run }
+        ensures { self.now.run.lost ≡ false → result ≡ is_waiting (set_course self.now.linked) self.now.run }
     {
         self.run.waiting()
     }
 
     /// Whether it has returned, exited or trapped.
     pub fn has_ended(&self) -> bool
-        ensures { IsAt (set_course self.now.linked) self.now.run → result ≡ has_ended (status_at (set_course self.now.linked) self.now.run) }
+        ensures { self.now.run.lost ≡ false → result ≡ has_ended (status_at (set_course self.now.linked) self.now.run) }
     {
         self.run.has_ended()
     }
@@ -331,7 +330,7 @@ impl<'m> Store<'m> {
 
     /// The memory as the run stands.
     pub fn memory(&self) -> &Space
-        ensures { IsAt (set_course self.now.linked) self.now.run → result.now ≡ memory_at (set_course self.now.linked) self.now.run }
+        ensures { self.now.run.lost ≡ false → result.now ≡ memory_at (set_course self.now.linked) self.now.run }
     {
         self.run.memory()
     }

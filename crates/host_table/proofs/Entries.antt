@@ -13,7 +13,7 @@ use Rattle.indexmap.specs.IndexMap.{insert_entry}
 use Rattle.spec_runtime.specs.wasm_form.declared.types.FuncType.{FuncType}
 use Rattle.std.proofs.lemmas.Map.Steps.{set_value_same}
 use Rattle.std.proofs.lemmas.Bool.{cond_both}
-use Rattle.std.proofs.lemmas.List.Elements.{All-cons, All-head, All-tail}
+use Rattle.std.proofs.lemmas.List.Elements.{All-nil, All-cons, All-head, All-tail, All-map}
 use Rattle.spec_runtime.specs.Names.{HostModule, HostNames, empty_module, declares, with_function, change_module}
 use Rattle.host_table.specs.Names.{by_text}
 
@@ -84,6 +84,23 @@ module _ {K X : Type 0} (P : X → Type 0) where
   All-inserted eq (e ∷ es) k v all this = cond_both (eq k e.0) ((e.0, v) ∷ es) (e ∷ insert_entry eq es k v) (All (λ e. P e.1))
       (λ _. All-cons (λ e. P e.1) (e.0, v) es this (All-tail (λ e. P e.1) e es all))
       (λ _. All-cons (λ e. P e.1) e (insert_entry eq es k v) (All-head (λ e. P e.1) e es all) (All-inserted eq es k v (All-tail (λ e. P e.1) e es all) this))
+
+  -- and once it is the value of a key that is there
+  pub All-changed : (test : K → Bool) (es : List (K × X)) (v : X) → All (λ e. P e.1) es → P v → All (λ e. P e.1) (set_value test es v)
+  All-changed test [] v all this = all
+  All-changed test (e ∷ es) v all this = cond_both (test e.0) ((e.0, v) ∷ es) (e ∷ set_value test es v) (All (λ e. P e.1))
+      (λ _. All-cons (λ e. P e.1) (e.0, v) es this (All-tail (λ e. P e.1) e es all))
+      (λ _. All-cons (λ e. P e.1) e (set_value test es v) (All-head (λ e. P e.1) e es all) (All-changed test es v (All-tail (λ e. P e.1) e es all) this))
+
+module _ {Z X : Type 0} (P : X → Type 0) where
+  -- what holds of each value holds of each beside the bytes of its text, and the other way round
+  pub All-by_text : (es : List (String Z × X)) → All (λ e. P e.1) es → All (λ e. P e.1) (by_text es)
+  All-by_text es all = All-map (λ e. P e.1) (λ e. (string_bytes e.0, e.1)) es all
+
+  pub All-from_text : (es : List (String Z × X)) → All (λ e. P e.1) (by_text es) → All (λ e. P e.1) es
+  All-from_text [] all = All-nil (λ e. P e.1)
+  All-from_text (e ∷ es) all =
+      All-cons (λ e. P e.1) e es (All-head (λ e. P e.1) (string_bytes e.0, e.1) (by_text es) all) (All-from_text es (All-tail (λ e. P e.1) (string_bytes e.0, e.1) (by_text es) all))
 
 -- a module that is new goes last
 pub change_new : (change : HostModule → HostModule) (name : List ℕ) (ms : List (List ℕ × HostModule)) → lookup (bytes_eq name) ms ≡ None → ms ++ (name, change empty_module) ∷ [] ≡ change_module change name ms

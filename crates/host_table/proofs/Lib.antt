@@ -1,3 +1,4 @@
 pub mod Entries
 pub mod Numbering
+mod DeclaredTypes
 mod NumberEntries

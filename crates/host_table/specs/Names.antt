@@ -1,5 +1,5 @@
 -- What host names hold, as the meanings see it.
-use Rattle.std.specs.Prelude.{ℕ, List, map, String, string_bytes, Bool, IsTrue, ◌&&◌, if◌then◌else◌}
+use Rattle.std.specs.Prelude.{◌≡◌, ℕ, List, map, String, string_bytes, Bool, IsTrue, ◌&&◌, if◌then◌else◌}
 use Rattle.std.specs.List.{All}
 use Rattle.std.specs.Str.{bytes_eq}
 use Rattle.spec_runtime.specs.wasm_form.declared.types.FuncType.{FuncType}
@@ -13,8 +13,16 @@ abbrev pub by_text : {Z X : Type 0} → List (String Z × X) → List (List ℕ 
 by_text es = map (λ e. (string_bytes e.0, e.1)) es
 
 -- the type of each entry has integers alone
-abbrev pub HaveIntegers : {Z : Type 0} → List (String Z × FuncType) → Type 0
-HaveIntegers es = All (λ e. IsTrue (names.has_integers e.1)) es
+abbrev pub TypesHaveIntegers : {K : Type 0} → List (K × FuncType) → Type 0
+TypesHaveIntegers es = All (λ e. IsTrue (names.has_integers e.1)) es
+
+-- the type of each function of each module has integers alone
+abbrev pub ModulesHaveIntegers : {K : Type 0} → List (K × names.HostModule) → Type 0
+ModulesHaveIntegers ms = All (λ m. TypesHaveIntegers m.1.functions) ms
+
+-- what is declared has integers alone
+abbrev pub HaveIntegers : names.HostNames → Type 0
+HaveIntegers declared = (from name : List ℕ) (ty : FuncType) → names.host_match declared from name ty ≡ names.Fits → IsTrue (names.has_integers ty)
 
 abbrev pub match_of : HostMatch → names.HostMatch
 match_of Unknown = names.Unknown

@@ -6,7 +6,7 @@ ghost use Rattle.std.specs.Option.{option_copied};
 ghost use Rattle.std.specs.String.{string_eq};
 ghost use Rattle.indexmap.specs.IndexMap.{IsUnique};
 ghost use Rattle.spec_runtime.specs.Names.{empty_module, declares, with_function, with_every_name, module_match, has_integers};
-ghost use Rattle.host_table.specs.Names.{by_text, match_of, fits_where, HaveIntegers};
+ghost use Rattle.host_table.specs.Names.{by_text, match_of, fits_where, TypesHaveIntegers};
 
 use crate::copies::copied_type;
 use crate::types::{is_rest_type, is_same_type};
@@ -32,13 +32,13 @@ pub struct ModuleNames {
 
 impl Model for ModuleNames {
     ghost use Rattle.spec_runtime.specs.Names.{HostModule};
-    ghost use Rattle.host_table.specs.Names.{by_text, HaveIntegers};
+    ghost use Rattle.host_table.specs.Names.{by_text, TypesHaveIntegers};
 
     ghost Value = { HostModule };
 
     ghost view = { λ m. record { functions = by_text m.functions.entries; rest = m.rest } };
 
-    ghost invariant = { λ m. HaveIntegers m.functions.entries };
+    ghost invariant = { λ m. TypesHaveIntegers m.functions.entries };
 }
 
 impl ModuleNames {
@@ -76,6 +76,13 @@ impl ModuleNames {
             return Ok(());
         }
         self.add_function(alloc, name, ty)
+    }
+
+    // The types have integers alone. The call does nothing: a proof gets this fact by it.
+    pub fn integers(&self)
+        ensures { TypesHaveIntegers self.now.functions }
+    {
+        let _functions = &self.functions;
     }
 
     // Whether a name is declared.
@@ -133,11 +140,11 @@ fn copy_function(
 ) -> Result<(), Memory>
     requires there { n < length from.now.entries }
     requires unique { IsUnique string_eq from.now }
-    requires integers { HaveIntegers from.now.entries }
+    requires integers { TypesHaveIntegers from.now.entries }
     requires before { by_text to.old.entries ≡ by_text (take n from.now.entries) }
-    requires before_integers { HaveIntegers to.old.entries }
+    requires before_integers { TypesHaveIntegers to.old.entries }
     ensures copied { OnOk result (by_text to.new.entries ≡ by_text (take (n + 1) from.now.entries)) }
-    ensures copied_integers { OnOk result (HaveIntegers to.new.entries) }
+    ensures copied_integers { OnOk result (TypesHaveIntegers to.new.entries) }
 {
     let Some((name, ty)) = from.get_index(n) else {
         return Ok(());

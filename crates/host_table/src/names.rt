@@ -6,7 +6,7 @@ ghost use Rattle.std.specs.Option.{option_copied};
 ghost use Rattle.std.specs.String.{string_eq};
 ghost use Rattle.indexmap.specs.IndexMap.{IsUnique};
 ghost use Rattle.spec_runtime.specs.Names.{HostModule, no_names, empty_module, host_module, change_module, with_name, with_rest, host_match, host_typed, has_integers};
-ghost use Rattle.host_table.specs.Names.{by_text, match_of};
+ghost use Rattle.host_table.specs.Names.{by_text, match_of, HaveIntegers};
 
 use crate::module::{HostMatch, ModuleNames};
 use indexmap::IndexMap;
@@ -22,12 +22,14 @@ pub struct HostNames {
 }
 
 impl Model for HostNames {
-    ghost use Rattle.host_table.specs.Names.{by_text};
+    ghost use Rattle.host_table.specs.Names.{by_text, ModulesHaveIntegers};
     ghost use Rattle.spec_runtime.specs.Names as names;
 
     ghost Value = { names.HostNames };
 
     ghost view = { λ n. record { modules = by_text n.modules.entries } };
+
+    ghost invariant = { λ n. ModulesHaveIntegers n.modules.entries };
 }
 
 impl HostNames {
@@ -65,7 +67,11 @@ impl HostNames {
         ensures err { OnErr result (self.new ≡ self.old) }
     {
         match self.modules.get_mut(from) {
-            Some(names) => names.declare(alloc, name, ty),
+            Some(names) => {
+                let declared = names.declare(alloc, name, ty);
+                names.integers();
+                declared
+            }
             None => {
                 let mut names = ModuleNames::new(alloc);
                 names.declare(alloc, name, ty)?;
@@ -83,6 +89,7 @@ impl HostNames {
         match self.modules.get_mut(from) {
             Some(names) => {
                 names.declare_rest();
+                names.integers();
                 Ok(())
             }
             None => {
@@ -91,6 +98,13 @@ impl HostNames {
                 self.add_module(alloc, from, names)
             }
         }
+    }
+
+    /// What is declared has integers alone. The call does nothing: a proof gets this fact by it.
+    pub fn integers(&self)
+        ensures { HaveIntegers self.now }
+    {
+        let _modules = &self.modules;
     }
 
     /// What is declared of a name, against a type: `Unknown` exactly where nothing declares the name, `Fits` exactly
@@ -129,6 +143,7 @@ impl HostNames {
         ensures ok { OnOk result ((change : HostModule → HostModule) → names ≡ change empty_module → self.new ≡ record { modules = change_module change from.now self.old.modules }) }
         ensures err { OnErr result (self.new ≡ self.old) }
     {
+        names.integers();
         let key = owned(alloc, from)?;
         self.modules.insert(key, names)?;
         Ok(())

@@ -1,6 +1,6 @@
 -- The code for the length of a string, and for the search of a member, does what is said of it, at whatever number of a module it stands.
-use Rattle.std.proofs.Common.{◌≡◌, ℕ, zero, suc, ◌+◌, ◌*◌, List, [], ◌∷◌, length, slice_get, Option, Some, None, refl, sym, ap, ◌∙◌, subst, arith}
-use Rattle.wasm_form.specs.declared.instr.Instr.{Index}
+use Rattle.std.proofs.Common.{◌≡◌, ℕ, zero, suc, ◌+◌, ◌*◌, ◌≤◌, List, [], ◌∷◌, length, drop, slice_get, Option, Some, None, refl, sym, ap, ◌∙◌, subst, arith}
+use Rattle.std.proofs.lemmas.List.{length-drop}
 use Rattle.wasm_form.specs.declared.module.Module.{Module}
 use Rattle.wasm_form.specs.declared.runtime.Trap.TheVariants.{MemoryBounds}
 use Rattle.wasm_form.specs.declared.runtime.Value.TheVariants.{Num}
@@ -11,6 +11,7 @@ use Rattle.spec_loading.specs.spec_linking.Sets.{Member}
 use Rattle.spec_loading.specs.spec_linking.Gathering.{IsMember, IsSet}
 use Rattle.spec_loading.specs.spec_linking.LinkedSets.{LinkedSet, wasm_of}
 use Rattle.spec_loading.proofs.of_spec_binary.Lists.{holds_at}
+use Rattle.spec_loading.proofs.of_spec_binary.Options.{went_on}
 use Rattle.spec_loading.proofs.of_spec_binary.SpelledParts.{decoded_text}
 use Rattle.spec_loading.specs.spec_linking.Links.{Links}
 use Rattle.spec_loading.specs.LoaderAnswers.{string_at}
@@ -18,19 +19,18 @@ use Rattle.spec_loading.specs.Members.{from_members}
 use Rattle.merge_match.specs.Bounded.{IsBounded}
 use Rattle.merge_start.specs.Words.{Starts}
 use Rattle.merge_start.specs.Running.{Changing}
+use Rattle.merge_start.proofs.Reaching.{does_more}
 use Rattle.wasm_form.specs.declared.module.Part.{Part}
-use Rattle.merge_find.specs.Counted.{DoesWithin}
 use Rattle.merge_find.specs.Finding.{first_named, SearchFindsAny, SearchFinds}
 use Rattle.merge_find.specs.Exports.{ExportsAreTexts, ExportsAreApart}
 use Rattle.merge_find.specs.Typed.{BodyIsTyped}
-use Rattle.merge_pieces.specs.Opcodes as op
 use Rattle.merge_dl.specs.Words.{unary_type, search_type, name_numbers, length_code, length_body, find_body}
-use Rattle.merge_dl.specs.Called.{HasFunction, CallGives, GivesLength, defined_number, search_value, IsLengthPart, IsSearchPart, AreSearchParts, AreQuick}
+use Rattle.merge_dl.specs.Called.{HasFunction, CallGives, GivesLength, defined_number, search_value, SearchesMember, IsLengthPart, IsSearchPart, AreSearchParts}
 use Rattle.merge_dl.specs.Listed.{starts_in, length_part, find_part, find_parts}
-use Rattle.merge_dl.specs.Laws.{LengthsAreGiven, MembersAreSearched, DefinedIsNumbered}
+use Rattle.merge_dl.specs.Laws.{LengthsAreGiven, MembersAreSearched, MembersAreSearchedSoon, DefinedIsNumbered}
 use Rattle.merge_dl.proofs.Sites.{Answers}
 use Rattle.merge_dl.proofs.Calls.{call_gives, call_traps, does_within}
-use Rattle.merge_dl.proofs.Lengths.{measured, measures}
+use Rattle.merge_dl.proofs.Lengths.{measured, measured_steps, measures}
 use Rattle.merge_dl.proofs.Names.{string_lies}
 use Rattle.merge_dl.proofs.Defined.{definition_numbered}
 use Rattle.merge_dl.proofs.Searches.{finds_defined, words, texts, apart}
@@ -43,14 +43,16 @@ no_starts = starts_in (record { error = 0; guard = 0; first_function = 0; opens 
 -- ---- the length of a string
 
 module _ (merged : Module) (f : ℕ) (has : HasFunction merged f unary_type length_body) (c : Changing) (a : ℕ) where
-  length_given : (o : Option (List ℕ)) → Answers merged no_starts length_code c (Num a ∷ Num 0 ∷ []) (measured c o)
-      → GivesLength merged f c a o
-  length_given None r = call_traps has (Num a ∷ []) (refl, λ rest. refl) MemoryBounds r
-  length_given (Some s) r = call_gives has (Num a ∷ []) (refl, λ rest. refl) (Num (length s)) r
+  length_given : (k : ℕ) → k ≤ length c.memory.bytes → (o : Option (List ℕ))
+      → Answers merged no_starts 0 (measured_steps k o) length_code c (Num a ∷ Num 0 ∷ []) (measured c o) → GivesLength merged f c a o
+  length_given k le None r = does_more (omega (arith, le)) (call_traps has (Num a ∷ []) (refl, λ rest. refl) MemoryBounds r)
+  length_given k le (Some s) r = does_more (omega arith) (call_gives has (Num a ∷ []) (refl, λ rest. refl) (Num (length s)) r)
 
 pub lengths_given : LengthsAreGiven
 lengths_given merged f has = record {
-  calls = λ c bounded a. length_given merged f has c a (string_at c.memory (low W32 a)) (measures merged no_starts c bounded a);
+  calls = λ c bounded a.
+      let rest = length-drop (low W32 a) c.memory.bytes in
+      length_given merged f has c a (length (drop (low W32 a) c.memory.bytes)) (omega (arith, rest)) (string_at c.memory (low W32 a)) (measures merged 0 no_starts c bounded a);
 }
 
 -- ---- the search of a member
@@ -59,11 +61,34 @@ pub members_searched : SearchFindsAny → MembersAreSearched
 members_searched any L links m wasm found merged f has = record { calls = calls }
   where
     calls : (c : Changing) → IsBounded c.memory → (a : ℕ) (s : List ℕ) → string_at c.memory (low W32 a) ≡ Some s
-        → CallGives merged f c (Num (length s) ∷ Num a ∷ []) (Num (search_value (defined_number L m s)))
+        → CallGives merged (197 * length s + 202) f c (Num (length s) ∷ Num a ∷ []) (Num (search_value (defined_number L m s)))
     calls c bounded a s known =
         let r = any merged f (name_numbers L m wasm) has (words L m links wasm.exports) c.units c.memory a s (string_lies c.memory a s known bounded) in
-        let given : CallGives merged f c (Num (length s) ∷ Num a ∷ []) (Num (search_value (first_named (name_numbers L m wasm) s))) = does_within r.1 in
-        subst (λ o. CallGives merged f c (Num (length s) ∷ Num a ∷ []) (Num (search_value o))) (finds_defined L m wasm found s) given
+        let given : CallGives merged (197 * length s + 202) f c (Num (length s) ∷ Num a ∷ []) (Num (search_value (first_named (name_numbers L m wasm) s))) = does_within r in
+        subst (λ o. CallGives merged (197 * length s + 202) f c (Num (length s) ∷ Num a ∷ []) (Num (search_value o))) (finds_defined L m wasm found s) given
+
+-- the names that a member of a set defines are of bytes, and no two of them are the same
+module _ (soon : SearchFinds) (are_texts : ExportsAreTexts) (are_apart : ExportsAreApart) (L : LinkedSet) (set : IsSet L.set) (links : Links L) where
+  searched_soon : (m : ℕ) (y : Member) → slice_get L.set.members m ≡ Some y → (merged : Module) (f : ℕ)
+      → HasFunction merged f search_type (find_body L m y.wasm) → SearchesMember 53 L m merged f
+  searched_soon m y at merged f has = record { calls = calls }
+    where
+      calls : (c : Changing) → IsBounded c.memory → (a : ℕ) (s : List ℕ) → string_at c.memory (low W32 a) ≡ Some s
+          → CallGives merged (53 * length s + 202) f c (Num (length s) ∷ Num a ∷ []) (Num (search_value (defined_number L m s)))
+      calls c bounded a s known =
+          let read = (holds_at IsMember L.set.members m y set.members at).read in
+          let spelled = decoded_text _ _ read.told y.wasm refl in
+          let found : wasm_of L m ≡ Some y.wasm = ap (λ (o : Option Member). o >>= λ x. Some x.wasm) at in
+          let r = soon merged f (name_numbers L m y.wasm) has (words L m links y.wasm.exports) (texts L m y.wasm.exports (are_texts y.wasm _ spelled))
+          (apart L m y.wasm.exports (are_apart y.wasm read.valid)) c.units c.memory a s (string_lies c.memory a s known bounded) in
+          let given : CallGives merged (53 * length s + 202) f c (Num (length s) ∷ Num a ∷ []) (Num (search_value (first_named (name_numbers L m y.wasm) s))) = does_within r in
+          subst (λ o. CallGives merged (53 * length s + 202) f c (Num (length s) ∷ Num a ∷ []) (Num (search_value o))) (finds_defined L m y.wasm found s) given
+
+pub members_searched_soon : SearchFinds → ExportsAreTexts → ExportsAreApart → MembersAreSearchedSoon
+members_searched_soon soon are_texts are_apart L set links m wasm found merged f has =
+    let y = went_on (slice_get L.set.members m) (λ (x : Member). Some x.wasm) wasm found in
+    let same : y.0.wasm ≡ wasm = (let h = y.2 in cc) in
+    searched_soon soon are_texts are_apart L set links m y.0 y.1 merged f (subst (λ w. HasFunction merged f search_type (find_body L m w)) (sym same) has)
 
 pub defined_numbered : DefinedIsNumbered
 defined_numbered L links m name = definition_numbered L links m name
@@ -95,11 +120,12 @@ module _ (L : LinkedSet) where
       let later = part_at (k + 1) ms m p e in
       (later.0, later.1, later.2 ∙ ap (λ j. find_part L j later.0.wasm) next)
 
-  search_works : SearchFindsAny → BodyIsTyped → Links L → (m : ℕ) (y : Member) → slice_get L.set.members m ≡ Some y → IsSearchPart L m (find_part L m y.wasm)
-  search_works any typed links m y at = record {
+  search_works : SearchFinds → ExportsAreTexts → ExportsAreApart → BodyIsTyped → IsSet L.set → Links L → (m : ℕ) (y : Member)
+      → slice_get L.set.members m ≡ Some y → IsSearchPart L m (find_part L m y.wasm)
+  search_works soon are_texts are_apart typed set links m y at = record {
     ty = refl;
     typed = λ c memory. find_height typed L m y.wasm c memory;
-    works = λ merged f has. members_searched any L links m y.wasm (ap (λ (o : Option Member). o >>= λ x. Some x.wasm) at) merged f has;
+    works = λ merged f has. searched_soon soon are_texts are_apart L set links m y at merged f has;
   }
 
   module _ (parts : List Part) (is : parts ≡ from_members (find_parts L) 0 L.set.members) where
@@ -110,21 +136,9 @@ module _ (L : LinkedSet) where
         let here = part_at 0 L.set.members m p (ap (λ (l : List Part). slice_get l m) (sym is) ∙ at) in
         (here.0, here.1, here.2 ∙ ap (λ j. find_part L j here.0.wasm) first)
 
-    pub searches_work : SearchFindsAny → BodyIsTyped → Links L → AreSearchParts L parts
-    searches_work any typed links = record {
+    pub searches_work : SearchFinds → ExportsAreTexts → ExportsAreApart → BodyIsTyped → IsSet L.set → Links L → AreSearchParts L parts
+    searches_work soon are_texts are_apart typed set links = record {
       count = ap length is ∙ parts_many 0 L.set.members;
-      each = λ m p at. (let here = of_member m p at in subst (IsSearchPart L m) (sym here.2) (search_works any typed links m here.0 here.1));
+      each = λ m p at.
+          (let here = of_member m p at in subst (IsSearchPart L m) (sym here.2) (search_works soon are_texts are_apart typed set links m here.0 here.1));
     }
-
-    pub searches_quick : SearchFinds → ExportsAreTexts → ExportsAreApart → IsSet L.set → Links L → AreQuick L parts
-    searches_quick soon are_texts are_apart set links m p at wasm f has c bounded a s known =
-        let here = of_member m p at in
-        let y = here.0 in
-        let read = (holds_at IsMember L.set.members m y set.members here.1).read in
-        let spelled = decoded_text _ _ read.told y.wasm refl in
-        let function : HasFunction wasm f search_type (find_body L m y.wasm) = subst (λ (q : Part). HasFunction wasm f q.ty q.code) here.2 has in
-        let found : wasm_of L m ≡ Some y.wasm = ap (λ (o : Option Member). o >>= λ x. Some x.wasm) here.1 in
-        let quick = soon wasm f (name_numbers L m y.wasm) function (words L m links y.wasm.exports) (texts L m y.wasm.exports (are_texts y.wasm _ spelled))
-        (apart L m y.wasm.exports (are_apart y.wasm read.valid)) c.units c.memory a s (string_lies c.memory a s known bounded) in
-        subst (λ o. DoesWithin wasm (200 * (length s + 8)) (Index op.call f ∷ []) c.units c.memory (Num (length s) ∷ Num a ∷ []) (Num (search_value o) ∷ []))
-        (finds_defined L m y.wasm found s) quick

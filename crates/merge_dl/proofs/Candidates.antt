@@ -1,7 +1,9 @@
--- The members that may be promoted are members of the set.
-use Rattle.std.proofs.Common.{ℕ, zero, suc, ◌+◌, ◌<◌, ◌≤◌, length, arith}
+-- The members that may be promoted are members of the set, and no more of them are promoted than there are promoted members.
+use Rattle.std.proofs.Common.{◌≡◌, ℕ, zero, suc, ◌+◌, ◌<◌, ◌≤◌, Bool, true, false, ◌||◌, List, [], ◌∷◌, length, nat_eq, cond, refl, arith}
 use Rattle.std.specs.Prelude.{not}
-use Rattle.std.specs.List.{All, range_with_len}
+use Rattle.std.specs.List.{All, filter, range_with_len}
+use Rattle.std.proofs.lemmas.Bool.Decides.{nat_tests}
+use Rattle.std.proofs.lemmas.List.FromFn.{length-range_with_len}
 use Rattle.std.proofs.lemmas.List.Elements.{All-nil, All-cons, All-filter}
 use Rattle.spec_loading.specs.spec_linking.Sets.{ClosedSet}
 use Rattle.spec_loading.specs.spec_linking.Orders.{is_among}
@@ -19,3 +21,86 @@ module _ (S : ClosedSet) where
   pub candidates_inside : All IsInside (candidates S)
   candidates_inside =
       All-filter (λ k. not (is_among k S.startup)) IsInside (range_with_len 0 (length S.members)) (range_inside 0 (length S.members) (omega arith))
+
+-- ---- how many there are
+
+-- how many of these numbers are promoted
+abbrev pub among : List ℕ → List ℕ → ℕ
+among ps [] = 0
+among ps (k ∷ ks) = cond (is_among k ps) 1 0 + among ps ks
+
+-- how often a number is among these
+abbrev times : ℕ → List ℕ → ℕ
+times q [] = 0
+times q (k ∷ ks) = cond (nat_eq q k) 1 0 + times q ks
+
+among_none : (ks : List ℕ) → among [] ks ≡ 0
+among_none [] = refl
+among_none (k ∷ ks) = (let none = among_none ks in omega (arith, none))
+
+among_cons : (q : ℕ) (ps ks : List ℕ) → among (q ∷ ps) ks ≤ times q ks + among ps ks
+among_cons q ps [] = omega arith
+among_cons q ps (k ∷ ks) = go (nat_eq q k) (is_among k ps) (among_cons q ps ks)
+  where
+    go : (z y : Bool) → among (q ∷ ps) ks ≤ times q ks + among ps ks
+        → cond (z || y) 1 0 + among (q ∷ ps) ks ≤ cond z 1 0 + times q ks + (cond y 1 0 + among ps ks)
+    go true true le = omega (arith, le)
+    go true false le = omega (arith, le)
+    go false true le = omega (arith, le)
+    go false false le = omega (arith, le)
+
+-- where each number is there once at most
+among_few : (ks : List ℕ) → ((q : ℕ) → times q ks ≤ 1) → (ps : List ℕ) → among ps ks ≤ length ps
+among_few ks once [] = (let none = among_none ks in omega (arith, none))
+among_few ks once (q ∷ ps) = (let le = among_cons q ps ks in let here = once q in let later = among_few ks once ps in omega (arith, le, here, later))
+
+times_below : (q start count : ℕ) → q < start → times q (range_with_len start count) ≡ 0
+times_below q start zero lt = refl
+times_below q start (suc count) lt = go (nat_eq q start) refl (times_below q (start + 1) count (omega (arith, lt)))
+  where
+    go : (z : Bool) → nat_eq q start ≡ z → times q (range_with_len (start + 1) count) ≡ 0 → cond z 1 0 + times q (range_with_len (start + 1) count) ≡ 0
+    go true e later = absurd (let same : q ≡ start = grind (arith, nat_tests) in omega (arith, same, lt))
+    go false e later = omega (arith, later)
+
+times_range : (q start count : ℕ) → times q (range_with_len start count) ≤ 1
+times_range q start zero = omega arith
+times_range q start (suc count) = go (nat_eq q start) refl (times_range q (start + 1) count)
+  where
+    go : (z : Bool) → nat_eq q start ≡ z → times q (range_with_len (start + 1) count) ≤ 1 → cond z 1 0 + times q (range_with_len (start + 1) count) ≤ 1
+    go true e later =
+        let same : q ≡ start = grind (arith, nat_tests) in
+        let none = times_below q (start + 1) count (omega (arith, same)) in
+        omega (arith, none)
+    go false e later = omega (arith, later)
+
+module _ (test : ℕ → Bool) where
+  times_filter : (q : ℕ) (ks : List ℕ) → times q (filter test ks) ≤ times q ks
+  times_filter q [] = omega arith
+  times_filter q (k ∷ ks) = go (test k) (times_filter q ks)
+    where
+      go : (z : Bool) → times q (filter test ks) ≤ times q ks
+          → times q (cond z (k ∷ filter test ks) (filter test ks)) ≤ cond (nat_eq q k) 1 0 + times q ks
+      go true le = omega (arith, le)
+      go false le = omega (arith, le)
+
+  fewer : (ks : List ℕ) → length (filter test ks) ≤ length ks
+  fewer [] = omega arith
+  fewer (k ∷ ks) = go (test k) (fewer ks)
+    where
+      go : (z : Bool) → length (filter test ks) ≤ length ks → length (cond z (k ∷ filter test ks) (filter test ks)) ≤ suc (length ks)
+      go true le = omega (arith, le)
+      go false le = omega (arith, le)
+
+module _ (S : ClosedSet) where
+  abbrev numbers : List ℕ
+  numbers = range_with_len 0 (length S.members)
+
+  pub candidates_few : length (candidates S) ≤ length S.members
+  candidates_few =
+      let le = fewer (λ k. not (is_among k S.startup)) numbers in
+      let long = length-range_with_len 0 (length S.members) in
+      omega (arith, le, long)
+
+  pub candidates_among : (ps : List ℕ) → among ps (candidates S) ≤ length ps
+  candidates_among ps =
+      among_few (candidates S) (λ q. let le = times_filter (λ k. not (is_among k S.startup)) q numbers in let once = times_range q 0 (length S.members) in omega (arith, le, once)) ps

@@ -20,27 +20,27 @@ use Rattle.merge_pieces.specs.Opcodes as op
 use Rattle.merge_start.specs.Running.{Changing, Does}
 use Rattle.wasm_form.specs.declared.module.Part.{Part}
 pub use Rattle.merge_find.specs.Finding.{HasFunction, search_value}
-use Rattle.merge_find.specs.Counted.{DoesWithin}
 use Rattle.merge_dl.specs.Words.{unary_type, search_type}
 use Rattle.merge_dl.specs.Typed.{HasHeight}
 
 -- ---- calls
 
--- A call of the function with these numbers, the last argument first, gives this value, and changes nothing else.
-abbrev pub CallGives : Module → ℕ → Changing → List Value → Value → Type 0
-CallGives wasm f c args v = Does wasm (Index op.call f ∷ []) c args c (v ∷ []) None
+-- A call of the function with these numbers, the last argument first, gives this value in at most so many steps, and changes nothing else. The
+-- function calls no other.
+abbrev pub CallGives : Module → ℕ → ℕ → Changing → List Value → Value → Type 0
+CallGives wasm n f c args v = Does wasm 1 n (Index op.call f ∷ []) c args c (v ∷ []) None
 
--- A call of the function with these numbers traps, and changes nothing.
-abbrev pub CallTraps : Module → ℕ → Changing → List Value → Trap → Type 0
-CallTraps wasm f c args why = Does wasm (Index op.call f ∷ []) c args c [] (Some why)
+-- A call of the function with these numbers traps within so many steps, and changes nothing.
+abbrev pub CallTraps : Module → ℕ → ℕ → Changing → List Value → Trap → Type 0
+CallTraps wasm n f c args why = Does wasm 1 n (Index op.call f ∷ []) c args c [] (Some why)
 
 -- ---- the length of a string
 
 -- With an address, the function gives the length of the string there. Where no zero byte follows inside the memory, it traps as a load past
--- the end of the memory does.
+-- the end of the memory does. It takes eight steps for each byte that it goes over.
 abbrev pub GivesLength : Module → ℕ → Changing → ℕ → Option (List ℕ) → Type 0
-GivesLength wasm f c a None = CallTraps wasm f c (Num a ∷ []) MemoryBounds
-GivesLength wasm f c a (Some s) = CallGives wasm f c (Num a ∷ []) (Num (length s))
+GivesLength wasm f c a None = CallTraps wasm (8 * length c.memory.bytes + 6) f c (Num a ∷ []) MemoryBounds
+GivesLength wasm f c a (Some s) = CallGives wasm (8 * length s + 13) f c (Num a ∷ []) (Num (length s))
 
 -- The function gives the length of the string at each address, or its trap. Of the number on the stack the low 32 bits are the address.
 pub record GivesLengths (wasm : Module) (f : ℕ) : Type 0 where
@@ -52,10 +52,11 @@ pub record GivesLengths (wasm : Module) (f : ℕ) : Type 0 where
 abbrev pub defined_number : LinkedSet → ℕ → List ℕ → Option ℕ
 defined_number L m name = cell_number L name (member_definition L.set m name)
 
--- With the address of a string and its length, the function gives what member m defines the name as, or 0.
-pub record SearchesMember (L : LinkedSet) (m : ℕ) (wasm : Module) (f : ℕ) : Type 0 where
+-- With the address of a string and its length, the function gives what member m defines the name as, or 0, in at most so many steps for each
+-- byte of the string, and 202.
+pub record SearchesMember (each : ℕ) (L : LinkedSet) (m : ℕ) (wasm : Module) (f : ℕ) : Type 0 where
   pub calls : (c : Changing) → IsBounded c.memory → (a : ℕ) (s : List ℕ) → string_at c.memory (low W32 a) ≡ Some s
-      → CallGives wasm f c (Num (length s) ∷ Num a ∷ []) (Num (search_value (defined_number L m s)))
+      → CallGives wasm (each * length s + 202) f c (Num (length s) ∷ Num a ∷ []) (Num (search_value (defined_number L m s)))
 
 -- ---- functions to be put into a module
 
@@ -69,17 +70,9 @@ pub record IsLengthPart (p : Part) : Type 0 where
 pub record IsSearchPart (L : LinkedSet) (m : ℕ) (p : Part) : Type 0 where
   pub ty : p.ty ≡ search_type
   pub typed : (c : Context) → c.memory ≡ true → HasHeight c p.ty p.code
-  pub works : (wasm : Module) (f : ℕ) → HasFunction wasm f p.ty p.code → SearchesMember L m wasm f
+  pub works : (wasm : Module) (f : ℕ) → HasFunction wasm f p.ty p.code → SearchesMember 53 L m wasm f
 
 -- one for each member of the set, in order
 pub record AreSearchParts (L : LinkedSet) (parts : List Part) : Type 0 where
   pub count : length parts ≡ length L.set.members
   pub each : (m : ℕ) (p : Part) → slice_get parts m ≡ Some p → IsSearchPart L m p
-
--- A search makes few steps: at most 200 for each byte of the string, and 1,600, from the state before its call to that after its return. It
--- calls nothing else.
-abbrev pub AreQuick : LinkedSet → List Part → Type 0
-AreQuick L parts = (m : ℕ) (p : Part) → slice_get parts m ≡ Some p → (wasm : Module) (f : ℕ) → HasFunction wasm f p.ty p.code
-    → (c : Changing) → IsBounded c.memory → (a : ℕ) (s : List ℕ) → string_at c.memory (low W32 a) ≡ Some s
-    → DoesWithin wasm (200 * (length s + 8)) (Index op.call f ∷ []) c.units c.memory (Num (length s) ∷ Num a ∷ [])
-    (Num (search_value (defined_number L m s)) ∷ [])

@@ -21,6 +21,6 @@ pub record LoaderReady (L : LinkedSet) (n : Numbers) (x : Starts) (d : Finders) 
   pub error : d.error ≡ x.guards + length L.set.members
   pub promoted : x.promoted ≡ x.guards + length L.set.members + 1
   pub lengths : GivesLengths merged d.length
-  pub finds : (m : ℕ) → m < length L.set.members → SearchesMember L m merged (d.find m)
+  pub finds : (m : ℕ) → m < length L.set.members → SearchesMember 53 L m merged (d.find m)
   pub calls : (which : LoaderCall) → HasFunction merged (n.function (Loader which)) (loader_type which) (call_body L x d which)
   pub opens : (m : ℕ) → m < length L.set.members → OpenReady L n x merged m

@@ -15,12 +15,12 @@ mod promoted;
 mod strings;
 mod words;
 
-ghost use Rattle.merge_dl.specs.Laws.{LengthsAreGiven, MembersAreSearched, DefinedIsNumbered, LoaderIsAnswered};
+ghost use Rattle.merge_dl.specs.Laws.{LengthsAreGiven, MembersAreSearched, MembersAreSearchedSoon, DefinedIsNumbered, LoaderIsAnswered};
 ghost use Rattle.merge_dl.specs.Typed.{LoaderIsTyped};
 
 pub use finding::find_functions;
 pub use functions::dl_functions;
-use merge_find::{searches_are_typed, searches_come, searches_find};
+use merge_find::{exports_are_texts, searches_are_typed, searches_come, searches_find};
 pub use numbers::DlNumbers;
 pub use parts::loader_types;
 pub use strings::length_function;
@@ -32,12 +32,14 @@ pub fn lengths_are_given()
 {}
 
 /// The code for the search of a member of a linked set gives for each string of a memory what the member defines it as, or 0 where it doesn't
-/// define it, at whatever number of a module it stands; and each name that a member defines has a slot or an address.
+/// define it, at whatever number of a module it stands, in few steps; and each name that a member defines has a slot or an address.
 pub fn members_are_searched()
     ensures searches { MembersAreSearched }
+    ensures soon { MembersAreSearchedSoon }
     ensures numbers { DefinedIsNumbered }
 {
     searches_find();
+    exports_are_texts();
 }
 
 /// A call of a function of the loader comes to what it comes to in the set.

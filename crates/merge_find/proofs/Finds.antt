@@ -174,11 +174,10 @@ search_comes wasm us memory g p s ls is w few xs each =
 pub searches_come : SearchComes
 searches_come wasm g xs us memory p s lies ls start long =
     let is : IsAsked memory g p s ls = record { lies = lies; start = start; long = long } in
-    let n = 198 + (6 * 32 + 5) * length s in (
-      n,
-      subst (λ o. Comes wasm n (search_code g (strings xs)) us memory ls (unwrap_or o g.missed)) (same_strings memory p s lies xs)
-          (search_comes wasm us memory g p s ls is 32 (omega arith) (strings xs) (strings_fit xs)),
-    )
+    let steps : 198 + (6 * 32 + 5) * length s ≡ 197 * length s + 198 = omega arith in
+    subst (λ o. Comes wasm (197 * length s + 198) (search_code g (strings xs)) us memory ls (unwrap_or o g.missed)) (same_strings memory p s lies xs)
+    (subst (λ n. Comes wasm n (search_code g (strings xs)) us memory ls (unwrap_or (first_named (strings xs) s) g.missed)) steps
+    (search_comes wasm us memory g p s ls is 32 (omega arith) (strings xs) (strings_fit xs)))
 
 pub searches_come_soon : SearchComesSoon
 searches_come_soon wasm g xs texts apart us memory p s lies ls start long =

@@ -12,31 +12,25 @@ use Rattle.wasm_form.specs.declared.instr.Instr.TheVariants.{outs-If, outs-Block
 use Rattle.wasm_form.specs.declared.module.Module.{Module}
 use Rattle.wasm_form.specs.declared.runtime.Value.{Value}
 use Rattle.wasm_form.specs.declared.runtime.Value.TheVariants.{Num}
-use Rattle.spec_execution.specs.spec_runs.Systems.{Moving}
 use Rattle.spec_execution.specs.spec_runtime.Memories.{MemoryInstance, little_value, bytes_at}
 use Rattle.spec_execution.specs.spec_runtime.Numerics.{W32}
 use Rattle.spec_execution.specs.Values.{low}
 use Rattle.spec_execution.specs.Activations.{Level, Activation, to_level, branched, one_if}
+use Rattle.spec_execution.specs.Limits.{activations}
 use Rattle.spec_execution.specs.Runs.{Frame}
 use Rattle.spec_execution.specs.Instances.{ModuleParts}
-use Rattle.spec_execution.specs.OneModule.{Starting, ModuleState, module_step}
+use Rattle.spec_execution.specs.OneModule.{Starting, ModuleState}
 use Rattle.merge_pieces.specs.Opcodes as op
 use Rattle.merge_pieces.specs.Code.{number}
 use Rattle.merge_find.specs.Decisions.{wide, when}
-use Rattle.merge_find.specs.Counted.{Within, there, goes, standing}
+use Rattle.merge_pieces.specs.Running.{Reaches, there}
+use Rattle.merge_pieces.proofs.Running.{reaches_more, reaches_then, one_step}
+use Rattle.merge_find.specs.Counted.{standing}
 
 -- ---- counting
 
-pub within_more : {wasm : Module} {m : ℕ} {t u : ModuleState} (n : ℕ) → m ≤ n → Within wasm m t u → Within wasm n t u
-within_more n le there = there
-within_more n le (goes lt moving e more) = goes (omega arith) moving e more
-
-pub within_then : {wasm : Module} {j : ℕ} {t u v : ModuleState} (k n : ℕ) → j + k ≤ n → Within wasm j t u → Within wasm k u v → Within wasm n t v
-within_then k n le there b = within_more n (omega arith) b
-within_then k n le (goes {m} lt moving e more) b = goes {m = m + k} (omega arith) moving e (within_then k (m + k) (omega arith) more b)
-
-pub one : {wasm : Module} {t u : ModuleState} → t.status ≡ Moving → module_step wasm t ≡ Some u → Within wasm 1 t u
-one moving e = goes {m = 0} (omega arith) moving e there
+pub within_then : {wasm : Module} {d j : ℕ} {t u v : ModuleState} (k n : ℕ) → j + k ≤ n → Reaches wasm d j t u → Reaches wasm d k u v → Reaches wasm d n t v
+within_then k n le a b = reaches_more le (reaches_then a b)
 
 -- ---- where code stands
 
@@ -54,7 +48,7 @@ inner a = record a { values = []; rest = []; levels = record { below = a.values;
 
 -- code that is gone through
 pub record Steps (wasm : Module) (n : ℕ) (code : List Instr) (us : ModuleParts) (memory : MemoryInstance) (ls vs ws : List Value) : Type 0 where
-  pub runs : (a : Activation) (under : List (Frame Starting)) → Within wasm n (spot us memory ls a under vs code) (spot us memory ls a under ws [])
+  pub runs : (a : Activation) (under : List (Frame Starting)) → Reaches wasm (length (activations under) + 1) n (spot us memory ls a under vs code) (spot us memory ls a under ws [])
 
 -- ---- reading a byte
 
@@ -79,56 +73,56 @@ module _ {wasm : Module} {us : ModuleParts} {memory : MemoryInstance} {ls : List
 
   pub steps_get : (k : ℕ) (v : Value) (vs : List Value) → slice_get ls k ≡ Some v → Steps wasm 1 (Index op.local_get k ∷ []) us memory ls vs (v ∷ vs)
   unfolding out-Instr out
-  steps_get k v vs e = record { runs = λ a under. one refl (rw e refl) }
+  steps_get k v vs e = record { runs = λ a under. one_step (omega arith) refl (rw e refl) }
 
   pub steps_number : (k : ℕ) (vs : List Value) → k < 2 ^ 32 → Steps wasm 1 (number k ∷ []) us memory ls vs (Num k ∷ vs)
   unfolding out-Instr out
-  steps_number k vs small = record { runs = λ a under. one refl (let q : cast_unsigned w32 (cast_signed w32 k) ≡ k = of_z-to_z w32 k small in rw q refl) }
+  steps_number k vs small = record { runs = λ a under. one_step (omega arith) refl (let q : cast_unsigned w32 (cast_signed w32 k) ≡ k = of_z-to_z w32 k small in rw q refl) }
 
   pub steps_wide : (k : ℕ) (vs : List Value) → k < 2 ^ 64 → Steps wasm 1 (wide k ∷ []) us memory ls vs (Num k ∷ vs)
   unfolding out-Instr out
-  steps_wide k vs small = record { runs = λ a under. one refl (let q : cast_unsigned w64 (cast_signed w64 k) ≡ k = of_z-to_z w64 k small in rw q refl) }
+  steps_wide k vs small = record { runs = λ a under. one_step (omega arith) refl (let q : cast_unsigned w64 (cast_signed w64 k) ≡ k = of_z-to_z w64 k small in rw q refl) }
 
   pub steps_less : (x y : ℕ) (vs : List Value)
       → Steps wasm 1 (Plain op.i32_lt_u ∷ []) us memory ls (Num y ∷ Num x ∷ vs) (Num (one_if (nat_lt (low W32 x) (low W32 y))) ∷ vs)
   unfolding out-Instr out
-  steps_less x y vs = record { runs = λ a under. one refl refl }
+  steps_less x y vs = record { runs = λ a under. one_step (omega arith) refl refl }
 
   pub steps_least : (x y : ℕ) (vs : List Value)
       → Steps wasm 1 (Plain op.i32_ge_u ∷ []) us memory ls (Num y ∷ Num x ∷ vs) (Num (one_if (nat_le (low W32 y) (low W32 x))) ∷ vs)
   unfolding out-Instr out
-  steps_least x y vs = record { runs = λ a under. one refl refl }
+  steps_least x y vs = record { runs = λ a under. one_step (omega arith) refl refl }
 
   pub steps_differ : (x y : ℕ) (vs : List Value)
       → Steps wasm 1 (Plain op.i32_ne ∷ []) us memory ls (Num y ∷ Num x ∷ vs) (Num (one_if (not (nat_eq (low W32 x) (low W32 y)))) ∷ vs)
   unfolding out-Instr out
-  steps_differ x y vs = record { runs = λ a under. one refl refl }
+  steps_differ x y vs = record { runs = λ a under. one_step (omega arith) refl refl }
 
   pub steps_load : (x offset b : ℕ) (vs : List Value) → slice_get memory.bytes (low W32 x + offset) ≡ Some b
       → Steps wasm 1 (Access op.i32_load8_u 0 offset ∷ []) us memory ls (Num x ∷ vs) (Num b ∷ vs)
   unfolding out-Instr out
-  steps_load x offset b vs e = record { runs = λ a under. one refl (rw (byte_there memory.bytes (low W32 x + offset) b e) refl) }
+  steps_load x offset b vs e = record { runs = λ a under. one_step (omega arith) refl (rw (byte_there memory.bytes (low W32 x + offset) b e) refl) }
 
   -- ---- blocks
 
   pub steps_stays : (x deep : ℕ) → low W32 x ≡ 0 → Steps wasm 1 (Index op.br_if deep ∷ []) us memory ls (Num x ∷ []) []
   unfolding out-Instr out
-  steps_stays x deep e = record { runs = λ a under. one refl (rw e refl) }
+  steps_stays x deep e = record { runs = λ a under. one_step (omega arith) refl (rw e refl) }
 
   module _ (a : Activation) (under : List (Frame Starting)) where
-    off_inner : Within wasm 1 (spot us memory ls (inner a) under [] []) (spot us memory ls a under [] [])
-    off_inner = one refl refl
+    off_inner : Reaches wasm (length (activations under) + 1) 1 (spot us memory ls (inner a) under [] []) (spot us memory ls a under [] [])
+    off_inner = one_step (omega arith) refl refl
 
     into_when : (p : List Instr) (x k : ℕ) → low W32 x ≡ suc k
-        → Within wasm 1 (spot us memory ls a under (Num x ∷ []) (when p ∷ [])) (spot us memory ls (inner a) under [] p)
-    into_when p x k e = rw (append-nil p) (one refl (rw (outs-If Empty (record { list = p }) None, e, leb-zero (length a.values)) refl))
+        → Reaches wasm (length (activations under) + 1) 1 (spot us memory ls a under (Num x ∷ []) (when p ∷ [])) (spot us memory ls (inner a) under [] p)
+    into_when p x k e = rw (append-nil p) (one_step (omega arith) refl (rw (outs-If Empty (record { list = p }) None, e, leb-zero (length a.values)) refl))
 
     over_when : (p : List Instr) (x : ℕ) → low W32 x ≡ 0
-        → Within wasm 2 (spot us memory ls a under (Num x ∷ []) (when p ∷ [])) (spot us memory ls a under [] [])
-    over_when p x e = within_then 1 2 (omega arith) (one refl (rw (outs-If Empty (record { list = p }) None, e, leb-zero (length a.values)) refl)) off_inner
+        → Reaches wasm (length (activations under) + 1) 2 (spot us memory ls a under (Num x ∷ []) (when p ∷ [])) (spot us memory ls a under [] [])
+    over_when p x e = within_then 1 2 (omega arith) (one_step (omega arith) refl (rw (outs-If Empty (record { list = p }) None, e, leb-zero (length a.values)) refl)) off_inner
 
-    pub into_block : (p : List Instr) → Within wasm 1 (spot us memory ls a under [] (Block Empty (record { list = p }) ∷ [])) (spot us memory ls (inner a) under [] p)
-    into_block p = rw (append-nil p) (one refl (rw (outs-Block Empty (record { list = p }), leb-zero (length a.values)) refl))
+    pub into_block : (p : List Instr) → Reaches wasm (length (activations under) + 1) 1 (spot us memory ls a under [] (Block Empty (record { list = p }) ∷ [])) (spot us memory ls (inner a) under [] p)
+    into_block p = rw (append-nil p) (one_step (omega arith) refl (rw (outs-Block Empty (record { list = p }), leb-zero (length a.values)) refl))
 
 -- ---- in whatever blocks
 
@@ -156,14 +150,14 @@ module _ (a : Activation) (under : List (Frame Starting)) where
   -- At most so many steps lead from this code, in whatever blocks of the activation of which this is so, to other code.
   pub record Leads (wasm : Module) (n : ℕ) (code : List Instr) (us : ModuleParts) (memory : MemoryInstance) (ls : List Value) (In : List Level → Type 0) (end : List Instr) : Type 0 where
     pub runs : (vs : List Value) (r : List Instr) (lv : List Level) → In lv → (below : List Value) × (more : List Instr) × (levels : List Level)
-        × Within wasm n (spot us memory ls (moved a vs r lv) under [] code) (spot us memory ls (moved a below more levels) under [] end)
+        × Reaches wasm (length (activations under) + 1) n (spot us memory ls (moved a vs r lv) under [] code) (spot us memory ls (moved a below more levels) under [] end)
 
   module _ {wasm : Module} {us : ModuleParts} {memory : MemoryInstance} {ls : List Value} {In : List Level → Type 0} where
     pub leads_here : {code : List Instr} → Leads wasm 0 code us memory ls In code
     leads_here = record { runs = λ vs r lv at. (vs, r, lv, there) }
 
     pub leads_more : {code end : List Instr} {m : ℕ} (n : ℕ) → m ≤ n → Leads wasm m code us memory ls In end → Leads wasm n code us memory ls In end
-    leads_more n le x = record { runs = λ vs r lv at. (let o = x.runs vs r lv at in (o.0, o.1, o.2, within_more n le o.3)) }
+    leads_more n le x = record { runs = λ vs r lv at. (let o = x.runs vs r lv at in (o.0, o.1, o.2, reaches_more le o.3)) }
 
     pub leads_after : {p q end : List Instr} {j : ℕ} (k n : ℕ) → j + k ≤ n → Steps wasm j p us memory ls [] [] → Leads wasm k q us memory ls In end
         → Leads wasm n (p ++ q) us memory ls In end
@@ -206,11 +200,11 @@ module _ (a : Activation) (under : List (Frame Starting)) where
 
   module _ {wasm : Module} {us : ModuleParts} {memory : MemoryInstance} {ls : List Value} {end : List Instr} {deep : ℕ} where
     branches : (x k : ℕ) (code : List Instr) → low W32 x ≡ suc k → (vs : List Value) (r : List Instr) (lv : List Level) → (to : LeavesTo end deep lv)
-        → Within wasm 1 (spot us memory ls (moved a vs r lv) under (Num x ∷ []) (Index op.br_if deep ∷ code))
+        → Reaches wasm (length (activations under) + 1) 1 (spot us memory ls (moved a vs r lv) under (Num x ∷ []) (Index op.br_if deep ∷ code))
         (spot us memory ls (moved a to.below to.more (drop (suc deep) lv)) under [] end)
     unfolding out-Instr out
     branches x k code e vs r lv to =
-        one refl (rw (e, branched_at (record a { unit = 0; locals = ls; values = vs; rest = code ++ r; levels = lv }) deep lv (level to.below (end ++ to.more)) to.there, leb-zero (length vs)) refl)
+        one_step (omega arith) refl (rw (e, branched_at (record a { unit = 0; locals = ls; values = vs; rest = code ++ r; levels = lv }) deep lv (level to.below (end ++ to.more)) to.there, leb-zero (length vs)) refl)
 
     -- what is left for where a number isn't 0
     pub leads_off : {p : List Instr} {j : ℕ} (q : List Instr) (x k n : ℕ) → j + 1 ≤ n → low W32 x ≡ suc k → Steps wasm j p us memory ls [] (Num x ∷ [])

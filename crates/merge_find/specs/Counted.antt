@@ -1,20 +1,17 @@
 -- Runs of pieces of code with their steps counted, wherever the pieces stand in functions of a module.
-use Rattle.std.specs.Prelude.{◌≡◌, ℕ, ◌<◌, List, [], ◌∷◌, ◌++◌, Some}
+use Rattle.std.specs.Prelude.{ℕ, suc, ◌+◌, List, [], ◌∷◌, ◌++◌, length}
 use Rattle.wasm_form.specs.declared.instr.Instr.{Instr}
 use Rattle.wasm_form.specs.declared.module.Module.{Module}
 use Rattle.wasm_form.specs.declared.runtime.Value.{Value}
 use Rattle.spec_execution.specs.spec_runs.Systems.{Moving}
 use Rattle.spec_execution.specs.spec_runtime.Memories.{MemoryInstance}
 use Rattle.spec_execution.specs.Activations.{Level, Activation}
+use Rattle.spec_execution.specs.Limits.{activations}
 use Rattle.spec_execution.specs.Runs.{Frame}
 use Rattle.spec_execution.specs.Runs as frames
 use Rattle.spec_execution.specs.Instances.{ModuleParts}
-use Rattle.spec_execution.specs.OneModule.{Starting, ModuleState, module_step}
-
--- at most so many steps lead from t to u
-pub data Within (wasm : Module) : ℕ → ModuleState → ModuleState → Type 0 where
-  there : {n : ℕ} {t : ModuleState} → Within wasm n t t
-  goes : {m n : ℕ} {t u v : ModuleState} → m < n → t.status ≡ Moving → module_step wasm t ≡ Some u → Within wasm m u v → Within wasm n t v
+use Rattle.spec_execution.specs.OneModule.{Starting, ModuleState}
+use Rattle.merge_pieces.specs.Running.{Reaches}
 
 -- The module stands before this code, with these values on top: an activation has other values below them, and goes on behind the code, over
 -- other frames.
@@ -27,12 +24,14 @@ standing us memory a under vs code = record {
 }
 
 -- Wherever this code stands, with these values on top, at most so many steps lead to its end, with those values on top, and nothing else is
--- changed.
-pub record DoesWithin (wasm : Module) (n : ℕ) (code : List Instr) (us : ModuleParts) (memory : MemoryInstance) (vs ws : List Value) : Type 0 where
-  pub runs : (a : Activation) (under : List (Frame Starting)) → Within wasm n (standing us memory a under vs code) (standing us memory a under ws [])
+-- changed. It may call functions, h deep.
+pub record DoesWithin (wasm : Module) (h n : ℕ) (code : List Instr) (us : ModuleParts) (memory : MemoryInstance) (vs ws : List Value) : Type 0 where
+  pub runs : (a : Activation) (under : List (Frame Starting))
+      → Reaches wasm (length (activations under) + suc h) n (standing us memory a under vs code) (standing us memory a under ws [])
 
--- Wherever this code stands, with these locals, at most so many steps lead to other code of the same activation, in whatever blocks.
+-- Wherever this code stands, with these locals, at most so many steps lead to other code of the same activation, in whatever blocks, and no
+-- function is called.
 pub record Comes (wasm : Module) (n : ℕ) (code : List Instr) (us : ModuleParts) (memory : MemoryInstance) (ls : List Value) (end : List Instr) : Type 0 where
   pub runs : (a : Activation) (under : List (Frame Starting)) → (below : List Value) × (more : List Instr) × (levels : List Level)
-      × Within wasm n (standing us memory (record a { locals = ls }) under [] code)
+      × Reaches wasm (length (activations under) + 1) n (standing us memory (record a { locals = ls }) under [] code)
       (standing us memory (record a { locals = ls; values = below; rest = more; levels = levels }) under [] end)

@@ -53,11 +53,12 @@ pub record Lies (memory : MemoryInstance) (p : ℕ) (s : List ℕ) : Type 0 wher
 
 -- ---- the code of a search
 
--- Among whatever names, the search comes to the code of the first one that is the string, or to that for no name. It changes nothing.
+-- Among whatever names, the search comes to the code of the first one that is the string, or to that for no name, in at most 197 steps for each
+-- byte of the string, and 198. It changes nothing.
 abbrev pub SearchComes : Type 0
 SearchComes = (wasm : Module) (g : Goal) (xs : List Named) (us : ModuleParts) (memory : MemoryInstance) (p : ℕ) (s : List ℕ) → Lies memory p s
     → (ls : List Value) → slice_get ls 0 ≡ Some (Num p) → slice_get ls g.len ≡ Some (Num (length s))
-    → (n : ℕ) × Comes wasm n (search_code g (strings xs)) us memory ls (unwrap_or (first_named xs s) g.missed)
+    → Comes wasm (197 * length s + 198) (search_code g (strings xs)) us memory ls (unwrap_or (first_named xs s) g.missed)
 
 -- Where the names are of bytes, and no two are the same, it does so in at most 53 steps for each byte of the string, and 198.
 abbrev pub SearchComesSoon : Type 0
@@ -98,15 +99,14 @@ pub record HasFunction (wasm : Module) (f : ℕ) (ty : FuncType) (body : Code) :
   pub code : function_at wasm f ≡ Some (function_with ty body)
 
 -- Among whatever names, a call of the function, wherever it is made, gives the number of the first one that the string is, or 0, and changes
--- nothing else.
+-- nothing else. At most 197 steps for each byte of the string, and 202, lead from the state before the call to that after its return.
 abbrev pub SearchFindsAny : Type 0
 SearchFindsAny = (wasm : Module) (f : ℕ) (xs : List (List ℕ × ℕ)) → HasFunction wasm f search_type (search_body xs) → AreWords xs
     → (us : ModuleParts) (memory : MemoryInstance) (p : ℕ) (s : List ℕ) → Lies memory p s
-    → (n : ℕ) × DoesWithin wasm n (Index op.call f ∷ []) us memory (Num (length s) ∷ Num p ∷ []) (Num (search_value (first_named xs s)) ∷ [])
+    → DoesWithin wasm 1 (197 * length s + 202) (Index op.call f ∷ []) us memory (Num (length s) ∷ Num p ∷ []) (Num (search_value (first_named xs s)) ∷ [])
 
--- Where the names are of bytes, and no two are the same, at most 200 steps for each byte of the string, and 1,600, lead from the state before
--- the call to that after its return.
+-- Where the names are of bytes, and no two are the same, at most 53 steps for each byte of the string, and 202, do so.
 abbrev pub SearchFinds : Type 0
 SearchFinds = (wasm : Module) (f : ℕ) (xs : List (List ℕ × ℕ)) → HasFunction wasm f search_type (search_body xs) → AreWords xs → AreTexts xs
     → AreApart xs → (us : ModuleParts) (memory : MemoryInstance) (p : ℕ) (s : List ℕ) → Lies memory p s
-    → DoesWithin wasm (200 * (length s + 8)) (Index op.call f ∷ []) us memory (Num (length s) ∷ Num p ∷ []) (Num (search_value (first_named xs s)) ∷ [])
+    → DoesWithin wasm 1 (53 * length s + 202) (Index op.call f ∷ []) us memory (Num (length s) ∷ Num p ∷ []) (Num (search_value (first_named xs s)) ∷ [])

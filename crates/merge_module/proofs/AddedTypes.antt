@@ -1,5 +1,5 @@
 -- Types that are added behind others: each is found among them, and there are no more than host functions.
-use Rattle.std.proofs.Common.{◌≡◌, ℕ, zero, suc, ◌+◌, ◌≤◌, Bool, true, false, ◌||◌, cond, List, [], ◌∷◌, ◌++◌, length, slice_get, find, Option, Some, None, refl, sym, ap, ◌∙◌, subst, arith, length-append, if◌then◌else◌}
+use Rattle.std.proofs.Common.{◌≡◌, ℕ, zero, suc, ◌+◌, ◌≤◌, Bool, true, false, ◌||◌, cond, List, [], ◌∷◌, ◌++◌, length, map, slice_get, find, Option, Some, None, refl, sym, ap, ◌∙◌, subst, arith, length-append, if◌then◌else◌}
 use Rattle.std.specs.List.{list_any, position_or_len}
 use Rattle.std.specs.Cmp.Lexicographic.{pointwise}
 use Rattle.std.proofs.lemmas.Bool.{or_left, or_right}
@@ -10,6 +10,7 @@ use Rattle.spec_reading.specs.spec_binary.SameTypes.{same_type, same_function_ty
 use Rattle.spec_reading.proofs.of_spec_binary.OneType.{itself, one_function_type}
 use Rattle.spec_loading.specs.spec_runtime.Names.{HostName}
 use Rattle.merge_module.specs.MergedModule.{with_type, types_added}
+use Rattle.merge_module.specs.Laws.{types_bulk}
 
 -- ---- a type is itself
 
@@ -103,3 +104,26 @@ module _ (given : ℕ → Option ℕ) where
       let one = with_few known (given e) h.ty in
       let later = added_few (with_type known (given e) h.ty) (e + 1) hs in
       omega arith
+
+-- ---- how much they take
+
+bulk_then : (xs ys : List FuncType) → types_bulk (xs ++ ys) ≡ types_bulk xs + types_bulk ys
+bulk_then [] ys = omega arith
+bulk_then (x ∷ xs) ys = (let later = bulk_then xs ys in omega arith)
+
+with_bulk : (known : List FuncType) (given : Option ℕ) (ty : FuncType) → types_bulk (with_type known given ty) ≤ types_bulk known + types_bulk (ty ∷ [])
+with_bulk known (Some t) ty = omega arith
+with_bulk known None ty = go (list_any (same_function_type ty) known)
+  where
+    go : (b : Bool) → types_bulk (if b then known else known ++ ty ∷ []) ≤ types_bulk known + types_bulk (ty ∷ [])
+    go true = omega arith
+    go false = (let both = bulk_then known (ty ∷ []) in omega arith)
+
+-- no more than the types of all host functions
+pub added_bulk : (given : ℕ → Option ℕ) (known : List FuncType) (e : ℕ) (hs : List HostName)
+    → types_bulk (types_added given known e hs) ≤ types_bulk known + types_bulk (map (λ (h : HostName). h.ty) hs)
+added_bulk given known e [] = omega arith
+added_bulk given known e (h ∷ hs) =
+    let one = with_bulk known (given e) h.ty in
+    let later = added_bulk given (with_type known (given e) h.ty) (e + 1) hs in
+    omega arith

@@ -8,7 +8,7 @@ use Rattle.spec_reading.specs.wasm_form.declared.module.Module.{Module}
 use Rattle.spec_loading.specs.spec_linking.Sets.{Member}
 use Rattle.spec_loading.specs.spec_linking.Gathering.{total_size, IsMember}
 use Rattle.spec_loading.specs.spec_linking.LinkedSets.{LinkedSet}
-use Rattle.spec_loading.specs.spec_linking.Slots.{linked_plan, fresh_from, fresh_functions, outside_slots}
+use Rattle.spec_loading.specs.spec_linking.Slots.{linked_plan, fresh_from, fresh_functions, outside_slots, table_entries}
 use Rattle.spec_loading.specs.Members.{from_members}
 use Rattle.spec_loading.specs.LoadedSet.{own_functions}
 use Rattle.spec_loading.proofs.Rows.{texts_length}
@@ -88,44 +88,53 @@ module _ (L : LinkedSet) (K : IsKnown L) (few : (linked_plan L).pages_max ≤ 16
   added_light [] = refl
   added_light (ty ∷ tys) = (let later = added_light tys in omega arith)
 
-  pub types_light : types_bulk (added_types L) ≤ 33554432 → sum_of type_weight merged.types ≤ 50331662
-  types_light few_added =
+  pub types_weigh : sum_of type_weight merged.types ≤ total_size members + types_bulk (added_types L) + 14
+  types_weigh =
       let own = own_types_light in
-      let bytes = few_bytes L K.set in
       let generated = generated_light in
       let added = added_light (added_types L) in
       let both = sum_then type_weight (members_types L) (generated_functions_types L ++ added_types L) in
       let rest = sum_then type_weight (generated_functions_types L) (added_types L) in
       omega arith
 
+  pub types_light : types_bulk (added_types L) ≤ 33554432 → sum_of type_weight merged.types ≤ 50331662
+  types_light few_added = (let all = types_weigh in let bytes = few_bytes L K.set in omega arith)
+
   -- ---- segments
 
   member_elems_light : (k : ℕ) (y : Member) → IsLight y → sum_of elem_weight (map (passive_elem n k) y.wasm.elems) ≤ y.size
   member_elems_light k y is = (let less = sum_same (passive_elem n k) elem_weight elem_weight (elem_weighs n k) y.wasm.elems in omega arith)
 
-  pub elems_light : sum_of elem_weight merged.elems ≤ 36700160
-  elems_light =
+  pub elems_weigh : sum_of elem_weight merged.elems ≤ 2 * total_size members + 2 * length members + table_entries L + 6
+  elems_weigh =
       let own = all_light elem_weight (λ m wasm. map (passive_elem n m) wasm.elems) member_elems_light 0 members light in
       let slots = slots_weigh L n 0 members in
       let outside = number_weighs ((linked_plan L).table_end + length (fresh_functions L)) in
       let named = length-map (outside_slots L) n.function in
       let fresh = length-append (fresh_functions L) (outside_slots L) in
-      let entries = table_within L K.links in
       let declared = few_of L K.set (λ m wasm. map (n.named m) (exported_functions wasm)) (λ k y is. (let all = is.all in let names = named_few y.wasm.exports in omega (arith, length-map (exported_functions y.wasm) (n.named k)))) in
-      let bytes = few_bytes L K.set in
-      let count = few_members L K.set in
       let one = sum_then elem_weight (from_members (λ m wasm. map (passive_elem n m) wasm.elems) 0 members) (from_members (λ m wasm. slots_elem L n m ∷ []) 0 members ++ outside_elem L n ∷ declared_elem L n ∷ []) in
       let two = sum_then elem_weight (from_members (λ m wasm. slots_elem L n m ∷ []) 0 members) (outside_elem L n ∷ declared_elem L n ∷ []) in
+      omega arith
+
+  pub elems_light : sum_of elem_weight merged.elems ≤ 36700160
+  elems_light =
+      let all = elems_weigh in
+      let entries = table_within L K.links in
+      let bytes = few_bytes L K.set in
+      let count = few_members L K.set in
       omega arith
 
   member_datas_light : (k : ℕ) (y : Member) → IsLight y → sum_of data_weight (map passive_data y.wasm.datas) ≤ y.size
   member_datas_light k y is = (let less = sum_same passive_data data_weight data_weight data_weighs y.wasm.datas in omega arith)
 
-  pub datas_light : sum_of data_weight merged.datas ≤ 16777400
-  datas_light =
+  pub datas_weigh : sum_of data_weight merged.datas ≤ total_size members + 184
+  datas_weigh =
       let own = all_light data_weight (λ m wasm. map passive_data wasm.datas) member_datas_light 0 members light in
       let texts = number_weighs (linked_plan L).stack_top in
       let many = texts_length in
-      let bytes = few_bytes L K.set in
       let one = sum_then data_weight (from_members (λ m wasm. map passive_data wasm.datas) 0 members) (texts_segment L ∷ []) in
       omega arith
+
+  pub datas_light : sum_of data_weight merged.datas ≤ 16777400
+  datas_light = (let all = datas_weigh in let bytes = few_bytes L K.set in omega arith)

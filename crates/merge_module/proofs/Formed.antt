@@ -34,9 +34,9 @@ use Rattle.merge_match.specs.Renumbering.{Numbers}
 use Rattle.merge_match.specs.Joined.{renumbered_code}
 use Rattle.merge_start.specs.Words.{Starts}
 use Rattle.merge_dl.specs.Words.{handle_type, unary_type, binary_type, search_type}
-use Rattle.merge_index.specs.Numbering.{stubs_of, starts_of}
+use Rattle.merge_index.specs.Numbering.{stubs_of, numbers_of, starts_of}
 use Rattle.merge_module.specs.MergedModule.{with_loader, members_types, generated_functions_types, added_types, host_type_number, host_imports, stub_types, generated_types, stub_codes, trap_code, shared_table_type, number_global, constant_instr, own_global, member_globals, guard_globals, merged_globals, passive_elem, slots_elem, outside_elem, named_functions, exported_functions, declared_elem, merged_elems, passive_data, texts_segment, merged_module, zero_globals, loader_globals}
-use Rattle.merge_module.specs.Shape.{IsFunction, HasShape}
+use Rattle.merge_module.specs.Shape.{HasShape}
 use Rattle.merge_module.proofs.Known.{IsKnown}
 use Rattle.merge_module.proofs.WithLoader.{with_all}
 use Rattle.merge_module.proofs.SetMembers.{member_formed}
@@ -44,6 +44,8 @@ use Rattle.spec_loading.specs.spec_linking.Gathering.{IsMember, IsSet}
 use Rattle.merge_index.proofs.Counted.{few_bytes, few_of, few_hosts}
 use Rattle.merge_module.proofs.StubLists.{lengths_same}
 use Rattle.merge_module.proofs.MergedSpaces.{few_types, few_funcs, few_codes, own_funcs, own_codes, generated_codes, generated_codes_many}
+use Rattle.merge_module.proofs.HostImports.{hosts_asked}
+use Rattle.merge_module.proofs.HostTypes.{host_types}
 use Rattle.merge_module.proofs.HostNames.{IsNamed, hosts_named}
 use Rattle.merge_module.proofs.OpenedStore.{globals_many, elems_many}
 use Rattle.merge_module.proofs.Generated.{entry_typed}
@@ -276,20 +278,14 @@ module _ (L : LinkedSet) (K : IsKnown L) (few : (linked_plan L).pages_max ≤ 16
         counts = record { bodies = bodies_same; datas = refl };
       }
 
-hosts_functions : (t : ℕ → FuncType → ℕ) (e : ℕ) (hs : List HostName) → All (λ (i : Import). IsFunction i.desc) (host_imports t e hs)
-hosts_functions t e [] = All-nil (λ (i : Import). IsFunction i.desc)
-hosts_functions t e (h ∷ hs) =
-    All-cons (λ (i : Import). IsFunction i.desc) (record { «module» = h.module_name; field = h.name; desc = imported.Func (t e h.ty) })
-    (host_imports t (e + 1) hs) tt (hosts_functions t (e + 1) hs)
-
-pub merged_shaped : (L : LinkedSet) → IsSet L.set → HasShape L (merged_module L)
-merged_shaped L set = record {
-  imports = hosts_functions (host_type_number L) 0 (hosts_of L);
+pub merged_shaped : (L : LinkedSet) → IsKnown L → HasShape L (merged_module L)
+merged_shaped L K = record {
+  imports = hosts_asked (merged_module L) (host_type_number L) 0 (hosts_of L) (host_types L K (numbers_of L) (starts_of L));
   table = refl;
   memory = refl;
   entry = (starts_of L).starting;
   exports = refl;
-  takes_nothing = entry_typed L set;
+  takes_nothing = entry_typed L K.set;
   start = refl;
   customs = refl;
 }

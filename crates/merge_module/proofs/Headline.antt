@@ -14,7 +14,7 @@ use Rattle.merge_module.specs.Shape.{StandsFor}
 use Rattle.merge_module.specs.MergedModule.{merged_module}
 use Rattle.merge_module.proofs.Known.{IsKnown, HasCodeLaws}
 use Rattle.merge_module.proofs.Opens.{X, M, opened, module_opens}
-use Rattle.merge_module.proofs.Agrees.{runs_agree}
+use Rattle.merge_module.proofs.Agrees.{runs_agree, runs_within}
 use Rattle.merge_module.proofs.Valid.{merged_valid}
 
 module _ (laws : HasCodeLaws) (L : LinkedSet) (K : IsKnown L) (few : (linked_plan L).pages_max ≤ 16384)
@@ -25,6 +25,7 @@ module _ (laws : HasCodeLaws) (L : LinkedSet) (K : IsKnown L) (few : (linked_pla
     opening = opened_state (M L K few) (X L K few).starting (opened L K few) (opening_memory L);
     opens = module_opens L K few;
     agrees = runs_agree laws.unused laws.lengths laws.searches laws.answered L K few laws.runs;
+    within = runs_within laws.unused laws.lengths laws.searches laws.answered L K few laws.within;
   }
 
   pub merges : (bytes : List ℕ) → SpellsModule (merged_module L) bytes → Merged L bytes
@@ -35,4 +36,5 @@ module _ (laws : HasCodeLaws) (L : LinkedSet) (K : IsKnown L) (few : (linked_pla
     opening = stands.opening;
     opens = stands.opens;
     agrees = stands.agrees;
+    within = stands.within;
   }

@@ -1,10 +1,11 @@
 -- The imports of a merged module are the host functions of its set, with their types.
-use Rattle.std.proofs.Common.{◌≡◌, ℕ, zero, suc, ◌+◌, List, [], ◌∷◌, length, slice_get, Some, refl, ap, ◌∙◌, subst, arith}
+use Rattle.std.proofs.Common.{◌≡◌, ℕ, zero, suc, ◌+◌, List, [], ◌∷◌, length, map, slice_get, Some, refl, ap, ◌∙◌, subst, arith}
 use Rattle.spec_reading.specs.wasm_form.declared.types.FuncType.{FuncType}
 use Rattle.spec_reading.specs.wasm_form.declared.module.Module.{Module}
 use Rattle.spec_reading.specs.spec_binary.IndexSpaces.{imports_of, functions_in, tables_in, memories_in, globals_in}
 use Rattle.spec_loading.specs.spec_runtime.Names.{HostName}
 use Rattle.spec_loading.specs.spec_execution.Instances.{imported_hosts}
+use Rattle.merge_module.specs.Shape.{asked_host}
 use Rattle.merge_module.specs.MergedModule.{host_imports}
 
 -- nothing but functions is imported
@@ -56,4 +57,12 @@ hosts_are m t e [] types = refl
 hosts_are m t e (h ∷ hs) types =
     let first = first_type m t e h hs types in
     let rest = hosts_are m t (e + 1) hs (later_types m t e h hs types) in
+    rw (first, rest) refl
+
+-- each import asks for one of them
+pub hosts_asked : (m : Module) (t : ℕ → FuncType → ℕ) (e : ℕ) (hs : List HostName) → HasTypes m t e hs → map (asked_host m) (host_imports t e hs) ≡ map Some hs
+hosts_asked m t e [] types = refl
+hosts_asked m t e (h ∷ hs) types =
+    let first = first_type m t e h hs types in
+    let rest = hosts_asked m t (e + 1) hs (later_types m t e h hs types) in
     rw (first, rest) refl

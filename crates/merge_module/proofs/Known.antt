@@ -18,9 +18,9 @@ use Rattle.spec_loading.specs.declared.task.Phase.{Phase}
 use Rattle.spec_loading.specs.Members.{set_instances, set_view, opening_table, opening_store}
 use Rattle.spec_loading.specs.LoadedSet.{first_slot, own_functions, set_loading, opening_memory}
 use Rattle.spec_loading.specs.Laws.{LinkedIsThere, LinkedIsTyped, IsCallable, CalleesAreThere, EntryIsThere, OpeningHolds, SizesArePlanned, SlotsFit}
-use Rattle.merge_start.specs.Laws.{SetsRunAsMerged, UnusedIsAnswered}
+use Rattle.merge_start.specs.Laws.{SetsRunAsMerged, SetsRunWithin, UnusedIsAnswered}
 use Rattle.merge_start.specs.Typed.{GeneratedIsTyped}
-use Rattle.merge_dl.specs.Laws.{LengthsAreGiven, MembersAreSearched, LoaderIsAnswered}
+use Rattle.merge_dl.specs.Laws.{LengthsAreGiven, MembersAreSearchedSoon, LoaderIsAnswered}
 use Rattle.merge_find.specs.Shape.{SearchIsSmall}
 use Rattle.merge_dl.specs.Typed.{LoaderIsTyped}
 
@@ -64,9 +64,10 @@ known laws L set links = record {
 -- the laws of generated code
 pub record HasCodeLaws : Type 0 where
   pub runs : SetsRunAsMerged
+  pub within : SetsRunWithin
   pub unused : UnusedIsAnswered
   pub lengths : LengthsAreGiven
-  pub searches : MembersAreSearched
+  pub searches : MembersAreSearchedSoon
   pub answered : LoaderIsAnswered
   pub generated : GeneratedIsTyped
   pub loader : LoaderIsTyped

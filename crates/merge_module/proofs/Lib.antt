@@ -52,3 +52,4 @@ pub mod HostWeights
 pub mod LightGlobals
 pub mod LightCode
 pub mod Short
+pub mod InLine

@@ -1,4 +1,4 @@
--- How much the code of the merged module weighs, where members have short names.
+-- How much the code of the merged module weighs.
 use Rattle.std.proofs.Common.{◌≡◌, ℕ, ◌+◌, ◌*◌, ◌≤◌, List, [], ◌∷◌, ◌++◌, length, map, refl, arith}
 use Rattle.std.specs.List.{All}
 use Rattle.std.proofs.lemmas.List.Elements.{All-head, All-tail}
@@ -78,33 +78,31 @@ module _ (small : SearchIsSmall) (L : LinkedSet) (n : Numbers) (x : Starts) wher
         let later = opens_weigh (k + 1) ys (omega arith) in
         omega arith
 
-    calls_weigh : names_bulk L.set.members ≤ 16777216 → sum_of code_weight (call_codes L x) ≤ 85152000
-    calls_weigh names =
+    calls_weigh : sum_of code_weight (call_codes L x) ≤ 4941 * length L.set.members + 5 * names_bulk L.set.members + 112
+    calls_weigh =
         let d = finders_of L x in
         let a = (call_written small L set x d Dlopen).light in
         let b = (call_written small L set x d Dlsym).light in
         let c = (call_written small L set x d Dlclose).light in
         let e = (call_written small L set x d Dlerror).light in
-        let count = few_members L set in
         omega arith
 
     -- what there is for the loader, where it is used
-    loader_weighs : names_bulk L.set.members ≤ 16777216
-        → sum_of code_weight (with_loader L (loader_codes L n x)) ≤ 85415719 + sum_of code_weight (find_codes L)
-    loader_weighs names =
-        with_either L (λ l. sum_of code_weight l ≤ 85415719 + sum_of code_weight (find_codes L)) (loader_codes L n x) (omega arith) (λ used.
+    loader_weighs : sum_of code_weight (with_loader L (loader_codes L n x))
+        ≤ 5971 * length L.set.members + 5 * names_bulk L.set.members + 131 + sum_of code_weight (find_codes L)
+    loader_weighs =
+        with_either L (λ l. sum_of code_weight l ≤ 5971 * length L.set.members + 5 * names_bulk L.set.members + 131 + sum_of code_weight (find_codes L))
+        (loader_codes L n x) (omega arith) (λ used.
         let opens = opens_weigh 0 L.set.members (omega arith) in
-        let calls = calls_weigh names in
+        let calls = calls_weigh in
         let one = length_written.light in
-        let count = few_members L set in
         let a = sum_then code_weight (open_codes L n x) (length_body ∷ (find_codes L ++ call_codes L x)) in
         let b = sum_then code_weight (find_codes L) (call_codes L x) in
         omega arith)
 
 -- ---- the whole
 
-module _ (small : SearchIsSmall) (L : LinkedSet) (K : IsKnown L) (few : (linked_plan L).pages_max ≤ 16384) (light : All IsLight L.set.members)
-    (names : names_bulk L.set.members ≤ 16777216) where
+module _ (small : SearchIsSmall) (L : LinkedSet) (K : IsKnown L) (few : (linked_plan L).pages_max ≤ 16384) (light : All IsLight L.set.members) where
   abbrev n : Numbers
   n = N L K few
 
@@ -117,8 +115,8 @@ module _ (small : SearchIsSmall) (L : LinkedSet) (K : IsKnown L) (few : (linked_
   abbrev members : List Member
   members = L.set.members
 
-  pub codes_light : sum_of code_weight merged.codes ≤ 219800000
-  codes_light =
+  pub codes_weigh : sum_of code_weight merged.codes ≤ 8 * total_size members + 5 * names_bulk members + 6033 * length members + 137
+  codes_weigh =
       let mine = from_members (own small L n x) 0 members in
       let stubs = from_members (stub_codes L) 0 members in
       let phases = from_members (phase_codes L n x) 0 members in
@@ -126,10 +124,12 @@ module _ (small : SearchIsSmall) (L : LinkedSet) (K : IsKnown L) (few : (linked_
       let loader = with_loader L (loader_codes L n x) in
       let bytes = few_bytes L K.set in
       let all = members_weigh small L n x 0 members light (omega arith) in
-      let more = loader_weighs small L n x K.set names in
+      let more = loader_weighs small L n x K.set in
       let entry = (entry_body L n x K.set).light in
-      let count = few_members L K.set in
       let a = sum_then code_weight mine (stubs ++ (phases ++ last ∷ loader)) in
       let b = sum_then code_weight stubs (phases ++ last ∷ loader) in
       let c = sum_then code_weight phases (last ∷ loader) in
       omega arith
+
+  pub codes_light : names_bulk members ≤ 16777216 → sum_of code_weight merged.codes ≤ 219800000
+  codes_light names = (let all = codes_weigh in let bytes = few_bytes L K.set in let count = few_members L K.set in omega arith)

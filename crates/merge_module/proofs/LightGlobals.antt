@@ -4,6 +4,7 @@ use Rattle.std.specs.Prelude.{unwrap_or}
 use Rattle.spec_reading.specs.wasm_form.declared.module.GlobalDef.{GlobalDef}
 use Rattle.spec_reading.specs.wasm_form.declared.module.Module.{Module}
 use Rattle.spec_loading.specs.spec_linking.Sets.{Member}
+use Rattle.spec_loading.specs.spec_linking.Gathering.{total_size}
 use Rattle.spec_loading.specs.spec_linking.LinkedSets.{LinkedSet}
 use Rattle.spec_loading.specs.spec_linking.Slots.{linked_plan, memory_base, table_base, cells_of, cell_value}
 use Rattle.spec_loading.specs.Members.{from_members, opened_global}
@@ -61,11 +62,9 @@ module _ (L : LinkedSet) (K : IsKnown L) (few : (linked_plan L).pages_max ≤ 16
   abbrev members : List Member
   members = L.set.members
 
-  pub globals_light : sum_of global_weight merged.globals ≤ 67112972
-  globals_light =
+  pub globals_weigh : sum_of global_weight merged.globals ≤ 4 * total_size members + 16 * length members + 12
+  globals_weigh =
       let all = two_each (member_globals L n) (λ k y is. (let fit = member_globals_fit L n k y.wasm in let cells = cells_few y.wasm in let all = is.all in omega arith)) 0 members K.set.members in
-      let bytes = few_bytes L K.set in
-      let count = few_members L K.set in
       let guards = guards_few L in
       let own = members_fours L n 0 members in
       let last = guards_fours L in
@@ -73,8 +72,11 @@ module _ (L : LinkedSet) (K : IsKnown L) (few : (linked_plan L).pages_max ≤ 16
       let first = four (linked_plan L).stack_top true in
       omega arith
 
+  pub globals_light : sum_of global_weight merged.globals ≤ 67112972
+  globals_light = (let all = globals_weigh in let bytes = few_bytes L K.set in let count = few_members L K.set in omega arith)
+
+  pub tables_many : length merged.tables ≤ total_size members + 1
+  tables_many = (let all = few_of L K.set (λ k w. w.tables) (λ k y is. (let all = is.all in omega arith)) in omega arith)
+
   pub few_tables : length merged.tables ≤ 16777217
-  few_tables =
-      let all = few_of L K.set (λ k w. w.tables) (λ k y is. (let all = is.all in omega arith)) in
-      let bytes = few_bytes L K.set in
-      omega arith
+  few_tables = (let all = tables_many in let bytes = few_bytes L K.set in omega arith)

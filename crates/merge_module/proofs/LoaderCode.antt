@@ -255,8 +255,8 @@ tries_piece {deep} {more} d (m ∷ ms) p =
 -- how long the functions of the loader are
 abbrev pub call_size : LinkedSet → LoaderCall → ℕ
 call_size L Dlopen = 20 + (2330 * length L.set.members + 5 * names_bulk L.set.members) + 5
-call_size L Dlsym = 666400
-call_size L Dlclose = 2063
+call_size L Dlsym = 25 + 2603 * length L.set.members + 7
+call_size L Dlclose = 10 + 8 * length L.set.members + 5
 call_size L Dlerror = 40
 
 module _ (small : SearchIsSmall) (L : LinkedSet) (set : IsSet L.set) (x : Starts) (d : Finders) where
@@ -290,28 +290,26 @@ module _ (small : SearchIsSmall) (L : LinkedSet) (set : IsSet L.set) (x : Starts
   libraries_few : 1 + length (libraries L) ≤ count
   libraries_few = (let some = set.some in let rest = length-drop 1 L.set.members in omega arith)
 
-  symbol_call_piece : IsPiece 3 (25 + (10 + 19 + 2574) * 256) (symbol_call_code L x d)
+  symbol_call_piece : IsPiece 3 (25 + 2603 * count) (symbol_call_code L x d)
   unfolding symbol_call_code
   symbol_call_piece =
-      let few = few_members in
       let libs = libraries_few in
       let startup = startup_few L.set set in
       let last = then_piece (handles_piece 1 (libraries L) libs) (within 3 4 (fault_piece d bad_handle_error 0) (omega arith) (omega arith)) in
       let global = step (get_step 0) (step (number_step 2) (step (operator_step 0x49 refl (λ wasm k. refl)) (in_if (tries_piece d L.set.startup (promoted_piece L x d)) last))) in
-      within 3 (25 + (10 + 19 + 2574) * 256) (step (get_step 1) (step (call_step d.length) (step (set_step 2) global))) (omega arith) (omega arith)
+      within 3 (25 + 2603 * count) (step (get_step 1) (step (call_step d.length) (step (set_step 2) global))) (omega arith) (omega arith)
 
   closes_piece : (m : ℕ) (ms : List Member) → IsPiece 2 (8 * length ms) (closes_code x m ms)
   closes_piece m [] = nothing 2
   closes_piece m (y ∷ ys) =
       within 2 (8 * length (y ∷ ys)) (asked 0 (m + 1) (in_if (step (get_global_step (x.guards + m)) (in_if (give_piece 0) (nothing 1))) (closes_piece (m + 1) ys))) (omega arith) (omega arith)
 
-  close_call_piece : IsPiece 2 (10 + 8 * 256) (close_call_code L x d)
+  close_call_piece : IsPiece 2 (10 + 8 * count) (close_call_code L x d)
   unfolding close_call_code
   close_call_piece =
-      let few = few_members in
       let libs = libraries_few in
       let last = then_piece (closes_piece 1 (libraries L)) (within 2 4 (fault_piece d bad_close_error not_closed) (omega arith) (omega arith)) in
-      within 2 (10 + 8 * 256) (asked 0 1 (in_if (within 1 2 (give_piece 0) (omega arith) (omega arith)) last)) (omega arith) (omega arith)
+      within 2 (10 + 8 * count) (asked 0 1 (in_if (within 1 2 (give_piece 0) (omega arith) (omega arith)) last)) (omega arith) (omega arith)
 
   text_piece : (e : ℕ) → IsPiece 1 6 (text_code L e)
   text_piece e = asked 0 (e + 1) (in_if (give_piece _) (nothing 1))
@@ -326,6 +324,6 @@ module _ (small : SearchIsSmall) (L : LinkedSet) (set : IsSet L.set) (x : Starts
   call_written Dlopen =
       body_by 11 (20 + (2330 * length L.set.members + 5 * names_bulk L.set.members)) (call_body L x d Dlopen) (open_call_piece small L x d few_members closures_few) (omega arith) (omega arith) (omega arith) refl
   call_written Dlsym =
-      body_with 4 3 666393 (call_body L x d Dlsym) (within 3 666393 symbol_call_piece (omega arith) (omega arith)) (omega arith) (omega arith) (omega arith) (omega arith) refl
-  call_written Dlclose = body_by 2 2058 (call_body L x d Dlclose) (within 2 2058 close_call_piece (omega arith) (omega arith)) (omega arith) (omega arith) (omega arith) refl
+      body_with 4 3 (25 + 2603 * count) (call_body L x d Dlsym) symbol_call_piece (omega arith) (omega arith) (omega arith) (omega arith) refl
+  call_written Dlclose = body_by 2 (10 + 8 * count) (call_body L x d Dlclose) close_call_piece (omega arith) (omega arith) (omega arith) refl
   call_written Dlerror = body_by 1 35 (call_body L x d Dlerror) error_call_piece (omega arith) (omega arith) (omega arith) refl

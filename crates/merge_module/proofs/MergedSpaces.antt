@@ -11,7 +11,7 @@ use Rattle.spec_reading.specs.spec_binary.Indices.{nullary, function_type, funct
 use Rattle.spec_reading.specs.spec_binary.IndexSpaces.{imports_of, functions_in, function_space, imported_count}
 use Rattle.spec_reading.proofs.of_spec_binary.Lists.{slice_get-append-right}
 use Rattle.spec_loading.specs.spec_linking.Sets.{Member}
-use Rattle.spec_loading.specs.spec_linking.Gathering.{IsSet}
+use Rattle.spec_loading.specs.spec_linking.Gathering.{IsSet, total_size}
 use Rattle.spec_loading.specs.spec_linking.LinkedSets.{LinkedSet, hosts_of}
 use Rattle.spec_loading.specs.Members.{from_members}
 use Rattle.merge_match.specs.Renumbering.{Numbers}
@@ -154,11 +154,9 @@ module _ (L : LinkedSet) (n : Numbers) (x : Starts) where
         let rest = length-append (generated_functions_types L) (added_types L) in
         omega (arith, length-append (members_types L) (generated_functions_types L ++ added_types L))
 
-    stub_types_many : length (from_members (stub_types L n) 0 L.set.members) ≤ 16777216
+    stub_types_many : length (from_members (stub_types L n) 0 L.set.members) ≤ total_size L.set.members
     stub_types_many =
-        let few = few_of L set (stub_types L n) (λ k y few. (let all = few.all in let stubs = stubs_within L k y.wasm in omega (arith, length-map (stubs_of L k y.wasm) (λ f. n.ty k (unwrap_or (slice_get (function_space y.wasm) f) 0))))) in
-        let bytes = few_bytes L set in
-        omega arith
+        few_of L set (stub_types L n) (λ k y few. (let all = few.all in let stubs = stubs_within L k y.wasm in omega (arith, length-map (stubs_of L k y.wasm) (λ f. n.ty k (unwrap_or (slice_get (function_space y.wasm) f) 0)))))
 
     stub_codes_many : length (from_members (stub_codes L) 0 L.set.members) ≤ 16777216
     stub_codes_many =
@@ -166,15 +164,16 @@ module _ (L : LinkedSet) (n : Numbers) (x : Starts) where
         let bytes = few_bytes L set in
         omega arith
 
-    pub few_funcs : length merged.funcs ≤ 33555974
-    few_funcs =
+    pub funcs_many : length merged.funcs ≤ 2 * total_size L.set.members + 6 * length L.set.members + 6
+    funcs_many =
         let own = few_of L set (λ m wasm. map (n.ty m) wasm.funcs) (λ k y few. (let all = few.all in omega (arith, length-map y.wasm.funcs (n.ty k)))) in
         let stubs = stub_types_many in
-        let bytes = few_bytes L set in
-        let members = few_members L set in
         let rest = length-append (from_members (stub_types L n) 0 L.set.members) (generated_types L) in
         let generated = generated_many L in
         omega (arith, length-append own_funcs (from_members (stub_types L n) 0 L.set.members ++ generated_types L))
+
+    pub few_funcs : length merged.funcs ≤ 33555974
+    few_funcs = (let all = funcs_many in let bytes = few_bytes L set in let members = few_members L set in omega arith)
 
     pub few_codes : length merged.codes ≤ 33555974
     few_codes =

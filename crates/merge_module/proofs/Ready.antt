@@ -27,9 +27,10 @@ use Rattle.spec_loading.specs.Laws.{IsCallable}
 use Rattle.merge_start.specs.Started.{MemberReady, EntryReady, StartReady, OpenReady, IsReady}
 use Rattle.merge_dl.specs.Called.{SearchesMember}
 use Rattle.merge_dl.specs.Ready.{LoaderReady}
-use Rattle.merge_dl.specs.Laws.{LengthsAreGiven, MembersAreSearched}
+use Rattle.merge_dl.specs.Laws.{LengthsAreGiven, MembersAreSearchedSoon}
 use Rattle.merge_module.specs.MergedModule.{finders_of}
 use Rattle.spec_loading.proofs.SlotWords.{table_within}
+use Rattle.merge_module.proofs.SlotFunctions.{own_named}
 use Rattle.merge_module.proofs.PlannedWords.{stack_within}
 use Rattle.merge_index.proofs.Counted.{few_members}
 use Rattle.merge_module.proofs.Known.{IsKnown}
@@ -79,15 +80,6 @@ module _ (L : LinkedSet) (K : IsKnown L) (few : (linked_plan L).pages_max ≤ 16
         callable = callable m member at lt;
       }
 
-  -- a function that main defines is named by its number
-  own_target : (w : Module) (f : ℕ) → wasm_of L 0 ≡ Some w → IsDefined w f → function_ref L 0 f ≡ Some (Own 0 f)
-  own_target w f here defined =
-      let many = importing_length functions_in w.imports in
-      let past = defined.past in
-      let none : slice_get (importing functions_in w.imports) f ≡ None = slice_get_past (importing functions_in w.imports) f (omega arith) in
-      ap (λ (o : Option Module). o >>= λ wasm. function_type wasm f >>= λ ty. ref_with L 0 f (slice_get (importing functions_in wasm.imports) f) (Own 0 f)) here
-      ∙ rw (defined.typed, none) refl
-
   pub entry_ready : EntryReady L
   entry_ready =
       let there = K.entry in
@@ -95,7 +87,7 @@ module _ (L : LinkedSet) (K : IsKnown L) (few : (linked_plan L).pages_max ≤ 16
       let set_there = went_on (set_entry L.set.members) (λ g. Some (Own 0 g)) (Own 0 f) there.1 in
       let same : set_there.0 ≡ f = (let q = set_there.2 in cc) in
       let own = own_defined L K 0 f (subst (λ (t : Option FuncType). IsTrue (is_some t)) (sym there.2) refl) in
-      record { function = f; entry = set_there.1 ∙ ap Some same; target = own_target own.0 f own.1 own.2; callable = there.2 }
+      record { function = f; entry = set_there.1 ∙ ap Some same; target = own_named L 0 f own.0 own.1 own.2; callable = there.2 }
 
   pub is_ready : IsReady L (n L set) (x L set) (merged L set)
   is_ready = record { members = member_ready; entry = entry_ready }
@@ -104,7 +96,7 @@ pub start_ready : (L : LinkedSet) (set : IsSet L.set) → StartReady L (n L set)
 start_ready L set = record { start = refl; target = generated.entry_target L set; code = generated.entry_there L set }
 
 -- what the functions of the loader stand on, where they are used
-module _ (lengths : LengthsAreGiven) (searches : MembersAreSearched) (L : LinkedSet) (K : IsKnown L)
+module _ (lengths : LengthsAreGiven) (searches : MembersAreSearchedSoon) (L : LinkedSet) (K : IsKnown L)
     (few : (linked_plan L).pages_max ≤ 16384) (used : uses_loader L ≡ true) where
   open_ready : (m : ℕ) → m < length L.set.members → OpenReady L (n L K.set) (x L K.set) (merged L K.set) m
   open_ready m lt =
@@ -113,11 +105,11 @@ module _ (lengths : LengthsAreGiven) (searches : MembersAreSearched) (L : Linked
       let count = few_members L K.set in
       record { target = there.target; code = there.code; word = omega arith }
 
-  find_ready : (m : ℕ) → m < length L.set.members → SearchesMember L m (merged L K.set) ((finders_of L (x L K.set)).find m)
+  find_ready : (m : ℕ) → m < length L.set.members → SearchesMember 53 L m (merged L K.set) ((finders_of L (x L K.set)).find m)
   find_ready m lt =
       let y = got L.set.members m lt in
       let here : wasm_of L m ≡ Some y.0.wasm = ap (λ (o : Option Member). o >>= λ z. Some z.wasm) y.1 in
-      searches L K.links m y.0.wasm here (merged L K.set) ((finders_of L (x L K.set)).find m) (find_there L K.set used m y.0 y.1)
+      searches L K.set K.links m y.0.wasm here (merged L K.set) ((finders_of L (x L K.set)).find m) (find_there L K.set used m y.0 y.1)
 
   pub loader_ready : LoaderReady L (n L K.set) (x L K.set) (finders_of L (x L K.set)) (merged L K.set)
   loader_ready = record {

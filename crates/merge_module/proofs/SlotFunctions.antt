@@ -1,5 +1,5 @@
 -- The functions that have fresh slots: of a member they are its own, and outside the members they are host functions, or the loader's.
-use Rattle.std.proofs.Common.{◌≡◌, ℕ, ◌+◌, ◌-◌, ◌<◌, Bool, true, false, ◌||◌, List, [], ◌∷◌, ◌++◌, length, map, Option, Some, None, refl, sym, subst, arith, cond, if◌then◌else◌, length-append}
+use Rattle.std.proofs.Common.{◌≡◌, ℕ, ◌+◌, ◌-◌, ◌<◌, Bool, true, false, ◌||◌, List, [], ◌∷◌, ◌++◌, length, map, Option, Some, None, refl, sym, ap, ◌∙◌, slice_get, subst, arith, cond, if◌then◌else◌, length-append}
 use Rattle.std.specs.Prelude.{is_none, nat_lt, not}
 use Rattle.std.specs.List.{All, list_any, filter, filter_map, cons_option}
 use Rattle.std.proofs.lemmas.Bool.{and_parts, or_left, or_right, ltb-true, ltb-false}
@@ -14,15 +14,17 @@ use Rattle.spec_reading.specs.wasm_form.declared.runtime.LoaderCall.{LoaderCall}
 use Rattle.spec_reading.specs.wasm_form.declared.runtime.Ref.{Ref}
 use Rattle.spec_reading.specs.wasm_form.declared.runtime.Ref.TheVariants.{Own, Loader, Host, Stub}
 use Rattle.spec_reading.specs.spec_binary.Options.{◌>>=◌}
-use Rattle.spec_reading.specs.spec_binary.Indices.{is_own}
+use Rattle.std.proofs.lemmas.Option.{slice_get_past}
+use Rattle.spec_reading.specs.spec_binary.Indices.{is_own, function_type}
 use Rattle.spec_reading.specs.spec_binary.IndexSpaces.{imports_of, functions_in, imported_count, function_space}
 use Rattle.spec_loading.proofs.of_spec_validation.Parts.{parts_fit}
 use Rattle.spec_loading.specs.spec_linking.declared.fault.Kind.TheVariants as kind
 use Rattle.spec_loading.specs.spec_linking.Orders.{is_among}
 use Rattle.spec_loading.specs.spec_linking.Sets.{Member}
 use Rattle.spec_loading.specs.spec_linking.Definitions.{reserved_names, is_one_of, own_only, own_global, Symbol, FunctionSymbol, DataSymbol, data_symbol, desc_symbol, export_symbol, function_in, defined_function, Definition, LoaderFunction, HeapBase, HeapEnd, MemberFunction, MemberData, HostFunction, WeakSymbol, Undefined, env_name}
-use Rattle.spec_loading.specs.spec_linking.Imports.{ImportUse, SharedMemory, SharedTable, StackPointer, MemoryBase, TableBase, DataCell, SlotCell, EnvFunction, ModuleFunction, OtherUse, use_of}
-use Rattle.spec_loading.specs.spec_linking.LinkedSets.{LinkedSet, wasm_of, definition, hosts_of, is_named, host_entry, host_ref}
+use Rattle.spec_loading.proofs.of_spec_linking.Importing.{importing_length}
+use Rattle.spec_loading.specs.spec_linking.Imports.{importing, ImportUse, SharedMemory, SharedTable, StackPointer, MemoryBase, TableBase, DataCell, SlotCell, EnvFunction, ModuleFunction, OtherUse, use_of}
+use Rattle.spec_loading.specs.spec_linking.LinkedSets.{LinkedSet, wasm_of, function_ref, ref_with, definition, hosts_of, is_named, host_entry, host_ref}
 use Rattle.spec_loading.specs.spec_linking.Slots.{same_ref, segment_slot, with_function, functions_with, defined_functions, fresh_in, fresh_of, outside_ref, outside_as, outside_of_import, outside_from, outside_refs, all_loaders, is_host_ref, first_refs, outside_slots}
 use Rattle.spec_loading.proofs.of_spec_safety.Lookups.{went_on, got}
 use Rattle.spec_loading.proofs.of_spec_safety.Spaces.{function_has_type}
@@ -111,6 +113,15 @@ own_is_defined wasm sound f own =
     let c = got wasm.codes (f - imported_count wasm) (omega arith) in
     let ty = function_has_type wasm (parts_fit wasm sound.valid) f lt in
     record { past = past; code = c.0; at = c.1; ty = ty.0; typed = ty.1 }
+
+-- so its number names it
+pub own_named : (L : LinkedSet) (m f : ℕ) (wasm : Module) → wasm_of L m ≡ Some wasm → IsDefined wasm f → function_ref L m f ≡ Some (Own m f)
+own_named L m f wasm here defined =
+    let many = importing_length functions_in wasm.imports in
+    let past = defined.past in
+    let none : slice_get (importing functions_in wasm.imports) f ≡ None = slice_get_past (importing functions_in wasm.imports) f (omega arith) in
+    ap (λ (o : Option Module). o >>= λ w. function_type w f >>= λ ty. ref_with L m f (slice_get (importing functions_in w.imports) f) (Own m f)) here
+    ∙ rw (defined.typed, none) refl
 
 -- ---- outside the members
 

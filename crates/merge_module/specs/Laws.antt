@@ -1,5 +1,5 @@
 -- What is so of the merged module of a linked set.
-use Rattle.std.specs.Prelude.{◌≡◌, ℕ, ◌+◌, ◌≤◌, ◌<◌, ◌^◌, List, [], ◌∷◌, length, Contains, Ok}
+use Rattle.std.specs.Prelude.{◌≡◌, ℕ, ◌+◌, ◌*◌, ◌≤◌, ◌<◌, ◌^◌, List, [], ◌∷◌, length, map, Contains, Ok}
 use Rattle.std.specs.List.{All}
 use Rattle.spec_reading.specs.wasm_form.declared.types.FuncType.{FuncType}
 use Rattle.spec_reading.specs.wasm_form.declared.module.Code.{Code}
@@ -7,16 +7,18 @@ use Rattle.spec_reading.specs.wasm_form.declared.module.Module.{Module}
 use Rattle.spec_reading.specs.spec_binary.Parts.{SpellsFunc}
 use Rattle.spec_reading.specs.spec_binary.Modules.{SpellsModule}
 use Rattle.spec_reading.specs.spec_binary.WellFormed.{IsFormedType, IsWellFormed}
+use Rattle.spec_loading.specs.spec_runtime.Names.{HostName}
 use Rattle.spec_loading.specs.spec_execution.Instances.{ModuleParts}
 use Rattle.spec_loading.specs.spec_execution.OneModule.{module_opening, opened_state}
 use Rattle.spec_loading.specs.spec_linking.Sets.{Member}
-use Rattle.spec_loading.specs.spec_linking.Gathering.{IsSet}
+use Rattle.spec_loading.specs.spec_linking.Gathering.{IsSet, total_size}
 use Rattle.spec_loading.specs.spec_linking.LinkedSets.{LinkedSet, hosts_of}
-use Rattle.spec_loading.specs.spec_linking.Slots.{linked_plan}
+use Rattle.spec_loading.specs.spec_linking.Slots.{linked_plan, table_entries}
 use Rattle.spec_loading.specs.spec_linking.Links.{Links}
 use Rattle.spec_loading.specs.LoadedSet.{opening_memory}
 use Rattle.spec_loading.specs.Merged.{Merged}
 use Rattle.wasm_encode.specs.SectionSizes.{IsContents}
+use Rattle.wasm_encode.specs.Weight.{weight}
 use Rattle.merge_match.specs.Bounded.{IsBounded}
 use Rattle.merge_match.specs.Laws.{HasParts}
 use Rattle.merge_start.specs.Started.{IsOpened, IsReady, StartReady}
@@ -78,6 +80,16 @@ types_bulk (ty ∷ tys) = 1 + (length ty.params + length ty.results) + types_bul
 abbrev pub names_bulk : List Member → ℕ
 names_bulk [] = 0
 names_bulk (m ∷ ms) = length m.name + names_bulk ms
+
+-- How much there is to write of the merged module, at most: so much for each byte of the files and of the members' names and for each member,
+-- and one for each entry of the table and what the types of the host functions take.
+abbrev pub most_weight : LinkedSet → ℕ
+most_weight L =
+    22 * total_size L.set.members + 5 * names_bulk L.set.members + 6057 * length L.set.members
+    + table_entries L + types_bulk (map (λ (h : HostName). h.ty) (hosts_of L)) + 379
+
+abbrev pub MergedIsInLine : Type 0
+MergedIsInLine = (L : LinkedSet) → IsMergeable L → weight (merged_module L) ≤ most_weight L
 
 -- A set whose members have short names, and whose host table brings short types where it alone brings them.
 pub record IsBrief (L : LinkedSet) : Type 0 where

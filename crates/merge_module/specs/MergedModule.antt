@@ -17,7 +17,6 @@ use Rattle.spec_reading.specs.wasm_form.declared.module.ExportDesc.TheVariants a
 use Rattle.spec_reading.specs.wasm_form.declared.module.Export.{Export}
 use Rattle.spec_reading.specs.wasm_form.declared.module.ElemMode.{ElemMode}
 use Rattle.spec_reading.specs.wasm_form.declared.module.ElemMode.TheVariants as elem_mode
-use Rattle.spec_reading.specs.wasm_form.declared.module.ElemItems.{ElemItems}
 use Rattle.spec_reading.specs.wasm_form.declared.module.ElemItems.TheVariants as elem_items
 use Rattle.spec_reading.specs.wasm_form.declared.module.Elem.{Elem}
 use Rattle.spec_reading.specs.wasm_form.declared.module.Code.{Code}
@@ -39,7 +38,6 @@ use Rattle.spec_loading.specs.spec_linking.Slots.{linked_plan, memory_base, tabl
 use Rattle.spec_loading.specs.Texts.{error_texts}
 use Rattle.spec_loading.specs.declared.task.Phase.TheVariants.{Place, Start, Relocate, Construct}
 use Rattle.spec_loading.specs.Members.{from_members, uses_loader, opened_global}
-use Rattle.spec_loading.specs.LoadedSet.{own_functions}
 use Rattle.merge_pieces.specs.Opcodes as op
 use Rattle.merge_match.specs.Renumbering.{Numbers, expr}
 use Rattle.merge_match.specs.Parts.{number_of}
@@ -47,6 +45,7 @@ use Rattle.merge_match.specs.Joined.{renumbered_code, type_address}
 use Rattle.merge_start.specs.Words.{Starts, number, phase_code, entry_code, open_code}
 use Rattle.merge_dl.specs.Words.{Finders, handle_type, unary_type, binary_type, search_type, length_body, find_body, call_body}
 use Rattle.merge_index.specs.Numbering.{stubs_of, length_number, first_find, numbers_of, starts_of}
+pub use Rattle.merge_start.specs.Passive.{passive_mode, renumbered_items, passive_elem, renumbered_elems, functions_elem, slots_elem, passive_elems, passive_data, passive_datas}
 pub use Rattle.merge_module.specs.Shape.{shared_table_type, shared_memory_type, entry_exports}
 
 -- what each member has, one after the other
@@ -258,26 +257,6 @@ merged_globals L n = number_global true (linked_plan L).stack_top ∷ (of_member
 
 -- ---- element segments
 
--- a segment that a member applies is passive
-abbrev pub passive_mode : ElemMode → ElemMode
-passive_mode (elem_mode.Active t offset) = elem_mode.Passive
-passive_mode elem_mode.Passive = elem_mode.Passive
-passive_mode elem_mode.Declarative = elem_mode.Declarative
-
-abbrev pub renumbered_items : Numbers → ℕ → ElemItems → ElemItems
-renumbered_items n m (elem_items.Funcs fs) = elem_items.Funcs (map (n.named m) fs)
-renumbered_items n m (elem_items.Exprs ty es) = elem_items.Exprs ty (map (expr n m) es)
-
-abbrev pub passive_elem : Numbers → ℕ → Elem → Elem
-passive_elem n m e = record { mode = passive_mode e.mode; items = renumbered_items n m e.items }
-
-abbrev pub functions_elem : Numbers → ElemMode → List Ref → Elem
-functions_elem n mode rs = record { mode = mode; items = elem_items.Funcs (map n.function rs) }
-
--- the functions of member m that have fresh slots
-abbrev pub slots_elem : LinkedSet → Numbers → ℕ → Elem
-slots_elem L n m = functions_elem n elem_mode.Passive (own_functions L m)
-
 -- functions outside the members that have slots stand in the table from the beginning
 abbrev pub outside_elem : LinkedSet → Numbers → Elem
 outside_elem L n =
@@ -302,20 +281,17 @@ declared_elem L n = record {
 
 abbrev pub merged_elems : LinkedSet → Numbers → List Elem
 merged_elems L n =
-    of_members L (λ m wasm. map (passive_elem n m) wasm.elems)
+    of_members L (renumbered_elems n)
     ++ (of_members L (λ m wasm. slots_elem L n m ∷ []) ++ outside_elem L n ∷ declared_elem L n ∷ [])
 
 -- ---- data segments
-
-abbrev pub passive_data : Data → Data
-passive_data d = record d { mode = data_mode.Passive }
 
 -- the error texts stand in the memory from the beginning
 abbrev pub texts_segment : LinkedSet → Data
 texts_segment L = record { mode = data_mode.Active 0 (number_expr (linked_plan L).stack_top); bytes = error_texts }
 
 abbrev pub merged_datas : LinkedSet → List Data
-merged_datas L = of_members L (λ m wasm. map passive_data wasm.datas) ++ texts_segment L ∷ []
+merged_datas L = passive_datas L ++ texts_segment L ∷ []
 
 -- ---- the whole
 

@@ -1,7 +1,7 @@
 //! The merged module of a linked set, as a definition, and what is so of it.
 #![tactic(auto)]
 
-ghost use Rattle.merge_module.specs.Laws.{MergedIsReady, MergedStands, SpelledMerges, MergedIsFormed, MergedHasShape, MergedIsShort};
+ghost use Rattle.merge_module.specs.Laws.{MergedIsReady, MergedStands, SpelledMerges, MergedIsFormed, MergedHasShape, MergedIsInLine, MergedIsShort};
 
 use merge_dl::{
     lengths_are_given, loader_calls_are_answered, loader_code_is_typed, members_are_searched,
@@ -27,7 +27,7 @@ pub fn merged_modules_are_ready()
 }
 
 /// The merged module of a linked set stands for the set: it is valid, it opens under the host names of the set, and its run agrees with that
-/// of the loaded set. Bytes that spell it merge the set.
+/// of the loaded set, within what its steps cost. Bytes that spell it merge the set.
 pub fn spelled_modules_merge()
     ensures stands { MergedStands }
     ensures merges { SpelledMerges }
@@ -45,11 +45,13 @@ pub fn spelled_modules_merge()
     searches_are_small();
 }
 
-/// The merged module of a linked set has a form that can be written, and imports functions alone; it has the planned table and memory, and
-/// exports its entry function and the memory. No section of it is too long to be written, where the set is brief.
+/// The merged module of a linked set has a form that can be written, and imports the host functions of the set alone; it has the planned table
+/// and memory, and exports its entry function and the memory. How much there is to write of it is in line with the set, and no section of it is
+/// too long to be written, where the set is brief.
 pub fn merged_modules_are_formed()
     ensures formed { MergedIsFormed }
     ensures shape { MergedHasShape }
+    ensures light { MergedIsInLine }
     ensures short { MergedIsShort }
 {
     linked_code_is_there();

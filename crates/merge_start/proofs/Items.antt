@@ -23,7 +23,7 @@ use Rattle.spec_loading.specs.spec_linking.LinkedSets.{LinkedSet}
 use Rattle.spec_loading.specs.spec_linking.Slots.{fresh_of}
 use Rattle.spec_loading.specs.Addresses.{sum_before}
 use Rattle.merge_start.specs.declared.numbers.StartNumbers.{StartNumbers}
-use Rattle.merge_start.specs.Passive.{functions_at, passive_elem, functions_elem, own_elems, fresh_elems, IsItem, AreItems}
+use Rattle.merge_start.specs.Passive.{functions_at, passive_elem, listed_elem, own_elems, fresh_elems, IsItem, AreItems}
 use Rattle.spec_loading.proofs.of_spec_validation.Constants.{reference_alone}
 
 second_holds : (a b : Bool) → (a && b) ≡ true → b ≡ true
@@ -92,5 +92,5 @@ module _ (L : LinkedSet) (s : StartNumbers) (m : ℕ) (wasm : Module) (fs : List
   own_is es same = λ i. map (passive_elem (functions_at (listed i) (record { first = at_is i; count = count_is i })) 0) (same i)
 
   pub fresh_is : (fresh : List ℕ) → fresh ≡ fresh_of L m
-      → functions_elem fs (record { first = at; count = count }) fresh ∷ [] ≡ fresh_elems L s m wasm
-  fresh_is fresh same = λ i. functions_elem (listed i) (record { first = at_is i; count = count_is i }) (same i) ∷ []
+      → listed_elem fs (record { first = at; count = count }) fresh ∷ [] ≡ fresh_elems L s m wasm
+  fresh_is fresh same = λ i. listed_elem (listed i) (record { first = at_is i; count = count_is i }) (same i) ∷ []

@@ -7,6 +7,7 @@ pub mod Returning
 pub mod Calling
 pub mod Frames
 pub mod Startup
+pub mod Depths
 pub mod Beginning
 pub mod Opening
 pub mod Nested

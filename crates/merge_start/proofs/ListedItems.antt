@@ -38,7 +38,7 @@ use Rattle.merge_match.specs.Renumbering.{Numbers, index_in, rolled, same_expr, 
 use Rattle.merge_match.proofs.OneLevel.{in_expr, inside}
 use Rattle.merge_start.specs.declared.numbers.StartNumbers.{StartNumbers}
 use Rattle.spec_loading.proofs.of_spec_validation.Constants.{reference_alone}
-use Rattle.merge_start.specs.Passive.{functions_at, functions_span, passive_mode, renumbered_items, passive_elem, own_elems, fresh_elems, AreNamed, renumbered_elems, renumbered_slots, ListedIsRenumbered}
+use Rattle.merge_start.specs.Passive.{functions_at, functions_span, passive_mode, renumbered_items, passive_elem, own_elems, fresh_elems, AreNamed, renumbered_elems, slots_elem, ListedIsRenumbered}
 
 -- ---- imported globals are numbers
 
@@ -142,8 +142,9 @@ module _ (L : LinkedSet) (shape : IsSet L.set) (links : Links L) (m : ℕ) (memb
         let is : IsMember member = holds_at IsMember L.set.members m member shape.members at in
         elems_same wasm.elems (parts_fit wasm is.read.valid).elems
 
-    pub fresh_renumbered : fresh_elems L s m wasm ≡ renumbered_slots L n m wasm
-    fresh_renumbered = ap (λ (fs : List ℕ). record { mode = elem_mode.Passive; items = elem_items.Funcs fs } ∷ []) (names_are (fresh_of L m))
+    pub fresh_renumbered : fresh_elems L s m wasm ≡ slots_elem L n m ∷ []
+    fresh_renumbered =
+        ap (λ (fs : List ℕ). record { mode = elem_mode.Passive; items = elem_items.Funcs fs } ∷ []) (names_are (fresh_of L m) ∙ named.fresh m lt)
 
 -- ---- all members
 
@@ -157,15 +158,15 @@ members_same f g k (x ∷ xs) each =
     (members_same f g (k + 1) xs (λ i y e. (let place : k + suc i ≡ k + 1 + i = omega arith in subst (λ j. f j y.wasm ≡ g j y.wasm) place (each (suc i) y e))))
 
 pub listed_is_renumbered : ListedIsRenumbered
-listed_is_renumbered L shape links s n named parts are = record {
-  elems = are.elems
-      ∙ ap₂ (λ (a b : List Elem). a ++ b)
-      (members_same (own_elems L s) (renumbered_elems n) 0 L.set.members (λ i x e. at_place (own_elems L s) (renumbered_elems n) i x
-      (own_renumbered L shape links i x e (slice_get_within L.set.members i x e) s n named)))
-      (members_same (fresh_elems L s) (renumbered_slots L n) 0 L.set.members (λ i x e. at_place (fresh_elems L s) (renumbered_slots L n) i x
-      (fresh_renumbered L shape links i x e (slice_get_within L.set.members i x e) s n named)));
-  datas = are.datas;
-}
+listed_is_renumbered L shape links s n named =
+    ap₂ (λ (a b : List Elem). a ++ b)
+    (members_same (own_elems L s) (renumbered_elems n) 0 L.set.members (λ i x e. at_place (own_elems L s) (renumbered_elems n) i x
+    (own_renumbered L shape links i x e (slice_get_within L.set.members i x e) s n named)))
+    (members_same (fresh_elems L s) slots 0 L.set.members (λ i x e. at_place (fresh_elems L s) slots i x
+    (fresh_renumbered L shape links i x e (slice_get_within L.set.members i x e) s n named)))
   where
+    slots : ℕ → Module → List Elem
+    slots m wasm = slots_elem L n m ∷ []
+
     at_place : (f g : ℕ → Module → List Elem) (i : ℕ) (x : sets.Member) → f i x.wasm ≡ g i x.wasm → f (0 + i) x.wasm ≡ g (0 + i) x.wasm
     at_place f g i x e = (let place : i ≡ 0 + i = omega arith in subst (λ j. f j x.wasm ≡ g j x.wasm) place e)

@@ -1,15 +1,20 @@
 -- What is so of a merged module with the generated code beside the set.
-use Rattle.std.specs.Prelude.{◌≡◌, ℕ, ◌<◌, List, [], ◌∷◌, length, Option, Some, false}
+use Rattle.std.specs.Prelude.{◌≡◌, ℕ, ◌+◌, ◌*◌, ◌<◌, ◌≤◌, List, [], ◌∷◌, length, Option, Some, false}
 use Rattle.wasm_form.specs.declared.instr.Instr.{Instr, Index}
 use Rattle.wasm_form.specs.declared.module.Module.{Module}
 use Rattle.wasm_form.specs.declared.runtime.LoaderCall.{LoaderCall}
 use Rattle.wasm_form.specs.declared.runtime.Ref.TheVariants.{Loader}
 use Rattle.spec_loading.specs.spec_runs.Systems.{Moving}
 use Rattle.spec_loading.specs.spec_runs.Agreement.{StepLaw, Agree}
+use Rattle.spec_loading.specs.spec_runs.Costs.{CostLaw, AgreeWithin}
+use Rattle.spec_loading.specs.Costs.{next_cost}
+use Rattle.spec_loading.specs.SetCosts.{set_prices, step_cost, set_room, module_depth}
+use Rattle.spec_loading.specs.spec_execution.Limits.{activations}
+use Rattle.spec_loading.specs.spec_linking.Slots.{member_number}
 use Rattle.spec_loading.specs.spec_binary.Options.{◌>>=◌}
 use Rattle.spec_loading.specs.spec_runtime.Memories.{MemoryInstance}
 use Rattle.spec_loading.specs.spec_execution.Activations.{Activation}
-use Rattle.spec_loading.specs.spec_execution.Segments.{Performed}
+use Rattle.spec_loading.specs.spec_execution.Segments.{Performed, segment_effects}
 use Rattle.spec_loading.specs.spec_execution.Runs.{Frame, call, calling, became}
 use Rattle.spec_loading.specs.spec_execution.Runs as frames
 use Rattle.spec_loading.specs.spec_execution.Instances.{ModuleParts, module_hosts, module_view}
@@ -33,25 +38,25 @@ use Rattle.merge_start.specs.Started.{Same, HoldsSlots, IsOpened, MemberReady, I
 use Rattle.merge_start.specs.Points.{HandsOn, Promotes, places, Matched}
 
 -- What placing comes to is what the code comes to: the store is the same after both, the memory is equal, and so is the trap.
-pub record PlacedAs (merged : Module) (Shared : Sharing Store ModuleParts) (o : Option (Performed Store)) (code : List Instr)
+pub record PlacedAs (merged : Module) (count : ℕ) (Shared : Sharing Store ModuleParts) (o : Option (Performed Store)) (code : List Instr)
     (before : ModuleParts) (memory : MemoryInstance) : Type 0 where
   pub placed : Performed Store
   pub is_placed : o ≡ Some placed
   pub parts : ModuleParts
   pub same : Shared placed.units parts
-  pub runs : Does merged code (record { units = before; memory = memory }) [] (record { units = parts; memory = placed.memory }) [] placed.trap
+  pub runs : Does merged 2 count code (record { units = before; memory = memory }) [] (record { units = parts; memory = placed.memory }) [] placed.trap
 
 -- The loader has raised the member's stage before it places it; the segment of the fresh slots is still what it was.
 abbrev pub PlacingIsDone : Type 0
 PlacingIsDone = (L : LinkedSet) (n : Numbers) (x : Starts) (merged : Module) → HasParts L n merged → (loader : LoaderState) (m : ℕ)
     → m < length L.set.members → (member : MemberReady L n x merged m) → (us : Store) (parts : ModuleParts) (memory : MemoryInstance)
     → Same L n x loader us parts → HoldsSlots L n x parts m
-    → PlacedAs merged (Same L n x loader) (member_placed L m us memory) (place_code L n x m member.wasm) parts memory
+    → PlacedAs merged (4 * length (segment_effects (member_number L m) member.wasm) + 4) (Same L n x loader) (member_placed L m us memory) (place_code L n x m member.wasm) parts memory
 
 -- where a frame of the loader is on top, the module steps as it does, and takes the host's answers as it does
 abbrev pub FramesStepAsMerged : Type 0
 FramesStepAsMerged = (L : LinkedSet) (n : Numbers) (x : Starts) (merged : Module) → HasParts L n merged → IsReady L n x merged
-    → FramesMatch n (places L n x) (Same L n x) (set_loading L) (module_step merged)
+    → FramesMatch n (places L n x) (Same L n x) (set_loading L) (set_prices L) (module_step merged)
 
 -- ---- opening while the program runs
 
@@ -87,7 +92,8 @@ MembersPromoteAsMerged = (L : LinkedSet) (n : Numbers) (x : Starts) (merged : Mo
 abbrev pub CallsAreAnswered : LinkedSet → Numbers → Starts → Module → Type 0
 CallsAreAnswered L n x merged = (s : SetState) (t : ModuleState) → Alike (Same L n x) s t → IsBounded s.run.memory → (a : Activation)
     (fs : List (Frame LoaderFrame)) (gs : List (Frame Starting)) → Below n (places L n x) a.results fs gs → (which : LoaderCall)
-    → Met n (places L n x) (Same L n x) (module_step merged)
+    → (d : ℕ) → length (activations gs) + 3 ≤ d → Met n (places L n x) (Same L n x) (module_step merged) d
+    (next_cost (set_prices L) s (call (set_view L) s.run.units s.run.memory (calling a fs) a.values (Loader which)))
     (call (set_view L) s.run.units s.run.memory (calling a fs) a.values (Loader which) >>= went (set_loading L) s)
     (call (module_view merged) t.units s.run.memory (calling (activation n a) gs) (values n a.values) (reference n (Loader which))
     >>= became (module_hosts merged) t)
@@ -107,6 +113,12 @@ abbrev pub SetsStepAsMerged : Type 0
 SetsStepAsMerged = (L : LinkedSet) (n : Numbers) (x : Starts) (merged : Module) → HasParts L n merged → IsReady L n x merged
     → CallsAreAnswered L n x merged → StepLaw (set_system L) (module_system merged) (MatchedWithin L n x)
 
+-- the same, with what a step costs
+abbrev pub SetsStepWithin : Type 0
+SetsStepWithin = (L : LinkedSet) (n : Numbers) (x : Starts) (merged : Module) → HasParts L n merged → IsReady L n x merged
+    → CallsAreAnswered L n x merged
+    → CostLaw (set_system L) (module_system merged) (MatchedWithin L n x) (step_cost L) set_room module_depth
+
 -- The runs from any two matching states agree, in both directions.
 abbrev pub MatchedRunsAgree : Type 0
 MatchedRunsAgree = (L : LinkedSet) (n : Numbers) (x : Starts) (merged : Module) → HasParts L n merged → IsReady L n x merged
@@ -120,6 +132,14 @@ SetsRunAsMerged = (L : LinkedSet) (n : Numbers) (x : Starts) (merged : Module) �
     → StartReady L n x merged → CallsAreAnswered L n x merged → IsBounded (set_opening L).run.memory → IsSet L.set → (parts : ModuleParts)
     → IsOpened L n x parts
     → Agree (set_system L) (module_system merged) (set_opening L) (opened_state merged x.starting parts (set_opening L).run.memory)
+
+-- the same within the cost: one step more, by which the module calls its entry function
+abbrev pub SetsRunWithin : Type 0
+SetsRunWithin = (L : LinkedSet) (n : Numbers) (x : Starts) (merged : Module) → HasParts L n merged → IsReady L n x merged
+    → StartReady L n x merged → CallsAreAnswered L n x merged → IsBounded (set_opening L).run.memory → IsSet L.set → (parts : ModuleParts)
+    → IsOpened L n x parts
+    → AgreeWithin (set_system L) (module_system merged) (step_cost L) set_room module_depth 1 (set_opening L)
+    (opened_state merged x.starting parts (set_opening L).run.memory)
 
 -- ---- a module with the code of the merged one
 

@@ -1,5 +1,5 @@
 -- The members' segments in a merged module: code applies them, so none is active, and the functions in them have the module's numbers.
-use Rattle.std.specs.Prelude.{◌≡◌, ℕ, All, List, [], ◌∷◌, ◌++◌, length, map, Some}
+use Rattle.std.specs.Prelude.{◌≡◌, ◌<◌, ℕ, All, List, [], ◌∷◌, ◌++◌, length, map, Some}
 use Rattle.wasm_form.specs.declared.instr.Instr.{Instr, out-Instr}
 use Rattle.wasm_form.specs.declared.instr.Instr.TheOpen as Open
 use Rattle.wasm_form.specs.declared.instr.Expr.{Expr}
@@ -11,12 +11,14 @@ use Rattle.wasm_form.specs.declared.module.Elem.{Elem}
 use Rattle.wasm_form.specs.declared.module.DataMode.TheVariants as data_mode
 use Rattle.wasm_form.specs.declared.module.Data.{Data}
 use Rattle.wasm_form.specs.declared.module.Module.{Module}
+use Rattle.wasm_form.specs.declared.runtime.Ref.{Ref}
 use Rattle.spec_loading.specs.spec_binary.IndexSpaces.{function_space}
 use Rattle.spec_loading.specs.spec_linking.Gathering.{IsSet}
 use Rattle.spec_loading.specs.spec_linking.LinkedSets.{LinkedSet, wasm_of}
 use Rattle.spec_loading.specs.spec_linking.Links.{Links}
 use Rattle.spec_loading.specs.spec_linking.Slots.{fresh_of}
 use Rattle.spec_loading.specs.Addresses.{sum_before}
+use Rattle.spec_loading.specs.LoadedSet.{own_functions}
 use Rattle.spec_loading.specs.Members.{from_members}
 use Rattle.merge_match.specs.Renumbering.{Numbers, expr}
 use Rattle.merge_match.specs.Parts.{nowhere}
@@ -68,39 +70,54 @@ abbrev pub own_datas : ℕ → Module → List Data
 own_datas m wasm = map passive_data wasm.datas
 
 -- a segment of these functions of a member
-abbrev pub functions_elem : List ℕ → Span → List ℕ → Elem
-functions_elem list s fs = record { mode = elem_mode.Passive; items = elem_items.Funcs (map (item list s) fs) }
+abbrev pub listed_elem : List ℕ → Span → List ℕ → Elem
+listed_elem list s fs = record { mode = elem_mode.Passive; items = elem_items.Funcs (map (item list s) fs) }
 
 -- that of its fresh slots, in slot order
 abbrev pub fresh_elems : LinkedSet → StartNumbers → ℕ → Module → List Elem
-fresh_elems L s m wasm = functions_elem s.functions (functions_span L m wasm) (fresh_of L m) ∷ []
+fresh_elems L s m wasm = listed_elem s.functions (functions_span L m wasm) (fresh_of L m) ∷ []
 
--- The segments of all members in set order, by the numbers that are listed for their functions, and behind their element segments one of fresh
--- slots for each member.
+-- The element segments of all members in set order, by the numbers that are listed for their functions, and behind them one of fresh slots for
+-- each member.
+abbrev pub listed_elems : LinkedSet → StartNumbers → List Elem
+listed_elems L s = from_members (own_elems L s) 0 L.set.members ++ from_members (fresh_elems L s) 0 L.set.members
+
+-- their data segments
+abbrev pub passive_datas : LinkedSet → List Data
+passive_datas L = from_members own_datas 0 L.set.members
+
 pub record ArePassive (L : LinkedSet) (s : StartNumbers) (parts : PassiveParts) : Type 0 where
-  pub elems : parts.elems ≡ from_members (own_elems L s) 0 L.set.members ++ from_members (fresh_elems L s) 0 L.set.members
-  pub datas : parts.datas ≡ from_members own_datas 0 L.set.members
+  pub elems : parts.elems ≡ listed_elems L s
+  pub datas : parts.datas ≡ passive_datas L
 
 -- ---- by numbers
 
--- n has the numbers that are listed for the functions of the members
+-- n has the numbers that are listed for the functions of the members, and those that have fresh slots are the members' own
 pub record AreNamed (L : LinkedSet) (s : StartNumbers) (n : Numbers) : Type 0 where
+  pub fresh : (m : ℕ) → m < length L.set.members → map (n.named m) (fresh_of L m) ≡ map n.function (own_functions L m)
   pub named : (m f : ℕ) (wasm : Module) → wasm_of L m ≡ Some wasm → n.named m f ≡ item s.functions (functions_span L m wasm) f
 
 abbrev pub renumbered_elems : Numbers → ℕ → Module → List Elem
 renumbered_elems n m wasm = map (passive_elem n m) wasm.elems
 
-abbrev pub renumbered_slots : LinkedSet → Numbers → ℕ → Module → List Elem
-renumbered_slots L n m wasm = record { mode = elem_mode.Passive; items = elem_items.Funcs (map (n.named m) (fresh_of L m)) } ∷ []
+-- a segment of functions, by the numbers of what they name
+abbrev pub functions_elem : Numbers → ElemMode → List Ref → Elem
+functions_elem n mode rs = record { mode = mode; items = elem_items.Funcs (map n.function rs) }
 
--- The same segments by all the numbers of n: of what a linked set has, items name functions alone.
+-- that of the functions of member m that have fresh slots, in slot order
+abbrev pub slots_elem : LinkedSet → Numbers → ℕ → Elem
+slots_elem L n m = functions_elem n elem_mode.Passive (own_functions L m)
+
+-- The same element segments by all the numbers of n: of what a linked set has, items name functions alone.
+abbrev pub passive_elems : LinkedSet → Numbers → List Elem
+passive_elems L n = from_members (renumbered_elems n) 0 L.set.members ++ from_members (λ m wasm. slots_elem L n m ∷ []) 0 L.set.members
+
 pub record AreRenumbered (L : LinkedSet) (n : Numbers) (parts : PassiveParts) : Type 0 where
-  pub elems : parts.elems ≡ from_members (renumbered_elems n) 0 L.set.members ++ from_members (renumbered_slots L n) 0 L.set.members
-  pub datas : parts.datas ≡ from_members own_datas 0 L.set.members
+  pub elems : parts.elems ≡ passive_elems L n
+  pub datas : parts.datas ≡ passive_datas L
 
 abbrev pub ListedIsRenumbered : Type 0
-ListedIsRenumbered = (L : LinkedSet) → IsSet L.set → Links L → (s : StartNumbers) (n : Numbers) → AreNamed L s n → (parts : PassiveParts)
-    → ArePassive L s parts → AreRenumbered L n parts
+ListedIsRenumbered = (L : LinkedSet) → IsSet L.set → Links L → (s : StartNumbers) (n : Numbers) → AreNamed L s n → listed_elems L s ≡ passive_elems L n
 
 -- ---- items of a valid segment
 

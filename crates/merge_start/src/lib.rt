@@ -14,7 +14,7 @@ mod phases;
 mod segments;
 mod words;
 
-ghost use Rattle.merge_start.specs.Laws.{FramesStepAsMerged, MatchedRunsAgree, MembersOpenAsMerged, MembersPromoteAsMerged, OtherRunsAgree, PlacingIsDone, SameCodeIsReady, SetsRunAsMerged, SetsStepAsMerged, SetsStepAsOthers, UnusedIsAnswered};
+ghost use Rattle.merge_start.specs.Laws.{FramesStepAsMerged, MatchedRunsAgree, MembersOpenAsMerged, MembersPromoteAsMerged, OtherRunsAgree, PlacingIsDone, SameCodeIsReady, SetsRunAsMerged, SetsRunWithin, SetsStepAsMerged, SetsStepAsOthers, SetsStepWithin, UnusedIsAnswered};
 ghost use Rattle.merge_start.specs.Typed.{GeneratedIsTyped};
 
 pub use functions::phase_functions;
@@ -46,11 +46,14 @@ pub fn unused_loader_is_not_called()
 {}
 
 /// A linked set steps as its merged module does, where this answers calls of the loader's functions as the set does; the two runs agree from
-/// any two matching states, and from the opening states on.
+/// any two matching states, and from the opening states on. What a step of the set costs bounds the steps of the module, and the call stack of
+/// the module is at most as deep as the set has room for.
 pub fn sets_run_as_merged()
     ensures step { SetsStepAsMerged }
+    ensures costs { SetsStepWithin }
     ensures matched { MatchedRunsAgree }
     ensures runs { SetsRunAsMerged }
+    ensures within { SetsRunWithin }
 {}
 
 /// Both laws ask of the merged module only what its types, imports, functions and bodies say. So they hold of each module that has these,

@@ -6,7 +6,7 @@ ghost use Rattle.spec_loading.specs.spec_binary.WellFormed.{IsWellFormed};
 ghost use Rattle.spec_loading.specs.Members.{from_members};
 ghost use Rattle.merge_match.specs.Renumbering.{Numbers, index_in, instr, code, expr};
 ghost use Rattle.merge_start.specs.Listed as listed;
-ghost use Rattle.merge_start.specs.Passive.{functions_at, passive_mode, renumbered_items, passive_elem, passive_data, functions_elem, own_elems, own_datas, fresh_elems, IsItem, AreItems, ArePassive, AreNamed, AreRenumbered};
+ghost use Rattle.merge_start.specs.Passive.{functions_at, passive_mode, renumbered_items, passive_elem, passive_data, listed_elem, own_elems, own_datas, fresh_elems, listed_elems, passive_elems, passive_datas, IsItem, AreItems, ArePassive, AreNamed, AreRenumbered};
 
 use crate::numbers::{Span, StartNumbers, item};
 use dyl_link::Linked;
@@ -139,9 +139,9 @@ fn put_passive(
 }
 
 // The segment of these functions of a member.
-fn functions_elem(alloc: Global, functions: &[u32], s: Span, fs: &[u32]) -> Result<Elem, Memory>
+fn listed_elem(alloc: Global, functions: &[u32], s: Span, fs: &[u32]) -> Result<Elem, Memory>
     requires { listed.fits s }
-    ensures { IfOk result (λ x. x ≡ functions_elem functions.now s fs.now) }
+    ensures { IfOk result (λ x. x ≡ listed_elem functions.now s fs.now) }
 {
     let list = named(alloc, functions, s, fs)?;
     Ok(Elem {
@@ -196,16 +196,16 @@ fn slots_elems(alloc: Global, linked: &Linked, n: &StartNumbers) -> Result<Vec<E
             first: at,
             count: function_count(linked.member(m).checked.module()),
         };
-        let one = functions_elem(alloc, n.functions.items(), s, linked.fresh(m))?;
+        let one = listed_elem(alloc, n.functions.items(), s, linked.fresh(m))?;
         list.push(one)?;
         at += s.count;
     }
     Ok(list)
 }
 
-// The data segments of the members.
-fn members_datas(alloc: Global, linked: &Linked) -> Result<Vec<Data>, Memory>
-    ensures { IfOk result (λ x. x.items ≡ from_members own_datas 0 linked.now.set.members) }
+// Their data segments.
+fn passive_datas(alloc: Global, linked: &Linked) -> Result<Vec<Data>, Memory>
+    ensures { IfOk result (λ x. x.items ≡ passive_datas linked.now) }
 {
     let mut list = Vec::new(alloc);
     for m in 0..linked.member_count() {
@@ -218,10 +218,23 @@ fn members_datas(alloc: Global, linked: &Linked) -> Result<Vec<Data>, Memory>
     Ok(list)
 }
 
+// All element segments.
+fn passive_elems(alloc: Global, linked: &Linked, n: &StartNumbers) -> Result<Vec<Elem>, Memory>
+    ensures listed { IfOk result (λ x. x.items ≡ listed_elems linked.now n.now) }
+    ensures renumbered { IfOk result (λ x. (N : Numbers) → AreNamed linked.now n.now N → x.items ≡ passive_elems linked.now N) }
+{
+    linked.links();
+    let mut elems = members_elems(alloc, linked, n)?;
+    let mut slots = slots_elems(alloc, linked, n)?;
+    elems.append(&mut slots)?;
+    Ok(elems)
+}
+
 /// The segments of the members of a linked set, as a merged module has them: passive, since code applies them, with the numbers of functions
 /// that `n.functions` lists; and behind their element segments, member by member, one of the functions that have fresh slots, in slot order.
 /// They come in the order in which `n.elems` and `n.datas` list their numbers. In a linked set an item of a segment names a function or
-/// nothing, so these are the segments by all numbers of which `n.functions` has those of functions. `Memory` where no memory could be had.
+/// nothing, so these are the segments by all numbers of which `n.functions` has those of functions. A merged module has its own segments behind
+/// them. `Memory` where no memory could be had.
 pub fn passive_parts(
     alloc: Global,
     linked: &Linked,
@@ -230,11 +243,8 @@ pub fn passive_parts(
     ensures listed { IfOk result (λ parts. ArePassive linked.now n.now parts) }
     ensures renumbered { IfOk result (λ parts. (N : Numbers) → AreNamed linked.now n.now N → AreRenumbered linked.now N parts) }
 {
-    linked.links();
-    let mut elems = members_elems(alloc, linked, n)?;
-    let mut slots = slots_elems(alloc, linked, n)?;
-    let datas = members_datas(alloc, linked)?;
-    elems.append(&mut slots)?;
+    let elems = passive_elems(alloc, linked, n)?;
+    let datas = passive_datas(alloc, linked)?;
     Ok(PassiveParts {
         elems: List::of(elems),
         datas: List::of(datas),

@@ -8,6 +8,7 @@ use Rattle.std.proofs.lemmas.List.Elements.{All-nil, All-cons, All-tail, All-app
 use Rattle.std.proofs.lemmas.List.Sums.{sum_by-append}
 use Rattle.wasm_form.specs.declared.types.FuncType.{FuncType}
 use Rattle.wasm_form.specs.declared.module.Module.{Module}
+use Rattle.spec_reading.specs.spec_binary.Number.{IsShortest}
 use Rattle.spec_reading.specs.spec_binary.Modules.{SpellsModule}
 use Rattle.spec_reading.specs.spec_binary.WellFormed.{IsFormedType, IsWellFormed}
 use Rattle.spec_reading.specs.spec_binary.DecodeAnswers as answers
@@ -17,12 +18,13 @@ use Rattle.spec_loading.specs.spec_linking.Sets.{Member}
 use Rattle.spec_loading.specs.spec_linking.Gathering.{total_size}
 use Rattle.spec_loading.specs.spec_linking.LinkedSets.{LinkedSet}
 use Rattle.wasm_encode.specs.SectionSizes.{IsFirstTooLong}
+use Rattle.wasm_encode.specs.Weight.{weight}
 use Rattle.merge_module.specs.MergedModule.{members_types, generated_functions_types, added_types, merged_module}
 use Rattle.merge_module.specs.Shape.{HasShape}
-use Rattle.merge_module.specs.Laws.{IsMergeable, MergedStands, SpelledMerges, MergedIsFormed, MergedHasShape, types_bulk, names_bulk, IsBrief, MergedIsShort}
+use Rattle.merge_module.specs.Laws.{IsMergeable, MergedStands, SpelledMerges, MergedIsFormed, MergedHasShape, types_bulk, names_bulk, most_weight, MergedIsInLine, IsBrief, MergedIsShort}
 use Rattle.merge_index.proofs.FewItems.{total_cons}
 use Rattle.merge_whole.specs.Counts.{sizes}
-use Rattle.merge_whole.specs.Merges.{Merges, bulk_of, bulk, IsTooLongFor}
+use Rattle.merge_whole.specs.Merges.{most_bytes, Merges, bulk_of, bulk, IsTooLongFor}
 use Rattle.merge_whole.proofs.ShortFits.{never_first_long}
 
 all_later : {A : Type 0} (P : A → Type 0) (xs ys : List A) → All P (xs ++ ys) → All P ys
@@ -30,7 +32,7 @@ all_later P [] ys all = all
 all_later P (x ∷ xs) ys all = all_later P xs ys (All-tail P x (xs ++ ys) all)
 
 -- bytes are decoded to a well formed module that they spell
-is_decoded : (m : Module) (bytes : List ℕ) → SpellsModule m bytes → IsWellFormed m → DecodeAnswer bytes (Ok m)
+pub is_decoded : (m : Module) (bytes : List ℕ) → SpellsModule m bytes → IsWellFormed m → DecodeAnswer bytes (Ok m)
 is_decoded m bytes spelled formed = answers.spelled spelled (λ k c here. (formed.codes.1 k c here).limits) formed.counts
 
 -- ---- how much there is
@@ -59,6 +61,9 @@ pub bulk_is : (ms : List Member) (size square : ℕ) → size ≡ min (sizes ms)
     → min (256 * size + 64 * square) 4294967296 ≡ min (bulk_of ms) 4294967296
 bulk_is ms size square one two = (let all = sizes_are ms in omega arith)
 
+in_all : (weighs most n : ℕ) → weighs ≤ most → n ≤ 16 * weighs + 256 → n ≤ 16 * most + 256
+in_all weighs most n le few = omega arith
+
 -- ---- a set
 
 module _ (L : LinkedSet) (mergeable : IsMergeable L) where
@@ -68,21 +73,32 @@ module _ (L : LinkedSet) (mergeable : IsMergeable L) where
       let behind = all_later IsFormedType (members_types L) (generated_functions_types L ++ added_types L) all in
       subst IsWellFormed (sym same) (law L mergeable (all_later IsFormedType (generated_functions_types L) (added_types L) behind))
 
-  pub merges : OneModule → SpelledMerges → MergedHasShape → (m : Module) → m ≡ merged_module L → IsWellFormed m → (bytes : List ℕ) → SpellsModule m bytes
-      → Merges L bytes
-  merges one law shape m same form bytes spelled =
-      let written : SpellsModule (merged_module L) bytes = subst (λ w. SpellsModule w bytes) same spelled in
-      let whole = law L mergeable bytes written in
-      let is = one (merged_module L) whole.wasm bytes written whole.spelled in
+  -- how many bytes are written
+  most_is : (n : ℕ) → n ≤ 16 * most_weight L + 256 → n ≤ most_bytes L
+  most_is n few = (let names = names_are L.set.members in omega arith)
+
+  few_bytes : MergedIsInLine → (m : Module) → m ≡ merged_module L → (n : ℕ) → n ≤ 16 * weight m + 256 → n ≤ most_bytes L
+  few_bytes light m same n few =
+      let all = subst (λ (w : Module). weight w ≤ most_weight L) (sym same) (light L mergeable) in
+      most_is n (in_all (weight m) (most_weight L) n all few)
+
+  pub merges : OneModule → SpelledMerges → MergedHasShape → MergedIsInLine → (m : Module) → m ≡ merged_module L → IsWellFormed m → (bytes : List ℕ)
+      → IsShortest (SpellsModule m) bytes → length bytes ≤ 16 * weight m + 256 → Merges L bytes
+  merges one law shape light m same form bytes written few =
+      let shortest : IsShortest (SpellsModule (merged_module L)) bytes = subst (λ w. IsShortest (SpellsModule w) bytes) same written in
+      let whole = law L mergeable bytes shortest.spelled in
+      let is = one (merged_module L) whole.wasm bytes shortest.spelled whole.spelled in
       record {
         merged = whole;
         shape = subst (HasShape L) is (shape L mergeable);
         decoded = is_decoded whole.wasm bytes whole.spelled (subst IsWellFormed (same ∙ is) form);
+        shortest = shortest;
+        size = few_bytes light m same (length bytes) few;
       }
 
-  -- where a section is too long, it is that of a module that stands for the set
+  -- where a section is too long, it is that of the merged module, which stands for the set
   pub too_long : MergedStands → MergedHasShape → (id : ℕ) → IsFirstTooLong (merged_module L) id → 2 ^ 32 ≤ bulk L → IsTooLongFor L id
-  too_long stands shape id first big = record { wasm = merged_module L; stands = stands L mergeable; shape = shape L mergeable; first = first; big = big }
+  too_long stands shape id first big = record { stands = stands L mergeable; shape = shape L mergeable; first = first; big = big }
 
   -- no section is too long where there is little of the set
   pub little_fits : MergedIsShort → bulk L < 2 ^ 32 → types_bulk (added_types L) ≤ 33554432 → (id : ℕ) → IsFirstTooLong (merged_module L) id → ⊥

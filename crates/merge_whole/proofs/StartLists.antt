@@ -1,16 +1,24 @@
 -- The lists of numbers that are made for generated code are those of a linked set.
-use Rattle.std.proofs.Common.{◌≡◌, ◌<◌, ◌≤◌, ℕ, zero, suc, ◌+◌, ◌-◌, ◌*◌, Bool, true, false, List, [], ◌∷◌, ◌++◌, length, nat_lt, slice_get, Option, Some, None, option_map, unwrap_or, if◌then◌else◌, refl, sym, ap, ◌∙◌, arith, length-append}
-use Rattle.std.specs.List.{range_with_len}
+use Rattle.std.proofs.Common.{◌≡◌, ◌<◌, ◌≤◌, ℕ, zero, suc, ◌+◌, ◌-◌, ◌*◌, Bool, true, false, List, [], ◌∷◌, ◌++◌, length, map, nat_lt, slice_get, Option, Some, None, option_map, unwrap_or, if◌then◌else◌, refl, sym, ap, ap₂, ◌∙◌, arith, length-append}
+use Rattle.std.specs.List.{range_with_len, All}
 use Rattle.std.proofs.lemmas.Bool.Decides.{nat_tests}
 use Rattle.std.proofs.lemmas.List.{length-map}
 use Rattle.std.proofs.lemmas.List.FromFn.{length-range_with_len}
-use Rattle.std.proofs.lemmas.Option.{slice_get-map, slice_get_within}
+use Rattle.std.proofs.lemmas.List.Elements.{All-head, All-tail}
+use Rattle.std.proofs.lemmas.Option.{slice_get-map, slice_get_within, slice_get_past}
 use Rattle.wasm_form.specs.declared.module.Module.{Module}
+use Rattle.wasm_form.specs.declared.runtime.Ref.{Ref}
+use Rattle.wasm_form.specs.declared.runtime.Ref.TheVariants.{Own}
 use Rattle.spec_reading.specs.spec_binary.Options.{◌>>=◌}
-use Rattle.spec_reading.specs.spec_binary.IndexSpaces.{imports_of, tables_in, table_space}
+use Rattle.spec_reading.specs.spec_binary.Indices.{function_type}
+use Rattle.spec_reading.specs.spec_binary.IndexSpaces.{imports_of, functions_in, function_space, tables_in, table_space}
 use Rattle.spec_reading.proofs.of_spec_binary.Lists.{slice_get-append-left, slice_get-append-right}
 use Rattle.spec_loading.specs.spec_linking.Sets.{Member}
-use Rattle.spec_loading.specs.spec_linking.LinkedSets.{LinkedSet, wasm_of}
+use Rattle.spec_loading.specs.spec_linking.Gathering.{IsSet}
+use Rattle.spec_loading.specs.spec_linking.Imports.{importing}
+use Rattle.spec_loading.specs.spec_linking.LinkedSets.{LinkedSet, wasm_of, ref_with}
+use Rattle.spec_loading.specs.spec_linking.Slots.{fresh_of}
+use Rattle.spec_loading.proofs.of_spec_safety.Lookups.{got}
 use Rattle.spec_loading.specs.spec_linking.Links.{set_entry}
 use Rattle.spec_loading.specs.declared.task.Phase.{Phase}
 use Rattle.spec_loading.specs.declared.task.Phase.TheVariants.{Place, Start, Relocate, Construct}
@@ -19,12 +27,16 @@ use Rattle.spec_loading.specs.Addresses.{sum_before, item_address}
 use Rattle.spec_loading.specs.Members.{from_members}
 use Rattle.merge_match.specs.Renumbering.{Numbers}
 use Rattle.merge_match.specs.Parts.{nowhere, number_of}
+use Rattle.merge_start.specs.declared.numbers.StartNumbers.{StartNumbers}
 use Rattle.merge_start.specs.Listed.{AreListed, in_part}
-use Rattle.merge_index.specs.Numbering.{sum_of, first_phase, numbers_of, starts_of}
+use Rattle.merge_start.specs.Passive.{AreNamed}
+use Rattle.merge_index.specs.Numbering.{sum_of, first_phase, function_number, numbers_of, starts_of}
 use Rattle.dyl_addresses.proofs.Items.{range_item}
 use Rattle.merge_index.proofs.FunctionNumbers.{sum_within}
+use Rattle.merge_module.proofs.SetMembers.{IsSound, is_sound}
+use Rattle.merge_module.proofs.SlotFunctions.{IsOwnIn, fresh_own, own_is_defined, own_named}
 use Rattle.merge_whole.specs.declared.built.counts.Space.TheVariants.{Elems}
-use Rattle.merge_whole.specs.Counts.{size_in, total, tables_by, calls_by, starts_by}
+use Rattle.merge_whole.specs.Counts.{size_in, total, functions_by, calls_by, starts_by}
 
 -- ---- sums
 
@@ -146,29 +158,59 @@ module _ (L : LinkedSet) where
           let many = length-append (imports_of tables_in wasm.imports) wasm.tables in
           absurd (grind (arith, nat_tests))
 
-  tables_many : (m : ℕ) (wasm : Module) → length (tables_by n m wasm) ≡ length (table_space wasm)
-  tables_many m wasm = length-map (range_with_len 0 (length (table_space wasm))) (n.table m) ∙ length-range_with_len 0 (length (table_space wasm))
+  -- ---- numbers of what members have, listed member by member
 
-  table_is : (m t : ℕ) (wasm : Module) → wasm_of L m ≡ Some wasm
-      → n.table m t ≡ in_part (from_members (tables_by n) 0 L.set.members) (sum_before (λ w. length (table_space w)) members m) (length (table_space wasm)) t
-  table_is m t wasm e = go (nat_lt t (length (table_space wasm))) refl
-    where
-      size : Module → ℕ
-      size w = length (table_space w)
+  module _ (g : ℕ → ℕ → ℕ) (size : Module → ℕ) (past : (m i : ℕ) (wasm : Module) → wasm_of L m ≡ Some wasm → size wasm ≤ i → g m i ≡ nowhere) where
+    abbrev listed : ℕ → Module → List ℕ
+    listed m wasm = map (g m) (range_with_len 0 (size wasm))
 
-      go : (b : Bool) → nat_lt t (length (table_space wasm)) ≡ b
-          → n.table m t
-          ≡ (if b then number_of (slice_get (from_members (tables_by n) 0 L.set.members) (sum_before (λ w. length (table_space w)) L.set.members m + t)) else nowhere)
-      go false q = table_past m t wasm e (grind (arith, nat_tests))
-      go true q =
-          let found = member_at L m wasm e in
-          let lt : t < length (table_space wasm) = grind (arith, nat_tests) in
-          let same = ap (λ (w : Module). length (table_space w)) found.2 in
-          let there : slice_get (from_members (tables_by n) 0 L.set.members) (sum_before (λ w. length (table_space w)) L.set.members m + t) ≡ Some (n.table m t) =
-          item_of (tables_by n) (λ w. length (table_space w)) tables_many L.set.members m t found.0 found.1 (omega arith)
-          ∙ slice_get-map (n.table m) (range_with_len 0 (length (table_space found.0.wasm))) t
-          ∙ ap (option_map (n.table m)) (range_at (length (table_space found.0.wasm)) t (omega arith)) in
-          sym (ap number_of there)
+    listed_many : (m : ℕ) (wasm : Module) → length (listed m wasm) ≡ size wasm
+    listed_many m wasm = length-map (range_with_len 0 (size wasm)) (g m) ∙ length-range_with_len 0 (size wasm)
+
+    pub listed_is : (m i : ℕ) (wasm : Module) → wasm_of L m ≡ Some wasm
+        → g m i ≡ in_part (from_members (λ k w. map (g k) (range_with_len 0 (size w))) 0 L.set.members) (sum_before size L.set.members m) (size wasm) i
+    listed_is m i wasm e = go (nat_lt i (size wasm)) refl
+      where
+        go : (b : Bool) → nat_lt i (size wasm) ≡ b
+            → g m i ≡ (if b then number_of (slice_get (from_members listed 0 L.set.members) (sum_before size L.set.members m + i)) else nowhere)
+        go false q = past m i wasm e (grind (arith, nat_tests))
+        go true q =
+            let found = member_at L m wasm e in
+            let lt : i < size wasm = grind (arith, nat_tests) in
+            let same = ap size found.2 in
+            let there : slice_get (from_members listed 0 L.set.members) (sum_before size L.set.members m + i) ≡ Some (g m i) =
+            item_of listed size listed_many L.set.members m i found.0 found.1 (omega arith)
+            ∙ slice_get-map (g m) (range_with_len 0 (size found.0.wasm)) i
+            ∙ ap (option_map (g m)) (range_at (size found.0.wasm) i (omega arith)) in
+            sym (ap number_of there)
+
+  -- ---- functions
+
+  named_past : (m f : ℕ) (wasm : Module) → wasm_of L m ≡ Some wasm → length (function_space wasm) ≤ f → n.named m f ≡ nowhere
+  named_past m f wasm e le =
+      ap (λ (o : Option Module). number_of (option_map (function_number L) (o >>= λ w.
+      function_type w f >>= λ ty. ref_with L m f (slice_get (importing functions_in w.imports) f) (Own m f)))) e
+      ∙ ap (λ (o : Option ℕ). number_of (option_map (function_number L) ((o >>= λ t. slice_get wasm.types t)
+      >>= λ ty. ref_with L m f (slice_get (importing functions_in wasm.imports) f) (Own m f)))) (slice_get_past (function_space wasm) f le)
+
+  fresh_named : (m : ℕ) (wasm : Module) → wasm_of L m ≡ Some wasm → IsSound wasm → (fs : List ℕ) → All (IsOwnIn wasm) fs
+      → map (n.named m) fs ≡ map n.function (map (Own m) fs)
+  fresh_named m wasm here sound [] all = refl
+  fresh_named m wasm here sound (f ∷ fs) all =
+      let defined = own_is_defined wasm sound f (All-head (IsOwnIn wasm) f fs all) in
+      ap₂ (λ (x : ℕ) (xs : List ℕ). x ∷ xs) (ap (λ (o : Option Ref). number_of (option_map (function_number L) o)) (own_named L m f wasm here defined))
+      (fresh_named m wasm here sound fs (All-tail (IsOwnIn wasm) f fs all))
+
+  pub are_named : IsSet L.set → (s : StartNumbers) → s.functions ≡ from_members (functions_by n) 0 L.set.members → AreNamed L s n
+  are_named set s functions = record {
+    named = λ m f wasm here.
+        listed_is n.named (λ w. length (function_space w)) named_past m f wasm here
+        ∙ ap (λ list. in_part list (sum_before (λ w. length (function_space w)) L.set.members m) (length (function_space wasm)) f) (sym functions);
+    fresh = λ m lt.
+        let found = got L.set.members m lt in
+        let here : wasm_of L m ≡ Some found.0.wasm = ap (λ (o : Option Member). o >>= λ y. Some y.wasm) found.1 in
+        fresh_named m found.0.wasm here (is_sound L m found.0.wasm set here) (fresh_of L m) (fresh_own L m found.0.wasm here);
+  }
 
   -- ---- calls
 
@@ -211,5 +253,5 @@ module _ (L : LinkedSet) where
     elems = λ m e wasm q. segment_is (λ w. length w.elems) (length members) m e wasm q;
     slots = slot_is;
     datas = λ m d wasm q. segment_is (λ w. length w.datas) 0 m d wasm q;
-    tables = table_is;
+    tables = listed_is n.table (λ w. length (table_space w)) table_past;
   }

@@ -21,7 +21,7 @@ use Rattle.merge_start.specs.Words.{Starts, entry_code}
 use Rattle.wasm_form.specs.declared.module.Part.{Part}
 use Rattle.merge_index.specs.Numbering.{is_stub}
 use Rattle.merge_index.specs.Lists.{code_in}
-use Rattle.merge_module.specs.MergedModule.{nullary_number, generated_functions_types, plain_code, trap_code, phase_codes, with_loader, loader_codes, passive_data, number_expr}
+use Rattle.merge_module.specs.MergedModule.{nullary_number, generated_functions_types, plain_code, trap_code, phase_codes, with_loader, loader_codes, number_expr}
 use Rattle.merge_whole.specs.Counts.{members_of}
 
 -- what the members have, which are numbered from m on, one after the other
@@ -107,9 +107,6 @@ abbrev pub tables_of : ℕ → Module → List TableType
 tables_of m wasm = wasm.tables
 
 -- ---- data segments
-
-abbrev pub datas_of : ℕ → Module → List Data
-datas_of m wasm = map passive_data wasm.datas
 
 abbrev pub texts_at : ℕ → Data
 texts_at address = record { mode = data_mode.Active 0 (number_expr address); bytes = error_texts }

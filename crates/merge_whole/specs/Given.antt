@@ -1,4 +1,4 @@
--- What the merged module is made with: the numbers, the globals and the element segments.
+-- What the merged module is made with: the numbers, the globals and the segments.
 use Rattle.std.specs.Prelude.{◌≡◌, ◌<◌, ◌^◌, true, false, Option, Some, None}
 use Rattle.spec_loading.specs.spec_linking.LinkedSets.{LinkedSet}
 use Rattle.spec_loading.specs.Members.{from_members, uses_loader}
@@ -8,7 +8,7 @@ use Rattle.merge_dl.specs.declared.numbers.DlNumbers.{DlNumbers}
 use Rattle.merge_dl.specs.Listed.{AreDlNumbers}
 use Rattle.merge_index.specs.Kept.{numbers_in}
 use Rattle.merge_index.specs.Numbering.{numbers_of, starts_of}
-use Rattle.merge_module.specs.MergedModule.{finders_of, merged_globals, merged_elems}
+use Rattle.merge_module.specs.MergedModule.{finders_of, merged_globals, merged_elems, merged_datas}
 use Rattle.merge_whole.specs.declared.built.given.Given.{Given}
 use Rattle.merge_whole.specs.Counts.{functions_by}
 
@@ -29,3 +29,4 @@ pub record IsGiven (L : LinkedSet) (g : Given) : Type 0 where
   pub loader : HasLoader L (starts_of L) g.loader
   pub globals : g.globals ≡ merged_globals L (numbers_of L)
   pub elems : g.elems ≡ merged_elems L (numbers_of L)
+  pub datas : g.datas ≡ merged_datas L

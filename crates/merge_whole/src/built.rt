@@ -11,6 +11,7 @@ mod globals;
 mod hosts;
 mod imports;
 mod loader;
+mod segments;
 mod starts;
 mod stubs;
 mod tables;

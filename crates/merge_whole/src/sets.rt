@@ -1,12 +1,13 @@
 // The bytes of the merged module of a linked set.
-ghost use Rattle.std.specs.Prelude.{◌≡◌, ◌+◌, ◌^◌, ◌≤◌, ◌<◌, ◌⊎◌, ◌↔◌, ℕ, min, All, IfOk, OnOk, Err, IsTrue, length};
+ghost use Rattle.std.specs.Prelude.{◌≡◌, ◌+◌, ◌*◌, ◌^◌, ◌≤◌, ◌<◌, ◌⊎◌, ◌↔◌, ℕ, min, All, IfOk, OnOk, Err, IsTrue, length};
 ghost use Rattle.spec_merging.specs.declared.fault.MergeFault.TheVariants as faults;
+ghost use Rattle.spec_reading.specs.spec_binary.Number.{IsShortest};
 ghost use Rattle.spec_reading.specs.spec_binary.Modules.{SpellsModule};
-ghost use Rattle.spec_loading.specs.spec_linking.LinkedSets.{hosts_of};
 ghost use Rattle.spec_reading.specs.spec_binary.WellFormed.{IsFormedType, IsWellFormed};
 ghost use Rattle.wasm_encode.specs.SectionSizes.{IsFirstTooLong};
+ghost use Rattle.wasm_encode.specs.Weight.{weight};
 ghost use Rattle.merge_module.specs.MergedModule.{added_types, merged_module};
-ghost use Rattle.merge_module.specs.Laws.{types_bulk, IsSupported};
+ghost use Rattle.merge_module.specs.Laws.{types_bulk};
 ghost use Rattle.merge_whole.specs.Counts.{members_of, sizes};
 ghost use Rattle.merge_whole.specs.Merges.{Merges, IsTooLongFor, bulk_of, bulk};
 
@@ -104,7 +105,8 @@ pub fn check_types(types: &[FuncType]) -> Result<(), Memory>
 fn encoded(alloc: Global, linked: &Linked, wasm: &Module) -> Result<Vec<u8>, MergeFault>
     requires formed { All IsFormedType wasm.now.types → IsWellFormed wasm.now }
     ensures formed { OnOk result (IsWellFormed wasm.now) }
-    ensures spelled { IfOk result (λ bytes. SpellsModule wasm.now bytes.items) }
+    ensures shortest { IfOk result (λ bytes. IsShortest (SpellsModule wasm.now) bytes.items) }
+    ensures size { IfOk result (λ bytes. length bytes.items ≤ 16 * weight wasm.now + 256) }
     ensures long { (id : ℕ) → result ≡ Err (faults.SectionSize id) → IsFirstTooLong wasm.now id }
     ensures big { (id : ℕ) → result ≡ Err (faults.SectionSize id) → 2 ^ 32 ≤ bulk linked.now }
     ensures only_long { (id : ℕ) → IsFirstTooLong wasm.now id → (result ≡ Err (faults.SectionSize id)) ⊎ (result ≡ Err faults.Memory) }
@@ -124,23 +126,22 @@ fn encoded(alloc: Global, linked: &Linked, wasm: &Module) -> Result<Vec<u8>, Mer
     }
 }
 
-/// Merges a linked set. The bytes are the encoding of the module that `parts` gives: a valid module that imports the host functions of the
-/// set alone, has the planned table and memory, exports its entry as `_start` and the memory as `memory`, and agrees with the loaded set.
+/// Merges a linked set. The bytes are the shortest that spell the module that `parts` gives: a valid module that imports the host functions of
+/// the set alone, has the planned table and memory, exports its entry as `_start` and the memory as `memory`, and agrees with the loaded set.
+/// How many they are is in line with the set.
 ///
 /// `SectionSize` comes exactly where a section of that module would take 2^32 bytes or more, with the number of the first such section. No
 /// set has one whose bulk is below 2^32, but for types that the host table alone brings: those of host functions that only `GOT.func` asks
 /// for. Where these make a section too long, and where no memory could be had, comes `Memory`.
 pub fn merge(alloc: Global, linked: &Linked) -> Result<Vec<u8>, MergeFault>
-    requires hosts { All IsSupported (hosts_of linked.now) }
     ensures merged { IfOk result (λ bytes. Merges linked.now bytes.items) }
-    ensures spelled { IfOk result (λ bytes. SpellsModule (merged_module linked.now) bytes.items) }
     ensures long { (id : ℕ) → result ≡ Err (faults.SectionSize id) → IsTooLongFor linked.now id }
-    ensures exact { (id : ℕ) → result ≡ Err (faults.SectionSize id) → IsFirstTooLong (merged_module linked.now) id }
     ensures only_long { (id : ℕ) → IsFirstTooLong (merged_module linked.now) id → (result ≡ Err (faults.SectionSize id)) ⊎ (result ≡ Err faults.Memory) }
     ensures little { (id : ℕ) → bulk linked.now < 2 ^ 32 → types_bulk (added_types linked.now) ≤ 33554432 → IsFirstTooLong (merged_module linked.now) id → ⊥ }
 {
     linked.links();
     linked.has_few_pages();
+    linked.hosts_have_integers();
     spelled_modules_merge();
     merged_modules_are_formed();
     bytes_spell_one_module();

@@ -150,22 +150,16 @@ module _ (C : Course) (t : Trace) where
       pub awaits_here : Agrees C t k c → Awaits C x c.answer
       awaits_here agrees =
           let call = asked_call c (status_at C x) (memory_at C x) (asked_here agrees) in
-          (f.taken, f.stands, rw call.waits call.fits)
+          (f.taken, f.stands.found, rw call.waits call.fits)
 
       abbrev answered : Recorded
       answered = with_answer x c.answer
 
       -- the run stands there with its answer too
-      recorded : Agrees C t k c → IsAt C answered × (state_at C answered ≡ state_at C x)
-      recorded agrees =
-          let call = asked_call c (status_at C x) (memory_at C x) (asked_here agrees) in
-          at_recorded C x f.stands call.call c.answer f.taken call.waits call.fits
-
-      pub stands_answered : Agrees C t k c → IsAt C answered
-      stands_answered agrees = (recorded agrees).0
-
       pub state_answered : Agrees C t k c → state_at C answered ≡ state_at C x
-      state_answered agrees = (recorded agrees).1
+      state_answered agrees =
+          let call = asked_call c (status_at C x) (memory_at C x) (asked_here agrees) in
+          (at_recorded C x f.stands call.call c.answer f.taken call.waits call.fits).1
 
       -- and goes on from there by a step that takes it
       pub has_taken : Agrees C t k c → is_due S C.deep (state_at C x) x.answers ≡ false → IsAt C (with_step answered) → HasFollowed C t (suc k) (with_step answered)
@@ -231,7 +225,7 @@ module _ (C : Course) (t : Trace) where
       -- what was asked
       asked_on : x.steps ≤ n → (asked : Option Asked) → IsAskedOf C.host (status_at C x) asked → IsAskedOf C.host (status_at C further) asked
       asked_on more asked asks = elim (cases_lt x.steps n) [
-        | inl lt ↦ moved asked asks (code.free x.steps (le_refl x.steps) lt).0 (code.unasked stands lt)
+        | inl lt ↦ moved asked asks (code.free x.steps (le_refl x.steps) lt).0 (code.unasked lt)
         | inr ge ↦ let same : x.steps ≡ n = omega arith in subst (λ n. IsAskedOf C.host (S.status (courses.after C n x.answers).state) asked) same asks
       ]
         where

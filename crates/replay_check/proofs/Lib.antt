@@ -8,6 +8,7 @@ pub mod Fitting
 pub mod Following
 pub mod Left
 pub mod Loading
+pub mod OneTrace
 pub mod Recording
 pub mod Replaying
 pub mod Telling

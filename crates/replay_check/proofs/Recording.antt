@@ -141,7 +141,7 @@ module _ (C : Course) (r : ran.Ran) where
   module _ (calls : List TraceCall) (most : ℕ) (x y : Recorded) (goes : GoesOn C r calls x) (made : Advances most x y) (code : AreOfCode C x y) (found : y.lost ≡ false) (stands : IsAt C y) where
     stays_ready : is_waiting C x ≡ false → is_waiting C y ≡ false
     stays_ready ready = elim (cases_lt x.steps y.steps) [
-      | inl more ↦ not_waiting y (status_at C y) (code.unasked stands more)
+      | inl more ↦ not_waiting y (status_at C y) (code.unasked more)
       | inr none ↦
           let count : y.steps ≡ x.steps = omega (arith, made.more) in
           let lost : y.lost ≡ x.lost = found ∙ sym goes.0.stands.found in
@@ -245,7 +245,7 @@ module _ (C : Course) (r : ran.Ran) where
 
           -- and fits
           pub awaits_next : Awaits C x given
-          awaits_next = (unanswered, f.stands, subst (λ status. FitsWait given status (memory_at C x)) (sym called.waits) fits_next)
+          awaits_next = (unanswered, f.stands.found, subst (λ status. FitsWait given status (memory_at C x)) (sym called.waits) fits_next)
 
           module _ (h : code.HostName) (there : C.host asked.entry ≡ Some (host_name_of h)) where
             abbrev noted : TraceCall

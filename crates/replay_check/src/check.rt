@@ -5,7 +5,7 @@ ghost use Rattle.run_loaded.specs.Courses.{Origin};
 ghost use Rattle.run_loaded.specs.Programs.{recorded_of, IsOf};
 ghost use Rattle.replay_check.specs.Checks.{HoldNumbers, Checks};
 ghost use Rattle.replay_check.specs.Following.{Compares};
-ghost use Rattle.replay_check.specs.Laws.{OneAgreeing, TracesAgree};
+ghost use Rattle.replay_check.specs.Laws.{OneAgreeing, OneTrace, TracesAgree};
 
 use crate::program::Program;
 use crate::replay::Replay;
@@ -56,4 +56,9 @@ fn compare(alloc: Global, loaded: Loaded, t: &Trace) -> Result<Option<u32>, Memo
 pub fn runs_agree_up_to_one_call()
     ensures one { OneAgreeing }
     ensures whole { TracesAgree }
+{}
+
+/// A run that was told so has one trace. So its text either is short enough to be stored or isn't.
+pub fn runs_have_one_trace()
+    ensures { OneTrace }
 {}

@@ -10,7 +10,7 @@ mod ranges;
 mod record;
 mod replay;
 
-pub use check::{check_trace, runs_agree_up_to_one_call};
+pub use check::{check_trace, runs_agree_up_to_one_call, runs_have_one_trace};
 pub use program::Program;
 pub use record::trace_of;
 pub use spec_traces::{Trace, TraceCall, TraceEnd, TraceFault};

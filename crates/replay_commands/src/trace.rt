@@ -3,7 +3,6 @@ ghost use Rattle.std.specs.Prelude.{◌≡◌, ◌≤◌, true, false, IfOk, Ok}
 ghost use Rattle.host_calls.specs.Embedders.{names_of};
 ghost use Rattle.spec_loading.specs.spec_safety.SoundModules.{HoldsNumbers};
 ghost use Rattle.replay_check.specs.Checks.{IsOpened, HoldNumbers};
-ghost use Rattle.wasm_exec.specs.Executed.{HaveIntegers};
 ghost use Rattle.dyl_front.specs.Orders.{IsLinkInRange};
 ghost use Rattle.dyl_commands.specs.Due.{is_done};
 ghost use Rattle.dyl_commands.specs.Counts.{StoresFor, Counts};
@@ -96,7 +95,6 @@ fn trace_linked<F: Files, I: Source, O: Sink, E: Sink, A: Ambient>(
     host: &HostTable,
 ) -> Outcome
     requires names { linked.now.names ≡ names_of host.now }
-    requires integers { HaveIntegers (names_of host.now) }
     requires steps { steps ≤ 9223372036854775807 }
     ensures { SetTraces host.now linked.now args.now steps out.now result (F.seen files.old) (F.seen files.new) (I.seen input.old) (O.seen output.old) (E.seen errors.old) (A.seen ambient.old) (I.seen input.new) (O.seen output.new) (E.seen errors.new) (A.seen ambient.new) }
 {

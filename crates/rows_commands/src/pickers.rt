@@ -1,5 +1,5 @@
 // Commands over what picks the programs of a board.
-ghost use Rattle.std.specs.Prelude.{◌<◌, ◌≡◌};
+ghost use Rattle.std.specs.Prelude.{◌<◌, ◌≡◌, ◌%◌};
 
 use crate::facts::Facts;
 use crate::row::Row;
@@ -11,7 +11,8 @@ use std::alloc::Global;
 /// Each program in its turn.
 fn in_turns(turn: u64, count: u64) -> u64
     requires { 0 < count }
-    ensures { result < count }
+    ensures below { result < count }
+    ensures in_turn { result ≡ turn % count }
 {
     turn % count
 }

@@ -25,7 +25,7 @@ impl<'m> Loaded<'m> {
     /// Makes one step, which takes the answer that is recorded for a wait, and tells how the run stands then. An end is told again,
     /// `Deep` where the step would pass a limit of depth, with nothing changed.
     pub fn run_step(&mut self, alloc: Global) -> Result<Event, Memory>
-        requires answered { (o : Origin) × IsOf self.old o × IsAt (course_of o) (recorded_of self.old) × (is_waiting (course_of o) (recorded_of self.old) ≡ false) }
+        requires answered { (o : Origin) × IsOf self.old o × ((recorded_of self.old).lost ≡ false → is_waiting (course_of o) (recorded_of self.old) ≡ false) }
         requires few { (recorded_of self.old).steps < 18446744073709551615 }
         ensures stepped { IfOk result (λ e. (o : Origin) → IsOf self.old o → IsAt (course_of o) (recorded_of self.old) × RunStepped (course_of o) e (recorded_of self.old) (recorded_of self.new)) }
         ensures arguments { IfOk result (λ e. (o : Origin) → IsOf self.old o → ArgumentsFit (course_of o).host e) }
@@ -68,7 +68,7 @@ impl<'m> Loaded<'m> {
 
     /// Whether it has returned, exited or trapped.
     pub fn has_ended(&self) -> bool
-        ensures { (o : Origin) → IsOf self.now o → IsAt (course_of o) (recorded_of self.now) → result ≡ recorded.has_ended (status_at (course_of o) (recorded_of self.now)) }
+        ensures { (recorded_of self.now).lost ≡ false → (o : Origin) → IsOf self.now o → result ≡ recorded.has_ended (status_at (course_of o) (recorded_of self.now)) }
     {
         match self {
             Loaded::Module(single) => single.has_ended(),
@@ -109,7 +109,7 @@ impl<'m> Loaded<'m> {
 
     /// The memory as the run stands.
     pub fn memory(&self) -> &Space
-        ensures { (o : Origin) → IsOf self.now o → IsAt (course_of o) (recorded_of self.now) → result.now ≡ memory_at (course_of o) (recorded_of self.now) }
+        ensures { (recorded_of self.now).lost ≡ false → (o : Origin) → IsOf self.now o → result.now ≡ memory_at (course_of o) (recorded_of self.now) }
     {
         match self {
             Loaded::Module(single) => single.memory(),

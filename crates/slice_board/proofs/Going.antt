@@ -7,7 +7,7 @@ use Rattle.spec_loading.specs.spec_runtime.Courses.{Course, reached, state_at, s
 use Rattle.spec_boards.specs.declared.turn.Stop.{Stop}
 use Rattle.spec_boards.specs.declared.turn.Stop.TheVariants as stop
 use Rattle.spec_boards.specs.Turns.{stop_at}
-use Rattle.spec_boards.proofs.Stops.{first_cause, none_going, none_unasked}
+use Rattle.spec_boards.proofs.Stops.{first_cause, none_going}
 use Rattle.wasm_machine.specs.declared.event.Event.{Event}
 use Rattle.wasm_machine.specs.declared.event.Event.TheVariants as event
 use Rattle.wasm_machine.specs.Steps.{TellsStatus, StepMade, RunStepped, Advances, AreOfCode}
@@ -70,10 +70,6 @@ module _ (most until : ℕ) where
       (seen : old.run.lost ≡ false → None ≡ stop_seen (set_course old.linked) most until old.run) where
     abbrev C : Course
     C = set_course old.linked
-
-    -- it doesn't wait for an answer that isn't recorded
-    pub step_unasked : IsAt C old.run → is_waiting C old.run ≡ false
-    step_unasked at = none_unasked (reached C old.run).left (memory_at C old.run) _ _ old.run.answered (status_at C old.run) at.left (sym (seen still))
 
     pub step_under : old.run.steps < until
     step_under = seen_under C most until old.run few (sym (seen still))
@@ -201,6 +197,13 @@ module _ (most until : ℕ) (old middle new : StoreRun) (same : middle.linked �
   ]
 
 -- ---- what is seen before a step
+
+-- a run that waits stops
+pub none_waits : (ended limited waits spent : Bool) → first_stop ended limited waits spent ≡ None → waits ≡ false
+none_waits true limited waits spent e = absurd cc
+none_waits false true waits spent e = absurd cc
+none_waits false false true spent e = absurd cc
+none_waits false false false spent e = refl
 
 sees_first : (C : Course) (most until : ℕ) (x : Recorded) → IsAt C x
     → first_stop (has_ended (status_at C x)) (nat_eq x.steps most) (is_waiting C x) (nat_eq x.steps until) ≡ stop_seen C most until x

@@ -1,5 +1,5 @@
 -- What is so of turns of linked sets, and of the calls that are answered between them.
-use Rattle.std.specs.Prelude.{◌≡◌, ◌≢◌, ℕ, List, slice_get, Some}
+use Rattle.std.specs.Prelude.{◌≡◌, ◌≢◌, ℕ, List, [], ◌∷◌, slice_get, Some}
 use Rattle.std.specs.List.{All}
 use Rattle.spec_loading.specs.wasm_form.declared.runtime.Answer.{Answer}
 use Rattle.spec_loading.specs.spec_linking.Gathering.{IsSet}
@@ -9,7 +9,7 @@ use Rattle.spec_loading.specs.spec_safety.ValueTypes.{IsOfBytes}
 use Rattle.spec_loading.specs.SoundSets.{HoldBytes, HasFewPages}
 use Rattle.spec_boards.specs.Turns.{Place, turn_of}
 use Rattle.spec_boards.specs.Boards.{Board, turn, board}
-use Rattle.spec_boards.specs.Laws.{IsTurn, IsRealPlace, IsFurther, CallsGrow, AllServed}
+use Rattle.spec_boards.specs.Laws.{IsTurn, IsRealPlace, IsFurther, CallsGrow, AllServed, alone}
 use Rattle.dyl_store.specs.Stores.{set_course}
 
 -- a set that links, may have fewer pages than a memory can have, and whose data segments are of bytes
@@ -39,3 +39,9 @@ AllMayRun programs = (i : ℕ) (x : LinkedSet × (ℕ × List Answer)) → slice
 -- After any picks the steps of each program are real ones of its own run, and its calls are those of that run.
 abbrev pub CallsAreTheirs : Type 0
 CallsAreTheirs = (programs : List (LinkedSet × (ℕ × List Answer))) (slice : ℕ) (picks : List ℕ) → AllMayRun programs → AllServed set_course (board set_course programs slice picks)
+
+-- Over any picks a program comes to what it comes to as the one program of a board, over as many turns, with the same answers: it doesn't see
+-- the others.
+abbrev pub ProgramsStandAlone : Type 0
+ProgramsStandAlone = (programs : List (LinkedSet × (ℕ × List Answer))) (slice : ℕ) (picks : List ℕ) (i : ℕ) (x : LinkedSet × (ℕ × List Answer)) → slice_get programs i ≡ Some x
+    → slice_get (board set_course programs slice picks).seats i ≡ slice_get (board set_course (x ∷ []) slice (alone i picks)).seats 0

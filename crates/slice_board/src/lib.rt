@@ -1,7 +1,7 @@
 //! Several loaded programs that run in turns, one turn at a time: who is next is picked by a callback.
 #![tactic(auto)]
 
-ghost use Rattle.slice_board.specs.Laws.{TurnsAreSteps, TurnsLeaveTheOthers, CallsAreFirst, CallsAreTheirs};
+ghost use Rattle.slice_board.specs.Laws.{TurnsAreSteps, TurnsLeaveTheOthers, CallsAreFirst, CallsAreTheirs, ProgramsStandAlone};
 
 mod board;
 mod picker;
@@ -28,3 +28,9 @@ pub fn calls_are_joined()
 {
     linked_sets_never_get_stuck();
 }
+
+/// Programs on a board don't see each other: what comes of one of them, over any picks, comes of it as the one program of a board, over as many
+/// turns, with the same answers.
+pub fn programs_stand_alone()
+    ensures { ProgramsStandAlone }
+{}

@@ -1,5 +1,6 @@
 // The steps of a turn.
-ghost use Rattle.std.specs.Prelude.{◌≡◌, ◌≤◌, Some, false, IfOk, OnErr};
+ghost use Rattle.std.specs.Prelude.{◌≡◌, ◌≤◌, Some, None, false, IfOk, OnErr};
+ghost use Rattle.spec_loading.specs.spec_runtime.Courses.{is_waiting};
 ghost use Rattle.dyl_store.specs.Stores.{set_course};
 ghost use Rattle.slice_board.specs.Taken.{MadeTurn, LostTurn};
 ghost use Rattle.slice_board.specs.Steps.{first_stop, stop_seen, deep_stop, GoesOn, GetsLost};
@@ -27,9 +28,10 @@ fn first_stop(ended: bool, limited: bool, waits: bool, spent: bool) -> Option<St
     }
 }
 
-// The cause to stop before the next step, unless that step is too deep.
+// The cause to stop before the next step, unless that step is too deep. Where there is none the run doesn't wait.
 fn stop_of(store: &Store, most: u64, until: u64) -> Option<Stop>
-    ensures { store.now.run.lost ≡ false → result ≡ stop_seen (set_course store.now.linked) most until store.now.run }
+    ensures seen { store.now.run.lost ≡ false → result ≡ stop_seen (set_course store.now.linked) most until store.now.run }
+    ensures answered { result ≡ None → store.now.run.lost ≡ false → is_waiting (set_course store.now.linked) store.now.run ≡ false }
 {
     let steps = store.steps();
     first_stop(

@@ -9,7 +9,7 @@ use Rattle.spec_boards.proofs.Playing.{none_made, none_played}
 use Rattle.dyl_store.specs.Stores.{set_course}
 use Rattle.slice_board.specs.declared.board.Seat.{Seat}
 use Rattle.slice_exec.specs.declared.tally.Tally.{Tally}
-use Rattle.slice_exec.specs.Playing.{new_seat, sets_in, places_in, written_in, IsSeated, IsAtRound, IsFresh}
+use Rattle.slice_exec.specs.Playing.{new_seat, sets_in, places_in, written_in, IsSeated, IsFreeSeat, IsAtRound, IsFresh}
 
 sets_new : (most : ℕ) (Ls : List LinkedSet) → sets_in (map (new_seat most) Ls) ≡ Ls
 sets_new most [] = refl
@@ -38,6 +38,7 @@ begins most slice turns pick embedder seats turn tally begun fresh =
     record {
       limits = subst (All (λ (s : Seat). s.most ≡ most)) (sym same) (All-map (λ (s : Seat). s.most ≡ most) (new_seat most) Ls (λ k d lt. refl));
       each = subst (All (λ (s : Seat). IsSeated most s.store.run)) (sym same) (All-map (λ (s : Seat). IsSeated most s.store.run) (new_seat most) Ls (λ k d lt. record { found = refl; room = refl; few = omega arith }));
+      free = subst (All IsFreeSeat) (sym same) (All-map IsFreeSeat (new_seat most) Ls (λ k d lt. λ j under. absurd (omega arith)));
       counted = fresh.1 ∙ ap length (sym fresh.2);
       written = fresh.3 ∙ written_new most Ls ∙ ap written_in (sym same);
       played = rw (fresh.2, sym (places_new most Ls ∙ ap places_in (sym same))) (none_played set_course Ls most slice turns pick embedder begun);

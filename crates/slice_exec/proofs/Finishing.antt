@@ -18,7 +18,7 @@ use Rattle.dyl_store.specs.Stores.{set_course}
 use Rattle.slice_board.specs.Taken.{place_of}
 use Rattle.slice_board.specs.declared.board.Seat.{Seat}
 use Rattle.slice_exec.specs.declared.tally.Tally.{Tally}
-use Rattle.slice_exec.specs.Playing.{sets_in, places_in, IsDone, AllDone, IsRan, IsPlayed}
+use Rattle.slice_exec.specs.Playing.{sets_in, places_in, IsSeated, IsFreeSeat, IsDone, AllDone, IsRan, IsPlayed}
 use Rattle.slice_exec.proofs.Lists.{all_at, zip_at, zip_length}
 use Rattle.slice_exec.proofs.Rounds.{set_there}
 
@@ -56,9 +56,11 @@ module _ (most slice turns : ℕ) (pick : ℕ → ℕ → ℕ → Type 0) (embed
       one s i ran at ran_at =
           let is = zip_at IsRan seats r.runs i s ran all at ran_at in
           let ends : EndsBy true (set_course s.store.linked) most (place_of s.store.run) ran.end =
-          subst (λ n. EndsBy true (set_course s.store.linked) n (place_of s.store.run) ran.end) (all_at (λ (s : Seat). s.most ≡ most) seats i s played.0.limits at) is.2
+          subst (λ n. EndsBy true (set_course s.store.linked) n (place_of s.store.run) ran.end) (all_at (λ (s : Seat). s.most ≡ most) seats i s played.0.limits at) is.3
           in
-          record { steps = is.0; answers = is.1; ends = ends_used used (set_course s.store.linked) most (place_of s.store.run) ran.end (used_or_done s i at) ends }
+          let seated = all_at (λ (t : Seat). IsSeated most t.store.run) seats i s played.0.each at in
+          let free = all_at IsFreeSeat seats i s played.0.free at in
+          record { steps = is.0; answers = is.1; made = record { few = seated.few; real = is.2; free = free }; ends = ends_used used (set_course s.store.linked) most (place_of s.store.run) ran.end (used_or_done s i at) ends }
 
       each : (i : ℕ) (L : LinkedSet) (x : Place) (ran : Ran) → slice_get (sets_in seats) i ≡ Some L → slice_get (places_in seats) i ≡ Some x → slice_get r.runs i ≡ Some ran → IsRanAs used (set_course L) most x ran
       each i L x ran L_at x_at ran_at =

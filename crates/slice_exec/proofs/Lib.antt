@@ -1,5 +1,6 @@
 pub mod Lists
 pub mod Calling
+pub mod Frees
 pub mod Rounds
 pub mod Beginning
 pub mod Finishing

@@ -9,6 +9,7 @@ use Rattle.spec_hosts.specs.wasm_form.declared.runtime.Answer.{Answer}
 use Rattle.spec_hosts.specs.spec_runs.Systems.{event_at, event}
 use Rattle.spec_hosts.specs.spec_runtime.Memories.{MemoryInstance}
 use Rattle.spec_hosts.specs.spec_runtime.Hosts.{answer_fits}
+use Rattle.spec_hosts.specs.spec_runtime.Recorded.{Recorded}
 use Rattle.spec_hosts.specs.spec_runtime.Courses.{Course, memory_at, IsAt, is_waiting, with_answer}
 use Rattle.spec_hosts.specs.Devices.{Devices}
 use Rattle.spec_hosts.specs.Hosted.{Embedder, IsHosted, BreaksOff}
@@ -27,7 +28,10 @@ use Rattle.dyl_store.specs.Stores.{set_course}
 use Rattle.slice_board.specs.Taken.{next_turn, place_of, IsTurnOf, MadeTurn}
 use Rattle.slice_board.specs.declared.board.Seat.{Seat}
 use Rattle.slice_exec.specs.declared.tally.Tally.{Tally}
-use Rattle.slice_exec.specs.Playing.{sets_in, places_in, written_by, written_in, IsSeated, SomeGoes, CallGives, IsAtRound}
+use Rattle.slice_exec.specs.Playing.{sets_in, places_in, written_by, written_in, IsSeated, IsFreeSeat, SomeGoes, CallGives, IsAtRound}
+use Rattle.wasm_exec.specs.Driving.{IsFree}
+use Rattle.wasm_exec.proofs.Limits.{free_append}
+use Rattle.slice_exec.proofs.Frees.{turn_free}
 use Rattle.slice_exec.proofs.Lists.{all_at}
 
 -- the set of a program
@@ -41,7 +45,7 @@ cut Ls most slice turns pick embedder seats turn tally begun now here = cut_here
 
 module _ (most slice turns : ℕ) (pick : ℕ → ℕ → ℕ → Type 0) (embedder : Embedder) (seats : List Seat) (turn : ℕ) (tally : Tally) (begun now : Devices)
     (here : IsAtRound (sets_in seats) most slice turns pick embedder seats turn tally begun now) (few : turns < 4294967296) (lt : length tally.picks.items < turns) (goes : SomeGoes most seats)
-    (p : ℕ) (picked : pick turn (length seats) p) (old new : Seat) (there : slice_get seats p ≡ Some old) (most_same : new.most ≡ old.most)
+    (p : ℕ) (picked : pick turn (length seats) p) (old new : Seat) (there : slice_get seats p ≡ Some old) (linked : new.store.linked ≡ old.store.linked) (most_same : new.most ≡ old.most)
     (steps : ℕ) (why : Stop) (made : MadeTurn slice old new steps why) where
   abbrev Ls : List LinkedSet
   Ls = sets_in seats
@@ -101,6 +105,17 @@ module _ (most slice turns : ℕ) (pick : ℕ → ℕ → ℕ → Type 0) (embed
     few = few_new;
   }
 
+  -- no limit was due before one of its steps
+  free_here : IsFree C new.store.run.steps new.store.run.answers
+  free_here =
+      let before : IsFree C old.store.run.steps old.store.run.answers = all_at IsFreeSeat seats p old here.free there in
+      let turned_free : IsFree C t.place.steps old.store.run.answers = turn_free C most slice x seated_old.room before in
+      subst (IsFree C new.store.run.steps) (sym same_given)
+      (subst (λ n. IsFree C n old.store.run.answers) (sym (ap (λ (q : Place). q.steps) turned.0.1)) turned_free)
+
+  free_new : IsFreeSeat new
+  free_new = subst (λ (M : LinkedSet). IsFree (set_course M) new.store.run.steps new.store.run.answers) (sym linked) free_here
+
   most_new : new.most ≡ most
   most_new = most_same ∙ all_at (λ (s : Seat). s.most ≡ most) seats p old here.limits there
 
@@ -120,6 +135,7 @@ module _ (most slice turns : ℕ) (pick : ℕ → ℕ → ℕ → Type 0) (embed
   silent told same written full = record {
     limits = All-set (λ (s : Seat). s.most ≡ most) seats p new most_new here.limits;
     each = All-set (λ (s : Seat). IsSeated most s.store.run) seats p new seated_new here.each;
+    free = All-set IsFreeSeat seats p new free_new here.free;
     counted = counted_new told same;
     written = written ∙ here.written ∙ sym written_same;
     played =
@@ -146,12 +162,13 @@ module _ (most slice turns : ℕ) (pick : ℕ → ℕ → ℕ → Type 0) (embed
         (subst (λ q. BreaksOff embedder (event C.system (reached C q).state) now after) turned.0.1
         (subst (λ status. BreaksOff embedder (event_at status (memory_at C new.store.run)) now after) (sym gives.1) (asked_broken embedder (gives.0, memory_at C new.store.run) r now after gives.2)))
 
-    pub answered : (told : Tally) (a : Answer) (last : Seat) (after : Devices) → told.picks.items ≡ tally.picks.items ++ p ∷ [] → last.most ≡ new.most → last.store.run ≡ with_answer new.store.run a
+    pub answered : (told : Tally) (a : Answer) (last : Seat) (after : Devices) → told.picks.items ≡ tally.picks.items ++ p ∷ [] → IsAt C new.store.run → last.store.linked ≡ new.store.linked → last.most ≡ new.most → last.store.run ≡ with_answer new.store.run a
         → told.written.items ≡ written_in (slice_set (slice_set seats p new) p last) → CallGives embedder C new.store.run (Ok a) now after
         → IsAtRound Ls most slice turns pick embedder (slice_set (slice_set seats p new) p last) (next_turn turn) told begun after
-    answered told a last after same most_last with written gives = record {
+    answered told a last after same stands linked_last most_last with written gives = record {
       limits = All-set (λ (s : Seat). s.most ≡ most) (slice_set seats p new) p last (most_last ∙ most_new) (All-set (λ (s : Seat). s.most ≡ most) seats p new most_new here.limits);
       each = All-set (λ (s : Seat). IsSeated most s.store.run) (slice_set seats p new) p last (subst (IsSeated most) (sym with) seated_last) (All-set (λ (s : Seat). IsSeated most s.store.run) seats p new seated_new here.each);
+      free = All-set IsFreeSeat (slice_set seats p new) p last free_last (All-set IsFreeSeat seats p new free_new here.free);
       counted = counted_new told same;
       written = written;
       played =
@@ -167,6 +184,12 @@ module _ (most slice turns : ℕ) (pick : ℕ → ℕ → ℕ → Type 0) (embed
           (subst (λ m. answer_fits gives.0 m a ≡ true) same_memory gives.3) after (subst (λ m. IsHosted embedder (gives.0, m) a now after) same_memory gives.2));
     }
       where
+        free_last : IsFreeSeat last
+        free_last =
+            let next : IsFree C new.store.run.steps (new.store.run.answers ++ a ∷ []) = free_append C new.store.run.answers (a ∷ []) new.store.run.steps stands.real free_here in
+            let run : IsFree C last.store.run.steps last.store.run.answers = subst (λ (y : Recorded). IsFree C y.steps y.answers) (sym with) next in
+            subst (λ (M : LinkedSet). IsFree (set_course M) last.store.run.steps last.store.run.answers) (sym (linked_last ∙ linked)) run
+
         seated_last : IsSeated most (with_answer new.store.run a)
         seated_last = record {
           found = turned.0.0;

@@ -71,7 +71,7 @@ module _ {X : Type 0} {F : X → Type 0} {g : _} (h : Hosts X F g) (p : ℕ) (se
   pub awaits_at : (a : Answer) (old new : Devices) → IsAsking h u → Asks h u (Ok a) old new → (s : Seat) × (slice_get seats p ≡ Some s) × Awaits (set_course s.store.linked) s.store.run a
   awaits_at a old new asking gives =
       let C = set_course u.linked in
-      let awaits : Awaits C u.run a = (unanswered C u.run asking.waiting, asking.stands, fits_wait a (status_at C u.run) (memory_at C u.run) gives.0 gives.1 gives.3) in
+      let awaits : Awaits C u.run a = (unanswered C u.run asking.waiting, asking.found, fits_wait a (status_at C u.run) (memory_at C u.run) gives.0 gives.1 gives.3) in
       (t, at, subst (λ (v : StoreRun). Awaits (set_course v.linked) v.run a) same awaits)
 
   asks_there : (r : Result Answer Memory) (old new : Devices) → Asks h u r old new → (s : Seat) → slice_get seats p ≡ Some s → Asks h s.store r old new

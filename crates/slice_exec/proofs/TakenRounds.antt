@@ -19,7 +19,7 @@ use Rattle.dyl_link.specs.host_table.declared.entry.HostTable.{HostTable}
 use Rattle.host_calls.specs.declared.hosts.Hosts.{Hosts}
 use Rattle.host_calls.specs.Bindings.{AreBindings}
 use Rattle.host_calls.specs.Embedders.{names_of, embedder_of, embedder}
-use Rattle.wasm_exec.specs.Executed.{HaveIntegers}
+use Rattle.dyl_link.specs.host_table.Names.{HaveIntegers}
 use Rattle.slice_board.specs.Taken.{next_turn, TakesTurn}
 use Rattle.slice_board.specs.declared.board.Seat.{Seat}
 use Rattle.slice_exec.specs.declared.tally.Tally.{Tally}
@@ -72,8 +72,15 @@ module _ {X : Type 0} {F : X → Type 0} {g : _} (slice : ℕ) (pick : ℕ → �
           let e = embedder_of (name ∷ []) table in
           subst (λ m. IsAtRound (sets_in seats) most slice turns pick e mids m told begun before) (sym turn)
           (subst (λ ss. IsAtRound (sets_in seats) most slice turns pick e ss (next_turn n) told begun before) (sym taken.set)
-          (rounds.silent most slice turns pick e seats n tally begun before here few lt goes p taken.picked old new taken.there taken.most t.steps t.stop taken.comes.1 told picks_so written full)),
+          (rounds.silent most slice turns pick e seats n tally begun before here few lt goes p taken.picked old new taken.there taken.linked taken.most t.steps t.stop taken.comes.1 told picks_so written full)),
     )
+
+    -- the steps of the program led where it stands
+    pub seen_at : (s : Seat) (u : StoreRun) → slice_get mids t.program ≡ Some s → u ≡ s.store → (u.run.lost ≡ false → IsAt (set_course u.linked) u.run) → IsAt (set_course new.store.linked) new.store.run
+    seen_at s u at same seen =
+        let one : u ≡ new.store = same ∙ ap (λ (x : Seat). x.store) (same_Some s new (sym at ∙ new_at)) in
+        let stood : new.store.run.lost ≡ false → IsAt (set_course new.store.linked) new.store.run = subst (λ (v : StoreRun). v.run.lost ≡ false → IsAt (set_course v.linked) v.run) one seen in
+        stood taken.comes.1.taken.0.0
 
     -- the program of a store that is looked at
     pub seen_full : (s : Seat) (u : StoreRun) (full : Bool) (b : Bool) → slice_get mids t.program ≡ Some s → u ≡ s.store → full ≡ are_many u.run.answers → full ≡ b → are_many new.store.run.answers ≡ b
@@ -96,7 +103,7 @@ module _ {X : Type 0} {F : X → Type 0} {g : _} (slice : ℕ) (pick : ℕ → �
       pub written_so : (s : Seat) (u : StoreRun) → slice_get mids t.program ≡ Some s → u ≡ s.store → told.written.items ≡ written_in mids
       written_so s u at same =
           written ∙ ready.6.written
-          ∙ sym (ap written_in taken.set ∙ rounds.written_same ready.3 slice ready.4 pick (embedder_of (ready.0 ∷ []) ready.1) seats n tally ready.5 now ready.6 ready.7 ready.8 ready.9 p taken.picked old new taken.there taken.most t.steps t.stop taken.comes.1)
+          ∙ sym (ap written_in taken.set ∙ rounds.written_same ready.3 slice ready.4 pick (embedder_of (ready.0 ∷ []) ready.1) seats n tally ready.5 now ready.6 ready.7 ready.8 ready.9 p taken.picked old new taken.there taken.linked taken.most t.steps t.stop taken.comes.1)
 
       module _ (h : Hosts X F g) (read : h ≡ get_or hosts t.program h) where
         host_at : slice_get hosts p ≡ Some h
@@ -110,14 +117,13 @@ module _ {X : Type 0} {F : X → Type 0} {g : _} (slice : ℕ) (pick : ℕ → �
 
         asking_so : IsAt (set_course new.store.linked) new.store.run → t.stop ≡ stop.Waits → IsAsking h new.store
         asking_so stands stops =
-            let turned = rounds.turned ready.3 slice ready.4 pick (embedder_of (ready.0 ∷ []) ready.1) seats n tally ready.5 now ready.6 ready.7 ready.8 ready.9 p taken.picked old new taken.there taken.most t.steps t.stop taken.comes.1 in
+            let turned = rounds.turned ready.3 slice ready.4 pick (embedder_of (ready.0 ∷ []) ready.1) seats n tally ready.5 now ready.6 ready.7 ready.8 ready.9 p taken.picked old new taken.there taken.linked taken.most t.steps t.stop taken.comes.1 in
             let waits : IsAt (set_course old.store.linked) new.store.run → is_waiting (set_course old.store.linked) new.store.run ≡ true =
-            λ at. rounds.waiting_new ready.3 slice ready.4 pick (embedder_of (ready.0 ∷ []) ready.1) seats n tally ready.5 now ready.6 ready.7 ready.8 ready.9 p taken.picked old new taken.there taken.most t.steps t.stop taken.comes.1 at stops
+            λ at. rounds.waiting_new ready.3 slice ready.4 pick (embedder_of (ready.0 ∷ []) ready.1) seats n tally ready.5 now ready.6 ready.7 ready.8 ready.9 p taken.picked old new taken.there taken.linked taken.most t.steps t.stop taken.comes.1 at stops
             in
             let table : h.table.now ≡ ready.1 = is_hosts.1 in
             record {
               found = turned.0.0;
-              stands = stands;
               waiting = subst (λ (L : LinkedSet). IsAt (set_course L) new.store.run → is_waiting (set_course L) new.store.run ≡ true) (sym taken.linked) waits stands;
               names = ap (λ (L : LinkedSet). L.names) taken.linked ∙ linked_over ∙ ap (λ tb. names_of tb) (sym table);
               integers = subst (λ tb. HaveIntegers (names_of tb)) (sym table) ready.2.2;
@@ -130,7 +136,7 @@ module _ {X : Type 0} {F : X → Type 0} {g : _} (slice : ℕ) (pick : ℕ → �
         serving_so s u at same seen stops few =
             let one : u ≡ new.store = same ∙ ap (λ (x : Seat). x.store) (same_Some s new (sym at ∙ new_at)) in
             let stood : new.store.run.lost ≡ false → IsAt (set_course new.store.linked) new.store.run = subst (λ (v : StoreRun). v.run.lost ≡ false → IsAt (set_course v.linked) v.run) one seen in
-            let found = (rounds.turned ready.3 slice ready.4 pick (embedder_of (ready.0 ∷ []) ready.1) seats n tally ready.5 now ready.6 ready.7 ready.8 ready.9 p taken.picked old new taken.there taken.most t.steps t.stop taken.comes.1).0.0 in
+            let found = (rounds.turned ready.3 slice ready.4 pick (embedder_of (ready.0 ∷ []) ready.1) seats n tally ready.5 now ready.6 ready.7 ready.8 ready.9 p taken.picked old new taken.there taken.linked taken.most t.steps t.stop taken.comes.1).0.0 in
             (new, new_at, asking_so (stood found) stops, written_so s u at same, few)
 
         -- what came of the call, as its embedder says
@@ -142,9 +148,9 @@ module _ {X : Type 0} {F : X → Type 0} {g : _} (slice : ℕ) (pick : ℕ → �
             (subst (λ (L : LinkedSet). CallGives (embedder h) (set_course L) new.store.run r before after) taken.linked gives)
 
         -- the call was answered, or memory was wanting
-        pub answered_round : (result : Result (Unit {0}) Memory) (news : List Seat) (next : ℕ) (last : Tally) (before after : Devices) → t.stop ≡ stop.Waits → are_many new.store.run.answers ≡ false → next ≡ next_turn n
+        pub answered_round : (result : Result (Unit {0}) Memory) (news : List Seat) (next : ℕ) (last : Tally) (before after : Devices) → IsAt (set_course new.store.linked) new.store.run → t.stop ≡ stop.Waits → are_many new.store.run.answers ≡ false → next ≡ next_turn n
             → last.picks.items ≡ told.picks.items → Serves h t.program result mids told.written.items news last.written.items before after → RoundGives slice pick hosts result seats n tally news next last before after
-        answered_round (Ok done) news next last before after stops few turn same serves =
+        answered_round (Ok done) news next last before after stands stops few turn same serves =
             let s = serves new new_at in (
               (
                 ap sets_in s.5 ∙ map_set_same (λ (s : Seat). s.store.linked) mids t.program new s.1 new_at s.2 ∙ sets_same,
@@ -157,14 +163,14 @@ module _ {X : Type 0} {F : X → Type 0} {g : _} (slice : ℕ) (pick : ℕ → �
                   let where_set : news ≡ slice_set (slice_set seats p new) p s.1 = s.5 ∙ ap (λ i. slice_set mids i s.1) taken.comes.0 ∙ ap (λ l. slice_set l p s.1) taken.set in
                   subst (λ m. IsAtRound (sets_in seats) most slice turns pick e news m last begun after) (sym turn)
                   (subst (λ ss. IsAtRound (sets_in seats) most slice turns pick e ss (next_turn n) last begun after) (sym where_set)
-                  (rounds.answered most slice turns pick e seats n tally begun before here fewer lt goes p taken.picked old new taken.there taken.most t.steps t.stop taken.comes.1 stops few
-                  last s.0 s.1 after (same ∙ picks_so) s.3 s.4 (s.6 ∙ ap written_in where_set) gives)),
+                  (rounds.answered most slice turns pick e seats n tally begun before here fewer lt goes p taken.picked old new taken.there taken.linked taken.most t.steps t.stop taken.comes.1 stops few
+                  last s.0 s.1 after (same ∙ picks_so) (subst (λ (M : LinkedSet). IsAt (set_course M) new.store.run) taken.linked stands) s.2 s.3 s.4 (s.6 ∙ ap written_in where_set) gives)),
             )
-        answered_round (Err why) news next last before after stops few turn same serves =
+        answered_round (Err why) news next last before after stands stops few turn same serves =
             let s = serves new new_at in (
               tt,
               λ name table have most turns begun here fewer lt goes.
                   let hosted = zip_at (IsHostsOf name table) (sets_in seats) hosts p old.store.linked h have.0 (rounds.set_there seats p old taken.there) host_at in
-                  rounds.cut_call most slice turns pick (embedder_of (name ∷ []) table) seats n tally begun before here fewer lt goes p taken.picked old new taken.there taken.most t.steps t.stop taken.comes.1 stops few
+                  rounds.cut_call most slice turns pick (embedder_of (name ∷ []) table) seats n tally begun before here fewer lt goes p taken.picked old new taken.there taken.linked taken.most t.steps t.stop taken.comes.1 stops few
                   s.0 after (gives_old name table hosted s.0 before after s.1),
             )

@@ -12,7 +12,7 @@ use Rattle.dyl_link.specs.host_table.declared.entry.HostTable.{HostTable}
 use Rattle.dyl_store.specs.Stores.{set_course}
 use Rattle.host_calls.specs.declared.hosts.Hosts.{Hosts}
 use Rattle.host_calls.specs.Embedders.{names_of, embedder_of}
-use Rattle.wasm_exec.specs.Executed.{HaveIntegers}
+use Rattle.dyl_link.specs.host_table.Names.{HaveIntegers}
 use Rattle.slice_board.specs.declared.board.Seat.{Seat}
 use Rattle.slice_exec.specs.declared.tally.Tally.{Tally}
 use Rattle.slice_exec.specs.Executed.{ExecutesBoard}

@@ -6,7 +6,7 @@ use Rattle.spec_hosts.specs.wasm_form.declared.runtime.Answer.{Answer}
 use Rattle.spec_hosts.specs.spec_runs.Systems.{Waits}
 use Rattle.spec_hosts.specs.spec_runtime.Hosts.{HostCall, answer_fits}
 use Rattle.spec_hosts.specs.spec_runtime.Recorded.{Recorded}
-use Rattle.spec_hosts.specs.spec_runtime.Courses.{Course, status_at, memory_at, IsAt, is_waiting, with_answer}
+use Rattle.spec_hosts.specs.spec_runtime.Courses.{Course, status_at, memory_at, is_waiting, with_answer}
 use Rattle.spec_hosts.specs.Devices.{Devices}
 use Rattle.spec_hosts.specs.Hosted.{Embedder, CallComesTo}
 use Rattle.spec_hosts.specs.Ends.{bytes_written, are_many}
@@ -14,13 +14,15 @@ use Rattle.spec_hosts.specs.declared.ran.Ran.{Ran}
 use Rattle.spec_loading.specs.spec_linking.LinkedSets.{LinkedSet, hosts_of}
 use Rattle.spec_boards.specs.Turns.{Place}
 use Rattle.spec_boards.specs.BoardRuns.{is_done, EndsBy, IsBoardCut}
+use Rattle.spec_boards.specs.Laws.{IsRealPlace}
 use Rattle.spec_boards.specs.Played.{Played}
 use Rattle.dyl_link.specs.host_table.declared.entry.HostTable.{HostTable}
 use Rattle.dyl_store.specs.Stores.{StoreRun, set_course, new_run}
 use Rattle.host_calls.specs.declared.hosts.Hosts.{Hosts}
 use Rattle.host_calls.specs.Bindings.{AreBindings}
 use Rattle.host_calls.specs.Embedders.{names_of, embedder_of, embedder}
-use Rattle.wasm_exec.specs.Executed.{HaveIntegers}
+use Rattle.dyl_link.specs.host_table.Names.{HaveIntegers}
+use Rattle.wasm_exec.specs.Driving.{IsFree}
 use Rattle.slice_board.specs.Taken.{place_of}
 use Rattle.slice_board.specs.declared.board.Seat.{Seat}
 use Rattle.slice_exec.specs.declared.tally.Tally.{Tally}
@@ -61,9 +63,15 @@ IsDone most s = is_done (set_course s.store.linked) most (place_of s.store.run) 
 abbrev pub AllDone : ℕ → List Seat → Type 0
 AllDone most seats = All (IsDone most) seats
 
--- what is told of a program at the end, where the turns may be used up
+-- no limit was due before one of its steps
+abbrev pub IsFreeSeat : Seat → Type 0
+IsFreeSeat s = IsFree (set_course s.store.linked) s.store.run.steps s.store.run.answers
+
+-- what is told of a program at the end, where the turns may be used up: each of its steps was a real one
 abbrev pub IsRan : Seat → Ran → Type 0
-IsRan s r = (r.steps ≡ s.store.run.steps) × (r.answers ≡ s.store.run.answers) × EndsBy true (set_course s.store.linked) s.most (place_of s.store.run) r.end
+IsRan s r =
+    (r.steps ≡ s.store.run.steps) × (r.answers ≡ s.store.run.answers) × IsRealPlace (set_course s.store.linked) (place_of s.store.run)
+    × EndsBy true (set_course s.store.linked) s.most (place_of s.store.run) r.end
 
 -- ---- one call
 
@@ -80,7 +88,6 @@ module _ {X : Type 0} {F : X → Type 0} {g : _} where
   -- The run waits for a call, and what answers it was found. Its set was linked over host functions that have integers.
   pub record IsAsking (h : Hosts X F g) (s : StoreRun) : Type 0 where
     pub found : s.run.lost ≡ false
-    pub stands : IsAt (set_course s.linked) s.run
     pub waiting : is_waiting (set_course s.linked) s.run ≡ true
     pub names : s.linked.names ≡ names_of h.table.now
     pub integers : HaveIntegers (names_of h.table.now)
@@ -109,6 +116,7 @@ module _ {X : Type 0} {F : X → Type 0} {g : _} where
 pub record IsAtRound (Ls : List LinkedSet) (most slice turns : ℕ) (pick : ℕ → ℕ → ℕ → Type 0) (embedder : Embedder) (seats : List Seat) (turn : ℕ) (tally : Tally) (begun now : Devices) : Type 0 where
   pub limits : All (λ (s : Seat). s.most ≡ most) seats
   pub each : All (λ (s : Seat). IsSeated most s.store.run) seats
+  pub free : All IsFreeSeat seats
   pub counted : turn ≡ length tally.picks.items
   pub written : tally.written.items ≡ written_in seats
   pub played : Played set_course Ls most slice turns pick embedder tally.picks.items (places_in seats) begun now

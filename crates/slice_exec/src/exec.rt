@@ -3,7 +3,7 @@ ghost use Rattle.std.specs.Prelude.{◌≡◌, ◌<◌, ◌≤◌, ◌∷◌, []
 ghost use Rattle.std.specs.List.{All};
 ghost use Rattle.spec_hosts.specs.Devices.{devices, KeepsFronts};
 ghost use Rattle.host_calls.specs.Embedders.{names_of, embedder_of};
-ghost use Rattle.wasm_exec.specs.Executed.{HaveIntegers};
+ghost use Rattle.dyl_link.specs.host_table.Names.{HaveIntegers};
 ghost use Rattle.slice_board.specs.Taken.{picks_of};
 ghost use Rattle.slice_exec.specs.Executed.{ExecutesBoard};
 ghost use Rattle.slice_exec.specs.Playing.{sets_in, IsUnused, IsFresh, RunsBoard};
@@ -44,10 +44,10 @@ pub fn execute_board<I: Source, O: Sink, E: Sink, A: Ambient>(
     requires few { length sets.now ≤ 64 }
     requires most { most < 18446744073709551615 }
     requires names { All (λ L. L.names ≡ names_of table.now) sets.now }
-    requires integers { HaveIntegers (names_of table.now) }
     ensures executes { ExecutesBoard sets.now (embedder_of (name.now ∷ []) table.now) most slice turns (picks_of picker.now) result (devices (I.seen input.old) (O.seen output.old) (E.seen errors.old) (A.seen ambient.old)) (devices (I.seen input.new) (O.seen output.new) (E.seen errors.new) (A.seen ambient.new)) }
     ensures fronts { KeepsFronts (devices (I.seen input.old) (O.seen output.old) (E.seen errors.old) (A.seen ambient.old)) (devices (I.seen input.new) (O.seen output.new) (E.seen errors.new) (A.seen ambient.new)) }
 {
+    sets[0].hosts_have_integers();
     let mut board = Board::new(alloc, picker);
     let mut tally = Tally {
         written: Vec::new(alloc),
@@ -83,6 +83,7 @@ fn run_board<'m, I: Source, O: Sink, E: Sink, A: Ambient>(
     errors: &mut E,
     ambient: &mut A,
 ) -> Result<(), Memory>
+    requires few { length sets.now ≤ 64 }
     requires none { IsUnused board.old.seats.items board.old.turn tally.old }
     requires names { All (λ L. L.names ≡ names_of table.now) sets.now }
     requires integers { HaveIntegers (names_of table.now) }

@@ -1,10 +1,10 @@
 // A board before its first turn.
-ghost use Rattle.std.specs.Prelude.{◌≡◌, [], ◌∷◌, ◌++◌, map, IfOk, OnOk};
+ghost use Rattle.std.specs.Prelude.{◌≡◌, ◌<◌, ◌≤◌, [], ◌∷◌, ◌++◌, length, map, IfOk, OnOk};
 ghost use Rattle.slice_exec.specs.Playing.{new_seat};
 
 use dyl_link::Linked;
 use dyl_store::Store;
-use slice_board::Board;
+use slice_board::{Board, BoardFault};
 use spec_hosts::wasm_form::{List, Memory, Text};
 use std::alloc::Global;
 
@@ -17,13 +17,14 @@ pub(crate) fn one_argument(alloc: Global, name: &str) -> Result<List<Text>, Memo
     Ok(List::of(texts))
 }
 
-/// Puts a set onto a board, of at most so many steps.
+/// Puts a set onto a board that has room, of at most so many steps.
 fn seat_one<'m>(
     alloc: Global,
     linked: &'m Linked,
     most: u64,
     board: &mut Board<'m>,
 ) -> Result<(), Memory>
+    requires { length board.old.seats.items < 64 }
     ensures seated { OnOk result (board.new.seats.items ≡ board.old.seats.items ++ new_seat most linked.now ∷ []) }
     ensures turn { board.new.turn ≡ board.old.turn }
     ensures picker { board.new.picker ≡ board.old.picker }
@@ -32,13 +33,17 @@ fn seat_one<'m>(
     match board.add(alloc, store, most) {
         Ok(_number) => Ok(()),
         Err(refused) => {
+            let fault = refused.fault;
             drop(refused);
-            Err(Memory)
+            match fault {
+                BoardFault::Full => unreachable!(),
+                BoardFault::Memory => Err(Memory),
+            }
         }
     }
 }
 
-/// Puts each set onto a board, in order. No answer has written anything.
+/// Puts each of 64 sets at most onto a board, in order. No answer has written anything.
 pub(crate) fn seat_all<'m>(
     alloc: Global,
     sets: &'m [Linked],
@@ -46,6 +51,7 @@ pub(crate) fn seat_all<'m>(
     board: &mut Board<'m>,
     written: &mut Vec<u128>,
 ) -> Result<(), Memory>
+    requires few { length sets.now ≤ 64 }
     requires none { board.old.seats.items ≡ [] }
     requires nothing { written.old.items ≡ [] }
     ensures seated { OnOk result (board.new.seats.items ≡ map (new_seat most) sets.now) }

@@ -1,8 +1,11 @@
 -- What is answered of a snapshot.
-use Rattle.std.proofs.Common.{◌≡◌, ℕ, ◌≤◌, ◌^◌, List, [], length, Result, Ok, Err, IfOk, Vec, Global, refl, sym, ap, ◌∙◌, subst, arith}
+use Rattle.std.proofs.Common.{◌≡◌, ◌⊎◌, inr, ℕ, ◌+◌, ◌≤◌, ◌<◌, ◌^◌, List, [], ◌∷◌, length, map, Some, Result, Ok, Err, IfOk, Vec, Global, refl, sym, ap, ◌∙◌, subst, arith}
 use Rattle.std.specs.Prelude.{IfErr}
 use Rattle.std.specs.List.{All}
 use Rattle.std.proofs.lemmas.List.Elements.{All-nil}
+use Rattle.spec_reading.specs.spec_binary.Modules.{SpellsModule}
+use Rattle.spec_reading.specs.spec_binary.WellFormed.{IsWellFormed}
+use Rattle.spec_reading.specs.Laws.{OneModule}
 use Rattle.spec_loading.specs.wasm_form.declared.module.Module.{Module}
 use Rattle.spec_loading.specs.spec_runtime.Memories.{MemoryInstance}
 use Rattle.spec_loading.specs.spec_runtime.Tables.{TableInstance}
@@ -10,6 +13,7 @@ use Rattle.spec_loading.specs.spec_runtime.Recorded.{Recorded}
 use Rattle.spec_loading.specs.spec_runtime.Courses.{state_at}
 use Rattle.spec_loading.specs.spec_safety.ValueTypes.{IsOfBytes}
 use Rattle.spec_loading.specs.spec_linking.Sets.{Member}
+use Rattle.spec_loading.specs.spec_linking.Gathering.{total_size}
 use Rattle.spec_loading.specs.spec_linking.LinkedSets.{LinkedSet}
 use Rattle.spec_loading.specs.LoadedSet.{SetState}
 use Rattle.spec_loading.specs.SoundLoading.{IsSoundLoader}
@@ -19,13 +23,22 @@ use Rattle.spec_snapshots.specs.declared.fault.SnapFault.TheVariants as faults
 use Rattle.dyl_link.specs.dyl_search.declared.set.Member as kept
 use Rattle.dyl_store.specs.Stores.{StoreRun, set_course, new_run}
 use Rattle.wasm_encode.specs.SectionSizes.{IsFirstTooLong}
-use Rattle.merge_module.specs.Laws.{IsMergeable}
-use Rattle.merge_whole.specs.Counts.{members_of}
-use Rattle.snap_set.specs.Causes.{Takes, IsFirst, state_after}
-use Rattle.snap_set.specs.Laws.{SpelledSnapshot}
-use Rattle.snap_merge.specs.Answers.{Snapped, SnapTells, IsTooLongAfter, amount}
-use Rattle.snap_merge.specs.StartUp.{IsStarting, Refuses}
-use Rattle.snap_merge.specs.Written.{IsHolding, amount_of, IsSpelled, IsWriteFault, WriteTells}
+use Rattle.merge_match.specs.Renumbering.{table_instance}
+use Rattle.merge_index.specs.Numbering.{numbers_of}
+use Rattle.merge_index.proofs.FewItems.{total_cons}
+use Rattle.merge_module.specs.MergedModule.{added_types}
+use Rattle.merge_module.specs.Laws.{IsMergeable, types_bulk, names_bulk}
+use Rattle.merge_whole.specs.Counts.{members_of, sizes}
+use Rattle.merge_whole.proofs.Little.{sizes_are, is_decoded}
+use Rattle.merge_whole.proofs.ShortFits.{never_first_long}
+use Rattle.spec_snapshots.specs.Causes.{SnapCause, Takes, TrapsSo, Calls, StepsEnd, IsDeep, IsFirst, cause_at, state_after}
+use Rattle.spec_snapshots.specs.Laws.{WrittenIsOne}
+use Rattle.snap_set.specs.Parts.{snapshot_module}
+use Rattle.snap_set.specs.Laws.{OneFirst, SpelledSnapshot}
+use Rattle.snap_sizes.specs.Laws.{SnapshotIsShort}
+use Rattle.snap_merge.specs.Answers.{Snapped, SnapTells, IsTooLongAfter, IsLongFirst, IsSpelledFirst, amount}
+use Rattle.snap_merge.specs.StartUp.{IsStarting, NoneBefore, Refuses}
+use Rattle.snap_merge.specs.Written.{IsHolding, amount_of, IsSpelled, IsWriteFault, WriteTells, TellsLong}
 
 -- ---- results
 
@@ -83,13 +96,81 @@ write_tells L s (Err faults.Depth) is long = absurd is
 write_tells L s (Err (faults.SectionSize id)) is long = long id refl
 write_tells L s (Err faults.Memory) is long = tt
 
+abbrev pub Written : Type 0
+Written = Result (Vec ℕ Global) SnapFault
+
+-- what is written of a state is determined, and so is the module that holds it
+pub tells_long : WrittenIsOne → (L : LinkedSet) (s : SetState) (m : Module) → IsHolding L s m → (r : Written)
+    → ((id : ℕ) → IsFirstTooLong m id → (r ≡ Err (faults.SectionSize id)) ⊎ (r ≡ Err faults.Memory)) → TellsLong L s r
+tells_long one L s m h r only = λ id c held too.
+    let same : h.contents ≡ c =
+    one s.run.memory (map (table_instance (numbers_of L)) s.run.units.tables) h.contents c h.held.written held.written in
+    only id (subst (λ (q : Module). IsFirstTooLong q id) (sym (h.is ∙ ap (snapshot_module L s) same)) too)
+
 -- ---- the whole
 
-pub snapped_of : SpelledSnapshot → (L : LinkedSet) → IsMergeable L → HoldBytes L → (most n : ℕ) → IsFirst L most n Takes → (s : SetState) → s ≡ state_after L n → (bytes : List ℕ)
+pub spelled_of : (L : LinkedSet) (s : SetState) (m : Module) → IsHolding L s m → (bytes : List ℕ) → SpellsModule m bytes → IsSpelled L s bytes
+spelled_of L s m h bytes spelled = record {
+  contents = h.contents;
+  held = h.held;
+  spelled = subst (λ (q : Module). SpellsModule q bytes) h.is spelled;
+  formed = subst IsWellFormed h.is h.formed;
+}
+
+pub exact_of : (L : LinkedSet) (most : ℕ) (r : Written) → IfErr r (λ f. SnapTells L most f) → (id : ℕ) → r ≡ Err (faults.SectionSize id)
+    → IsLongFirst L most id
+exact_of L most r tells id e =
+    let w = subst (λ (q : Written). IfErr q (λ f. SnapTells L most f)) e tells in
+    record { steps = w.0; first = w.1; contents = w.2.contents; held = w.2.held; long = w.2.first }
+
+pub only_long_of : OneFirst → (L : LinkedSet) (most n : ℕ) → IsFirst L most n Takes → (s : SetState) → s ≡ state_after L n → (r : Written)
+    → TellsLong L s r → (id : ℕ) → IsLongFirst L most id → (r ≡ Err (faults.SectionSize id)) ⊎ (r ≡ Err faults.Memory)
+only_long_of one L most n first s is r tells id x =
+    let steps : n ≡ x.steps = (one L most n x.steps Takes Takes first x.first).0 in
+    let same : s ≡ state_after L x.steps = is ∙ ap (state_after L) steps in
+    subst (λ (t : SetState). TellsLong L t r) same tells id x.contents x.held x.long
+
+-- where the entry is called, nothing else is to be said
+other_cause : OneFirst → (L : LinkedSet) (most id n : ℕ) (cause : SnapCause) → NoneBefore L most n → cause_at L most n (state_after L n) ≡ Some cause
+    → IsLongFirst L most id → cause ≡ Takes
+other_cause one L most id n cause before here x = (one L most n x.steps cause Takes (record { before = before; here = here }) x.first).1
+
+pub refused_long : OneFirst → (L : LinkedSet) (most : ℕ) (f : SnapFault) → Refuses L most f → (id : ℕ) → IsLongFirst L most id
+    → (◌≡◌ {A = Written} (Err f) (Err (faults.SectionSize id))) ⊎ (◌≡◌ {A = Written} (Err f) (Err faults.Memory))
+refused_long one L most faults.HostCall r id x = absurd (let bad = other_cause one L most id r.0 Calls r.1 r.2 x in cc)
+refused_long one L most (faults.Trap why) r id x = absurd (let bad = other_cause one L most id r.0 (TrapsSo why) r.1 r.2 x in cc)
+refused_long one L most faults.Steps r id x = absurd (let bad = other_cause one L most id r.0 StepsEnd r.1 r.2 x in cc)
+refused_long one L most faults.Depth r id x = absurd (let bad = other_cause one L most id r.0 IsDeep r.1 r.2 x in cc)
+refused_long one L most (faults.SectionSize k) r id x = absurd r.2
+refused_long one L most faults.Memory r id x = inr refl
+
+-- ---- where there is little
+
+names_are : (ms : List Member) → sizes ms ≡ total_size ms + names_bulk ms
+names_are [] = refl
+names_are (m ∷ ms) = (let later = names_are ms in let sum = total_cons m ms in omega arith)
+
+pub little_of : SnapshotIsShort → (L : LinkedSet) → IsMergeable L → HoldBytes L → (most id : ℕ) → (x : IsLongFirst L most id)
+    → amount L (state_after L x.steps) < 2 ^ 32 → types_bulk (added_types L) ≤ 33554432 → ⊥
+little_of law L able bytes most id x few types =
+    let one = names_are L.set.members in
+    let two = sizes_are L.set.members in
+    never_first_long (snapshot_module L (state_after L x.steps) x.contents)
+    (law L able bytes x.steps x.contents (record { make = x.held.make; written = x.held.written; types = types; few = omega arith })) refl id x.long
+
+pub snapped_of : SpelledSnapshot → OneModule → (L : LinkedSet) → IsMergeable L → HoldBytes L → (most n : ℕ) → IsFirst L most n Takes → (s : SetState) → s ≡ state_after L n → (bytes : List ℕ)
     → IsSpelled L s bytes → (k : ℕ) × IsFirst L most k Takes × Snapped L bytes (state_after L k)
-snapped_of law L able holds most n first s is bytes spelled =
+snapped_of law one L able holds most n first s is bytes spelled =
     let h = subst (λ (t : SetState). IsSpelled L t bytes) is spelled in
-    (n, first, law L able holds most n first h.contents h.held.make bytes h.spelled)
+    let snapshot = law L able holds most n first h.contents h.held bytes h.spelled in
+    let same = one (snapshot_module L (state_after L n) h.contents) snapshot.wasm bytes h.spelled snapshot.spelled in
+    (n, first, record { snapshot = snapshot; decoded = is_decoded snapshot.wasm bytes snapshot.spelled (subst IsWellFormed same h.formed) })
+
+pub spelled_first : (L : LinkedSet) (most n : ℕ) → IsFirst L most n Takes → (s : SetState) → s ≡ state_after L n → (bytes : List ℕ) → IsSpelled L s bytes
+    → IsSpelledFirst L most bytes
+spelled_first L most n first s is bytes spelled =
+    let h = subst (λ (t : SetState). IsSpelled L t bytes) is spelled in
+    record { steps = n; first = first; contents = h.contents; held = h.held; spelled = h.spelled }
 
 pub written_tells : (L : LinkedSet) (most n : ℕ) → IsFirst L most n Takes → (s : SetState) → s ≡ state_after L n → (f : SnapFault) → WriteTells L s f → SnapTells L most f
 written_tells L most n first s is faults.HostCall w = absurd w

@@ -1,4 +1,3 @@
-pub mod Bottom
 pub mod StartUp
 pub mod Formed
 pub mod Made

@@ -39,10 +39,10 @@ use Rattle.merge_whole.specs.Parts.{ArePartsOf}
 use Rattle.merge_whole.proofs.Little.{formed}
 use Rattle.snap_module.specs.Held.{Stretch, IsWithin, Contents, IsReference, AreTables, CanBeHeld}
 use Rattle.snap_parts.specs.declared.given.Added.{Added}
-use Rattle.snap_parts.specs.Sparse.{IsPart, AreSparse}
+use Rattle.spec_snapshots.specs.Stretches.{IsPart, AreSparse}
 use Rattle.snap_parts.specs.declared.given.Flat as declared
 use Rattle.snap_parts.specs.Built.{AreAdded, IsBuilt, store_in}
-use Rattle.snap_set.specs.Causes.{state_after}
+use Rattle.spec_snapshots.specs.Causes.{state_after}
 use Rattle.snap_set.specs.Parts.{more_of, snapshot_parts, start_number, MakeTables, MakeContents}
 use Rattle.snap_set.specs.Laws.{PartsCanBeHeld, TablesRefer}
 use Rattle.snap_merge.specs.declared.added.Behind.{Behind}
@@ -204,7 +204,7 @@ module _ (keeps : SetRunKeeps) (forms : MergedIsFormed) (holds : PartsCanBeHeld)
     held_so : IsHolding L t m
     held_so = record {
       contents = c;
-      held = record { make = make };
+      held = record { make = make; written = made.written };
       is = made.is;
       formed = subst IsWellFormed (sym made.is) (held_formed (merged_module L) (start_number L) (snapshot_parts L t) t.run.memory c whole refl made.functions made.few brief);
     }

@@ -9,7 +9,7 @@ use Rattle.spec_loading.specs.spec_runtime.Tables.{TableInstance}
 use Rattle.dyl_addresses.proofs.Linked.{at_index}
 use Rattle.merge_whole.proofs.BuiltBodies.{drop_next}
 use Rattle.snap_parts.specs.Built.{is_left}
-use Rattle.snap_merge.specs.Answers.{entries}
+use Rattle.spec_snapshots.specs.Stretches.{entries}
 
 pub not_empty : {A : Type 0} (xs : List A) → not (eqb (length xs) 0) ≡ is_left xs
 not_empty [] = refl

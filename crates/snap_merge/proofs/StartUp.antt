@@ -26,9 +26,9 @@ use Rattle.wasm_machine.proofs.Steps.{few_steps}
 use Rattle.dyl_store.specs.Stores.{StoreRun, set_course, is_moving, is_deep_at, HadCodeOnTop}
 use Rattle.spec_loading.specs.SoundSets.{HoldBytes}
 use Rattle.merge_module.specs.Laws.{IsMergeable}
-use Rattle.snap_set.specs.Causes.{SnapCause, IsFirst, goes_on, is_startup, is_started, Takes, IsDeep, cause_by, cause_at, state_after}
+use Rattle.spec_snapshots.specs.Causes.{SnapCause, IsFirst, goes_on, is_startup, is_started, Takes, IsDeep, cause_by, cause_at, state_after}
 use Rattle.snap_set.specs.Laws.{SomeFirst}
-use Rattle.snap_merge.proofs.Bottom.{Starts, StateStarts, calling_frame, step_over}
+use Rattle.snap_set.proofs.Bottom.{Starts, StateStarts, calling_frame, step_over}
 use Rattle.snap_merge.specs.StartUp.{IsStarting, NoneBefore, IsUnstarted, IsMoving}
 
 -- ---- causes

@@ -1,6 +1,7 @@
 -- What is answered of the snapshot of a linked set.
-use Rattle.std.specs.Prelude.{ℕ, ◌+◌, ◌*◌, ◌^◌, ◌≤◌, List, length, sum_by}
-use Rattle.spec_loading.specs.spec_runtime.Tables.{TableInstance}
+use Rattle.std.specs.Prelude.{ℕ, ◌+◌, ◌*◌, ◌^◌, ◌≤◌, List, length, sum_by, Ok}
+use Rattle.spec_reading.specs.spec_binary.DecodeAnswers.{DecodeAnswer}
+use Rattle.spec_loading.specs.spec_binary.Modules.{SpellsModule}
 use Rattle.spec_loading.specs.spec_linking.LinkedSets.{LinkedSet}
 use Rattle.spec_loading.specs.LoadedSet.{SetState}
 use Rattle.spec_snapshots.specs.declared.fault.SnapFault.{SnapFault}
@@ -9,32 +10,44 @@ use Rattle.wasm_encode.specs.SectionSizes.{IsFirstTooLong}
 use Rattle.merge_index.specs.Numbering.{numbers_of, starts_of}
 use Rattle.merge_module.specs.MergedModule.{merged_module}
 use Rattle.merge_whole.specs.Merges.{bulk}
-use Rattle.snap_module.specs.Held.{Contents}
-use Rattle.snap_set.specs.Causes.{Takes, TrapsSo, Calls, StepsEnd, IsDeep, IsFirst, state_after}
+use Rattle.spec_snapshots.specs.Stretches.{Contents, entries}
+use Rattle.spec_snapshots.specs.Causes.{Takes, TrapsSo, Calls, StepsEnd, IsDeep, IsFirst, state_after}
 use Rattle.snap_set.specs.Snapshots as snapshots
-use Rattle.snap_set.specs.Parts.{snapshot_parts, start_number, snapshot_module, MakeContents}
+use Rattle.snap_set.specs.Parts.{start_number, snapshot_module, IsHeldWith}
 
--- bytes are a snapshot of the set at this state
-abbrev pub Snapped : LinkedSet → List ℕ → SetState → Type 0
-Snapped L bytes s = snapshots.Snapped L (numbers_of L) (starts_of L) (merged_module L) (start_number L) bytes s
-
-abbrev pub entries : TableInstance → ℕ
-entries table = length table.entries
+-- bytes are a snapshot of the set at this state, and its module is what they are decoded to
+pub record Snapped (L : LinkedSet) (bytes : List ℕ) (s : SetState) : Type 0 where
+  pub snapshot : snapshots.Snapped L (numbers_of L) (starts_of L) (merged_module L) (start_number L) bytes s
+  pub decoded : DecodeAnswer bytes (Ok snapshot.wasm)
 
 -- How much there is to be written of a state: twice the bulk of the set, the bytes of its memory, and 8 for each entry of its tables.
 abbrev pub amount : LinkedSet → SetState → ℕ
 amount L s = 2 * bulk L + length s.run.memory.bytes + 8 * sum_by entries s.run.units.tables
 
--- the module that holds a state, with some stretches of its memory and its tables
-pub record IsHeldWith (L : LinkedSet) (s : SetState) (c : Contents) : Type 0 where
-  pub make : MakeContents (merged_module L) (snapshot_parts L s) s.run.memory c
-
--- It has a section with this number that is too long to be written, the first such one; and there is much to be written.
+-- The module that holds a state has a section with this number that is too long to be written, the first such one; and there is much to be
+-- written.
 pub record IsTooLongAfter (L : LinkedSet) (s : SetState) (id : ℕ) : Type 0 where
   pub contents : Contents
   pub held : IsHeldWith L s contents
   pub first : IsFirstTooLong (snapshot_module L s contents) id
   pub big : 2 ^ 32 ≤ amount L s
+
+-- At most so many steps lead to the call of the entry, and the section with this number of the module that holds the state there is the first
+-- that is too long.
+pub record IsLongFirst (L : LinkedSet) (most id : ℕ) : Type 0 where
+  pub steps : ℕ
+  pub first : IsFirst L most steps Takes
+  pub contents : Contents
+  pub held : IsHeldWith L (state_after L steps) contents
+  pub long : IsFirstTooLong (snapshot_module L (state_after L steps) contents) id
+
+-- bytes spell the module that holds the state there
+pub record IsSpelledFirst (L : LinkedSet) (most : ℕ) (bytes : List ℕ) : Type 0 where
+  pub steps : ℕ
+  pub first : IsFirst L most steps Takes
+  pub contents : Contents
+  pub held : IsHeldWith L (state_after L steps) contents
+  pub spelled : SpellsModule (snapshot_module L (state_after L steps) contents) bytes
 
 -- Why there is no snapshot of a set, where at most so many steps of start-up are made.
 abbrev pub SnapTells : LinkedSet → ℕ → SnapFault → Type 0

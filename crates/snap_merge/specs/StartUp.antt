@@ -9,7 +9,7 @@ use Rattle.spec_snapshots.specs.declared.fault.SnapFault.{SnapFault}
 use Rattle.spec_snapshots.specs.declared.fault.SnapFault.TheVariants as faults
 use Rattle.dyl_store.specs.Stores.{StoreRun}
 use Rattle.merge_module.specs.Laws.{IsMergeable}
-use Rattle.snap_set.specs.Causes.{Takes, TrapsSo, Calls, StepsEnd, IsDeep, is_started, cause_at, state_after}
+use Rattle.spec_snapshots.specs.Causes.{Takes, TrapsSo, Calls, StepsEnd, IsDeep, is_started, cause_at, state_after}
 
 -- it has taken no answer, and made at most so many steps
 pub record IsStarting (most : ℕ) (v : StoreRun) : Type 0 where

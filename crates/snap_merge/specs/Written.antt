@@ -1,5 +1,6 @@
 -- The module that holds the state of a start-up, and its bytes.
-use Rattle.std.specs.Prelude.{◌≡◌, ◌<◌, ◌^◌, ℕ, ◌+◌, ◌*◌, List, [], length, map, false, sum_by}
+use Rattle.std.specs.Prelude.{◌≡◌, ◌<◌, ◌⊎◌, ◌^◌, ℕ, ◌+◌, ◌*◌, List, [], length, map, false, sum_by, Result, Err, Vec}
+use Rattle.std.specs.Global.{Global}
 use Rattle.std.specs.List.{All}
 use Rattle.spec_reading.specs.spec_binary.Modules.{SpellsModule}
 use Rattle.spec_reading.specs.spec_binary.IndexSpaces.{function_space}
@@ -13,16 +14,17 @@ use Rattle.spec_loading.specs.spec_linking.LinkedSets.{LinkedSet}
 use Rattle.spec_loading.specs.LoadedSet.{SetState}
 use Rattle.spec_snapshots.specs.declared.fault.SnapFault.{SnapFault}
 use Rattle.spec_snapshots.specs.declared.fault.SnapFault.TheVariants as faults
+use Rattle.wasm_encode.specs.SectionSizes.{IsFirstTooLong}
 use Rattle.merge_match.specs.Renumbering.{table_instance}
 use Rattle.merge_match.specs.Parts.{AreFew}
 use Rattle.merge_index.specs.Numbering.{numbers_of}
 use Rattle.merge_module.specs.MergedModule.{merged_module}
 use Rattle.merge_whole.specs.Merges.{bulk_of}
 use Rattle.snap_module.specs.Held.{Contents, held_parts}
-use Rattle.snap_parts.specs.Sparse.{IsWritten}
-use Rattle.snap_set.specs.Causes.{Takes, IsFirst}
-use Rattle.snap_set.specs.Parts.{snapshot_parts, snapshot_module}
-use Rattle.snap_merge.specs.Answers.{entries, IsHeldWith, IsTooLongAfter}
+use Rattle.spec_snapshots.specs.Stretches.{entries, IsWritten}
+use Rattle.spec_snapshots.specs.Causes.{Takes, IsFirst}
+use Rattle.snap_set.specs.Parts.{snapshot_parts, snapshot_module, IsHeldWith}
+use Rattle.snap_merge.specs.Answers.{IsTooLongAfter}
 
 -- the run stands where its entry has just been called
 pub record IsTaken (L : LinkedSet) (x : Recorded) : Type 0 where
@@ -51,11 +53,12 @@ pub record IsHolding (L : LinkedSet) (s : SetState) (m : Module) : Type 0 where
 abbrev pub amount_of : List Member → MemoryInstance → List TableInstance → ℕ
 amount_of members memory tables = 2 * bulk_of members + length memory.bytes + 8 * sum_by entries tables
 
--- bytes spell a module that holds the state
+-- bytes spell a module that holds the state, and that is well formed
 pub record IsSpelled (L : LinkedSet) (s : SetState) (bytes : List ℕ) : Type 0 where
   pub contents : Contents
   pub held : IsHeldWith L s contents
   pub spelled : SpellsModule (snapshot_module L s contents) bytes
+  pub formed : IsWellFormed (snapshot_module L s contents)
 
 -- faults of writing
 abbrev pub IsWriteFault : SnapFault → Type 0
@@ -68,3 +71,9 @@ abbrev pub WriteTells : LinkedSet → SetState → SnapFault → Type 0
 WriteTells L s (faults.SectionSize id) = IsTooLongAfter L s id
 WriteTells L s faults.Memory = Unit {0}
 WriteTells L s _ = ⊥
+
+-- Where the module that holds the state has a first section that is too long, this is told, or want of memory.
+abbrev pub TellsLong : LinkedSet → SetState → Result (Vec ℕ Global) SnapFault → Type 0
+TellsLong L s result =
+    (id : ℕ) (c : Contents) → IsHeldWith L s c → IsFirstTooLong (snapshot_module L s c) id
+    → (result ≡ Err (faults.SectionSize id)) ⊎ (result ≡ Err faults.Memory)

@@ -1,7 +1,7 @@
 // How much there is to be written of a state.
 ghost use Rattle.std.specs.Prelude.{◌≡◌, ◌+◌, ◌≤◌, ◌^◌, ◌↔◌, length, min, sum_by, IsTrue};
 ghost use Rattle.merge_whole.specs.Counts.{members_of};
-ghost use Rattle.snap_merge.specs.Answers.{entries};
+ghost use Rattle.spec_snapshots.specs.Stretches.{entries};
 ghost use Rattle.snap_merge.specs.Written.{amount_of};
 
 use dyl_link::dyl_search::Member;

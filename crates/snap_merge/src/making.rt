@@ -57,7 +57,6 @@ pub(crate) fn made(
         globals: &behind.globals,
         left: &behind.left,
     };
-    let _steps = store.steps();
     let result = held(alloc, module, entry, &numbers, flat, added, store.memory());
     drop(numbers);
     result

@@ -1,7 +1,7 @@
 // The start-up of a linked set: its run up to the state in which its entry has just been called.
 ghost use Rattle.std.specs.Prelude.{◌≡◌, ◌<◌, ◌≤◌, Ok, true, IfOk, OnOk, IfErr};
 ghost use Rattle.spec_loading.specs.spec_runtime.Courses.{with_step};
-ghost use Rattle.snap_set.specs.Causes.{Takes, IsFirst};
+ghost use Rattle.spec_snapshots.specs.Causes.{Takes, IsFirst};
 ghost use Rattle.snap_merge.specs.StartUp.{IsStarting, IsAble, NoneBefore, IsUnstarted, IsMoving, MayStep, Says, Refuses, Comes};
 
 use dyl_store::{Event, Store};
@@ -64,7 +64,6 @@ fn advance(alloc: Global, store: &mut Store, most: u64) -> Result<(), Memory>
 
 // Makes the next step.
 fn make_step(alloc: Global, store: &mut Store, most: u64) -> Result<(), Memory>
-    requires most { most < 18446744073709551615 }
     requires starting { IsStarting most store.old }
     requires few { store.old.run.steps < most }
     requires may { MayStep store.old.linked most store.old.run.steps }
@@ -79,7 +78,6 @@ fn make_step(alloc: Global, store: &mut Store, most: u64) -> Result<(), Memory>
 // Goes on with a start-up, unless its entry was called. Whether it does.
 fn goes_on(alloc: Global, store: &mut Store, most: u64) -> Result<bool, SnapFault>
     requires able { IsAble store.old.linked }
-    requires most { most < 18446744073709551615 }
     requires starting { IsStarting most store.old }
     requires before { NoneBefore store.old.linked most store.old.run.steps }
     ensures starting { OnOk result (IsStarting most store.new) }
@@ -106,7 +104,6 @@ fn goes_on(alloc: Global, store: &mut Store, most: u64) -> Result<bool, SnapFaul
 /// made.
 pub(crate) fn start_up(alloc: Global, store: &mut Store, most: u64) -> Result<(), SnapFault>
     requires able { IsAble store.old.linked }
-    requires most { most < 18446744073709551615 }
     requires starting { IsStarting most store.old }
     requires opened { store.old.run.steps ≡ 0 }
     ensures starting { OnOk result (IsStarting most store.new) }

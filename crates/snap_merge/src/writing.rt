@@ -1,15 +1,13 @@
 // The module that holds the state of a start-up, and its bytes.
-ghost use Rattle.std.specs.Prelude.{◌≡◌, ◌≤◌, ◌⊎◌, ◌^◌, ℕ, All, length, false, Err, IfOk, IfErr};
+ghost use Rattle.std.specs.Prelude.{◌≡◌, ◌≤◌, ◌⊎◌, ◌^◌, ℕ, length, false, Err, IfOk, IfErr};
 ghost use Rattle.spec_snapshots.specs.declared.fault.SnapFault.TheVariants as faults;
 ghost use Rattle.spec_reading.specs.spec_binary.Modules.{SpellsModule};
 ghost use Rattle.spec_reading.specs.spec_binary.WellFormed.{IsWellFormed};
 ghost use Rattle.spec_loading.specs.spec_runtime.Courses.{state_at};
-ghost use Rattle.spec_loading.specs.spec_linking.LinkedSets.{hosts_of};
 ghost use Rattle.dyl_store.specs.Stores.{set_course};
 ghost use Rattle.wasm_encode.specs.SectionSizes.{IsFirstTooLong};
 ghost use Rattle.merge_whole.specs.Counts.{members_of};
-ghost use Rattle.merge_whole.specs.Merges.{IsSupported};
-ghost use Rattle.snap_merge.specs.Written.{IsTaken, IsHolding, amount_of, IsSpelled, IsWriteFault, WriteTells};
+ghost use Rattle.snap_merge.specs.Written.{IsTaken, IsHolding, amount_of, IsSpelled, IsWriteFault, WriteTells, TellsLong};
 
 use crate::added::read_behind;
 use crate::amount::is_much;
@@ -22,7 +20,7 @@ use merge_whole::parts;
 use snap_set::parts_can_be_held;
 use spec_keeping::linked_sets_keep;
 use spec_loading::linked_sets_never_get_stuck;
-use spec_snapshots::SnapFault;
+use spec_snapshots::{SnapFault, written_contents_are_one};
 use std::alloc::Global;
 use wasm_encode::{EncodeFault, encode};
 use wasm_form::{Memory, Module};
@@ -60,7 +58,6 @@ fn encoded(
 
 // The module that holds the state at which a run stands.
 fn holding(alloc: Global, linked: &Linked, store: &Store) -> Result<Module, Memory>
-    requires hosts { All IsSupported (hosts_of linked.now) }
     requires same { store.now.linked ≡ linked.now }
     requires found { store.now.run.lost ≡ false }
     requires taken { IsTaken linked.now store.now.run }
@@ -68,6 +65,7 @@ fn holding(alloc: Global, linked: &Linked, store: &Store) -> Result<Module, Memo
 {
     linked.links();
     linked.has_few_pages();
+    linked.hosts_have_integers();
     store.holds_bytes();
     linked_sets_never_get_stuck();
     linked_sets_keep();
@@ -85,16 +83,16 @@ fn holding(alloc: Global, linked: &Linked, store: &Store) -> Result<Module, Memo
 
 /// The bytes of the module that holds the state at which a run stands.
 pub(crate) fn written(alloc: Global, linked: &Linked, store: &Store) -> Result<Vec<u8>, SnapFault>
-    requires hosts { All IsSupported (hosts_of linked.now) }
     requires same { store.now.linked ≡ linked.now }
     requires found { store.now.run.lost ≡ false }
     requires taken { IsTaken linked.now store.now.run }
     ensures spelled { IfOk result (λ bytes. IsSpelled linked.now (state_at (set_course linked.now) store.now.run) bytes.items) }
     ensures tells { IfErr result (λ fault. WriteTells linked.now (state_at (set_course linked.now) store.now.run) fault) }
+    ensures only_long { TellsLong linked.now (state_at (set_course linked.now) store.now.run) result }
 {
     linked.links();
+    written_contents_are_one();
     let module = holding(alloc, linked, store)?;
-    let _steps = store.steps();
     let members = linked.members();
     let bytes = encoded(alloc, &module, members, store.memory(), store.tables());
     drop(module);

@@ -1,6 +1,6 @@
 -- The module that begins where a run of a module stands: its globals, tables and memory begin with what they hold there, its segments are those
 -- that are left, and it begins with a function of its own.
-use Rattle.std.specs.Prelude.{◌≡◌, ◌≤◌, ◌<◌, ◌⊎◌, ◌^◌, ℕ, zero, suc, ◌+◌, List, [], ◌∷◌, ◌++◌, length, map, min, take, drop, replicate, codes, Option, Some, None, unwrap_or}
+use Rattle.std.specs.Prelude.{◌≡◌, ◌≤◌, ◌<◌, ◌⊎◌, ◌^◌, ℕ, zero, suc, ◌+◌, List, [], ◌∷◌, ◌++◌, length, map, min, codes, Option, Some, None, unwrap_or}
 use Rattle.std.specs.Int.{cast_signed, w64}
 use Rattle.std.specs.List.{All}
 use Rattle.spec_loading.specs.wasm_form.declared.types.ValType.{ValType}
@@ -30,39 +30,9 @@ use Rattle.spec_loading.specs.spec_runtime.Tables.{TableInstance}
 use Rattle.spec_loading.specs.spec_execution.Segments.{opened_items}
 use Rattle.spec_loading.specs.spec_execution.Instances.{ModuleParts, module_target, segment_items}
 use Rattle.spec_loading.specs.spec_safety.ValueTypes.{IsMemory}
+pub use Rattle.spec_snapshots.specs.Stretches.{Stretch, put, all_put, IsWithin, Make, Contents}
 use Rattle.merge_pieces.specs.Opcodes as op
 use Rattle.merge_pieces.specs.Code.{number}
-
--- ---- what is written of a long list
-
--- items that stand from a place on
-pub record Stretch (A : Type 0) : Type 0 where
-  pub at : ℕ
-  pub items : List A
-
--- the list with the items of a stretch in their places
-abbrev pub put : {A : Type 0} → List A → Stretch A → List A
-put xs s = take s.at xs ++ (s.items ++ drop (s.at + length s.items) xs)
-
-abbrev pub all_put : {A : Type 0} → List A → List (Stretch A) → List A
-all_put xs [] = xs
-all_put xs (s ∷ ss) = all_put (put xs s) ss
-
--- it ends within a list of this length, and is not empty
-pub record IsWithin {A : Type 0} (len : ℕ) (s : Stretch A) : Type 0 where
-  pub some : 0 < length s.items
-  pub ends : s.at + length s.items ≤ len
-
--- Stretches make a list: each is within it, and put in order onto a list of the same length with this one item everywhere they give it. So
--- where no stretch is, the list has this item.
-pub record Make {A : Type 0} (everywhere : A) (ss : List (Stretch A)) (xs : List A) : Type 0 where
-  pub within : All (IsWithin (length xs)) ss
-  pub give : all_put (replicate (length xs) everywhere) ss ≡ xs
-
--- what is written of the memory, and of each table
-pub record Contents : Type 0 where
-  pub memory : List (Stretch ℕ)
-  pub tables : List (List (Stretch (Option Ref)))
 
 -- ---- constants
 

@@ -72,7 +72,7 @@ few_elems n us more a is one applied two =
     let many : length behind ≡ length applied = length-map applied (λ (e : Elem). []) in
     omega (arith, length-append own (behind ++ [] ∷ []), length-append behind ([] ∷ []), same, many, one, two)
 
-few_datas : (us more : ModuleParts) (a : Added) → AreAdded a more → length us.datas ≤ 2 ^ 30 → (ss : List (Stretch ℕ)) → length ss ≤ 2 ^ 30
+few_datas : (us more : ModuleParts) (a : Added) → AreAdded a more → length us.datas ≤ 2 ^ 30 → (ss : List (Stretch ℕ)) → length ss ≤ 65536
     → length ((us.datas ++ more.datas) ++ map (λ (s : Stretch ℕ). []) ss) ≤ nowhere
 few_datas us more a is one ss two =
     let behind : List (List ℕ) = map (λ (s : Stretch ℕ). []) ss in

@@ -9,7 +9,7 @@ use Rattle.std.proofs.lemmas.List.Elements.{All-nil, All-cons, All-head, All-tai
 use Rattle.snap_module.specs.Held.{put, all_put, IsWithin}
 use Rattle.snap_parts.specs.declared.pieces.Piece.{Piece}
 use Rattle.snap_parts.specs.Found.{cut, EndsBy, IsTight, next_place, AreInOrder, AreFound, one_at, after_by, noted}
-use Rattle.snap_parts.specs.Sparse.{IsPart, AreApart, IsSparse}
+use Rattle.spec_snapshots.specs.Stretches.{IsPart, AreApart, IsSparse}
 use Rattle.snap_parts.proofs.Putting.{all_put_last, all_put_length, take_put, drop_put, cut_length, put_cut, begun, begun_none, begun_all, begun_more, take_begun, drop_begun}
 use Rattle.snap_parts.proofs.Order.{noted_last, ordered_with, ordered_but, ordered_last, next_behind, with_last, below_or}
 

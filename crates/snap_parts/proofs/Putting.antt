@@ -4,6 +4,7 @@ use Rattle.std.specs.List.{All}
 use Rattle.std.proofs.lemmas.List.{length-take, length-drop, length-take-le, take-take, take_at, take_all, take_more, take-append-drop, drop_at, drop-drop, drop-take, drop-replicate, get_or-take, get_or-drop}
 use Rattle.std.proofs.lemmas.List.Elements.{All-head, All-tail}
 use Rattle.snap_module.specs.Held.{Stretch, put, all_put, IsWithin}
+use Rattle.spec_snapshots.proofs.Stretches.{put_length}
 use Rattle.snap_parts.specs.declared.pieces.Piece.{Piece}
 use Rattle.snap_parts.specs.Found.{cut}
 
@@ -13,12 +14,6 @@ module _ {A : Type 0} where
   pub all_put_last : (ys : List A) (ss : List (Stretch A)) (s : Stretch A) → all_put ys (ss ++ s ∷ []) ≡ put (all_put ys ss) s
   all_put_last ys [] s = refl
   all_put_last ys (t ∷ ss) s = all_put_last (put ys t) ss s
-
-  put_length : (ys : List A) (s : Stretch A) → s.at + length s.items ≤ length ys → length (put ys s) ≡ length ys
-  put_length ys s le =
-      let outer = length-append (take s.at ys) (s.items ++ drop (s.at + length s.items) ys) in
-      let inner = length-append s.items (drop (s.at + length s.items) ys) in
-      omega (arith, outer, inner, length-take s.at ys, length-drop (s.at + length s.items) ys)
 
   pub all_put_length : (len : ℕ) (ys : List A) (ss : List (Stretch A)) → length ys ≡ len → All (IsWithin len) ss → length (all_put ys ss) ≡ len
   all_put_length len ys [] same all = same

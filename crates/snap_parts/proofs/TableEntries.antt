@@ -12,7 +12,7 @@ use Rattle.merge_match.specs.Renumbering.{Numbers, reference, entry, table_insta
 use Rattle.snap_module.specs.Held.{Stretch, entry_expr, table_elem, table_elems}
 use Rattle.snap_parts.specs.declared.pieces.Piece.{Piece}
 use Rattle.snap_parts.specs.Found.{cut, AreFound, noted}
-use Rattle.snap_parts.specs.Sparse.{IsSparse, AreSparse}
+use Rattle.spec_snapshots.specs.Stretches.{IsSparse, AreSparse}
 use Rattle.snap_parts.specs.Segments.{TableWritten, TablesWritten}
 use Rattle.snap_parts.proofs.Founds.{found_blank, found_item, found_all}
 

@@ -8,7 +8,7 @@ use Rattle.spec_loading.specs.spec_execution.Instances.{ModuleParts}
 use Rattle.merge_match.specs.Renumbering.{Numbers, table_instance}
 use Rattle.merge_match.specs.Parts.{extended, AreFew}
 use Rattle.snap_module.specs.Held.{Contents, held, held_parts}
-use Rattle.snap_parts.specs.Sparse.{IsWritten}
+use Rattle.spec_snapshots.specs.Stretches.{IsWritten}
 pub use Rattle.snap_parts.specs.Zips.{is_left}
 use Rattle.snap_parts.specs.declared.given.Flat as declared
 use Rattle.snap_parts.specs.declared.given.Added.{Added}

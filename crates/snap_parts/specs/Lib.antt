@@ -1,4 +1,3 @@
-pub mod Sparse
 pub mod Found
 pub mod Zips
 pub mod Segments

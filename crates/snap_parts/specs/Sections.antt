@@ -8,7 +8,7 @@ use Rattle.spec_loading.specs.spec_binary.IndexSpaces.{function_space}
 use Rattle.spec_loading.specs.spec_runtime.Memories.{MemoryInstance}
 use Rattle.spec_loading.specs.spec_runtime.Tables.{TableInstance}
 use Rattle.snap_module.specs.Held.{Stretch, passive_data, table_elems, memory_data, declared_elem}
-use Rattle.snap_parts.specs.Sparse.{IsSparse, AreSparse, memory_gap, tables_gap}
+use Rattle.spec_snapshots.specs.Stretches.{IsSparse, AreSparse, memory_gap, tables_gap}
 use Rattle.snap_parts.specs.Zips.{zip_by, elem_by}
 
 -- the segments of tables
@@ -39,4 +39,4 @@ pub record DatasHeld (bytes : List (List ℕ)) (memory : MemoryInstance) (datas 
   pub sparse : IsSparse 0 (memory_gap memory) memory.bytes stretches
   pub held : datas ≡ map passive_data bytes ++ (passive_data [] ∷ map memory_data stretches)
   pub few : length bytes ≤ 2 ^ 30
-  pub few_written : length stretches ≤ 2 ^ 30
+  pub few_written : length stretches ≤ 65536

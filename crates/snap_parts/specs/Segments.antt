@@ -4,7 +4,7 @@ use Rattle.spec_loading.specs.wasm_form.declared.module.Elem.{Elem}
 use Rattle.spec_loading.specs.wasm_form.declared.runtime.Ref.{Ref}
 use Rattle.spec_loading.specs.spec_runtime.Tables.{TableInstance}
 use Rattle.snap_module.specs.Held.{Stretch, table_elem, table_elems}
-use Rattle.snap_parts.specs.Sparse.{IsSparse, AreSparse}
+use Rattle.spec_snapshots.specs.Stretches.{IsSparse, AreSparse}
 
 pub record TableWritten (gap t : ℕ) (x : TableInstance) (before now : List Elem) : Type 0 where
   pub stretches : List (Stretch (Option Ref))

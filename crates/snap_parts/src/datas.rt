@@ -5,6 +5,7 @@ ghost use Rattle.snap_parts.specs.Sections.{MemoryAlone, DatasHeld};
 
 use crate::memory::{memory_gap, memory_pieces, put_memory};
 use crate::room::has_room;
+use spec_snapshots::written_contents_are_one;
 use std::alloc::Global;
 use wasm_form::{Data, DataMode, List, Memory};
 use wasm_space::Space;
@@ -31,13 +32,13 @@ fn put_passive(to: &mut Vec<Data>, alloc: Global, datas: &[&[u8]]) -> Result<(),
 // The segments of the memory.
 fn memory_datas(alloc: Global, memory: &Space) -> Result<Vec<Data>, Memory>
     ensures written { IfOk result (λ v. MemoryAlone memory.now v.items) }
-    ensures few { IfOk result (λ v. length v.items ≤ 2 ^ 30) }
+    ensures few { IfOk result (λ v. length v.items ≤ 65536) }
 {
+    written_contents_are_one();
     let gap = memory_gap(memory);
     let pieces = memory_pieces(alloc, memory, gap)?;
     let mut list = Vec::new(alloc);
     put_memory(&mut list, alloc, memory, &pieces)?;
-    has_room(list.len())?;
     Ok(list)
 }
 

@@ -3,7 +3,7 @@ ghost use Rattle.std.specs.Prelude.{◌≡◌, ◌≤◌, ◌<◌, ◌+◌, ◌^
 ghost use Rattle.std.specs.List.{All};
 ghost use Rattle.snap_module.specs.Held.{memory_data, offset_expr};
 ghost use Rattle.snap_parts.specs.Found.{cut, EndsBy, AreFound};
-ghost use Rattle.snap_parts.specs.Sparse.{memory_gap};
+ghost use Rattle.spec_snapshots.specs.Stretches.{memory_gap};
 
 use crate::pieces::{Piece, note};
 use merge_pieces::number;

@@ -6,7 +6,7 @@ ghost use Rattle.merge_match.specs.Renumbering.{entry, table_instance};
 ghost use Rattle.merge_index.specs.Kept.{numbers_in};
 ghost use Rattle.snap_module.specs.Held.{entry_expr, table_elem};
 ghost use Rattle.snap_parts.specs.Found.{cut, EndsBy, AreFound};
-ghost use Rattle.snap_parts.specs.Sparse.{entries, tables_gap};
+ghost use Rattle.spec_snapshots.specs.Stretches.{entries, tables_gap};
 ghost use Rattle.snap_parts.specs.Segments.{TableWritten, TablesWritten};
 
 use crate::constants::{entry, expr_of, reference_instr};

@@ -28,12 +28,15 @@ agree_trans S T U s t u a b = record { there = follows_trans S T U s t u a.there
 agree_before : {O : Outside} (S T : System O) (s0 s : S.State) (t : T.State) (k : ℕ) → T.status t ≡ Moving → Silent S k s0 s → Agree S T s t → Agree S T s0 t
 agree_before S T s0 s t k ready silent a = agree_sym T S t s0 (agree_after T S t s0 s k ready silent (agree_sym S T s t a))
 
--- s is where silent steps lead from s0, whose run agrees with that from u0; the first step from t0 leads to what matches s
+-- s is where silent steps lead from s0; the first step from t0 leads to what matches s
 pub begun_agrees : {O : Outside} (S T : System O) (Matches : S.State → T.State → Type 0) → StepLaw S T Matches
-    → (s0 s : S.State) (k : ℕ) → Silent S k s0 s → S.status s ≡ Moving → (u0 : T.State) → Agree S T s0 u0
-    → (t0 t1 : T.State) → T.status t0 ≡ Moving → T.step t0 ≡ Some t1 → Matches s t1 → Agree T T t0 u0
-begun_agrees S T Matches law s0 s k silent moving u0 agreed t0 t1 ready step matched =
+    → (s0 s : S.State) (k : ℕ) → Silent S k s0 s → S.status s ≡ Moving → (t0 t1 : T.State) → T.status t0 ≡ Moving → T.step t0 ≡ Some t1
+    → Matches s t1 → Agree S T s0 t0
+begun_agrees S T Matches law s0 s k silent moving t0 t1 ready step matched =
     let first : Agree S T s t1 = agree S T Matches law s t1 matched in
     let second : Agree S T s t0 = agree_after S T s t0 t1 1 moving (t1, ready, step, refl) first in
-    let third : Agree S T s0 t0 = agree_before S T s0 s t0 k ready silent second in
-    agree_trans T S T t0 s0 u0 (agree_sym S T s0 t0 third) agreed
+    agree_before S T s0 s t0 k ready silent second
+
+-- two runs that agree with one agree
+pub agree_both : {O : Outside} (S T U : System O) (s : S.State) (t : T.State) (u : U.State) → Agree S T s t → Agree S U s u → Agree T U t u
+agree_both S T U s t u a b = agree_trans T S U t s u (agree_sym S T s t a) b

@@ -28,8 +28,8 @@ use Rattle.spec_loading.specs.declared.task.After.TheVariants.{CallEntry, GiveHa
 use Rattle.spec_loading.specs.Phases.{LoaderFrame, stage_of}
 use Rattle.spec_loading.specs.Loading.{Loading, LoadedState, with_run, goes_on, stage_in, comes_by_itself, LoaderAnswer, Comes, comes_to, call_next, ended_by, place_next, work_next, raised, task_next, promoting, gives, frame_next, loaded_next, answered, went, came_to, loaded_step}
 use Rattle.spec_loading.specs.Loading as loading
-use Rattle.snap_set.specs.Causes.{calls_entry, is_startup}
-use Rattle.snap_set.specs.Causes as causes
+use Rattle.spec_snapshots.specs.Causes.{calls_entry, is_startup}
+use Rattle.spec_snapshots.specs.Causes as causes
 
 abbrev pub Starts : List (Frame LoaderFrame) → Type 0
 Starts fs = list_any is_startup fs ≡ true

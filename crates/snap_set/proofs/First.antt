@@ -30,7 +30,7 @@ use Rattle.spec_loading.specs.Laws.{IsCallable, EntryIsThere}
 use Rattle.spec_keeping.specs.Keeping.{SetRunKeeps}
 use Rattle.merge_match.specs.Bounded.{IsBounded}
 use Rattle.merge_module.specs.Laws.{IsMergeable}
-use Rattle.snap_set.specs.Causes.{goes_on, is_startup, is_started, SnapCause, Takes, TrapsSo, Calls, StepsEnd, cause_by, cause_at, state_after, IsFirst}
+use Rattle.spec_snapshots.specs.Causes.{goes_on, is_startup, is_started, SnapCause, Takes, TrapsSo, Calls, StepsEnd, cause_by, cause_at, state_after, IsFirst}
 use Rattle.snap_set.specs.Laws.{IsJustStarted, FirstIsJustStarted, OneFirst, SomeFirst}
 use Rattle.snap_set.proofs.Bottom.{Starts, HasTrapped, StateStarts, calling_frame, step_over}
 use Rattle.snap_set.proofs.Silent.{silent_more}

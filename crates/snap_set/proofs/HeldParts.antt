@@ -44,7 +44,7 @@ use Rattle.merge_module.proofs.Known.{IsKnown, HasLaws, known}
 use Rattle.merge_module.proofs.MergedSpaces.{in_front}
 use Rattle.merge_module.proofs.WithLoader.{with_used}
 use Rattle.snap_module.specs.Held.{Stretch, Contents, table_elems, held_parts, IsReference, CanBeHeld}
-use Rattle.snap_set.specs.Causes.{state_after}
+use Rattle.spec_snapshots.specs.Causes.{state_after}
 use Rattle.snap_set.specs.Parts.{slots_at, slots_left, loader_values, more_of, snapshot_parts, MakeContents}
 use Rattle.snap_set.specs.Laws.{Holds, PartsCanBeHeld, TablesRefer}
 use Rattle.snap_set.proofs.References.{references_are_kept}

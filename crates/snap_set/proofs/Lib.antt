@@ -3,7 +3,7 @@ mod Silent
 mod Matched
 pub mod References
 pub mod Snapped
-mod Bottom
+pub mod Bottom
 mod First
 mod HeldGlobals
 mod HeldTables

@@ -1,34 +1,35 @@
 -- Bytes that spell the module which holds the first started state are a snapshot of the set.
-use Rattle.std.proofs.Common.{◌≡◌, ℕ, ◌-◌, Bool, true, false, List, [], ◌∷◌, length, slice_get, nat_lt, Option, Some, None, refl, sym, ap, ◌∙◌, subst, option_map}
+use Rattle.std.proofs.Common.{◌≡◌, ℕ, ◌-◌, Bool, true, false, List, [], ◌∷◌, length, map, slice_get, nat_lt, Option, Some, None, refl, sym, ap, ◌∙◌, subst, option_map}
 use Rattle.std.specs.Prelude.{Result, Ok, Err, unwrap_or}
-use Rattle.std.specs.List.{All, list_all}
+use Rattle.std.specs.List.{list_all}
 use Rattle.std.proofs.lemmas.Bool.{and_from, lt-ltb}
-use Rattle.std.proofs.lemmas.List.Elements.{All-head, All-tail}
+use Rattle.std.proofs.lemmas.List.{append-nil}
 use Rattle.std.proofs.lemmas.Option.{slice_get_within}
 use Rattle.spec_loading.specs.wasm_form.declared.module.ImportDesc.{ImportDesc}
 use Rattle.spec_loading.specs.wasm_form.declared.module.ImportDesc.TheVariants as imported
 use Rattle.spec_loading.specs.wasm_form.declared.module.Import.{Import}
 use Rattle.spec_loading.specs.wasm_form.declared.module.Module.{Module}
 use Rattle.spec_loading.specs.wasm_form.declared.runtime.Ref.TheVariants.{Own}
-use Rattle.spec_loading.specs.spec_runs.Agreement.{Agree}
+use Rattle.spec_loading.specs.spec_runtime.Names.{HostName}
 use Rattle.spec_loading.specs.spec_binary.Options.{◌>>=◌}
 use Rattle.spec_loading.specs.spec_binary.IndexSpaces.{function_space, imported_count}
 use Rattle.spec_loading.specs.spec_binary.Indices.{Function, function_type, function_at, function_with, nullary}
+use Rattle.spec_loading.specs.spec_runtime.Tables.{TableInstance}
 use Rattle.spec_loading.specs.spec_execution.declared.fault.SingleFault.{SingleFault}
-use Rattle.spec_loading.specs.spec_execution.OneModule.{ModuleState, module_system, imports_met, opened_after}
+use Rattle.spec_loading.specs.spec_execution.OneModule.{ModuleState, imports_met, opened_after}
 use Rattle.spec_loading.specs.spec_safety.Laws.{is_function_import}
 use Rattle.spec_loading.proofs.of_spec_safety.Lookups.{went_on}
 use Rattle.spec_loading.proofs.of_spec_safety.KnownStacks.{some_same}
-use Rattle.spec_loading.specs.spec_linking.LinkedSets.{LinkedSet}
-use Rattle.spec_loading.specs.LoadedSet.{set_system, set_opening}
-use Rattle.merge_match.specs.Renumbering.{function}
+use Rattle.spec_loading.specs.spec_linking.LinkedSets.{LinkedSet, hosts_of}
+use Rattle.spec_snapshots.specs.Stretches.{IsWritten}
+use Rattle.merge_match.specs.Renumbering.{function, table_instance}
 use Rattle.merge_index.specs.Numbering.{numbers_of, starts_of, function_number}
-use Rattle.merge_module.specs.Shape.{IsFunction}
+use Rattle.merge_module.specs.Shape.{asked_host}
 use Rattle.merge_module.specs.Laws.{IsMergeable, MergedIsReady, MergedStands, MergedHasShape}
 use Rattle.merge_module.specs.MergedModule.{merged_module}
 use Rattle.snap_module.specs.Held.{held}
 use Rattle.snap_module.specs.Laws.{IsStart}
-use Rattle.snap_set.specs.Causes.{state_after}
+use Rattle.spec_snapshots.specs.Causes.{state_after}
 use Rattle.snap_set.specs.Snapshots.{IsSnapshot}
 use Rattle.snap_set.specs.Parts.{snapshot_parts, start_number, snapshot_module}
 use Rattle.snap_set.specs.Laws.{IsMergedAs, FirstIsJustStarted, PartsCanBeHeld, SpelledSnapshot}
@@ -54,23 +55,22 @@ met_of : (m : Module) (s : ModuleState) (met : Result (Unit {0}) SingleFault) �
 met_of m s (Err why) e = absurd cc
 met_of m s (Ok u) e = refl
 
-ok_same : {s t : ModuleState} → (let o : Result ModuleState SingleFault = Ok s in o) ≡ Ok t → s ≡ t
-ok_same e = cc
-
-one_function : (i : Import) → IsFunction i.desc → is_function_import i ≡ true
-one_function i is = go i.desc refl
+one_function : (m : Module) (i : Import) (h : HostName) → asked_host m i ≡ Some h → is_function_import i ≡ true
+one_function m i h asks = go i.desc refl
   where
     go : (d : ImportDesc) → i.desc ≡ d → is_function_import i ≡ true
     go (imported.Func t) q = rw q refl
-    go (imported.Table ty) q = absurd (subst IsFunction q is)
-    go (imported.Space limits) q = absurd (subst IsFunction q is)
-    go (imported.Global ty) q = absurd (subst IsFunction q is)
+    go (imported.Table ty) q = absurd (let none : None ≡ Some h = rw q at asks in cc)
+    go (imported.Space limits) q = absurd (let none : None ≡ Some h = rw q at asks in cc)
+    go (imported.Global ty) q = absurd (let none : None ≡ Some h = rw q at asks in cc)
 
-functions_alone : (is : List Import) → All (λ (i : Import). IsFunction i.desc) is → list_all is_function_import is ≡ true
-functions_alone [] all = refl
-functions_alone (i ∷ is) all =
-    and_from (is_function_import i) (list_all is_function_import is) (one_function i (All-head (λ (j : Import). IsFunction j.desc) i is all))
-    (functions_alone is (All-tail (λ (j : Import). IsFunction j.desc) i is all))
+functions_alone : (m : Module) (is : List Import) (hs : List HostName) → map (asked_host m) is ≡ map Some hs → list_all is_function_import is ≡ true
+functions_alone m [] hs asks = refl
+functions_alone m (i ∷ is) [] asks = absurd cc
+functions_alone m (i ∷ is) (h ∷ hs) asks =
+    let first : asked_host m i ≡ Some h = cc in
+    let later : map (asked_host m) is ≡ map Some hs = cc in
+    and_from (is_function_import i) (list_all is_function_import is) (one_function m i h first) (functions_alone m is hs later)
 
 -- what the merged module of a set is
 merged_as : MergedIsReady → MergedStands → MergedHasShape → (L : LinkedSet) → IsMergeable L
@@ -83,21 +83,26 @@ merged_as ready stands shape L mergeable =
       ready = premises.ready;
       calls = premises.calls;
       valid = standing.valid;
-      alone = functions_alone (merged_module L).imports (shape L mergeable).imports;
+      alone = functions_alone (merged_module L) (merged_module L).imports (hosts_of L) (shape L mergeable).imports;
       imports = met_of (merged_module L) standing.opening (imports_met (merged_module L) L.names (merged_module L).imports) standing.opens;
-      agrees = λ u e. subst (Agree (set_system L) (module_system (merged_module L)) (set_opening L)) (ok_same (sym standing.opens ∙ e)) standing.agrees;
+      plain = (shape L mergeable).customs;
+      opening = standing.opening;
+      opens = standing.opens;
+      agrees = standing.agrees;
     }
 
 pub spelled_snapshot : MergedIsReady → MergedStands → MergedHasShape → FirstIsJustStarted → PartsCanBeHeld → SpelledSnapshot
-spelled_snapshot ready stands shape first holds L mergeable bytes most n is c makes bs spells =
+spelled_snapshot ready stands shape first holds L mergeable bytes most n is c w bs spells =
     let s = state_after L n in
     let just = first L mergeable bytes most n is in
     let as_merged = merged_as ready stands shape L mergeable in
     let found = as_merged.parts.functions 0 just.0 ∙ ap (option_map (function (numbers_of L) 0)) just.3.found in
     let start = start_of (merged_module L) ((numbers_of L).function (Own 0 just.0)) (function (numbers_of L) 0 just.1) found just.3.ty in
-    let held_here = holds L mergeable bytes n c makes in
+    let held_here = holds L mergeable bytes n c w.make in
+    let written : IsWritten s.run.memory (snapshot_parts L s).tables c =
+    subst (λ (ts : List TableInstance). IsWritten s.run.memory ts c) (sym (append-nil (map (table_instance (numbers_of L)) s.run.units.tables))) w.written in
     let here = held_is_snapshot L (numbers_of L) (starts_of L) (merged_module L) as_merged s just.0 just.1 just.3 (snapshot_parts L s) c
-    held_here.same makes.few held_here.can start in
+    held_here.same w.make.few held_here.can written start in
     let number : (numbers_of L).function (Own 0 just.0) ≡ start_number L = ap (λ (o : Option ℕ). function_number L (Own 0 (unwrap_or o 0))) (sym just.2) in
     record {
       wasm = snapshot_module L s c;

@@ -21,6 +21,8 @@ use Rattle.spec_loading.specs.spec_linking.Links.{set_entry}
 use Rattle.spec_loading.specs.Members.{set_instances, set_view}
 use Rattle.spec_loading.specs.LoadedSet.{SetState, set_system, set_opening}
 use Rattle.spec_loading.specs.SoundSets.{HoldBytes}
+use Rattle.spec_snapshots.specs.Causes.{SnapCause, Takes, IsFirst, state_after}
+use Rattle.spec_snapshots.specs.Stretches.{IsWritten}
 use Rattle.merge_match.specs.Renumbering.{Numbers, reference}
 use Rattle.merge_match.specs.Parts.{AreFew}
 use Rattle.merge_match.specs.Bounded.{IsBounded}
@@ -33,9 +35,8 @@ use Rattle.merge_module.specs.Laws.{IsMergeable}
 use Rattle.merge_module.specs.MergedModule.{merged_module}
 use Rattle.snap_module.specs.Held.{Contents, held, held_parts, IsReference, CanBeHeld}
 use Rattle.snap_module.specs.Laws.{IsStart}
-use Rattle.snap_set.specs.Causes.{SnapCause, Takes, IsFirst, state_after}
 use Rattle.snap_set.specs.Snapshots.{IsSnapshot, Snapped}
-use Rattle.snap_set.specs.Parts.{snapshot_parts, start_number, snapshot_module, MakeContents}
+use Rattle.snap_set.specs.Parts.{snapshot_parts, start_number, snapshot_module, MakeContents, IsHeldWith}
 
 -- ---- what exists in the set has a number
 
@@ -70,7 +71,7 @@ abbrev pub FirstIsJustStarted : Type 0
 FirstIsJustStarted = (L : LinkedSet) → IsMergeable L → HoldBytes L → (most n : ℕ) → IsFirst L most n Takes
     → (f : ℕ) × (code : Function) × (set_entry L.set.members ≡ Some f) × IsJustStarted L (state_after L n) f code
 
--- the merged module meets the laws of one step, and its run agrees with that of the set
+-- the merged module meets the laws of one step, opens, and its run agrees with that of the set
 pub record IsMergedAs (L : LinkedSet) (n : Numbers) (x : Starts) (merged : Module) : Type 0 where
   pub parts : HasParts L n merged
   pub ready : IsReady L n x merged
@@ -78,13 +79,17 @@ pub record IsMergedAs (L : LinkedSet) (n : Numbers) (x : Starts) (merged : Modul
   pub valid : fault merged ≡ None
   pub alone : IsTrue (imports_functions merged)
   pub imports : imports_met merged L.names merged.imports ≡ Ok tt
-  pub agrees : (u : ModuleState) → module_opening merged L.names ≡ Ok u → Agree (set_system L) (module_system merged) (set_opening L) u
+  pub plain : merged.customs ≡ []
+  pub opening : ModuleState
+  pub opens : module_opening merged L.names ≡ Ok opening
+  pub agrees : Agree (set_system L) (module_system merged) (set_opening L) opening
 
--- Of a state that has just called its entry, and what a module can hold that is the same: the module is a snapshot of the state.
+-- Of a state that has just called its entry, and what a module can hold that is the same, of which little is written: the module is a snapshot of
+-- the state.
 abbrev pub HeldIsSnapshot : Type 0
 HeldIsSnapshot = (L : LinkedSet) (n : Numbers) (x : Starts) (merged : Module) → IsMergedAs L n x merged → (s : SetState) (f : ℕ) (code : Function)
     → IsJustStarted L s f code → (p : ModuleParts) (c : Contents) → Same L n x s.loader s.run.units p → AreFew (held_parts p c)
-    → CanBeHeld merged p s.run.memory c → IsStart merged (n.function (Own 0 f))
+    → CanBeHeld merged p s.run.memory c → IsWritten s.run.memory p.tables c → IsStart merged (n.function (Own 0 f))
     → IsSnapshot L n x merged (n.function (Own 0 f)) s (held merged (n.function (Own 0 f)) p s.run.memory c)
 
 -- ---- what the snapshot of a set holds
@@ -106,6 +111,5 @@ TablesRefer = (L : LinkedSet) → IsMergeable L → HoldBytes L → (n : ℕ)
 -- Bytes that spell the snapshot of the first started state are a snapshot of the set.
 abbrev pub SpelledSnapshot : Type 0
 SpelledSnapshot = (L : LinkedSet) → IsMergeable L → HoldBytes L → (most n : ℕ) → IsFirst L most n Takes → (c : Contents)
-    → MakeContents (merged_module L) (snapshot_parts L (state_after L n)) (state_after L n).run.memory c → (bytes : List ℕ)
-    → SpellsModule (snapshot_module L (state_after L n) c) bytes
+    → IsHeldWith L (state_after L n) c → (bytes : List ℕ) → SpellsModule (snapshot_module L (state_after L n) c) bytes
     → Snapped L (numbers_of L) (starts_of L) (merged_module L) (start_number L) bytes (state_after L n)

@@ -1,4 +1,3 @@
-pub mod Causes
 pub mod Snapshots
 pub mod Parts
 pub mod Laws

@@ -14,6 +14,8 @@ use Rattle.spec_loading.specs.spec_linking.Links.{set_entry}
 use Rattle.spec_loading.specs.Loading.{LoaderState, stage_in}
 use Rattle.spec_loading.specs.Members.{from_members}
 use Rattle.spec_loading.specs.LoadedSet.{SetState}
+use Rattle.spec_snapshots.specs.Stretches.{IsWritten}
+use Rattle.merge_match.specs.Renumbering.{table_instance}
 use Rattle.merge_match.specs.Parts.{extended, AreFew}
 use Rattle.merge_start.specs.Started.{slot_items, place_of}
 use Rattle.merge_index.specs.Numbering.{numbers_of, function_number}
@@ -66,3 +68,8 @@ pub record MakeContents (m : Module) (p : ModuleParts) (memory : MemoryInstance)
   pub tables : MakeTables m p.tables c.tables
   -- and no more stretches than a module may have segments
   pub few : AreFew (held_parts p c)
+
+-- The module that holds a state has these contents: they make it, and of it little is written. So they are determined by the state.
+pub record IsHeldWith (L : LinkedSet) (s : SetState) (c : Contents) : Type 0 where
+  pub make : MakeContents (merged_module L) (snapshot_parts L s) s.run.memory c
+  pub written : IsWritten s.run.memory (map (table_instance (numbers_of L)) s.run.units.tables) c

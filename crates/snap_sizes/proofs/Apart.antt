@@ -5,7 +5,7 @@ use Rattle.std.proofs.Math.Nat.{mul-le-mul_left}
 use Rattle.std.proofs.lemmas.List.Elements.{All-head, All-tail}
 use Rattle.wasm_encode.specs.Weight.{sum_of}
 use Rattle.snap_module.specs.Held.{Stretch, IsWithin}
-use Rattle.snap_parts.specs.Sparse.{AreApart}
+use Rattle.spec_snapshots.specs.Stretches.{AreApart}
 
 abbrev pub cost : {A : Type 0} → ℕ → ℕ → Stretch A → ℕ
 cost each per s = each + per * length s.items

@@ -16,7 +16,7 @@ use Rattle.spec_keeping.specs.Keeping.{AreLeft}
 use Rattle.wasm_encode.specs.Weight.{sum_of, data_weight}
 use Rattle.wasm_encode.proofs.Units.{items_short}
 use Rattle.snap_module.specs.Held.{Stretch, offset_expr, passive_data, memory_data, held_datas}
-use Rattle.snap_parts.specs.Sparse.{IsSparse}
+use Rattle.spec_snapshots.specs.Stretches.{IsSparse}
 use Rattle.merge_index.proofs.FewItems.{total_cons}
 use Rattle.merge_module.proofs.Weights.{sum_then}
 use Rattle.merge_module.proofs.Bounds.{IsLight}

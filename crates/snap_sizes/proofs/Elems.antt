@@ -18,7 +18,7 @@ use Rattle.spec_loading.specs.spec_runtime.Tables.{TableInstance}
 use Rattle.wasm_encode.specs.Weight.{sum_of, expr_weight, items_weight, elem_weight}
 use Rattle.wasm_encode.proofs.Units.{expr_about, labels_within, value_type_one}
 use Rattle.snap_module.specs.Held.{Stretch, offset_expr, entry_expr, held_elem, held_elems, table_elem, table_elems, below, declared_elem}
-use Rattle.snap_parts.specs.Sparse.{AreSparse, entries}
+use Rattle.spec_snapshots.specs.Stretches.{AreSparse, entries}
 use Rattle.snap_sizes.proofs.Spelled.{offset_short, entry_short, split, one_most, mapped_most, vec_most}
 use Rattle.snap_sizes.proofs.Apart.{cost, apart_most}
 

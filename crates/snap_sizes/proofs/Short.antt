@@ -43,8 +43,8 @@ use Rattle.merge_module.proofs.Weights.{sum_then}
 use Rattle.merge_module.proofs.Bounds.{members_light}
 use Rattle.merge_module.proofs.LightGlobals.{globals_light}
 use Rattle.snap_module.specs.Held.{Stretch, Contents, function_number, reference_instr, constant_instr, held, held_globals, held_tables, held_memories, AreTables, CanBeHeld}
-use Rattle.snap_parts.specs.Sparse.{IsWritten, memory_gap, tables_gap, entries}
-use Rattle.snap_set.specs.Causes.{state_after}
+use Rattle.spec_snapshots.specs.Stretches.{IsWritten, memory_gap, tables_gap, entries}
+use Rattle.spec_snapshots.specs.Causes.{state_after}
 use Rattle.snap_set.specs.Parts.{snapshot_parts, start_number, snapshot_module}
 use Rattle.snap_set.specs.Laws.{PartsCanBeHeld}
 use Rattle.snap_sizes.specs.Laws.{IsLittle}

@@ -9,9 +9,9 @@ use Rattle.merge_index.specs.Numbering.{numbers_of}
 use Rattle.merge_module.specs.MergedModule.{added_types, merged_module}
 use Rattle.merge_module.specs.Laws.{IsMergeable, AreShort, types_bulk, names_bulk}
 use Rattle.snap_module.specs.Held.{Contents}
-use Rattle.snap_set.specs.Causes.{state_after}
+use Rattle.spec_snapshots.specs.Causes.{state_after}
 use Rattle.snap_set.specs.Parts.{snapshot_parts, snapshot_module, MakeContents}
-use Rattle.snap_parts.specs.Sparse.{IsWritten, entries}
+use Rattle.spec_snapshots.specs.Stretches.{IsWritten, entries}
 
 -- 512 times the bytes of the set's files and of its members' names, and 8 for each entry of its tables
 abbrev pub much : LinkedSet → SetState → ℕ

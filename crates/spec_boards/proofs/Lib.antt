@@ -10,3 +10,5 @@ pub mod Extending
 pub mod Playing
 pub mod Ending
 pub mod BoardFronts
+pub mod Alone
+pub mod Fair

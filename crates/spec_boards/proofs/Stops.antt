@@ -86,18 +86,6 @@ module _ (left : List Answer) (memory : MemoryInstance) where
   none_free false true (Exited code) e = absurd cc
   none_free false true (Trapped why) e = absurd cc
 
-  -- a run that waits without an answer stops
-  pub none_unasked : (limited spent answered : Bool) (status : Status HostCall Trap) → AreLeft answered status memory left → stop_by limited spent false left memory status ≡ None
-      → (not answered && waits status) ≡ false
-  none_unasked limited spent true status are e = refl
-  none_unasked limited spent false Moving are e = refl
-  none_unasked limited spent false Returned are e = refl
-  none_unasked limited spent false (Exited code) are e = refl
-  none_unasked limited spent false (Trapped why) are e = refl
-  none_unasked true spent false (Waits call) are e = absurd cc
-  none_unasked false spent false (Waits call) are e =
-      absurd (let bad : stop_by false spent false [] memory (Waits call) ≡ None = ap (λ l. stop_by false spent false l memory (Waits call)) (sym are) ∙ e in let no : Some stop.Waits ≡ None = bad in cc)
-
   -- where the limit of steps isn't reached, a turn that goes to the lesser of two numbers of steps is spent there
   pub same_spent : (steps most end until : ℕ) → steps ≤ until → until ≡ min most end → (deep : Bool) (status : Status HostCall Trap)
       → stop_by (nat_eq steps most) (nat_eq steps until) deep left memory status ≡ stop_by (nat_eq steps most) (nat_eq (end - steps) 0) deep left memory status

@@ -9,7 +9,7 @@ use Rattle.spec_hosts.specs.declared.ran.Ran.{Ran}
 use Rattle.spec_hosts.specs.declared.ran.RunEnd.{RunEnd}
 use Rattle.spec_hosts.specs.declared.ran.RunEnd.TheVariants as end
 use Rattle.spec_hosts.specs.Devices.{Devices}
-use Rattle.spec_hosts.specs.Ends.{are_many, is_due, taken_of, EndsAs}
+use Rattle.spec_hosts.specs.Ends.{are_many, is_due, taken_of, EndsAs, Makes}
 use Rattle.spec_hosts.specs.Hosted.{Embedder, Hosted, BreaksOff}
 use Rattle.spec_boards.specs.declared.ran.BoardRan.{BoardRan}
 use Rattle.spec_boards.specs.declared.turn.Stop.TheVariants as stop
@@ -31,10 +31,11 @@ abbrev pub EndsBy : Bool → Course → ℕ → Place → RunEnd → Type 0
 EndsBy used C most p end.TurnLimit = (used ≡ true) × (is_done C most p ≡ false)
 EndsBy used C most p e = EndsAs C.system C.deep most p.steps (reached C p).state (taken_at C p) e
 
--- what is told of it: its own steps, its own answers, and its end
+-- what is told of it: its own steps, each a real one of its own run, before which no limit of its own was due; its own answers; and its end
 pub record IsRanAs (used : Bool) (C : Course) (most : ℕ) (p : Place) (r : Ran) : Type 0 where
   pub steps : r.steps ≡ p.steps
   pub answers : r.answers ≡ p.given
+  pub made : Makes C.system C.deep C.opening most p.steps p.given
   pub ends : EndsBy used C most p r.end
 
 -- ---- turns with their answers

@@ -1,5 +1,5 @@
 -- What is so of turns and of the calls that are answered between them.
-use Rattle.std.specs.Prelude.{◌≡◌, ◌≤◌, ◌<◌, ℕ, ◌+◌, List, [], ◌∷◌, ◌++◌, slice_get, Bool, Some, None}
+use Rattle.std.specs.Prelude.{◌≡◌, ◌≤◌, ◌<◌, ℕ, ◌+◌, ◌*◌, ◌%◌, List, [], ◌∷◌, ◌++◌, length, slice_get, nat_eq, Bool, Some, None, if◌then◌else◌}
 use Rattle.std.specs.List.{All}
 use Rattle.spec_hosts.specs.wasm_form.declared.runtime.Answer.{Answer}
 use Rattle.spec_hosts.specs.spec_runs.Systems.{Moving, event, IsReal}
@@ -56,3 +56,17 @@ pub record IsServed {P : Type 0} (course : P → Course) (b : Board P) (i : ℕ)
 
 abbrev pub AllServed : {P : Type 0} → (P → Course) → Board P → Type 0
 AllServed {P} course b = (i : ℕ) (seat : Seat P) → slice_get b.seats i ≡ Some seat → IsServed course b i seat
+
+-- of some picks those of the program of a number, as the picks of a board that has no other
+abbrev pub alone : ℕ → List ℕ → List ℕ
+alone i [] = []
+alone i (j ∷ picks) = if nat_eq i j then 0 ∷ alone i picks else alone i picks
+
+-- how many of some picks are of the program of a number
+abbrev pub turns_of : ℕ → List ℕ → ℕ
+turns_of i [] = 0
+turns_of i (j ∷ picks) = (if nat_eq i j then 1 else 0) + turns_of i picks
+
+-- Where the number of each turn, modulo that of the programs, is picked, each program has one turn in each round.
+abbrev pub RoundsAreFair : Type 0
+RoundsAreFair = (n rounds i : ℕ) (picks : List ℕ) → i < n → ((k j : ℕ) → slice_get picks k ≡ Some j → j ≡ k % n) → length picks ≡ rounds * n → turns_of i picks ≡ rounds

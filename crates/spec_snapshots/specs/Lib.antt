@@ -1,1 +1,4 @@
-pub use Rattle.wasm_form.specs as wasm_form
+pub mod Causes
+pub mod Stretches
+pub mod Snapshots
+pub mod Laws

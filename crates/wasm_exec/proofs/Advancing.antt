@@ -82,7 +82,7 @@ module _ (C : Course) (names : HostNames) (p : Progress) (running : IsRunning C 
             declared = running.declared;
             stands = stands;
             taken = running.taken;
-            asks = subst (λ (o : Option Asked). IsAskedOf C.host (status_at C (next n)) o) (sym none) (none_asked C.host (status_at C (next n)) (code.unasked stands lt));
+            asks = subst (λ (o : Option Asked). IsAskedOf C.host (status_at C (next n)) o) (sym none) (none_asked C.host (status_at C (next n)) (code.unasked lt));
             free = free;
             written = running.written;
           },

@@ -74,7 +74,7 @@ module _ (C : Course) (names : HostNames) (p : Progress) (running : IsRunning C 
       answer_fits_there = subst (λ x. IsTrue (answer_fits asked_call x a)) seen fits
 
       pub awaits : Awaits C old a
-      awaits = (running.taken, running.stands, rw waits_so answer_fits_there)
+      awaits = (running.taken, running.stands.found, rw waits_so answer_fits_there)
 
       abbrev next : Recorded
       next = with_answer old a

@@ -17,7 +17,8 @@ use Rattle.spec_hosts.specs.spec_runtime.Courses.{Course, no_steps}
 use Rattle.run_loaded.specs.Courses.{Origin, OfModule, course_of}
 use Rattle.run_loaded.specs.Programs.{recorded_of, IsOf}
 use Rattle.wasm_exec.specs.Driving.{Progress, IsDriven, progress_of, Drives, Begins, Opens}
-use Rattle.wasm_exec.specs.Executed.{HaveIntegers, IsRefused}
+use Rattle.dyl_link.specs.host_table.Names.{HaveIntegers}
+use Rattle.wasm_exec.specs.Executed.{IsRefused}
 use Rattle.run_loaded.proofs.Openings.{module_loaded, opening_moves}
 use Rattle.wasm_exec.proofs.Openings.{are_declared}
 use Rattle.wasm_exec.proofs.Proceeding.{cut_here}

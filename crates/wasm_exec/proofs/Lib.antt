@@ -2,12 +2,10 @@ pub mod Advancing
 pub mod Answering
 pub mod Beginning
 pub mod Hosting
-pub mod Integers
 pub mod Limits
 pub mod Openings
 pub mod Proceeding
 pub mod Readiness
-pub mod SetHosts
 pub mod Sets
 pub mod Stepping
 pub mod Taken

@@ -12,7 +12,7 @@ use Rattle.spec_loading.specs.spec_execution.OneModule.{ModuleState, import_matc
 use Rattle.wasm_single.proofs.Imports.{both_met}
 use Rattle.run_loaded.proofs.Openings.{opening_parts}
 use Rattle.wasm_exec.specs.Driving.{AreDeclared}
-use Rattle.wasm_exec.specs.Executed.{HaveIntegers}
+use Rattle.dyl_link.specs.host_table.Names.{HaveIntegers}
 
 module _ (m : Module) (names : HostNames) where
   -- a host function is declared with its type

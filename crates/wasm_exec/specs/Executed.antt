@@ -1,9 +1,8 @@
 -- What came of running a module, or a linked set.
-use Rattle.std.specs.Prelude.{◌≡◌, ◌⊎◌, ℕ, List, Result, Ok, Err, IfOk, IsTrue}
+use Rattle.std.specs.Prelude.{◌≡◌, ◌⊎◌, ℕ, Result, Ok, Err, IfOk}
 use Rattle.spec_hosts.specs.wasm_form.declared.memory.Memory.{Memory}
 use Rattle.spec_hosts.specs.wasm_form.declared.module.Module.{Module}
-use Rattle.spec_hosts.specs.wasm_form.declared.types.FuncType.{FuncType}
-use Rattle.spec_hosts.specs.spec_runtime.Names.{HostNames, host_match, Fits, has_integers}
+use Rattle.spec_hosts.specs.spec_runtime.Names.{HostNames}
 use Rattle.spec_loading.specs.spec_execution.declared.fault.SingleFault.{SingleFault}
 use Rattle.spec_loading.specs.spec_execution.declared.fault.SingleFault.TheVariants as fault
 use Rattle.spec_loading.specs.spec_execution.OneModule.{ModuleState, module_opening, module_system, module_too_deep}
@@ -42,10 +41,6 @@ abbrev pub ModuleTakesAll : Module → HostNames → Result Ran SingleFault → 
 ModuleTakesAll m names result = IfOk result (λ r. (opening : ModuleState) → module_opening m names ≡ Ok opening → TakesAll (module_course m opening) r)
 
 -- ---- a linked set
-
--- what is declared has integers alone
-abbrev pub HaveIntegers : HostNames → Type 0
-HaveIntegers names = (from name : List ℕ) (ty : FuncType) → host_match names from name ty ≡ Fits → IsTrue (has_integers ty)
 
 -- what came of a run of a linked set
 abbrev pub IsSetRun : LinkedSet → Embedder → ℕ → Ran → Devices → Devices → Type 0

@@ -2,7 +2,8 @@
 ghost use Rattle.std.specs.Prelude.{◌≡◌, ◌<◌, ◌≤◌, IfOk, OnOk};
 ghost use Rattle.spec_hosts.specs.Devices.{devices, KeepsFronts};
 ghost use Rattle.host_calls.specs.Embedders.{names_of, embedder_of, embedder};
-ghost use Rattle.wasm_exec.specs.Executed.{HaveIntegers, Executes, ExecutesSet, ModuleTakesAll, SetTakesAll};
+ghost use Rattle.dyl_link.specs.host_table.Names.{HaveIntegers};
+ghost use Rattle.wasm_exec.specs.Executed.{Executes, ExecutesSet, ModuleTakesAll, SetTakesAll};
 ghost use Rattle.spec_loading.specs.spec_safety.SoundModules.{HoldsNumbers};
 ghost use Rattle.run_loaded.specs.Courses.{Origin};
 ghost use Rattle.run_loaded.specs.Programs.{recorded_of};
@@ -19,7 +20,7 @@ use host_wasi::{Wasi, declare};
 use run_loaded::Loaded;
 use spec_hosts::dyl_outside::{Ambient, Sink, Source};
 use spec_hosts::wasm_form::{List, Memory, Text};
-use spec_hosts::{Ran, RunEnd, names_have_their_types};
+use spec_hosts::{Ran, RunEnd};
 use std::alloc::Global;
 use wasm_single::{Single, SingleFault};
 
@@ -28,9 +29,10 @@ pub fn host_names(alloc: Global, table: &HostTable) -> Result<HostNames, Memory>
     ensures names { IfOk result (λ names. names ≡ names_of table.now) }
     ensures integers { OnOk result (HaveIntegers (names_of table.now)) }
 {
-    names_have_their_types();
-    let names = declare(alloc, HostNames::new(alloc))?;
-    table.names(alloc, names)
+    let first = declare(alloc, HostNames::new(alloc))?;
+    let names = table.names(alloc, first)?;
+    names.integers();
+    Ok(names)
 }
 
 /// Runs a module for a program with these arguments, of which the first one is its name, for at most so many steps. Calls of
@@ -87,12 +89,12 @@ pub fn execute_set<I: Source, O: Sink, E: Sink, A: Ambient>(
 ) -> Result<Ran, Memory>
     requires most { most < 18446744073709551615 }
     requires names { linked.now.names ≡ names_of table.now }
-    requires integers { HaveIntegers (names_of table.now) }
     ensures executes { ExecutesSet linked.now (embedder_of args table.now) most result (devices (I.seen input.old) (O.seen output.old) (E.seen errors.old) (A.seen ambient.old)) (devices (I.seen input.new) (O.seen output.new) (E.seen errors.new) (A.seen ambient.new)) }
     ensures fronts { KeepsFronts (devices (I.seen input.old) (O.seen output.old) (E.seen errors.old) (A.seen ambient.old)) (devices (I.seen input.new) (O.seen output.new) (E.seen errors.new) (A.seen ambient.new)) }
     ensures taken { SetTakesAll linked.now result }
 {
     linked.links();
+    linked.hosts_have_integers();
     match Store::load(alloc, linked) {
         Ok(store) => run_program(
             alloc,

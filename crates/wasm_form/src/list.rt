@@ -34,6 +34,13 @@ impl<T> List<T> {
     {
         &self.items
     }
+
+    /// The elements as a vector, without asking for memory.
+    pub fn into_vec(self) -> Vec<T>
+        ensures { result.items ≡ self }
+    {
+        self.items
+    }
 }
 
 impl<T: PartialEq> PartialEq for List<T> {

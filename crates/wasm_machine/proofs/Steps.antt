@@ -123,7 +123,7 @@ advanced x steps lost = record x { steps = steps; lost = lost }
 
 -- no step was made
 pub none_of_code : (C : Course) (x : Recorded) → AreOfCode C x x
-none_of_code C x = record { free = λ k from to. absurd (omega arith); unasked = λ at more. absurd (omega arith) }
+none_of_code C x = record { free = λ k from to. absurd (omega arith); unasked = λ more. absurd (omega arith) }
 
 module _ (most : ℕ) (v x : Recorded) (a : Advances most v x) (steps : ℕ) (lost : Bool) where
   same_start : advanced x steps lost ≡ advanced v steps lost
@@ -171,25 +171,25 @@ module _ (C : Course) (x : Recorded) (at : IsAt C x) (steps : ℕ) (lost : Bool)
       let same : advanced x steps lost ≡ with_step x = λ i. record x { steps = e i; lost = none_lost i; answered = m.0 i } in
       (subst (IsAt C) (sym same) m.1, ap (state_at C) same ∙ m.2)
 
-module _ (C : Course) (v x : Recorded) (same : x.answers ≡ v.answers) (code : AreOfCode C v x) (at : IsAt C x) (steps : ℕ) (lost : Bool) where
+module _ (C : Course) (v x : Recorded) (same : x.answers ≡ v.answers) (code : AreOfCode C v x) (steps : ℕ) (lost : Bool) where
   -- none more was made
   pub kept_code : steps ≡ x.steps → AreOfCode C v (advanced x steps lost)
   kept_code e = record {
     free = λ k from to. code.free k from (omega arith);
-    unasked = λ there more. subst (λ n. waits (C.system.status (after C n x.answers).state) ≡ false) (sym e) (code.unasked at (omega arith));
+    unasked = λ more. subst (λ n. waits (C.system.status (after C n x.answers).state) ≡ false) (sym e) (code.unasked (omega arith));
   }
 
   -- one more was made
-  pub made_code : (t : C.system.State) → status_at C x ≡ Moving → C.deep (state_at C x) ≡ false → C.system.step (state_at C x) ≡ Some t → waits (C.system.status t) ≡ false
+  pub made_code : IsAt C x → (t : C.system.State) → status_at C x ≡ Moving → C.deep (state_at C x) ≡ false → C.system.step (state_at C x) ≡ Some t → waits (C.system.status t) ≡ false
       → steps ≡ suc x.steps → AreOfCode C v (advanced x steps lost)
-  made_code t moving flat made goes e =
+  made_code at t moving flat made goes e =
       let m = at_moved C x at t moving made in
       let IsFree : ℕ → List Answer → Type 0 = λ k given. (C.system.status (after C k given).state ≡ Moving) × (C.deep (after C k given).state ≡ false) in
       record {
         free = λ k from to. ⊎_elim (λ (h : k < x.steps). code.free k from h) (λ (h : x.steps ≤ k).
             let here : x.steps ≡ k = omega arith in
             subst (λ given. IsFree k given) same (subst (λ n. IsFree n x.answers) here (moving, flat))) (cases_lt k x.steps);
-        unasked = λ there more.
+        unasked = λ more.
             subst (λ n. waits (C.system.status (after C n x.answers).state) ≡ false) (sym e)
             (ap (λ (s : C.system.State). waits (C.system.status s)) m.2 ∙ goes);
       }
@@ -210,7 +210,7 @@ module _ (C : Course) (v : Recorded) (at : IsAt C v) (moving : status_at C v ≡
   made_many zero steps t e same =
       let none : steps ≡ v.steps = omega arith in
       let kept = kept_at C v at steps v.lost at.found none in
-      record { stands = kept.0; reaches = kept.1 ∙ sym same; goes = ap C.system.status same ∙ moving; code = kept_code C v v refl (none_of_code C v) at steps v.lost none }
+      record { stands = kept.0; reaches = kept.1 ∙ sym same; goes = ap C.system.status same ∙ moving; code = kept_code C v v refl (none_of_code C v) steps v.lost none }
   made_many (suc n) steps t e made =
       let r = made_many n (v.steps + n) made.0 refl made.1 in
       let x = advanced v (v.steps + n) v.lost in
@@ -219,7 +219,7 @@ module _ (C : Course) (v : Recorded) (at : IsAt C v) (moving : status_at C v ≡
       let flat : C.deep (state_at C x) ≡ false = ap C.deep r.reaches ∙ made.2.0 in
       let step : C.system.step (state_at C x) ≡ Some t = ap C.system.step r.reaches ∙ made.2.1 in
       let m = made_one C x r.stands steps v.lost at.found t on step one in
-      record { stands = m.0; reaches = m.1; goes = made.2.2; code = made_code C v x refl r.code r.stands steps v.lost t on flat step (ap waits made.2.2) one }
+      record { stands = m.0; reaches = m.1; goes = made.2.2; code = made_code C v x refl r.code steps v.lost r.stands t on flat step (ap waits made.2.2) one }
 
 -- up to so many in all
 pub many_advances : (most : ℕ) (v : Recorded) (n : ℕ) → v.steps + n ≤ most → Advances most v (advanced v (v.steps + n) v.lost)

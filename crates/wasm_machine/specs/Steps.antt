@@ -81,10 +81,10 @@ pub record Advances (most : ℕ) (old new : Recorded) : Type 0 where
 pub record AreOfCode (C : Course) (old new : Recorded) : Type 0 where
   pub free : (k : ℕ) → old.steps ≤ k → k < new.steps
       → (C.system.status (after C k old.answers).state ≡ Moving) × (C.deep (after C k old.answers).state ≡ false)
-  pub unasked : IsAt C new → old.steps < new.steps → waits (status_at C new) ≡ false
+  pub unasked : old.steps < new.steps → waits (status_at C new) ≡ false
 
 -- ---- answers
 
--- the run waits for an answer that isn't recorded, and this one fits
+-- memory wasn't wanting, the run waits for an answer that isn't recorded, and this one fits
 abbrev pub Awaits : Course → Recorded → Answer → Type 0
-Awaits C x a = (x.answered ≡ false) × IsAt C x × FitsWait a (status_at C x) (memory_at C x)
+Awaits C x a = (x.answered ≡ false) × (x.lost ≡ false) × FitsWait a (status_at C x) (memory_at C x)

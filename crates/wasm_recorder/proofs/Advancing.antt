@@ -127,7 +127,7 @@ module _ {B K : Type 0} (D : Bares B K) where
           step = ap C.system.step here ∙ made_it
 
           code_made : AreOfCode C v y
-          code_made = made_code C v x refl reached.code at steps lost to moving flat step unasked count
+          code_made = made_code C v x refl reached.code steps lost at to moving flat step unasked count
 
           tops_made : HadCode D k o v y
           tops_made = made_tops k o v x refl tops_so_far steps lost (subst (D.HasCode k o) (sym here) code) count
@@ -143,7 +143,7 @@ module _ {B K : Type 0} (D : Bares B K) where
         -- none was
         module _ (count : steps ≡ x.steps) where
           code_kept : AreOfCode C v y
-          code_kept = kept_code C v x refl reached.code at steps lost count
+          code_kept = kept_code C v x refl reached.code steps lost count
 
           tops_kept : HadCode D k o v y
           tops_kept = kept_tops k o v x refl tops_so_far steps lost count

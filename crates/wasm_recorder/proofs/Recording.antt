@@ -40,7 +40,7 @@ module _ {B K : Type 0} (D : Bares B K) (b : B) (x : Recorded) (h : IsKept D b x
   pub recorded_kept : (a : Answer) (items : List Answer) → IsOfBytes a → IsAwaiting D a (run_of D b x) → items ≡ x.answers ++ a ∷ [] → IsKept D b (record x { answers = items; answered = true })
   recorded_kept a items of_bytes w more =
       let k = D.key b in
-      let found = w.2.1.found in
+      let found = w.2.1 in
       let space : (o : D.Origin) → D.IsOf k o → memory ≡ memory_at (D.course k o) x = λ o of. shows o of (state_at (D.course k o) x) (h.stands found o of).1 in
       let fits : FitsWait a (status_at (D.course k w.0) x) memory = subst (λ m. FitsWait a (status_at (D.course k w.0) x) m) (sym (space w.0 w.1)) w.2.2 in
       record {

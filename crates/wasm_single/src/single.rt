@@ -43,7 +43,7 @@ impl<'m> Single<'m> {
     /// `Deep` where the step would pass a limit of depth, with nothing changed. It takes memory only where the next step calls a
     /// function or grows a memory or a table; a run that answered `Memory` answers it from then on.
     pub fn run_step(&mut self, alloc: Global) -> Result<Event, Memory>
-        requires answered { (opening : ModuleState) → opened self.old.wasm ≡ Ok opening → IsAt (module_course self.old.wasm opening) self.old.run → is_waiting (module_course self.old.wasm opening) self.old.run ≡ false }
+        requires answered { (opening : ModuleState) → opened self.old.wasm ≡ Ok opening → self.old.run.lost ≡ false → is_waiting (module_course self.old.wasm opening) self.old.run ≡ false }
         requires few { self.old.run.steps < 18446744073709551615 }
         ensures stepped { IfOk result (λ e. (opening : ModuleState) × (opened self.old.wasm ≡ Ok opening) × IsAt (module_course self.old.wasm opening) self.old.run × RunStepped (module_course self.old.wasm opening) e self.old.run self.new.run) }
         ensures wanting { OnErr result ((self.old.run.lost ≡ true) ⊎ MayWantAt self.old.wasm self.old.run) }
@@ -84,14 +84,14 @@ impl<'m> Single<'m> {
 
     /// Whether it waits for an answer that isn't recorded.
     pub fn waiting(&self) -> bool
-        ensures { (opening : ModuleState) → opened self.now.wasm ≡ Ok opening → IsAt (module_course self.now.wasm opening) self.now.run → result ≡ is_waiting (module_course self.now.wasm opening) self.now.run }
+        ensures { self.now.run.lost ≡ false → (opening : ModuleState) → opened self.now.wasm ≡ Ok opening → result ≡ is_waiting (module_course self.now.wasm opening) self.now.run }
     {
         self.run.waiting()
     }
 
     /// Whether it has returned, exited or trapped.
     pub fn has_ended(&self) -> bool
-        ensures { (opening : ModuleState) → opened self.now.wasm ≡ Ok opening → IsAt (module_course self.now.wasm opening) self.now.run → result ≡ has_ended (status_at (module_course self.now.wasm opening) self.now.run) }
+        ensures { self.now.run.lost ≡ false → (opening : ModuleState) → opened self.now.wasm ≡ Ok opening → result ≡ has_ended (status_at (module_course self.now.wasm opening) self.now.run) }
     {
         self.run.has_ended()
     }
@@ -121,7 +121,7 @@ impl<'m> Single<'m> {
 
     /// The memory as the run stands.
     pub fn memory(&self) -> &Space
-        ensures { (opening : ModuleState) → opened self.now.wasm ≡ Ok opening → IsAt (module_course self.now.wasm opening) self.now.run → result.now ≡ memory_at (module_course self.now.wasm opening) self.now.run }
+        ensures { self.now.run.lost ≡ false → (opening : ModuleState) → opened self.now.wasm ≡ Ok opening → result.now ≡ memory_at (module_course self.now.wasm opening) self.now.run }
     {
         self.run.memory()
     }

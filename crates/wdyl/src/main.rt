@@ -4,7 +4,7 @@
 //! one module that goes on where start-up ended, and `wdyl board MAIN ..` runs the sets of several main modules in turns.
 #![tactic(auto)]
 
-ghost use Rattle.std.specs.Prelude.{◌<◌};
+ghost use Rattle.std.specs.Prelude.{◌≡◌, ◌<◌, ◌%◌};
 
 use dyl_app::{Outcome, Picker, serve, tell};
 use dyl_front::{collected, status};
@@ -16,7 +16,8 @@ use std::process::ExitCode;
 /// Each program of a board in its turn.
 fn in_turns(turn: u64, count: u64) -> u64
     requires { 0 < count }
-    ensures { result < count }
+    ensures below { result < count }
+    ensures in_turn { result ≡ turn % count }
 {
     turn % count
 }

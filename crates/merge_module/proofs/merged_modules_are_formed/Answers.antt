@@ -1,6 +1,7 @@
 use Rattle.merge_module.proofs.Known.{HasLaws, known}
 use Rattle.merge_module.proofs.Formed.{merged_formed, merged_shaped}
 use Rattle.merge_module.proofs.Short.{merged_short}
+use Rattle.merge_module.proofs.InLine.{merged_in_line}
 use Rattle.merge_module.proofs.merged_modules_are_formed.Goals as goal
 
 pub returns : goal.returns
@@ -18,6 +19,7 @@ returns c =
     let small = c.searches_are_small.ensures in
     record {
       formed = λ L is. merged_formed L (known laws L is.shape is.links) is.pages small;
-      shape = λ L is. merged_shaped L is.shape;
+      shape = λ L is. merged_shaped L (known laws L is.shape is.links);
       short = λ L is brief. merged_short small bounds.least bounds.sections bounds.bodies L (known laws L is.shape is.links) is.pages brief;
+      light = λ L is. merged_in_line small bounds.least L (known laws L is.shape is.links) is.pages;
     }

@@ -13,5 +13,5 @@ returns c =
       sizes = c.slots_fit.ensures.sizes;
       slots = c.slots_fit.ensures.slots;
     } in
-    λ L set links few. meets c.unused_loader_is_not_called.ensures c.lengths_are_given.ensures c.members_are_searched.ensures.searches
+    λ L set links few. meets c.unused_loader_is_not_called.ensures c.lengths_are_given.ensures c.members_are_searched.ensures.soon
     c.loader_calls_are_answered.ensures L (known laws L set links) few

@@ -15,9 +15,10 @@ returns c =
     } in
     let code : HasCodeLaws = record {
       runs = c.sets_run_as_merged.ensures.runs;
+      within = c.sets_run_as_merged.ensures.within;
       unused = c.unused_loader_is_not_called.ensures;
       lengths = c.lengths_are_given.ensures;
-      searches = c.members_are_searched.ensures.searches;
+      searches = c.members_are_searched.ensures.soon;
       answered = c.loader_calls_are_answered.ensures;
       generated = c.generated_code_is_typed.ensures;
       loader = c.loader_code_is_typed.ensures;

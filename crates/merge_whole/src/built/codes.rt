@@ -19,7 +19,6 @@ use merge_dl::{DlNumbers, dl_functions, find_functions, length_function};
 use merge_index::Numbers;
 use merge_start::{StartNumbers, entry_function, open_functions, phase_functions};
 use std::alloc::Global;
-use wasm_copies::copied_code;
 use wasm_form::{Code, List, Memory, Part};
 
 fn put_bodies(
@@ -74,21 +73,11 @@ fn put_stubs(
     Ok(())
 }
 
-fn put_parts(alloc: Global, to: &mut Vec<Code>, parts: &[Part]) -> Result<(), Memory>
-    ensures { OnOk result (to.new.items ≡ to.old.items ++ map code_of parts.now) }
-{
-    for part in parts {
-        to.push(copied_code(alloc, &part.code)?)?;
-    }
-    Ok(())
-}
-
-fn put_owned(alloc: Global, to: &mut Vec<Code>, parts: List<Part>) -> Result<(), Memory>
+fn put_parts(to: &mut Vec<Code>, parts: List<Part>) -> Result<(), Memory>
     ensures { OnOk result (to.new.items ≡ to.old.items ++ map code_of parts) }
 {
-    let told = put_parts(alloc, to, parts.items());
-    drop(parts);
-    told
+    to.extend(parts.into_vec().into_iter().map(|part| part.code))?;
+    Ok(())
 }
 
 // Those of the functions of the loader, and of what they call.
@@ -104,12 +93,12 @@ fn put_calls(
     ensures { OnOk result ((N : renumbering.Numbers) (x : Starts) → AreListed linked.now s.now N x → AreDlNumbers linked.now d.now x (finders_of linked.now x) → to.new.items ≡ to.old.items ++ loader_codes linked.now N x) }
 {
     let opens = open_functions(alloc, linked, s)?;
-    put_owned(alloc, to, opens)?;
+    put_parts(to, opens)?;
     to.push(length_function(alloc)?.code)?;
     let finds = find_functions(alloc, linked, d)?;
-    put_owned(alloc, to, finds)?;
+    put_parts(to, finds)?;
     let calls = dl_functions(alloc, linked, d)?;
-    put_owned(alloc, to, calls)?;
+    put_parts(to, calls)?;
     Ok(())
 }
 
@@ -148,7 +137,7 @@ fn put_generated(
     ensures { OnOk result ((N : renumbering.Numbers) (x : Starts) → AreListed linked.now s.now N x → HasLoader linked.now x loader.now → to.new.items ≡ to.old.items ++ generated_codes linked.now N x) }
 {
     let phases = phase_functions(alloc, linked, s)?;
-    put_owned(alloc, to, phases)?;
+    put_parts(to, phases)?;
     to.push(entry_function(alloc, linked, s)?.code)?;
     put_loader(alloc, to, linked, s, loader)?;
     Ok(())

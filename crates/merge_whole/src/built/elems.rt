@@ -1,110 +1,16 @@
-// The element segments.
-ghost use Rattle.std.specs.Prelude.{◌≡◌, ◌≤◌, ◌+◌, ◌<◌, ◌^◌, ◌++◌, ◌∷◌, [], length, map, IfOk, OnOk};
-ghost use Rattle.spec_loading.specs.Members.{from_members};
+// The element segments behind those of the members.
+ghost use Rattle.std.specs.Prelude.{◌≡◌, ◌+◌, ◌<◌, ◌^◌, ◌++◌, ◌∷◌, [], length, map, IfOk, OnOk};
 ghost use Rattle.spec_loading.specs.spec_linking.Slots.{fresh_functions};
-ghost use Rattle.merge_match.specs.Renumbering.{expr};
 ghost use Rattle.merge_index.specs.Kept.{numbers_in};
-ghost use Rattle.merge_module.specs.MergedModule.{passive_mode, renumbered_items, passive_elem, functions_elem, slots_elem, outside_elem, declared_elem, number_expr, merged_elems};
-ghost use Rattle.merge_whole.specs.Counts.{members_of};
-ghost use Rattle.merge_whole.specs.Elements.{passive_elems, fresh_elem, export_numbers, exported_numbers};
+ghost use Rattle.merge_module.specs.MergedModule.{functions_elem, outside_elem, declared_elem, number_expr};
+ghost use Rattle.merge_whole.specs.Elements.{export_numbers, exported_numbers};
 
 use dyl_link::Linked;
-use dyl_link::dyl_search::Member;
 use merge_index::Numbers;
 use std::alloc::Global;
 use wasm_form::{
     Elem, ElemItems, ElemMode, Export, ExportDesc, Expr, Instr, List, Memory, Module, Ref,
 };
-
-fn renumbered_exprs(alloc: Global, n: &Numbers, m: u32, es: &[Expr]) -> Result<List<Expr>, Memory>
-    ensures { IfOk result (λ list. list ≡ map (expr (numbers_in n.now) m) es.now) }
-{
-    let mut list = Vec::new(alloc);
-    for e in es {
-        list.push(n.rename_expr(alloc, m, e)?)?;
-    }
-    Ok(List::of(list))
-}
-
-fn named_functions(alloc: Global, n: &Numbers, m: u32, fs: &[u32]) -> Result<List<u32>, Memory>
-    ensures { IfOk result (λ list. list ≡ map ((numbers_in n.now).named m) fs.now) }
-{
-    let mut list = Vec::new(alloc);
-    for f in fs {
-        list.push(n.named(m, *f))?;
-    }
-    Ok(List::of(list))
-}
-
-fn renumbered_items(
-    alloc: Global,
-    n: &Numbers,
-    m: u32,
-    items: &ElemItems,
-) -> Result<ElemItems, Memory>
-    ensures { IfOk result (λ x. x ≡ renumbered_items (numbers_in n.now) m items.now) }
-{
-    match items {
-        ElemItems::Funcs(fs) => Ok(ElemItems::Funcs(named_functions(alloc, n, m, fs.items())?)),
-        ElemItems::Exprs { elem, items } => Ok(ElemItems::Exprs {
-            elem: *elem,
-            items: renumbered_exprs(alloc, n, m, items.items())?,
-        }),
-    }
-}
-
-// A segment that a member applies is passive.
-fn passive_mode(mode: &ElemMode) -> ElemMode
-    ensures { result ≡ passive_mode mode.now }
-{
-    match mode {
-        ElemMode::Active { .. } | ElemMode::Passive => ElemMode::Passive,
-        ElemMode::Declarative => ElemMode::Declarative,
-    }
-}
-
-fn passive_elem(alloc: Global, n: &Numbers, m: u32, e: &Elem) -> Result<Elem, Memory>
-    ensures { IfOk result (λ x. x ≡ passive_elem (numbers_in n.now) m e.now) }
-{
-    let items = renumbered_items(alloc, n, m, &e.items)?;
-    Ok(Elem {
-        mode: passive_mode(&e.mode),
-        items,
-    })
-}
-
-fn put_passive(
-    to: &mut Vec<Elem>,
-    alloc: Global,
-    n: &Numbers,
-    m: u32,
-    elems: &[Elem],
-) -> Result<(), Memory>
-    ensures { OnOk result (to.new.items ≡ to.old.items ++ map (passive_elem (numbers_in n.now) m) elems.now) }
-{
-    for e in elems {
-        to.push(passive_elem(alloc, n, m, e)?)?;
-    }
-    Ok(())
-}
-
-// The segments of the members.
-fn put_members(
-    alloc: Global,
-    to: &mut Vec<Elem>,
-    members: &[Member],
-    n: &Numbers,
-) -> Result<(), Memory>
-    requires few { length members.now ≤ 256 }
-    ensures { OnOk result (to.new.items ≡ to.old.items ++ from_members (passive_elems (numbers_in n.now)) 0 (members_of members.now)) }
-{
-    let mut m: u32 = 0;
-    for member in members {
-        put_passive(to, alloc, n, m, member.checked.module().elems.items())?;
-        m += 1;
-    }
-    Ok(())
-}
 
 fn function_numbers(alloc: Global, n: &Numbers, refs: &[Ref]) -> Result<List<u32>, Memory>
     ensures { IfOk result (λ list. list ≡ map (numbers_in n.now).function refs.now) }
@@ -124,30 +30,6 @@ fn functions_elem(alloc: Global, n: &Numbers, mode: ElemMode, refs: &[Ref]) -> R
         mode,
         items: ElemItems::Funcs(list),
     })
-}
-
-// The segment of these functions of member m.
-fn fresh_elem(alloc: Global, n: &Numbers, m: u32, fs: &[u32]) -> Result<Elem, Memory>
-    ensures { IfOk result (λ x. x ≡ fresh_elem (numbers_in n.now) m fs.now) }
-{
-    let mut list = Vec::new(alloc);
-    for f in fs {
-        list.push(n.function(Ref::Own { unit: m, func: *f }))?;
-    }
-    Ok(Elem {
-        mode: ElemMode::Passive,
-        items: ElemItems::Funcs(List::of(list)),
-    })
-}
-
-// The segments of fresh slots.
-fn put_slots(alloc: Global, to: &mut Vec<Elem>, linked: &Linked, n: &Numbers) -> Result<(), Memory>
-    ensures { OnOk result (to.new.items ≡ to.old.items ++ from_members (λ m wasm. slots_elem linked.now (numbers_in n.now) m ∷ []) 0 linked.now.set.members) }
-{
-    for m in 0..linked.member_count() {
-        to.push(fresh_elem(alloc, n, m, linked.fresh(m))?)?;
-    }
-    Ok(())
 }
 
 // How many fresh slots members have, beside so many.
@@ -215,31 +97,16 @@ fn declared_elem(alloc: Global, linked: &Linked, n: &Numbers) -> Result<Elem, Me
     })
 }
 
-fn put_elems(alloc: Global, to: &mut Vec<Elem>, linked: &Linked, n: &Numbers) -> Result<(), Memory>
-    ensures { OnOk result (to.new.items ≡ to.old.items ++ merged_elems linked.now (numbers_in n.now)) }
+// Those that come behind the members' segments.
+pub(crate) fn put_others(
+    alloc: Global,
+    to: &mut Vec<Elem>,
+    linked: &Linked,
+    n: &Numbers,
+) -> Result<(), Memory>
+    ensures { OnOk result (to.new.items ≡ to.old.items ++ outside_elem linked.now (numbers_in n.now) ∷ declared_elem linked.now (numbers_in n.now) ∷ []) }
 {
-    linked.links();
-    put_members(alloc, to, linked.members(), n)?;
-    put_slots(alloc, to, linked, n)?;
     to.push(outside_elem(alloc, linked, n)?)?;
     to.push(declared_elem(alloc, linked, n)?)?;
     Ok(())
-}
-
-// The element segments of the merged module.
-pub(crate) fn merged_elems(
-    alloc: Global,
-    linked: &Linked,
-    n: &Numbers,
-) -> Result<List<Elem>, Memory>
-    ensures { IfOk result (λ x. x ≡ merged_elems linked.now (numbers_in n.now)) }
-{
-    let mut list = Vec::new(alloc);
-    match put_elems(alloc, &mut list, linked, n) {
-        Ok(()) => Ok(List::of(list)),
-        Err(memory) => {
-            drop(list);
-            Err(memory)
-        }
-    }
 }

@@ -8,6 +8,7 @@ ghost use Rattle.merge_index.specs.Kept.{numbers_in};
 ghost use Rattle.merge_index.specs.Numbering.{first_phase, numbers_of, starts_of};
 ghost use Rattle.dyl_link.specs.dyl_search.declared.set.Member as declared;
 ghost use Rattle.merge_start.specs.Listed.{AreListed};
+ghost use Rattle.merge_start.specs.Passive.{AreNamed};
 ghost use Rattle.dyl_addresses.specs.Sets.{module_of};
 ghost use Rattle.merge_whole.specs.Counts.{members_of, tables_by, functions_by, calls_by, starts_by};
 
@@ -170,9 +171,11 @@ pub(crate) fn set_starts(
     requires guards { guard ≡ (starts_of linked.now).guards }
     ensures listed { IfOk result (λ s. AreListed linked.now s (numbers_of linked.now) (starts_of linked.now)) }
     ensures functions { IfOk result (λ s. s.functions ≡ from_members (functions_by (numbers_of linked.now)) 0 linked.now.set.members) }
+    ensures named { IfOk result (λ s. AreNamed linked.now s (numbers_of linked.now)) }
     ensures guard { IfOk result (λ s. s.guard < 2 ^ 31) }
     ensures first { IfOk result (λ s. s.first_function < 2 ^ 31) }
 {
+    linked.links();
     let starts = starts_by(alloc, linked, n, guard)?;
     Ok(starts)
 }

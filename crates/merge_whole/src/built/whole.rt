@@ -5,7 +5,6 @@ ghost use Rattle.merge_whole.specs.Given.{IsGiven, AreSmall};
 ghost use Rattle.merge_whole.specs.Parts.{ArePartsOf};
 
 use crate::built::codes::merged_codes;
-use crate::built::datas::merged_datas;
 use crate::built::exports::entry_exports;
 use crate::built::funcs::merged_funcs;
 use crate::built::given::{Given, make_given};
@@ -28,7 +27,7 @@ fn starting(linked: &Linked, first: u32) -> u32
     first + 4 * linked.member_count()
 }
 
-// The sections of a module that has the globals and the element segments, but for these.
+// The sections of a module that has the globals and the segments, but for these.
 fn put_sections(
     alloc: Global,
     linked: &Linked,
@@ -42,7 +41,7 @@ fn put_sections(
     requires numbers { IfSome loader.now AreSmall }
     requires start { to.old.start ≡ None }
     requires customs { to.old.customs ≡ [] }
-    requires given { IsGiven linked.now (record { numbers = numbers.now; starts = starts.now; loader = loader.now; globals = to.old.globals; elems = to.old.elems }) }
+    requires given { IsGiven linked.now (record { numbers = numbers.now; starts = starts.now; loader = loader.now; globals = to.old.globals; elems = to.old.elems; datas = to.old.datas }) }
     ensures { OnOk result (to.new ≡ merged_module linked.now) }
 {
     linked.links();
@@ -61,8 +60,6 @@ fn put_sections(
     to.exports = exports;
     let codes = merged_codes(alloc, linked, numbers, starts, loader)?;
     to.codes = codes;
-    let datas = merged_datas(alloc, linked)?;
-    to.datas = datas;
     let count = to.datas.items().len() as u32;
     to.data_count = Some(count);
     Ok(())
@@ -82,6 +79,7 @@ fn parts_with(alloc: Global, linked: &Linked, given: Given) -> Result<Parts, Mem
         loader,
         globals,
         elems,
+        datas,
     } = given;
     let mut module = Module {
         types: List::of(Vec::new(alloc)),
@@ -95,7 +93,7 @@ fn parts_with(alloc: Global, linked: &Linked, given: Given) -> Result<Parts, Mem
         elems,
         data_count: None,
         codes: List::of(Vec::new(alloc)),
-        datas: List::of(Vec::new(alloc)),
+        datas,
         customs: List::of(Vec::new(alloc)),
     };
     let told = put_sections(alloc, linked, &numbers, &starts, &loader, &mut module);

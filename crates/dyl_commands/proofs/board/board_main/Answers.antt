@@ -5,7 +5,7 @@ use Rattle.host_calls.specs.Embedders.{names_of, embedder_of}
 use Rattle.slice_board.specs.Taken.{picks_of}
 use Rattle.dyl_link.specs.Sets as links
 use Rattle.dyl_commands.specs.Runs.{guest_arguments}
-use Rattle.dyl_commands.proofs.InTurns.{some_sets, few_sets, all_over, declared_integers, turns_serve, turns_work, turns_count, turns_not_done, unlinked_count, board_refused, board_idle, board_not_done}
+use Rattle.dyl_commands.proofs.InTurns.{some_sets, few_sets, all_over, turns_serve, turns_work, turns_count, turns_not_done, unlinked_count, board_refused, board_idle, board_not_done}
 use Rattle.dyl_commands.proofs.board.board_main.Goals as goal
 
 pub run_in_turns-outcome-requires : goal.run_in_turns-outcome-requires
@@ -18,7 +18,6 @@ run_in_turns-outcome-requires g c =
       some = subst (λ Ls. 0 < length Ls) same (some_sets names l old c.args.mains.now c.in-Ok.sets c.in-Ok.ensures.got c.requires.some);
       few = subst (λ Ls. length Ls ≤ 64) same (few_sets names l old c.args.mains.now c.in-Ok.sets c.in-Ok.ensures.got c.requires.few);
       names = subst (All (λ (L : LinkedSet). L.names ≡ names)) same (all_over names l old c.args.mains.now c.in-Ok.sets c.in-Ok.ensures.got);
-      integers = declared_integers names l old c.args.mains.now c.in-Ok.sets c.in-Ok.ensures.got c.requires.some;
       steps = c.requires.steps;
     }
 

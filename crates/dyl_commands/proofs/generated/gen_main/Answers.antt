@@ -1,9 +1,7 @@
 use Rattle.std.proofs.Common.{[], ap}
 use Rattle.spec_loading.specs.spec_linking.LinkedSets.{LinkedSet}
 use Rattle.host_calls.specs.Embedders.{names_of, embedder_of}
-use Rattle.dyl_commands.specs.Generated.{with_pages}
 use Rattle.dyl_commands.specs.Runs.{guest_arguments}
-use Rattle.dyl_commands.proofs.Linking.{hosts_supported}
 use Rattle.dyl_commands.proofs.Generating.{little, gen_works, gen_serves, gen_refused, gen_idle}
 use Rattle.dyl_commands.proofs.generated.gen_main.Goals as goal
 
@@ -12,8 +10,6 @@ run_both-outcome-requires g c =
     let made = c.in-Ok.ensures in
     record {
       names = ap (λ (L : LinkedSet). L.names) made.is;
-      integers = made.integers;
-      hosts = hosts_supported (with_pages c.args.pages) made.set (names_of c.args.host.now) c.in-Ok.linked made.is made.links made.integers;
       little = little (names_of c.args.host.now) c.args.n c.args.pages c.in-Ok.linked c.generated_set_links.ensures.small made;
       steps = c.requires.steps;
     }

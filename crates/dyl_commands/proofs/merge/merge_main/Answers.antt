@@ -1,14 +1,10 @@
 use Rattle.host_calls.specs.Embedders.{names_of}
 use Rattle.dyl_link.specs.dyl_search.Gathers.{options_of}
 use Rattle.dyl_link.specs.Sets as links
-use Rattle.dyl_commands.proofs.Linking.{hosts_supported}
 use Rattle.dyl_commands.proofs.Merging.{merge_serves}
 use Rattle.dyl_commands.proofs.Refusing.{merge_refused}
 use Rattle.dyl_commands.proofs.Counting.{got_counts, then_stored, written_no_fault, unmerged_counts}
 use Rattle.dyl_commands.proofs.merge.merge_main.Goals as goal
-
-pub write_merged-outcome-requires : goal.write_merged-outcome-requires
-write_merged-outcome-requires g c = let got = c.in-Ok.ensures.got in hosts_supported (links.options_of c.args.link.now) got.set (names_of c.args.host.now) c.in-Ok.linked got.is got.links got.integers
 
 pub returns-in-Ok-clause-serves : goal.returns-in-Ok-clause-serves
 returns-in-Ok-clause-serves g c = λ before now.

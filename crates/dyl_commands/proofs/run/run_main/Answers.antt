@@ -12,7 +12,7 @@ use Rattle.dyl_commands.proofs.run.run_main.Goals as goal
 pub run_linked-outcome-requires : goal.run_linked-outcome-requires
 run_linked-outcome-requires g c =
     let got = c.in-Ok.ensures.got in
-    record { names = ap (λ (L : LinkedSet). L.names) got.is; integers = got.integers; steps = c.requires.steps }
+    record { names = ap (λ (L : LinkedSet). L.names) got.is; steps = c.requires.steps }
 
 pub returns-in-Ok-clause-serves : goal.returns-in-Ok-clause-serves
 returns-in-Ok-clause-serves g c =

@@ -1,8 +1,5 @@
-use Rattle.dyl_commands.proofs.Snapping.{few_steps, stored_snapshot, unstored_snapshot, no_snapshot}
+use Rattle.dyl_commands.proofs.Snapping.{stored_snapshot, unstored_snapshot, no_snapshot}
 use Rattle.dyl_commands.proofs.snap.write_snapshot.Goals as goal
-
-pub snapshot-requires-clause-most : goal.snapshot-requires-clause-most
-snapshot-requires-clause-most g c = few_steps c.args.steps c.requires.steps
 
 pub returns-in-Ok-store_output-clause-written : goal.returns-in-Ok-store_output-clause-written
 returns-in-Ok-store_output-clause-written g c =

@@ -15,5 +15,6 @@ of-requires c =
       shape = c.requires.shape;
       links = found.tells;
       pages = pages_below (linked_set c.args.set c.args.o.now c.args.hosts.now) c.requires.pages;
+      integers = c.integers.ensures;
       ready = found.ready;
     })

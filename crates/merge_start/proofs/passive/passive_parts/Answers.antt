@@ -1,12 +1,8 @@
-use Rattle.std.proofs.Common.{◌++◌, List, ap₂, ◌∙◌}
-use Rattle.wasm_form.specs.declared.module.Elem.{Elem}
-use Rattle.merge_start.proofs.ListedItems.{listed_is_renumbered}
+use Rattle.std.proofs.Common.{◌∙◌}
 use Rattle.merge_start.proofs.passive.passive_parts.Goals as goal
 
 pub returns-clause-renumbered : goal.returns-clause-renumbered
-returns-clause-renumbered c = λ N named.
-    listed_is_renumbered c.args.linked.now c.links.ensures.shape c.links.ensures.links c.args.n.now N named _
-    (record {
-      elems = c.of.ensures ∙ c.in_ok-append.ensures.items ∙ ap₂ (λ (a b : List Elem). a ++ b) c.in_ok-elems.ensures c.in_ok-slots.ensures;
-      datas = c.of-2.ensures ∙ c.in_ok-datas.ensures;
-    })
+returns-clause-renumbered c = λ N named. record {
+  elems = c.of.ensures ∙ c.in_ok-elems.ensures.renumbered N named;
+  datas = c.of-2.ensures ∙ c.in_ok-datas.ensures;
+}

@@ -8,8 +8,8 @@ use Rattle.merge_start.proofs.Made.{next_sum, next_made}
 use Rattle.merge_start.proofs.Items.{few_functions, fresh_is}
 use Rattle.merge_start.proofs.passive.slots_elems.Goals as goal
 
-pub functions_elem-requires : goal.functions_elem-requires
-functions_elem-requires c =
+pub listed_elem-requires : goal.listed_elem-requires
+listed_elem-requires c =
     let few : c.loop-m.m ≤ 256 = omega (arith, c.loop-m-test.true, c.member_count-m-end.ensures.few) in
     let within = c.loop-m.invariant.within in
     let all = few_functions _ c.module.ensures.formed in

@@ -14,7 +14,7 @@ use Rattle.replay_commands.proofs.trace.trace_set.Goals as goal
 pub trace_linked-outcome-requires : goal.trace_linked-outcome-requires
 trace_linked-outcome-requires g c =
     let got = c.in-Ok.ensures.got in
-    record { names = ap (λ (L : LinkedSet). L.names) got.is; integers = got.integers; steps = c.requires.steps }
+    record { names = ap (λ (L : LinkedSet). L.names) got.is; steps = c.requires.steps }
 
 pub returns-in-Ok-clause-serves : goal.returns-in-Ok-clause-serves
 returns-in-Ok-clause-serves g c =

@@ -1,5 +1,6 @@
 -- What is asked is the call that the run waits for.
-use Rattle.dyl_link.specs.host_table.Names.{host_name_of}
+use Rattle.std.proofs.Common.{subst, sym}
+use Rattle.dyl_link.specs.host_table.Names.{host_name_of, HaveIntegers}
 use Rattle.dyl_store.specs.Stores.{set_course}
 use Rattle.host_calls.specs.Embedders.{names_of, embedder}
 use Rattle.wasm_exec.proofs.Sets.{are_declared}
@@ -28,7 +29,7 @@ ask-requires-clause-declared g c =
     let L = c.args.store.now.linked in
     let tells = rw c.in-Waits.is at (c.state.ensures.tells c.requires.found) in
     let at = there L c.hosts.result.now c.hosts.ensures c.in-Waits.asked c.args.store.now.run tells c.host_at-host.result.now c.host_at-host.ensures in
-    (are_declared L (names_of c.args.hosts.now.table.now) c.requires.integers c.links.ensures.links c.requires.names c.in-Waits.asked.entry (host_name_of c.host_at-host.result.now) at).0
+    (are_declared L (names_of c.args.hosts.now.table.now) (subst HaveIntegers (sym c.requires.names) c.requires.integers) c.links.ensures.links c.requires.names c.in-Waits.asked.entry (host_name_of c.host_at-host.result.now) at).0
 
 pub ask-requires-clause-arguments : goal.ask-requires-clause-arguments
 ask-requires-clause-arguments g c =
@@ -36,11 +37,11 @@ ask-requires-clause-arguments g c =
     let tells = rw c.in-Waits.is at (c.state.ensures.tells c.requires.found) in
     let h = c.host_at-host.result.now in
     let at = there L c.hosts.result.now c.hosts.ensures c.in-Waits.asked c.args.store.now.run tells h c.host_at-host.ensures in
-    let integers = (are_declared L (names_of c.args.hosts.now.table.now) c.requires.integers c.links.ensures.links c.requires.names c.in-Waits.asked.entry (host_name_of h) at).1 in
+    let integers = (are_declared L (names_of c.args.hosts.now.table.now) (subst HaveIntegers (sym c.requires.names) c.requires.integers) c.links.ensures.links c.requires.names c.in-Waits.asked.entry (host_name_of h) at).1 in
     arguments_fit L c.hosts.result.now c.hosts.ensures c.in-Waits.asked c.args.store.now.run tells h c.host_at-host.ensures (rw c.in-Waits.is at (c.state.ensures.arguments c.requires.found)) integers
 
 pub returns : goal.returns
 returns g c =
     let tells = rw c.in-Waits.is at (c.state.ensures.tells c.requires.found) in
     call_gives c.args.store.now.linked c.hosts.result.now c.hosts.ensures c.in-Waits.asked c.args.store.now.run tells c.host_at-host.result.now c.host_at-host.ensures
-    (embedder c.args.hosts.now) c.memory.result.now c.ask.result _ _ (c.memory.ensures c.requires.stands) c.ask.ensures.asked c.ask.ensures.fits
+    (embedder c.args.hosts.now) c.memory.result.now c.ask.result _ _ (c.memory.ensures c.requires.found) c.ask.ensures.asked c.ask.ensures.fits

@@ -1,7 +1,13 @@
-use Rattle.std.proofs.Common.{ap, refl}
+use Rattle.std.proofs.Common.{ap, ◌∙◌, refl, subst}
+use Rattle.spec_loading.specs.spec_linking.LinkedSets.{LinkedSet}
+use Rattle.dyl_link.specs.host_table.Names.{HaveIntegers}
 use Rattle.slice_board.specs.Taken.{picks_of}
 use Rattle.slice_exec.proofs.Whole.{seated, counted, finished, fronts, stopped, stopped_fronts}
 use Rattle.slice_exec.proofs.exec.execute_board.Goals as goal
+
+pub run_board-played-requires-clause-integers : goal.run_board-played-requires-clause-integers
+run_board-played-requires-clause-integers g c =
+    subst HaveIntegers (ap (λ (L : LinkedSet). L.names) c.index-sets-0.is ∙ c.requires.names 0 _ c.requires.some) c.hosts_have_integers.ensures.integers
 
 pub finish-requires-clause-seated : goal.finish-requires-clause-seated
 finish-requires-clause-seated g c =

@@ -10,7 +10,7 @@ returns c =
     let found = c.requires.seated.found in
     let stands = c.steps.ensures.stands found in
     c.waits_in_vain.ensures
-    ∙ sym (done_last C c.args.most c.args.store.now.run c.requires.seated stands (sym (c.has_ended.ensures stands) ∙ c.if-has_ended.false)
+    ∙ sym (done_last C c.args.most c.args.store.now.run c.requires.seated stands (sym (c.has_ended.ensures found) ∙ c.if-has_ended.false)
     (λ e. c.if-steps-most.false (c.steps.ensures.value ∙ e)) (sym (c.deep.ensures found) ∙ c.if-deep.false))
 
 pub returns-then-steps-most : goal.returns-then-steps-most
@@ -23,6 +23,6 @@ returns-then-has_ended c =
     let found = c.requires.seated.found in
     let stands = c.steps.ensures.stands found in
     elim c.then-has_ended.branch [
-      | then-has_ended-via-then-has_ended w ↦ sym (done_ended C c.args.most c.args.store.now.run c.requires.seated stands (sym (c.has_ended.ensures stands) ∙ w.if-has_ended.true))
+      | then-has_ended-via-then-has_ended w ↦ sym (done_ended C c.args.most c.args.store.now.run c.requires.seated stands (sym (c.has_ended.ensures found) ∙ w.if-has_ended.true))
       | then-has_ended-via-else-has_ended+then-deep w ↦ sym (done_deep C c.args.most c.args.store.now.run c.requires.seated stands (sym (w.deep.ensures found) ∙ w.if-deep.true))
     ]

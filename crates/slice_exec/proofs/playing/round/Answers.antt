@@ -6,7 +6,7 @@ use Rattle.slice_exec.specs.declared.tally.Tally.{Tally}
 use Rattle.dyl_store.specs.Stores.{StoreRun}
 use Rattle.slice_exec.specs.Playing.{written_by}
 use Rattle.slice_exec.proofs.Serving.{written_at}
-use Rattle.slice_exec.proofs.TakenRounds.{lost_round, lost_by, silent_round, seen_full, program_within, written_so, serving_so, answered_round}
+use Rattle.slice_exec.proofs.TakenRounds.{lost_round, lost_by, silent_round, seen_full, seen_at, program_within, written_so, serving_so, answered_round}
 use Rattle.slice_exec.proofs.playing.round.Goals as goal
 
 pub returns-in_err-turn-clause-round : goal.returns-in_err-turn-clause-round
@@ -75,6 +75,10 @@ returns-clause-round g c =
     let few = seen_full c.args.slice (picks_of b.picker.now) c.args.hosts.now b.seats.items b.turn c.args.tally.now c.in_ok-turn.turn c.turn.new.self.seats.items c.in_ok-turn.ensures.taken told c.in_ok-push.ensures.items refl
     s.0 c.store.result.now c.is_full.result false s.1 s.2 c.is_full.ensures.value c.if-is_full.false
     in
+    let stands =
+    seen_at c.args.slice (picks_of b.picker.now) c.args.hosts.now b.seats.items b.turn c.args.tally.now c.in_ok-turn.turn c.turn.new.self.seats.items c.in_ok-turn.ensures.taken told c.in_ok-push.ensures.items refl
+    s.0 c.store.result.now s.1 s.2 c.is_full.ensures.stands
+    in
     answered_round c.args.slice (picks_of b.picker.now) c.args.hosts.now b.seats.items b.turn c.args.tally.now c.in_ok-turn.turn c.turn.new.self.seats.items c.in_ok-turn.ensures.taken told c.in_ok-push.ensures.items refl
-    _ c.requires c.index-hosts-p.result c.index-hosts-p.is c.answer.result c.answer.new.board.seats.items c.answer.new.board.turn c.answer.new.tally _ _ c.in-Waits.is few (c.answer.ensures.turn ∙ c.turn.ensures.next)
+    _ c.requires c.index-hosts-p.result c.index-hosts-p.is c.answer.result c.answer.new.board.seats.items c.answer.new.board.turn c.answer.new.tally _ _ stands c.in-Waits.is few (c.answer.ensures.turn ∙ c.turn.ensures.next)
     (ap (λ v. v.items) c.answer.ensures.picks) c.answer.ensures.served

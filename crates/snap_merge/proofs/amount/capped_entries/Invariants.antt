@@ -1,6 +1,6 @@
 use Rattle.std.proofs.Common.{◌≡◌, ◌≤◌, ◌+◌, min, drop}
 use Rattle.std.specs.Prelude.{sum_by}
-use Rattle.snap_merge.specs.Answers.{entries}
+use Rattle.spec_snapshots.specs.Stretches.{entries}
 use Rattle.snap_merge.proofs.amount.capped_entries.Given as goal
 
 abbrev pub invariant-loop-table : goal.invariant-loop-table

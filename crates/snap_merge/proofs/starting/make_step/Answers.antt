@@ -6,7 +6,7 @@ use Rattle.snap_merge.proofs.StartUp.{here_is, status_is, not_waiting, step_made
 use Rattle.snap_merge.proofs.starting.make_step.Goals as goal
 
 pub run_step-requires-clause-answered : goal.run_step-requires-clause-answered
-run_step-requires-clause-answered c = λ at. not_waiting c.args.store.now.linked c.args.most c.args.store.now c.requires.starting c.requires.may.0
+run_step-requires-clause-answered c = λ _. not_waiting c.args.store.now.linked c.args.most c.args.store.now c.requires.starting c.requires.may.0
 
 pub returns-clause-made : goal.returns-clause-made
 returns-clause-made c =

@@ -1,6 +1,6 @@
 use Rattle.std.proofs.Common.{◌∙◌, subst}
 use Rattle.spec_loading.specs.spec_linking.LinkedSets.{LinkedSet}
-use Rattle.snap_set.specs.Causes.{Takes, IsFirst}
+use Rattle.spec_snapshots.specs.Causes.{Takes, IsFirst}
 use Rattle.snap_merge.specs.StartUp.{Comes}
 use Rattle.snap_merge.proofs.starting.start_up.Goals as goal
 

@@ -1,6 +1,6 @@
 use Rattle.std.proofs.Common.{◌≡◌, ◌≤◌, ◌*◌, take}
 use Rattle.std.specs.Prelude.{sum_by}
-use Rattle.snap_parts.specs.Sparse.{entries}
+use Rattle.spec_snapshots.specs.Stretches.{entries}
 use Rattle.snap_parts.proofs.tables.entries_of.Given as goal
 
 abbrev pub invariant-loop-table : goal.invariant-loop-table

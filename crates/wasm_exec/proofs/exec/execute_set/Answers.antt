@@ -16,31 +16,31 @@ run_program-requires-clause-fresh g c = ap (λ (s : StoreRun). s.run) c.in-Ok.en
 pub run_program-requires-clause-opened : goal.run_program-requires-clause-opened
 run_program-requires-clause-opened g c =
     let L = c.args.linked.now in
-    (OfSet L, set_opens L _ c.requires.integers c.links.ensures.links c.requires.names c.in-Ok.store c.in-Ok.ensures)
+    (OfSet L, set_opens L _ c.hosts_have_integers.ensures.integers c.links.ensures.links c.requires.names c.in-Ok.store c.in-Ok.ensures)
 
 pub returns-in-Ok-clause-executes : goal.returns-in-Ok-clause-executes
 returns-in-Ok-clause-executes g c =
     let L = c.args.linked.now in
     let e = embedder_of c.args.args c.args.table.now in
-    set_executes L e c.args.most c.run_program.result _ _ (c.run_program.ensures (OfSet L) (set_opens L e.names c.requires.integers c.links.ensures.links c.requires.names c.in-Ok.store c.in-Ok.ensures))
+    set_executes L e c.args.most c.run_program.result _ _ (c.run_program.ensures (OfSet L) (set_opens L e.names c.hosts_have_integers.ensures.integers c.links.ensures.links c.requires.names c.in-Ok.store c.in-Ok.ensures))
 
 pub returns-in-Ok-clause-fronts : goal.returns-in-Ok-clause-fronts
 returns-in-Ok-clause-fronts g c =
     let L = c.args.linked.now in
     let e = embedder_of c.args.args c.args.table.now in
-    course_fronts (course_of (OfSet L)) e c.args.most c.run_program.result _ _ (c.run_program.ensures (OfSet L) (set_opens L e.names c.requires.integers c.links.ensures.links c.requires.names c.in-Ok.store c.in-Ok.ensures))
+    course_fronts (course_of (OfSet L)) e c.args.most c.run_program.result _ _ (c.run_program.ensures (OfSet L) (set_opens L e.names c.hosts_have_integers.ensures.integers c.links.ensures.links c.requires.names c.in-Ok.store c.in-Ok.ensures))
 
 pub returns-in-Ok-clause-taken : goal.returns-in-Ok-clause-taken
 returns-in-Ok-clause-taken g c =
     let L = c.args.linked.now in
     let e = embedder_of c.args.args c.args.table.now in
-    set_taken e c.args.most _ _ L c.run_program.result (c.run_program.ensures (OfSet L) (set_opens L e.names c.requires.integers c.links.ensures.links c.requires.names c.in-Ok.store c.in-Ok.ensures))
+    set_taken e c.args.most _ _ L c.run_program.result (c.run_program.ensures (OfSet L) (set_opens L e.names c.hosts_have_integers.ensures.integers c.links.ensures.links c.requires.names c.in-Ok.store c.in-Ok.ensures))
 
 pub returns-in-Err-clause-executes : goal.returns-in-Err-clause-executes
 returns-in-Err-clause-executes g c =
     let L = c.args.linked.now in
     let e = embedder_of c.args.args c.args.table.now in
-    not_begun (course_of (OfSet L)) e _ c.args.most (set_begins L e.names c.requires.integers c.links.ensures.links c.requires.names)
+    not_begun (course_of (OfSet L)) e _ c.args.most (set_begins L e.names c.hosts_have_integers.ensures.integers c.links.ensures.links c.requires.names)
 
 pub returns-in-Err-clause-fronts : goal.returns-in-Err-clause-fronts
 returns-in-Err-clause-fronts g c = fronts_itself _

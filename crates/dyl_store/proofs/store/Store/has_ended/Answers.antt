@@ -5,5 +5,5 @@ use Rattle.dyl_store.specs.Stores.{StoreRun, set_course}
 use Rattle.dyl_store.proofs.store.Store.has_ended.Goals as goal
 
 pub returns : goal.returns
-returns c = λ at.
-    subst (λ (v : StoreRun). v.run.lost ≡ false → c.has_ended.result ≡ has_ended (status_at (set_course v.linked) v.run)) c.self.view_is (λ found. c.has_ended.ensures found tt tt) at.found
+returns c =
+    subst (λ (v : StoreRun). v.run.lost ≡ false → c.has_ended.result ≡ has_ended (status_at (set_course v.linked) v.run)) c.self.view_is (λ found. c.has_ended.ensures found tt tt)

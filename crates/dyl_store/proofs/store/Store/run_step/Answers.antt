@@ -8,8 +8,7 @@ use Rattle.dyl_store.proofs.store.Store.run_step.Goals as goal
 
 pub run_step-requires-clause-answered : goal.run_step-requires-clause-answered
 run_step-requires-clause-answered c =
-    let answered = subst (λ (v : StoreRun). IsAt (set_course v.linked) v.run → is_waiting (set_course v.linked) v.run ≡ false) (sym c.self.view_is) c.requires.answered in
-    (tt, tt, λ found. answered (c.stands.ensures.at found tt tt))
+    (tt, tt, subst (λ (v : StoreRun). v.run.lost ≡ false → is_waiting (set_course v.linked) v.run ≡ false) (sym c.self.view_is) c.requires.answered)
 
 pub returns-clause-stepped : goal.returns-clause-stepped
 returns-clause-stepped c =

@@ -1,9 +1,9 @@
-use Rattle.std.proofs.Common.{◌∙◌, ap, sym}
+use Rattle.std.proofs.Common.{◌∙◌, ap, sym, string_bytes}
 use Rattle.std.specs.Map.{lookup}
 use Rattle.std.specs.Str.{bytes_eq}
-use Rattle.spec_runtime.specs.Names.{with_every_name, with_rest}
-use Rattle.host_table.specs.Names.{by_text}
-use Rattle.host_table.proofs.Entries.{lookup_by_text, module_changed, on_ok}
+use Rattle.spec_runtime.specs.Names.{HostModule, with_every_name, with_rest}
+use Rattle.host_table.specs.Names.{by_text, TypesHaveIntegers}
+use Rattle.host_table.proofs.Entries.{All-changed, lookup_by_text, module_changed, on_ok}
 use Rattle.host_table.proofs.names.HostNames.declare_rest.Goals as goal
 
 pub add_module-requires : goal.add_module-requires
@@ -25,3 +25,9 @@ returns-in-None-clause-ok c =
     ∙ ap (λ m. with_rest (record { modules = by_text m.entries }) c.args.from.now) c.get_mut.follows.holds-at-none
     ∙ ap (λ n. with_rest n c.args.from.now) c.self.view_is)
     c.add_module.ensures.ok
+
+pub invariant_of-self : goal.invariant_of-self
+invariant_of-self c =
+    let w = c.declare_rest.new.self in
+    rw (c.get_mut.follows.holds w).0
+    (All-changed (λ (m : HostModule). TypesHaveIntegers m.functions) (λ k. bytes_eq c.args.from.now (string_bytes k)) c.self.inside.modules.entries w c.self.invariant c.integers.ensures)

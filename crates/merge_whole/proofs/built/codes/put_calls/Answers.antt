@@ -13,4 +13,4 @@ returns c = λ n x listed numbers.
     c.in_ok-finds.ensures.code
     (c.in_ok-calls.ensures x (finders_of L x) numbers)
     c.args.to.now.items _ _ _ _
-    c.in_ok-put_owned.ensures c.in_ok-push.ensures.items c.in_ok-put_owned-2.ensures c.in_ok-put_owned-3.ensures
+    c.in_ok-put_parts.ensures c.in_ok-push.ensures.items c.in_ok-put_parts-2.ensures c.in_ok-put_parts-3.ensures

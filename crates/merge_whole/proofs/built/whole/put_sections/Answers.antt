@@ -16,7 +16,7 @@ merged_funcs-requires c = record { types = nullary_few c.args.linked.now c.links
 pub overflow_cast-count : goal.overflow_cast-count
 overflow_cast-count c =
     let items = ap length c.items.ensures in
-    let same = ap length c.in_ok-datas.ensures in
+    let same = ap length c.requires.given.datas in
     let few = datas_few c.args.linked.now c.links.ensures.shape in
     omega arith
 
@@ -25,8 +25,7 @@ returns c =
     let L = c.args.linked.now in
     let g = c.requires.given in
     let s = c.args.starts.now in
-    let items = ap length c.items.ensures in
-    let count : length c.items.result.now ≡ length c.in_ok-datas.datas = items in
+    let count : length c.items.result.now ≡ length c.args.to.now.datas = ap length c.items.ensures in
     whole_is L _ _ _ _ _ _ _ _ _ _ _ _ _
     c.in_ok-types.ensures
     c.in_ok-imports.ensures.imports
@@ -39,6 +38,6 @@ returns c =
     count
     (c.in_ok-codes.ensures (starts_of L) (subst (λ n. AreListed L s n (starts_of L)) (sym g.numbers) g.listed) g.loader
     ∙ ap (λ n. merged_codes L n (starts_of L)) g.numbers)
-    c.in_ok-datas.ensures
+    g.datas
     c.requires.customs
     c.requires.start

@@ -9,7 +9,7 @@ use Rattle.replay_check.proofs.record.Recorder.step.Goals as goal
 pub run_step-requires-clause-answered : goal.run_step-requires-clause-answered
 run_step-requires-clause-answered c =
     let begun = c.requires.along in
-    (begun.0, begun.1.0, begun.1.2.0.stands, begun.1.2.1 c.requires.few)
+    (begun.0, begun.1.0, λ _. begun.1.2.1 c.requires.few)
 
 pub note-requires : goal.note-requires
 note-requires c =

@@ -19,5 +19,5 @@ returns c = λ o t k follows.
     let answer = c.args.call.now.answer in
     let there = host_of_entry (course_of o).host c.hosts.result.now (c.hosts.ensures o follows.of) c.in-Some.asked.entry h c.host_at-host.ensures in
     let types = ap (λ types. fits_results types c.memory.result.now answer) c.items.ensures in
-    let memory = ap (λ memory. fits_results h.ty.results memory answer) (c.memory.ensures o follows.of follows.followed.stands) in
+    let memory = ap (λ memory. fits_results h.ty.results memory answer) (c.memory.ensures follows.followed.stands.found o follows.of) in
     fits_asked o t k c.args.self.now follows c.in-Some.asked c.in-Some.is (host_name_of h) there c.args.call.now c.if-not-is_call.ensures c.fits.result (c.fits.ensures ∙ types ∙ memory)

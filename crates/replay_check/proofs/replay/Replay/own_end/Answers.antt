@@ -8,5 +8,5 @@ returns c = λ o t k follows. elim c.if-ended.branch [
   | then-ended w ↦ absurd (true≢false (sym w.if-ended.true ∙ sym w.value-is ∙ c.if-is_deep.false))
   | else-ended w ↦
       none_stands o t k c.args.self.now follows c.run_step.new.self (c.run_step.ensures.kept o follows.of) c.in_ok-event.event
-      (sym c.if-is_some.ensures) (sym (c.has_ended-ended.ensures o follows.of follows.followed.stands) ∙ w.if-ended.false) (sym w.is_deep.ensures ∙ sym w.value-is ∙ c.if-is_deep.false) (c.in_ok-event.ensures.stepped o follows.of).1
+      (sym c.if-is_some.ensures) (sym (c.has_ended-ended.ensures follows.followed.stands.found o follows.of) ∙ w.if-ended.false) (sym w.is_deep.ensures ∙ sym w.value-is ∙ c.if-is_deep.false) (c.in_ok-event.ensures.stepped o follows.of).1
 ]

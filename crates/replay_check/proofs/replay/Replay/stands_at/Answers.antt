@@ -10,7 +10,7 @@ pub returns-in-StepLimit : goal.returns-in-StepLimit
 returns-in-StepLimit c = λ o t k follows.
     let x = run_of c.args.self.now in
     let C = course_of o in
-    rw c.in-StepLimit.is (limit_ends C.system C.deep x.steps (state_at C x) x.answers c.has_ended.result (c.has_ended.ensures o follows.of follows.followed.stands))
+    rw c.in-StepLimit.is (limit_ends C.system C.deep x.steps (state_at C x) x.answers c.has_ended.result (c.has_ended.ensures follows.followed.stands.found o follows.of))
 
 pub returns-in-HostCallLimit : goal.returns-in-HostCallLimit
 returns-in-HostCallLimit c = λ o t k follows.

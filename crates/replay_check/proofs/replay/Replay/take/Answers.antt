@@ -1,12 +1,12 @@
 -- The answer of the call that the run waits for is taken.
 use Rattle.std.proofs.Common.{◌≡◌, ◌+◌, false, ap, refl, subst, sym, ◌∙◌, arith}
 use Rattle.spec_traces.specs.spec_hosts.Ends.{bytes_written}
-use Rattle.spec_traces.specs.spec_hosts.spec_runtime.Courses.{IsAt, with_answer, is_waiting}
+use Rattle.spec_traces.specs.spec_hosts.spec_runtime.Courses.{with_answer, is_waiting}
 use Rattle.wasm_machine.specs.Steps.{RunStepped}
 use Rattle.run_loaded.specs.Courses.{course_of}
 use Rattle.run_loaded.specs.Programs.{recorded_of}
 use Rattle.replay_check.specs.Following.{run_of}
-use Rattle.replay_check.proofs.Following.{awaits_here, stands_answered}
+use Rattle.replay_check.proofs.Following.{awaits_here}
 use Rattle.replay_check.proofs.Asking.{few_written}
 use Rattle.replay_check.proofs.Replaying.{room_left, takes}
 use Rattle.replay_check.proofs.replay.Replay.take.Goals as goal
@@ -33,8 +33,7 @@ run_step-requires-clause-answered c =
     let same : recorded_of c.answer.new.self ≡ with_answer (run_of c.args.self.now) c.args.call.now.answer = c.in_ok-answer-2.ensures.recorded ∙ ap (with_answer (run_of c.args.self.now)) c.in_ok-answer.ensures in (
       o,
       c.answer.ensures.kept o f.of,
-      subst (IsAt (course_of o)) (sym same) (stands_answered (course_of o) at.1 at.2 (run_of c.args.self.now) f.followed c.args.call.now at.3.at at.3.steps at.3.agrees),
-      subst (λ x. is_waiting (course_of o) x ≡ false) (sym same) refl,
+      λ _. subst (λ x. is_waiting (course_of o) x ≡ false) (sym same) refl,
     )
 
 pub returns-clause-taken : goal.returns-clause-taken

@@ -12,14 +12,14 @@ pub run_step-requires-clause-answered : goal.run_step-requires-clause-answered
 run_step-requires-clause-answered c =
     let r = rw c.in-Module.is at c.requires.answered in
     let s = c.in-Module.single in
-    let P : Origin → Type 0 = λ o. is_waiting (course_of o) s.run ≡ false in
-    λ opening opens at. from_opening s P (at_opening s P r.0 r.1 r.3) opening opens
+    let P : Origin → Type 0 = λ o. s.run.lost ≡ false → is_waiting (course_of o) s.run ≡ false in
+    from_opening s P (at_opening s P r.0 r.1 r.2)
 
 pub run_step-requires-in-Set-clause-answered : goal.run_step-requires-in-Set-clause-answered
 run_step-requires-in-Set-clause-answered c =
     let r = rw c.in-Set.is at c.requires.answered in
     let s = c.in-Set.store in
-    λ at. set_at s (λ o. is_waiting (course_of o) s.run ≡ false) r.0 r.1 r.3
+    set_at s (λ o. s.run.lost ≡ false → is_waiting (course_of o) s.run ≡ false) r.0 r.1 r.2
 
 pub returns-in-Module-clause-stepped : goal.returns-in-Module-clause-stepped
 returns-in-Module-clause-stepped c =

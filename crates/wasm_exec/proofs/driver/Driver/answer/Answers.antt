@@ -40,7 +40,7 @@ returns-in_err-answer-clause-served g c = λ o begun drives.
     let p = err_from_is_err_and c.from_residual.result c.from_residual.ensures.1 in
     rw p.1 (
       tt,
-      breaks_off drives.1 c.in-Some.asked c.in-Some.is (host_name_of c.host_at-host.result.now) there c.memory.result.now (c.memory.ensures o drives.0 drives.1.running.stands) _ (asked_broken (embedder c.args.hosts.now) event c.ask.result _ _ c.ask.ensures.asked),
+      breaks_off drives.1 c.in-Some.asked c.in-Some.is (host_name_of c.host_at-host.result.now) there c.memory.result.now (c.memory.ensures drives.1.running.stands.found o drives.0) _ (asked_broken (embedder c.args.hosts.now) event c.ask.result _ _ c.ask.ensures.asked),
     )
 
 pub answer-requires : goal.answer-requires
@@ -51,7 +51,7 @@ answer-requires g c =
       o,
       running.2.0,
       awaits (course_of o) _ (progress_of c.args.self.now) running.2.1 c.in-Some.asked c.in-Some.is (host_name_of c.host_at-host.result.now) there
-          c.in_ok-answer.answer c.memory.result.now (c.memory.ensures o running.2.0 running.2.1.stands) c.in_ok-answer.ensures.fits,
+          c.in_ok-answer.answer c.memory.result.now (c.memory.ensures running.2.1.stands.found o running.2.0) c.in_ok-answer.ensures.fits,
     )
 
 pub returns-clause-served : goal.returns-clause-served
@@ -61,7 +61,7 @@ returns-clause-served g c = λ o begun drives.
     let h = host_name_of c.host_at-host.result.now in
     let there = host_of_entry (course_of o).host c.hosts.result.now (c.hosts.ensures o drives.0) c.in-Some.asked.entry c.host_at-host.result.now c.host_at-host.ensures in
     let event : HostCall × MemoryInstance = (call_of c.host_at-host.result.now c.in-Some.asked, c.memory.result.now) in
-    let seen = c.memory.ensures o drives.0 drives.1.running.stands in
+    let seen = c.memory.ensures drives.1.running.stands.found o drives.0 in
     let room : are_many x.answers ≡ false = rw c.in-Some.is at c.requires.room in (
       on_ok_weaker c.answer.result
           (λ same. (

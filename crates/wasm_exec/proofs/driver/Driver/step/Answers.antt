@@ -7,7 +7,7 @@ use Rattle.wasm_exec.proofs.driver.Driver.step.Goals as goal
 pub run_step-requires-clause-answered : goal.run_step-requires-clause-answered
 run_step-requires-clause-answered c =
     let ready = c.requires.ready in
-    (ready.1, ready.2.0, ready.2.1.stands, ready.2.1.answered)
+    (ready.1, ready.2.0, λ _. ready.2.1.answered)
 
 pub returns-clause-stepped : goal.returns-clause-stepped
 returns-clause-stepped c = λ o names may.

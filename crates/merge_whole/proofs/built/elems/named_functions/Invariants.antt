@@ -1,6 +1,0 @@
-use Rattle.std.proofs.Common.{◌≡◌, ◌++◌, drop, map}
-use Rattle.merge_index.specs.Kept.{numbers_in}
-use Rattle.merge_whole.proofs.built.elems.named_functions.Given as goal
-
-abbrev pub invariant-loop-f : goal.invariant-loop-f
-invariant-loop-f l = l.list.items ++ map ((numbers_in l.n).named l.m) (drop l.f-index l.fs) ≡ map ((numbers_in l.n).named l.m) l.fs

@@ -1,0 +1,6 @@
+mod Made
+mod Ended
+mod Shallow
+mod Within
+mod Same
+mod Merging
