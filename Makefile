@@ -74,6 +74,7 @@ guide: bin/wdyl
 docs:
 	python3 docs/check.py
 	python3 docs/believe.py --check
+	python3 docs/figures.py --check
 
 install: bin/wdyl
 	install -d "$(programs)" "$(manuals)" "$(shared)" "$(bash_completions)" "$(zsh_completions)" "$(fish_completions)"

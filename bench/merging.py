@@ -7,8 +7,9 @@ It builds bench/codec/main.rattle over copies of the crates, as codec.py does, a
 code between them: functions with blocks, branches, loads and operators as compilers write them. Printed is processor time in
 seconds, the best of some rounds in each of which all is done once: `wdyl merge` of the set; decoding, checking and encoding what it
 wrote, less the reading of it; and how many times as long merging takes. Behind that stands what decoding, checking and encoding the
-files of the set takes, one after the other, less the starts of these processes. The exit status is 1 where merging takes more than
-1.7 times as long as the first of these.
+files of the set takes, one after the other, less the starts of these processes, and at last the peak of memory of `wdyl merge` and
+of the codec over what it wrote. The exit status is 1 where merging takes more than 1.7 times as long as the first of these, or more
+than 2.5 times the memory.
 """
 
 import os
@@ -21,6 +22,7 @@ from timing import MB, waited, written
 from make_examples import body, items, name, record, section, unsigned
 
 MOST = 1.7
+MOST_MEMORY = 2.5
 COUNTS = (1, 16, 256)
 ROUNDS = 9
 ADDER = unsigned(len(codec.BODY)) + codec.BODY
@@ -65,11 +67,13 @@ def measured(wdyl, program, count):
         merge = [wdyl, "merge", os.path.join(folder, "main.wasm"), merged]
         paths = [os.path.join(folder, file) for file in files]
         rounds = [(waited(merge, folder)[0], coded(program, [merged]), coded(program, paths)) for _ in range(ROUNDS)]
+        held, coded_in = waited(merge, folder)[1], waited([program, "all", merged], folder)[1]
     merging, coding, apart = map(min, zip(*rounds))
     ratio = merging / coding
     print(f"{count:3} members: merge {merging:.3f} s, the codec {coding:.3f} s, {ratio:.2f} times as long; ", end="")
-    print(f"file by file {apart:.3f} s, {merging / apart:.2f} times", flush=True)
-    return ratio <= MOST
+    print(f"file by file {apart:.3f} s, {merging / apart:.2f} times; ", end="")
+    print(f"memory {held / MB:.0f} MB and {coded_in / MB:.0f} MB, {held / coded_in:.2f} times", flush=True)
+    return ratio <= MOST and held <= MOST_MEMORY * coded_in
 
 
 def main():

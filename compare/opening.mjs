@@ -26,6 +26,9 @@ function postOrder(from, entered = new Set(), listed = []) {
 
 // ---- the functions
 
+// A search among so many names, of bytes of so many bits, for a string of k bytes.
+const searchCost = (bits, names, k) => 5 * k + 6 * Math.min(names, bits * k + 33);
+
 export class Openings {
   // `textsAt` has the addresses of the texts of the errors.
   constructor(program, textsAt) {
@@ -60,11 +63,11 @@ export class Openings {
     this.open--;
   }
 
-  // The bytes that a string is read for: those before its end, or those of the memory where it has none.
-  length(at) {
+  // A string is read, and then so much is done by its length. Where it has no end, the memory is read from there on.
+  named(at, after) {
     const memory = new Uint8Array(this.program.memory.buffer);
     const end = memory.indexOf(0, at);
-    return end < 0 ? memory.length : end - at;
+    this.more += end < 0 ? 8 * Math.max(memory.length - at, 0) + 12 : 8 * (end - at) + after(end - at);
   }
   // The bytes from an address up to a zero byte, as a text; none where they spell none, and so are the name of nothing.
   string(at) {
@@ -88,8 +91,12 @@ export class Openings {
   }
 
   dlopen(name, flags) {
-    this.more += 228 + 205 * this.length(name);
-    if (name === 0) return 1;
+    const { length } = this.program.linked.members;
+    if (name === 0) {
+      this.more += 7;
+      return 1;
+    }
+    this.named(name, (k) => 30 + searchCost(32, length, k));
     const text = this.string(name);
     if (flags & ~FLAGS) return this.refused(ERRORS.badFlags, 0);
     const member = this.program.linked.members.find((other) => other.name === text);
@@ -119,7 +126,8 @@ export class Openings {
   }
   dlsym(handle, name) {
     const { length } = this.program.linked.members;
-    this.more += 31 + 8 * this.length(name) + 7 * length + this.searched(handle).length * (215 + 53 * this.length(name));
+    const tried = (member, k) => 17 + searchCost(8, member.exports.length, k);
+    this.named(name, (k) => 31 + 7 * length + this.searched(handle).reduce((sum, member) => sum + tried(member, k), 0));
     const text = this.string(name);
     if (handle !== 0 && !this.isHandle(handle)) return this.refused(ERRORS.badHandle, 0);
     const { links } = this.program.linked;

@@ -4,17 +4,19 @@
     python3 docs/check.py
 
 Looked at are links with their headings, paths, names of crates and of what is in them, targets of make, options, statuses, lines, limits
-and counts, lists of crates and of edits, and the length of lines. It needs nothing but Python.
+and counts, lists of crates and of edits, heads of definitions, and the length of lines. It needs nothing but Python.
 """
 import re
 import sys
 from collections import Counter
 from pathlib import Path
 
+import rooms
+
 TOP = Path(__file__).resolve().parent.parent
 CRATES = TOP / "crates"
 PAGES = [path for path in [TOP / "README.md", TOP / "CONTRIBUTING.md", TOP / "CHANGELOG.md", *sorted((TOP / "docs").glob("*.md")),
-                           TOP / "examples/README.md", TOP / "bench/README.md"] if path.exists()]
+                           TOP / "examples/README.md", TOP / "bench/README.md", TOP / "compare/README.md"] if path.exists()]
 # crates of which pages tell that they were there
 PAST = {"test_commands", "test_hosts"}
 FRONTS = ("spec_", "wasm_", "host_", "dyl_", "merge_", "test_", "rows_", "run_", "replay_", "slice_", "snap_")
@@ -139,7 +141,7 @@ def calls(path, text, names, code):
 
 
 def contracts(path, text, names, code):
-    """The calls at the end of a row of README's table are public functions, types or traits of its crates."""
+    """The calls at the end of a row of the table of crates are public functions, types or traits of its crates."""
     for row in re.findall(r"^\| `\w+`.*$", text, re.M):
         crates = [name for name in re.findall(r"`(\w+)`", row.split("|")[1])]
         if not all(name in names for name in crates):
@@ -156,8 +158,13 @@ def contracts(path, text, names, code):
 
 # ---- lists and counts
 
+def by_crate(path):
+    """The tables of crates in PROVED.md."""
+    return re.search(r"^## Crate by crate$(.*?)^## ", read(path), re.M | re.S)[1]
+
+
 def lists(names):
-    readme, house, proved = (TOP / name for name in ("README.md", "docs/ARCHITECTURE.md", "docs/PROVED.md"))
+    house, proved = (TOP / name for name in ("docs/ARCHITECTURE.md", "docs/PROVED.md"))
     folders = {path.name for path in CRATES.iterdir() if (path / "src").is_dir()}
     for name in folders ^ set(names):
         fault(TOP / "crates.txt", f"{name} is a line here or a folder of crates/, and not both")
@@ -166,11 +173,12 @@ def lists(names):
     if not said or COUNTS.get(said[1]) != groups:
         fault(house, f"crates.txt has {groups} groups")
     code = [name for name in names if not name.startswith(("test_", "rows_"))]
-    rows = [name for row in re.findall(r"^\| (`\w+`(?:, `\w+`)*) \|", read(readme), re.M) for name in re.findall(r"`(\w+)`", row)]
-    items = re.findall(r"^(?:- |\| )`(\w+)`(?::| \|)", read(house).split("<!-- to here -->")[-1], re.M)
+    rows = [name for row in re.findall(r"^\| (`\w+`(?:, `\w+`)*) \|", by_crate(proved), re.M) for name in re.findall(r"`(\w+)`", row)]
+    if rooms.tables() not in read(house):
+        fault(house, "the tables of crates are others: `python3 docs/rooms.py --write` makes them")
     heads = re.findall(r"^### `(\w+)`|^- (`spec_\w+`(?:, `spec_\w+`)*):", read(proved), re.M)
     heads = [name for head, group in heads for name in ([head] if head else re.findall(r"`(\w+)`", group))]
-    for path, found, wanted in ((readme, rows, code), (house, items, names), (proved, heads, code)):
+    for path, found, wanted in ((proved, rows, code), (proved, heads, code)):
         for name in wanted:
             if found.count(name) == 0:
                 fault(path, f"{name} has no line of its own")
@@ -234,6 +242,31 @@ def laws():
                 fault(path, f"this stands otherwise in the files that are named: {item.strip().splitlines()[0]}")
 
 
+def heads():
+    """The head of each file of definitions names the section that it follows, or says "This profile", or what it serves or is part of. Headings
+    of pages and other such files that it names are there."""
+    source = (r"WebAssembly Core 2\.0, (?:(?:section|chapter)s? [2-7]|appendix )|DynamicLinking\.md|WASI preview 1"
+              r"|This profile: |Serves the (?:contracts|proof) of |Part of the statement of ")
+    for file in sorted(CRATES.glob("*/specs/**/*.antt")):
+        text = read(file)
+        # what is nothing but a list of files has no head
+        if not re.search(r"^(?!pub mod |pub use |$)", text, re.M):
+            continue
+        head = " ".join(re.findall(r"-- (.*)\n", re.match(r"(?:--.*\n)*", text)[0]))
+        if not re.search(source, head):
+            fault(file, "its head doesn't name what it follows or serves")
+        for name, titles in re.findall(r'docs/(\w+)\.md, ((?:(?:, | and )?"[^"]+")+)', head):
+            page = TOP / f"docs/{name}.md"
+            there = re.findall(r"^#+ (.*)$", without_blocks(read(page)), re.M) if page.exists() else []
+            for title in re.findall(r'"([^"]+)"', titles):
+                if title not in there:
+                    fault(file, f"{page.name} has no heading {title}")
+        for names, crate in re.findall(r"((?:[A-Z]\w*(?:, | and ))*[A-Z]\w*) of `(\w+)`", head):
+            for name in re.split(r", | and ", names) if crate.startswith(FRONTS) else []:
+                if not (CRATES / crate / f"specs/{name}.antt").exists():
+                    fault(file, f"{crate} has no file {name} of definitions")
+
+
 def rows():
     """Each row has its line, and as many are told wrongly on purpose as is said."""
     told = re.search(r"^(\w+) rows of each text are told wrongly on purpose", read(TOP / "docs/TESTED.md"), re.M)
@@ -252,7 +285,7 @@ def rows():
 
 
 def rows_by_kind():
-    """How many rows there are of a kind: of `rows_modules` by their verb, less those that are told wrongly; of `rows_commands` by the
+    """How many rows there are of a kind, less those that are told wrongly: of `rows_modules` by their verb; of `rows_commands` by the
     heading that they stand under."""
     found = Counter()
     lines = read(CRATES / "rows_modules/stdout").split("\n")
@@ -263,7 +296,7 @@ def rows_by_kind():
     for line in read(CRATES / "rows_commands/stdin").split("\n"):
         title = re.match(r"# (?:---- (\w+)|(Words of `\w+`))", line)
         head = (title[1] or title[2]) if title else head
-        found[head] += bool(re.match(r" *row [^:]+:", line))
+        found[head] += bool(re.match(r" *row (?!wrong-)[^:]+:", line))
     return found
 
 
@@ -311,6 +344,19 @@ def house(names):
     low, high = (int(told[n].replace(",", "")) for n in (1, 2)) if told else (0, 0)
     if set(re.findall(r"`(\w+)`", told[3] if told else "")) != set(largest) or any(not low <= size[name] <= high for name in largest):
         fault(reasons, "the largest crates are " + ", ".join(f"{name} of {size[name]} lines" for name in largest))
+
+
+def comparisons():
+    """Each file of compare/ is named by its page, and each script by its target of make."""
+    page = TOP / "compare/README.md"
+    makefile = read(TOP / "Makefile")
+    for file in sorted(path for path in page.parent.iterdir() if path.is_file() and path != page):
+        if f"`{file.name}`" not in read(page):
+            fault(page, f"nothing is said of {file.name}")
+    for row in re.findall(r"^\| `([\w.]+)` \|.*\| `(\w+)` \|[^|]*\|$", read(page), re.M):
+        target = re.search(r"^" + row[1] + r":.*\n((?:\t.*\n)*)", makefile, re.M)
+        if not target or f"compare/{row[0]}" not in target[1]:
+            fault(page, f"make {row[1]} doesn't run {row[0]}")
 
 
 def gate():
@@ -416,15 +462,17 @@ def main():
     known = {**code, "": others}
     for path in PAGES:
         # the guide, the formats, the examples and the benches tell of names that aren't of this code
-        if path.parent != TOP / "examples" and path.parent != TOP / "bench" and path.stem not in ("GUIDE", "TOOLS", "LIBRARIES", "FORMATS"):
+        if path.parent not in (TOP / "examples", TOP / "bench", TOP / "compare") and path.stem not in ("GUIDE", "TOOLS", "LIBRARIES", "FORMATS"):
             calls(path, without_blocks(read(path)), names, known)
-    contracts(TOP / "README.md", read(TOP / "README.md"), names, code)
+    contracts(TOP / "docs/PROVED.md", by_crate(TOP / "docs/PROVED.md"), names, code)
     lists(names)
     edits()
     laws()
+    heads()
     rows()
     counted_rows()
     house(names)
+    comparisons()
     gate()
     make_targets()
     numbers()

@@ -1,4 +1,5 @@
 -- The bases of a member, among its imported globals.
+-- Serves the contracts of this crate, which follow Slots of `spec_linking`.
 use Rattle.std.specs.Prelude.{◌≡◌, ℕ, List, [], ◌∷◌, ◌++◌, map, slice_get, Option, Some, None}
 use Rattle.wasm_form.specs.declared.module.Import.{Import}
 use Rattle.spec_loading.specs.spec_binary.Options.{◌>>=◌}

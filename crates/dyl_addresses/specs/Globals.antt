@@ -1,4 +1,5 @@
 -- How the addresses of globals are found, import by import.
+-- Serves the contracts of this crate, which follow Addresses of `spec_loading`.
 use Rattle.std.specs.Prelude.{ℕ, ◌+◌, List, [], ◌∷◌, ◌++◌, length, map, slice_get, Bool, true, false, Option, Some, None}
 use Rattle.std.specs.Borrow.{Bor}
 use Rattle.std.specs.List.{position_from, range_with_len}

@@ -1,4 +1,5 @@
 -- How lists of addresses are made, member by member.
+-- Serves the contracts of this crate, which follow Addresses of `spec_loading`.
 use Rattle.std.specs.Prelude.{ℕ, ◌+◌, List, [], ◌∷◌, ◌++◌, length, map, slice_get, Option}
 use Rattle.std.specs.List.{range_with_len}
 use Rattle.wasm_form.specs.declared.module.Module.{Module}

@@ -1,4 +1,5 @@
 -- The numbers of offsets, by the bases that imported globals are.
+-- Serves the contracts of this crate, which follow Slots of `spec_linking`.
 use Rattle.std.specs.Prelude.{ℕ, IsTrue, List, slice_get, Option, None}
 use Rattle.wasm_form.specs.declared.types.ValType.TheVariants.{I32}
 use Rattle.wasm_form.specs.declared.instr.Expr.{Expr}

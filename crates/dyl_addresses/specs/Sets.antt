@@ -1,4 +1,5 @@
 -- The members of a linked set.
+-- Serves the contracts of this crate, which follow LinkedSets of `spec_linking`.
 use Rattle.std.specs.Prelude.{◌<◌, List, [], ◌∷◌, length, map}
 use Rattle.wasm_form.specs.declared.module.Module.{Module}
 use Rattle.spec_loading.specs.spec_linking.Sets as sets

@@ -16,6 +16,7 @@ ghost use Rattle.dyl_commands.specs.Told.{TellsErrors};
 ghost use Rattle.dyl_commands.specs.Served.{Serves};
 ghost use Rattle.dyl_commands.specs.Runs.{guest_arguments, PlanWorks, GenWorks};
 ghost use Rattle.dyl_commands.specs.Clauses.{DoesBy, RunDoes, ExecDoes, TraceDoes, BoardDoes};
+ghost use Rattle.replay_commands.specs.Written.{WritesBy};
 
 use dyl_commands::{
     board_main, exec_file, gen_main, merge_main, plan_main, run_main, snap_main, tell,
@@ -173,6 +174,7 @@ fn perform_trace<F: Files, I: Source, O: Sink, E: Sink, A: Ambient>(
     ensures serves { Serves (names_of host.now) (Ok (Order.Trace one set.now link.now steps out.now args.now)) result (F.seen files.old) (F.seen files.new) (O.seen output.old).faults (O.seen output.new).faults }
     ensures counts { Counts (Ok (Order.Trace one set.now link.now steps out.now args.now)) result (F.seen files.old) (F.seen files.new) }
     ensures does { TraceDoes host.now (F.seen files.old) one set.now link.now steps out.now args.now result (I.seen input.old) (O.seen output.old) (E.seen errors.old) (A.seen ambient.old) (I.seen input.new) (O.seen output.new) (E.seen errors.new) (A.seen ambient.new) }
+    ensures writes { WritesBy host.now (F.seen files.old) (Ok (Order.Trace one set.now link.now steps out.now args.now)) result (F.seen files.new) (I.seen input.old) (O.seen output.old) (E.seen errors.old) (A.seen ambient.old) (I.seen input.new) (O.seen output.new) (E.seen errors.new) (A.seen ambient.new) }
     ensures quiet { is_done result ≡ true → errors.new ≡ errors.old }
 {
     let traced = trace_main(
@@ -278,8 +280,10 @@ pub fn perform<F: Files, I: Source, O: Sink, E: Sink, A: Ambient>(
     ensures inner { has_inner_memory result ≡ false }
     ensures counts { Counts (Ok order.now) result (F.seen files.old) (F.seen files.new) }
     ensures does { DoesBy host.now (picks_of picker.now) (F.seen files.old) (Ok order.now) result (I.seen input.old) (O.seen output.old) (E.seen errors.old) (A.seen ambient.old) (I.seen input.new) (O.seen output.new) (E.seen errors.new) (A.seen ambient.new) }
+    ensures writes { WritesBy host.now (F.seen files.old) (Ok order.now) result (F.seen files.new) (I.seen input.old) (O.seen output.old) (E.seen errors.old) (A.seen ambient.old) (I.seen input.new) (O.seen output.new) (E.seen errors.new) (A.seen ambient.new) }
     ensures quiet { is_done result ≡ true → errors.new ≡ errors.old }
 {
+    // Laws: these calls do nothing, and what they say is known to the proof from here on.
     reading_answers();
     one_record_answer();
     one_gathered();
@@ -451,6 +455,9 @@ pub fn serve<F: Files, I: Source, O: Sink, E: Sink, A: Ambient>(
 
     // What a run does to the outside; and the line of the answer, which is put last.
     ensures does { DoesBy host.now (picks_of picker.now) (F.seen files.old) (order_of words.now) result (I.seen input.old) (O.seen output.old) (E.seen errors.old) (A.seen ambient.old) (I.seen input.new) (O.seen output.new) (E.seen errors.new) (A.seen ambient.new) }
+
+    // What `trace` writes is the trace of the run that it made, also where memory was wanting for the line.
+    ensures writes { WritesBy host.now (F.seen files.old) (order_of words.now) result (F.seen files.new) (I.seen input.old) (O.seen output.old) (E.seen errors.old) (A.seen ambient.old) (I.seen input.new) (O.seen output.new) (E.seen errors.new) (A.seen ambient.new) }
     ensures quiet { is_done result ≡ true → errors.new ≡ errors.old }
 {
     match read_words(alloc, words) {

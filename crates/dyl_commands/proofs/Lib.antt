@@ -13,6 +13,7 @@ pub mod Refusing
 pub mod Merging
 pub mod MergedFiles
 pub mod Snapping
+pub mod SameTexts
 pub mod Listing
 pub mod Running
 pub mod Executing

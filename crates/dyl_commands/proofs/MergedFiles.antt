@@ -18,6 +18,9 @@ use Rattle.spec_loading.specs.spec_linking.Sets.{ClosedSet, SetOptions}
 use Rattle.spec_loading.specs.spec_linking.Plans.{LinkOptions}
 use Rattle.spec_snapshots.specs.declared.fault.SnapFault.{SnapFault}
 use Rattle.spec_snapshots.specs.declared.fault.SnapFault.TheVariants as snap
+use Rattle.wasm_encode.specs.Laws.{OneShortestModule}
+use Rattle.merge_whole.specs.Merges.{AreShortestFor}
+use Rattle.merge_module.specs.MergedModule.{merged_module}
 use Rattle.dyl_front.specs.declared.outcome.Outcome.{Outcome}
 use Rattle.dyl_front.specs.declared.outcome.Outcome.TheVariants.{Done, Ran, Board, Usage, Set, Link, Merge, Single, Gen, Trace, TooLong, Snap, WriteFault, Memory}
 use Rattle.dyl_front.specs.declared.order.Order.TheVariants.{Exec}
@@ -25,7 +28,7 @@ use Rattle.dyl_commands.specs.Linking.{linked}
 use Rattle.dyl_commands.specs.OneFile.{most_run, OfBytes, OfFile, OpensAt, IsRefusedAt}
 use Rattle.dyl_commands.specs.Due.{SnapFaultTells, TellsFor}
 use Rattle.dyl_commands.specs.Files.{IsMerged}
-use Rattle.dyl_commands.specs.Laws.{IsRunOrUnread, MergedFilesOpen, MergedFilesRun}
+use Rattle.dyl_commands.specs.Laws.{IsRunOrUnread, MergedFilesOpen, MergedFilesRun, MergesAreOne}
 use Rattle.dyl_commands.proofs.OneFile.{one_of_file}
 
 -- the bytes that are written at a path are there
@@ -78,3 +81,6 @@ pub run : OneAnswer → MergedFilesRun
 run law names o link out files after m short steps args answer tells = runs_or_unread law names (get after) out (opens names o link out files after m short) steps args answer tells
 
 -- one set has one list of shortest bytes
+pub one_merge : OneShortestModule → MergesAreOne
+one_merge law names link o p out place files after others later one other same =
+    law (merged_module (linked names link other.set)) refl one.output other.output (subst (λ (S : ClosedSet). AreShortestFor (linked names link S) one.output) same one.shortest) other.shortest

@@ -49,6 +49,7 @@ module _ (names : HostNames) (o : SetOptions) (l : LinkOptions) (out : List ℕ)
         shape = merges.shape;
         decoded = merges.decoded;
         shortest = merges.shortest;
+        size = merges.size;
         written = h.written;
       }
 

@@ -1,5 +1,6 @@
 -- When an answer may come, whatever the files tell.
 -- Cited by the clauses `caused` and `inner` of `serve`.
+-- This profile: docs/FORMATS.md, "How it ends".
 use Rattle.std.specs.Prelude.{◌≡◌, ◌⊎◌, List, [], ℕ, Bool, true, false, Result, Ok, Err}
 use Rattle.spec_reading.specs.spec_binary.declared.fault.DecodeFault.TheVariants as decode
 use Rattle.spec_loading.specs.spec_validation.declared.fault.CheckFault.TheVariants as check
@@ -18,7 +19,7 @@ use Rattle.spec_traces.specs.declared.trace.TraceFault.TheVariants as trace
 use Rattle.spec_hosts.specs.declared.ran.Ran as ran
 use Rattle.dyl_gen.specs.declared.fault.GenFault.{GenFault}
 use Rattle.dyl_gen.specs.declared.fault.GenFault.TheVariants as gen
-use Rattle.spec_hosts.specs.dyl_outside.Faults.{Rises}
+use Rattle.spec_hosts.specs.dyl_outside.Faults.{Rises, RisesByOne}
 use Rattle.spec_hosts.specs.dyl_outside.Files.{FilesState}
 use Rattle.dyl_front.specs.declared.outcome.UsageKind.{UsageKind}
 use Rattle.dyl_front.specs.declared.outcome.Outcome.{Outcome}
@@ -35,7 +36,7 @@ SetCause fault old new = Unit {0}
 
 -- a fault of the one file at a path, which is module 0
 abbrev pub FileCause : List ℕ → SetFault → FilesState → FilesState → Type 0
-FileCause path (set.Missing name) old new = (name ≡ main_name path) × Rises old.absents new.absents
+FileCause path (set.Missing name) old new = (name ≡ main_name path) × RisesByOne old.absents new.absents
 FileCause path (set.ReadFault at) old new = (at ≡ path) × Rises old.read_faults new.read_faults
 FileCause path (set.Decode member fault) old new = member ≡ 0
 FileCause path (set.Record member fault) old new = ⊥
@@ -50,7 +51,7 @@ ProgramCause true path fault old new = FileCause path fault old new
 
 -- a fault of the file of a trace
 abbrev pub TraceFileCause : List ℕ → SetFault → FilesState → FilesState → Type 0
-TraceFileCause path (set.Missing name) old new = (name ≡ main_name path) × Rises old.absents new.absents
+TraceFileCause path (set.Missing name) old new = (name ≡ main_name path) × RisesByOne old.absents new.absents
 TraceFileCause path (set.ReadFault at) old new = (at ≡ path) × Rises old.read_faults new.read_faults
 TraceFileCause path set.SetSize old new = Unit {0}
 TraceFileCause path _ old new = ⊥

@@ -1,5 +1,6 @@
 -- What is said of the devices where a host table answers, in short words.
 -- Cited by the clause `does` of `serve`.
+-- This profile: docs/FORMATS.md, "The commands".
 use Rattle.std.specs.Prelude.{ℕ, List, [], Bool, Result, Ok}
 use Rattle.wasm_form.specs.declared.module.Module.{Module}
 use Rattle.spec_loading.specs.spec_linking.LinkedSets.{LinkedSet}

@@ -1,13 +1,14 @@
 -- What an answer leaves of the counts that files keep: of the fetches that failed, of the stores that failed, and of the Absent answers. So
 -- no fetch and no store fails untold, no path without a file is tried but those that are searched, and words that are no order touch no file.
 -- Cited by the clause `counts` of `serve`.
+-- This profile: docs/DECISIONS.md, "The outside".
 use Rattle.std.specs.Prelude.{◌≡◌, ◌⊎◌, ◌≤◌, ℕ, List, [], ◌∷◌, Bool, true, false, Option, Result, Ok, Err}
 use Rattle.std.specs.Option.{ForSome}
 use Rattle.std.specs.FinMap.{get}
 use Rattle.spec_loading.specs.spec_linking.Sets.{ClosedSet, SetOptions, default_options}
 use Rattle.spec_loading.specs.spec_linking.declared.fault.SetFault.TheVariants.{Missing, ReadFault}
 use Rattle.spec_loading.specs.spec_linking.declared.fault.SetFault.TheVariants as set
-use Rattle.spec_hosts.specs.dyl_outside.Faults.{Rises}
+use Rattle.spec_hosts.specs.dyl_outside.Faults.{Rises, RisesByOne}
 use Rattle.spec_hosts.specs.dyl_outside.FileMap.{FileMap}
 use Rattle.spec_hosts.specs.dyl_outside.Files.{FilesState}
 use Rattle.spec_traces.specs.declared.trace.Trace.{Trace}
@@ -35,9 +36,9 @@ StoresFor WriteFault before now = Rises before now
 StoresFor Memory before now = before ≤ now
 StoresFor _ before now = now ≡ before
 
--- one file is absent exactly where it is answered as missing
+-- one file is absent exactly where it is answered as missing, and is tried once
 abbrev pub AbsentsOfFile : Outcome → ℕ → ℕ → Type 0
-AbsentsOfFile (Set (Missing name)) before now = Rises before now
+AbsentsOfFile (Set (Missing name)) before now = RisesByOne before now
 AbsentsOfFile Memory before now = before ≤ now
 AbsentsOfFile _ before now = now ≡ before
 
@@ -46,7 +47,7 @@ abbrev pub AbsentsOfSet : Outcome → ℕ → ℕ → Type 0
 AbsentsOfSet (Set (Missing name)) before now = Rises before now
 AbsentsOfSet _ before now = before ≤ now
 
--- Where the files are told, the count rises once for each path that is tried for the set and has no file, and no more. Of a set that was
+-- Where the files are told, the count rises by one for each path that is tried for the set and has no file, and no more. Of a set that was
 -- gathered these are all; where memory was wanting, some of the first ones.
 abbrev pub TriedForSet : Option FileMap → SetOptions → Outcome → ℕ → ℕ → Type 0
 TriedForSet told o (Set fault) before now = CountsFor told o (Err fault) before now

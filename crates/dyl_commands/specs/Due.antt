@@ -1,6 +1,7 @@
 -- The outcome that is due for what is asked over some files, if nothing outside fails and there is memory; and what an answer may be in its
 -- place. Each command has its own rows, and no other outcome is ever due for it.
 -- Cited by the clauses `due`, `tells`, `complete` and `quiet` of `serve`.
+-- This profile: docs/FORMATS.md, "How it ends".
 use Rattle.std.specs.Prelude.{◌≡◌, ◌≢◌, ◌⊎◌, ◌<◌, ◌≤◌, ◌^◌, List, [], ℕ, Bool, true, false, Result, Ok, Err}
 use Rattle.spec_hosts.specs.dyl_outside.Faults.{Rose}
 use Rattle.spec_hosts.specs.dyl_outside.Files.{FilesState}

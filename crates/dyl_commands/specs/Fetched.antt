@@ -1,11 +1,12 @@
 -- What comes of reading the file at a path, of a module or of a trace.
 -- Cited by no clause of `serve`: what its parts promise.
+-- Serves the contracts of this crate, which follow OneFile and Traced of `dyl_commands`.
 use Rattle.std.specs.Prelude.{◌≡◌, ◌<◌, ◌≤◌, ℕ, List, length, false, None, Some, IsSomeAnd, IfOk, IfErr, OnOk, Result, Ok, Err, Vec}
 use Rattle.std.specs.declared.alloc.Global.{Global}
 use Rattle.std.specs.Option.{ForSome}
 use Rattle.std.specs.FinMap.{get}
 use Rattle.wasm_form.specs.declared.module.Module.{Module}
-use Rattle.spec_hosts.specs.dyl_outside.Faults.{Rises}
+use Rattle.spec_hosts.specs.dyl_outside.Faults.{Rises, RisesByOne}
 use Rattle.spec_hosts.specs.dyl_outside.Files.{FilesState}
 use Rattle.spec_reading.specs.spec_binary.declared.fault.DecodeFault.{DecodeFault}
 use Rattle.spec_reading.specs.spec_binary.declared.fault.DecodeFault.TheVariants as decode
@@ -48,14 +49,14 @@ pub record IsOfSome (wasm : Module) : Type 0 where
   pub few : length bytes ≤ most_run
   pub said : OfBytes bytes (Ok wasm)
 
--- a fetch failed, or found no file, exactly where that is answered
+-- the one fetch failed, or found no file, exactly where that is answered
 abbrev pub FileReads : {A : Type 0} → Result A SetFault → ℕ → ℕ → Type 0
 FileReads (Err (ReadFault at)) before now = Rises before now
 FileReads (Err Memory) before now = before ≤ now
 FileReads _ before now = now ≡ before
 
 abbrev pub FileAbsents : {A : Type 0} → Result A SetFault → ℕ → ℕ → Type 0
-FileAbsents (Err (Missing name)) before now = Rises before now
+FileAbsents (Err (Missing name)) before now = RisesByOne before now
 FileAbsents (Err Memory) before now = before ≤ now
 FileAbsents _ before now = now ≡ before
 

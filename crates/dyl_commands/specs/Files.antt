@@ -1,6 +1,7 @@
 -- What an answer leaves of the files.
 -- Cited by the clause `files` of `serve`.
-use Rattle.std.specs.Prelude.{◌≡◌, ◌⊎◌, ℕ, List, Bool, Some, Result, Ok, IsSomeAnd}
+-- This profile: docs/FORMATS.md, "How it ends".
+use Rattle.std.specs.Prelude.{◌≡◌, ◌⊎◌, ◌≤◌, ℕ, List, length, Bool, Some, Result, Ok, IsSomeAnd}
 use Rattle.std.specs.FinMap.{get, insert}
 use Rattle.spec_hosts.specs.dyl_outside.Faults.{Rose}
 use Rattle.spec_hosts.specs.dyl_outside.FileMap.{FileMap, SameBut}
@@ -15,7 +16,7 @@ use Rattle.spec_reading.specs.spec_binary.DecodeAnswers.{DecodeAnswer}
 use Rattle.spec_loading.specs.Merged.{Merged}
 use Rattle.spec_snapshots.specs.Causes.{Takes, IsFirst, state_after}
 use Rattle.snap_merge.specs.Answers.{Snapped}
-use Rattle.merge_whole.specs.Merges.{HasShape, AreShortestFor}
+use Rattle.merge_whole.specs.Merges.{HasShape, AreShortestFor, most_bytes}
 use Rattle.spec_traces.specs.declared.trace.Trace.{Trace}
 use Rattle.spec_traces.specs.Texts.{IsTextOf}
 use Rattle.spec_traces.specs.Traces.{Traces, IsTraceOf}
@@ -31,8 +32,8 @@ use Rattle.dyl_commands.specs.Linking.{linked}
 use Rattle.dyl_commands.specs.Traced.{IsProgram}
 
 -- The set is gathered from the files and links, and the path of the output holds bytes that merge it: the module that they spell has the shape
--- of a merged one, and is what they are decoded to; and no bytes that spell the merged module of the set are shorter. Every other path is as
--- it was.
+-- of a merged one, and is what they are decoded to; no bytes are shorter, so that a set has the same bytes each time (Laws); and how many they
+-- are is in line with the set. Every other path is as it was.
 pub record IsMerged (names : HostNames) (o : SetOptions) (link : LinkOptions) (out : List ℕ) (files after : FileMap) : Type 0 where
   pub set : ClosedSet
   pub gathered : IsGathered (get files) o (Ok set)
@@ -42,6 +43,7 @@ pub record IsMerged (names : HostNames) (o : SetOptions) (link : LinkOptions) (o
   pub shape : HasShape (linked names link set) merged.wasm
   pub decoded : DecodeAnswer output (Ok merged.wasm)
   pub shortest : AreShortestFor (linked names link set) output
+  pub size : length output ≤ most_bytes (linked names link set)
   pub written : after ≡ insert files out output
 
 -- The set is gathered from the files and links, and the path of the output holds bytes that are a snapshot of it, as it stands where its entry

@@ -1,5 +1,6 @@
 -- What there is to say of the set of n members that is generated: that it links with so many pages, or that these are too few.
 -- Cited by every clause of `serve` that speaks of `gen`.
+-- This profile: docs/FORMATS.md, "The generated set".
 use Rattle.std.specs.Prelude.{◌≡◌, ◌⊎◌, ◌<◌, ◌≤◌, ℕ, false}
 use Rattle.std.specs.FinMap.{get}
 use Rattle.spec_hosts.specs.dyl_outside.FileMap.{FileMap}

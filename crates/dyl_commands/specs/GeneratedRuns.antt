@@ -1,5 +1,6 @@
 -- What comes of generating a set and of its runs, step by step.
 -- Cited by no clause of `serve`: what its parts promise.
+-- Serves the contracts of this crate, which follow Generated of `dyl_commands`.
 use Rattle.std.specs.Prelude.{◌≡◌, ◌⊎◌, ◌<◌, ◌^◌, ℕ, List, ◌∷◌, [], Result, Ok, Err}
 use Rattle.std.specs.FinMap.{get}
 use Rattle.wasm_form.specs.declared.module.Module.{Module}

@@ -13,6 +13,7 @@
 -- These speak of what there is to say of a set (Linking), of several (Sets), of the start-up of one (StartUp), of the one file that is run
 -- (OneFile), of a trace (Traced), and of a generated set (Generated). The contracts of what the clauses are had from cite the others: Fetched (reading a file), Served (each command),
 -- GeneratedRuns (`gen`). What follows from the clauses is in Laws.
+-- Part of the statement of `serve`.
 pub mod Due
 pub mod Files
 pub mod Laws

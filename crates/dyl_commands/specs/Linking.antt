@@ -1,5 +1,6 @@
 -- What there is to say of a set that is asked for: that it is gathered and links, or why not. It is the same for each command that takes one.
 -- Cited by every clause of `serve` that speaks of a set.
+-- This profile: docs/FORMATS.md, "The set" and "How it ends".
 use Rattle.std.specs.Prelude.{◌≡◌, Some, Ok, Err}
 use Rattle.spec_hosts.specs.spec_runtime.Names.{HostNames}
 use Rattle.spec_loading.specs.spec_linking.declared.fault.LinkFault.{LinkFault}

@@ -1,5 +1,6 @@
 -- What there is to say of the file at a path that is run: of the file, of its bytes, of the module that they spell, and of its opening.
 -- Cited by every clause of `serve` that speaks of the file of `exec`, or of the one module of a trace.
+-- This profile: docs/FORMATS.md, "The commands" and "How it ends".
 use Rattle.std.specs.Prelude.{◌≡◌, ◌≤◌, ◌<◌, ℕ, List, length, None, Some, IsSomeAnd, Result, Ok, Err}
 use Rattle.wasm_form.specs.declared.module.Module.{Module}
 use Rattle.spec_hosts.specs.spec_runtime.Names.{HostNames}

@@ -1,5 +1,6 @@
 -- What a call does to the input, the output, the errors, the clock and the random words.
 -- Cited by the clause `does` of `serve`, through Clauses.
+-- This profile: docs/FORMATS.md, "The commands" and "Runs".
 use Rattle.std.specs.Prelude.{◌≡◌, ◌⊎◌, ℕ, List, [], ◌∷◌, map, Bool, true, false, Option, None, Some, Result, Ok, Err, codes}
 use Rattle.std.specs.Option.{ForSome}
 use Rattle.std.specs.FinMap.{get}

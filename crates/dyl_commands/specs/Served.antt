@@ -1,5 +1,6 @@
 -- What is so of an answer and of the files, for each command.
 -- Cited by no clause of `serve`: what its parts promise.
+-- Serves the contracts of this crate, which follow Due and Runs of `dyl_commands`.
 use Rattle.std.specs.Prelude.{◌≡◌, ◌⊎◌, ◌≤◌, ◌++◌, ℕ, List, [], ◌∷◌, false, Option, Some, IsSomeAnd, IfOk, IfErr, Result, Ok, Err}
 use Rattle.std.specs.Option.{ForSome}
 use Rattle.std.specs.FinMap.{get, insert}

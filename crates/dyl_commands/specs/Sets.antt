@@ -1,5 +1,6 @@
 -- What there is to say of several sets that are asked for, one after the other: that each is gathered and links, or the first fault that one has.
 -- Cited by every clause of `serve` that speaks of `board`.
+-- This profile: docs/FORMATS.md, "How it ends".
 use Rattle.std.specs.Prelude.{◌⊎◌, ℕ, List, [], ◌∷◌}
 use Rattle.spec_hosts.specs.spec_runtime.Names.{HostNames}
 use Rattle.spec_loading.specs.spec_linking.declared.fault.SetFault.TheVariants.{ReadFault}

@@ -1,6 +1,7 @@
 -- What there is to say of the start-up of a set that is asked for: that it comes to the call of the entry, so that there is a snapshot, or why
 -- there is none.
 -- Cited by every clause of `serve` that speaks of `snap`.
+-- This profile: docs/FORMATS.md, "The snapshot".
 use Rattle.std.specs.Prelude.{ℕ, []}
 use Rattle.spec_hosts.specs.spec_runtime.Names.{HostNames}
 use Rattle.spec_loading.specs.spec_linking.Sets.{Files, SetOptions}

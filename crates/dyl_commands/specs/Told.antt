@@ -1,5 +1,6 @@
 -- What is put to the errors.
 -- Cited by the clause `does` of `serve`, through Runs.
+-- This profile: docs/FORMATS.md, "The line".
 use Rattle.std.specs.Prelude.{◌≡◌, ◌⊎◌, IsSome, Result}
 use Rattle.spec_hosts.specs.dyl_outside.declared.fault.IoFault.{IoFault}
 use Rattle.spec_hosts.specs.dyl_outside.Sink.{SinkState, Puts}

@@ -1,5 +1,6 @@
 -- What there is to say of the file of a trace, of the program that is run, and of both: that the run is that of the trace, or why it isn't.
 -- Cited by every clause of `serve` that speaks of `trace` or `replay`.
+-- This profile: docs/FORMATS.md, "The trace".
 use Rattle.std.specs.Prelude.{◌≡◌, ◌⊎◌, ◌<◌, ◌≤◌, ℕ, List, [], length, Bool, true, false, None, IsSomeAnd, Result, Ok, Err}
 use Rattle.wasm_form.specs.declared.module.Module.{Module}
 use Rattle.spec_hosts.specs.declared.ran.Ran as ran

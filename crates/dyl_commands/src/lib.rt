@@ -19,7 +19,7 @@ pub use board::board_main;
 pub use error_line::tell;
 pub use exec::{exec_file, exec_module};
 pub use generated::gen_main;
-pub use laws::merged_files_run;
+pub use laws::{merged_files_run, merges_are_one, snapshots_are_one, texts_are_one};
 pub use merge::merge_main;
 pub use one_file::{MOST_RUN, fetch_file, read_module};
 pub use plan::plan_main;

@@ -1,4 +1,5 @@
 -- The core of a run, and the state at which it stands.
+-- Serves the contracts of this crate, which follow Loading of `spec_loading`.
 use Rattle.std.specs.Prelude.{◌≡◌, ◌≢◌, ◌⊎◌, ◌<◌, ◌≤◌, ◌+◌, ℕ, List, [], ◌∷◌, length, sum, reverse, drop, take, slice_get, slice_set, ◌-◌, nat_lt, replicate, Option, Some, None, Bool, true, false, IfSome, IsTrue, Result, Ok, Err}
 use Rattle.std.specs.List.{All}
 use Rattle.spec_loading.specs.spec_runs.Systems.{Moving, Waits, Returned, Exited, Trapped}

@@ -1,4 +1,5 @@
 -- The next step of a run that a loader opens.
+-- Serves the contracts of this crate, which follow Loading of `spec_loading`.
 use Rattle.std.specs.Prelude.{◌≡◌, List, [], ◌∷◌, Option, Some, None, true, false, IsTrue}
 use Rattle.spec_loading.specs.spec_runs.Systems.{Moving}
 use Rattle.spec_loading.specs.spec_binary.Options.{◌>>=◌}

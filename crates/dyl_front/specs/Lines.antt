@@ -1,4 +1,5 @@
 -- The line that is put to the errors for each outcome.
+-- This profile: docs/FORMATS.md, "The line".
 use Rattle.std.specs.Option.{option_map}
 use Rattle.std.specs.Prelude.{ℕ, ◌+◌, ◌/◌, List, [], ◌∷◌, ◌++◌, codes, decimal, nat_lt, if◌then◌else◌, Option, Some, None}
 use Rattle.spec_traces.specs.spec_hosts.spec_binary.declared.fault.DecodeFault.{DecodeFault}

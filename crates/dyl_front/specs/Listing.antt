@@ -1,4 +1,5 @@
 -- The listing of a linked set.
+-- This profile: docs/FORMATS.md, "The listing".
 use Rattle.std.specs.Prelude.{ℕ, ◌+◌, List, [], ◌∷◌, ◌++◌, length, flat_map, Bool, false, not, ◌&&◌, nat_eq, codes, decimal, Option, Some, None, unwrap_or, slice_get}
 use Rattle.std.specs.List.{find}
 use Rattle.std.specs.Option.{option_map}

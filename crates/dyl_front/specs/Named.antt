@@ -1,4 +1,5 @@
 -- The names of a member's functions, by the places of exports.
+-- Serves the contracts of this crate, which follow Listing of `dyl_front`.
 use Rattle.std.specs.Prelude.{◌≡◌, ◌<◌, ℕ, List, [], length, Bool, false, nat_eq, Option, Some, None, unwrap_or, slice_get, slice_index_or}
 use Rattle.std.specs.List.{position_from}
 use Rattle.std.specs.Option.{option_map}

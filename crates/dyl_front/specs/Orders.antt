@@ -1,4 +1,5 @@
 -- What the words ask for.
+-- This profile: docs/FORMATS.md, "The commands" and "Options".
 use Rattle.std.specs.Prelude.{◌≡◌, ◌≤◌, ◌==◌, ℕ, List, [], ◌∷◌, Bool, true, ◌&&◌, nat_le, not, map, length, Option, Some, None, Result, Ok, Err, String, string_bytes, if◌then◌else◌}
 use Rattle.std.specs.List.{list_all, list_any, slice_split}
 use Rattle.std.specs.Str.Parse.{digits_value}

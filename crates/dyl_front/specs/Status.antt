@@ -1,4 +1,5 @@
 -- The exit status of each outcome.
+-- This profile: docs/FORMATS.md, "How it ends".
 use Rattle.std.specs.Prelude.{ℕ, ◌%◌, List, [], ◌∷◌, nat_eq, if◌then◌else◌}
 use Rattle.spec_traces.specs.spec_hosts.declared.ran.Ran.{Ran as OneRun}
 use Rattle.spec_traces.specs.spec_hosts.declared.ran.RunEnd.{RunEnd}

@@ -1,4 +1,5 @@
 -- The summary of a set that was run as loaded and as merged.
+-- This profile: docs/FORMATS.md, "The summary".
 use Rattle.std.specs.Prelude.{ℕ, List, ◌++◌, length, codes, decimal}
 use Rattle.spec_traces.specs.spec_hosts.declared.ran.Ran.{Ran}
 use Rattle.spec_linking.specs.LinkedSets.{LinkedSet}

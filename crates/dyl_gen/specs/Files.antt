@@ -1,4 +1,5 @@
 -- The files of the generated set.
+-- This profile: docs/FORMATS.md, "The generated set".
 use Rattle.std.specs.Prelude.{◌≡◌, ◌≢◌, ◌⊎◌, ℕ, ◌<◌, ◌≤◌, List, [], length, None, IsSomeAnd}
 use Rattle.std.specs.FinMap.{get, insert}
 use Rattle.wasm_form.specs.declared.module.Module.{Module}

@@ -1,5 +1,6 @@
 -- The modules of the generated set of n members. Member 0 is the main module. The constructor of each member adds 1 to a value of the next
 -- one, which holds that one's number, and the main module puts the sum of all values.
+-- This profile: docs/FORMATS.md, "The generated set".
 use Rattle.std.specs.Prelude.{ℕ, ◌+◌, ◌-◌, List, [], ◌∷◌, ◌++◌, Bool, true, false, nat_eq, if◌then◌else◌, Some, None, codes, decimal, pos}
 use Rattle.std.specs.Int.{to_le_bytes, w32}
 use Rattle.wasm_form.specs.declared.types.ValType.TheVariants.{I32, FuncRef}

@@ -1,4 +1,5 @@
 -- Laws of the generated set: its files are gathered without a fault, there is little of what is gathered, and it links where its pages suffice.
+-- Part of the statement of laws: docs/LAWS.md, "Laws of the parts".
 use Rattle.std.specs.Prelude.{◌≡◌, ℕ, ◌+◌, ◌*◌, ◌^◌, ◌<◌, ◌≤◌, length, sum_by, codes, false, Some, Ok, Err}
 use Rattle.std.specs.FinMap.{get}
 use Rattle.spec_linking.specs.spec_runtime.Names.{HostNames, Fits, host_match}

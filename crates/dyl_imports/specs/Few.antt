@@ -1,4 +1,5 @@
 -- How much members import and define.
+-- Serves the contracts of this crate, which follow Counts of `spec_linking`.
 use Rattle.std.specs.Prelude.{◌≡◌, ℕ, ◌+◌, ◌≤◌, List, length, slice_get, Some}
 use Rattle.dyl_search.specs.declared.set.Member.{Member}
 

@@ -1,4 +1,5 @@
 -- Host functions, each once.
+-- Serves the contracts of this crate, which follow LinkedSets of `spec_linking`.
 use Rattle.std.specs.Prelude.{List, [], ◌∷◌, ◌++◌, if◌then◌else◌}
 use Rattle.std.specs.List.{list_any}
 use Rattle.spec_loading.specs.spec_runtime.Names.{HostName}

@@ -1,4 +1,5 @@
 -- What is kept of a set whose imports are looked at, and when it is what there is of a linked set.
+-- Serves the contracts of this crate, which follow LinkedSets of `spec_linking`.
 use Rattle.std.specs.Prelude.{◌≡◌, List, map}
 use Rattle.spec_loading.specs.spec_runtime.Names.{HostNames}
 use Rattle.spec_loading.specs.spec_linking.LinkedSets.{LinkedSet, hosts_of}

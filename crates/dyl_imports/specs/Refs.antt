@@ -1,4 +1,5 @@
 -- What the numbers of a member's functions name.
+-- Serves the contracts of this crate, which follow LinkedSets of `spec_linking`.
 use Rattle.std.specs.Prelude.{ℕ, ◌+◌, List, [], ◌∷◌, unwrap_or}
 use Rattle.wasm_form.specs.declared.module.Import.{Import}
 use Rattle.wasm_form.specs.declared.runtime.Ref.{Ref}

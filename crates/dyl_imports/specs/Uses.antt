@@ -1,4 +1,5 @@
 -- What an import stands for.
+-- Serves the contracts of this crate, which follow Imports of `spec_linking`.
 use Rattle.std.specs.Prelude.{Bool, true, false, bytes_eq, codes, if◌then◌else◌}
 use Rattle.wasm_form.specs.declared.module.Import.{Import}
 use Rattle.spec_loading.specs.spec_linking.Imports as imports

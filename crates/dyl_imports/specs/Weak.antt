@@ -1,4 +1,5 @@
 -- What is kept of members: the names that each notes as weak, and how many functions it has.
+-- Serves the contracts of this crate, which follow Definitions of `spec_linking`.
 use Rattle.std.specs.Prelude.{◌≡◌, ℕ, List, [], ◌∷◌, map, length, slice_get, Bool, false, Option, None, Some, ◌&&◌, ◌%◌, nat_eq}
 use Rattle.spec_loading.specs.spec_binary.IndexSpaces.{function_space}
 use Rattle.spec_loading.specs.spec_linking.Records.{ImportNote}

@@ -1,4 +1,5 @@
 -- The least size and the greatest, by the limits that imports declare.
+-- Serves the contracts of this crate, which follow Plans of `spec_linking`.
 use Rattle.std.specs.Prelude.{ℕ, max, min, List, [], ◌∷◌, Option, None, Some}
 use Rattle.wasm_form.specs.declared.types.Limits.{Limits}
 use Rattle.wasm_form.specs.declared.module.Import.{Import}

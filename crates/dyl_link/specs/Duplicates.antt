@@ -1,4 +1,5 @@
 -- Names that are defined twice, by the definitions of names.
+-- Serves the contracts of this crate, which follow Links of `spec_linking`.
 use Rattle.std.specs.Prelude.{ℕ, List, [], ◌∷◌, Option, None, Some}
 use Rattle.wasm_form.specs.declared.module.Export.{Export}
 use Rattle.spec_loading.specs.spec_linking.Sets.{ClosedSet}

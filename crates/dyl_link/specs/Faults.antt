@@ -1,4 +1,5 @@
 -- The faults of a member that come before those of its imports.
+-- Serves the contracts of this crate, which follow Links of `spec_linking`.
 use Rattle.std.specs.Prelude.{ℕ, length, nat_eq}
 use Rattle.spec_loading.specs.spec_binary.Exports.{relocations_name, constructors_name}
 use Rattle.spec_loading.specs.spec_linking.declared.fault.LinkFault.TheVariants.{OwnMemory}

@@ -1,4 +1,5 @@
 -- The functions that the numbers of members name, as lists.
+-- Serves the contracts of this crate, which follow LinkedSets of `spec_linking`.
 use Rattle.std.specs.Prelude.{◌≡◌, ℕ, List, length, slice_get, Option}
 use Rattle.wasm_form.specs.declared.runtime.Ref.{Ref}
 use Rattle.spec_loading.specs.spec_binary.Options.{◌>>=◌}

@@ -1,4 +1,5 @@
 -- What is above the limits, where the regions lie.
+-- Serves the contracts of this crate, which follow Links of `spec_linking`.
 use Rattle.spec_loading.specs.spec_linking.declared.fault.PlanFault.{PlanFault}
 use Rattle.spec_loading.specs.spec_linking.declared.fault.PlanFault.TheVariants as plan_faults
 use Rattle.spec_loading.specs.spec_linking.declared.fault.LinkFault.{LinkFault}

@@ -1,4 +1,5 @@
 -- What a linked set is made of, and when it is that of a set which links.
+-- Serves the contracts of this crate, which follow Links of `spec_linking`.
 use Rattle.std.specs.Prelude.{◌≡◌, ◌≤◌}
 use Rattle.wasm_form.specs.declared.runtime.LoaderCall.TheVariants.{Dlopen, Dlerror, Dlclose}
 use Rattle.spec_loading.specs.spec_execution.Views.{loader_type}

@@ -1,4 +1,5 @@
 -- The set that is linked, and what is numbered there.
+-- Serves the contracts of this crate, which follow LinkedSets of `spec_linking`.
 use Rattle.std.specs.Prelude.{ℕ, length, unwrap_or, Some, IsTrue}
 use Rattle.spec_loading.specs.spec_binary.Options.{◌>>=◌}
 use Rattle.spec_loading.specs.spec_binary.IndexSpaces.{function_space}

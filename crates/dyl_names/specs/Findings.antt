@@ -1,4 +1,5 @@
 -- What a test of linking answers, beside what is found.
+-- Serves the contracts of this crate, which follow Links of `spec_linking`.
 use Rattle.std.specs.Prelude.{◌≡◌, ◌≢◌, Some, None, Result, Ok, Err}
 use Rattle.spec_linking.specs.declared.fault.LinkFault.{LinkFault}
 use Rattle.spec_linking.specs.declared.fault.LinkFault.TheVariants.{Memory}

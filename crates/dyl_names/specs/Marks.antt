@@ -1,4 +1,5 @@
 -- Marks of numbers that are known.
+-- Serves the contracts of this crate.
 use Rattle.std.specs.Prelude.{◌≡◌, ℕ, ◌<◌, List, length, Bool, false, slice_index_or}
 use Rattle.spec_linking.specs.Orders.{is_among}
 

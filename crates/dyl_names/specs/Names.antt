@@ -1,4 +1,5 @@
 -- Names with what a member defines them as, in the order of their definitions.
+-- Serves the contracts of this crate, which follow Definitions of `spec_linking`.
 use Rattle.std.specs.Prelude.{ℕ, List, [], ◌∷◌, ◌++◌, map, Option, Some, None, is_some, String, string_bytes, if◌then◌else◌}
 use Rattle.std.specs.Map.{lookup}
 use Rattle.std.specs.Str.{bytes_eq}

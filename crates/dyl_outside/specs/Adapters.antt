@@ -1,4 +1,5 @@
 -- What the readers of the adapters answer, where the bytes are known.
+-- This profile: docs/DECISIONS.md, "The outside".
 use Rattle.std.specs.Prelude.{◌≡◌, ℕ, ◌<◌, ◌≤◌, List, length, take, Result, Ok, Err, Vec}
 use Rattle.std.specs.Int.{w64, from_le_bytes}
 use Rattle.std.specs.declared.alloc.Global.{Global}

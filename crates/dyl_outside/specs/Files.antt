@@ -1,4 +1,5 @@
 -- What the calls on files answer.
+-- This profile: docs/DECISIONS.md, "The outside".
 use Rattle.std.specs.Prelude.{◌≡◌, ℕ, ◌<◌, ◌≤◌, List, length, Option, Some, None, IsSomeAnd, IfOk, Result, Ok, Err, Vec}
 use Rattle.std.specs.Option.{ForSome}
 use Rattle.std.specs.declared.alloc.Global.{Global}
@@ -7,7 +8,7 @@ use Rattle.dyl_outside.specs.declared.fault.FileFault.{FileFault}
 use Rattle.dyl_outside.specs.declared.fault.FileFault.TheVariants as fetch
 use Rattle.dyl_outside.specs.declared.fault.IoFault.{IoFault}
 use Rattle.dyl_outside.specs.declared.fault.IoFault.TheVariants as store
-use Rattle.dyl_outside.specs.Faults.{Rises, FaultCount}
+use Rattle.dyl_outside.specs.Faults.{Rises, RisesByOne, FaultCount}
 use Rattle.dyl_outside.specs.FileMap.{FileMap, SameBut}
 
 -- What is seen of files: the files, where they are told, and the counts of the fetches that failed, of the stores that failed, and of the
@@ -34,10 +35,10 @@ ReadCount (Err fetch.Failed) before now = Rises before now
 ReadCount (Err fetch.TooLong) before now = now ≡ before
 ReadCount (Err fetch.Memory) before now = now ≡ before
 
--- the count of Absent answers rises at Absent, and at no other answer
+-- the count of Absent answers rises by one at Absent, and at no other answer does it rise
 abbrev pub AbsentCount : {T : Type 0} → Result T FileFault → ℕ → ℕ → Type 0
 AbsentCount (Ok _) before now = now ≡ before
-AbsentCount (Err fetch.Absent) before now = Rises before now
+AbsentCount (Err fetch.Absent) before now = RisesByOne before now
 AbsentCount (Err fetch.Failed) before now = now ≡ before
 AbsentCount (Err fetch.TooLong) before now = now ≡ before
 AbsentCount (Err fetch.Memory) before now = now ≡ before

@@ -16,7 +16,7 @@ pub enum IoFault {
 /// Why a file was not fetched.
 #[derive(Clone, Copy, Debug, PartialEq, Eq)]
 pub enum FileFault {
-    /// There is no file at that path, and the count of Absent answers rose.
+    /// There is no file at that path, and the count of Absent answers rose by one.
     Absent,
     /// The files failed, and their count of read faults rose.
     Failed,

@@ -13,7 +13,8 @@ pub trait Files {
     ///
     /// Absent comes exactly where no file is at that path, and TooLong exactly where the file has more
     /// than `most` bytes, unless the answer is Failed or Memory. Failed comes only where the count of
-    /// read faults rose in this call.
+    /// read faults rose in this call. The count of Absent answers rises by one at Absent, up to its last
+    /// value, 2^64 - 1, and stays as it is at every other answer.
     fn fetch(&mut self, alloc: Global, path: &str, most: usize) -> Result<Vec<u8>, FileFault>
         ensures { Fetches path.now most result (seen self.old) (seen self.new) };
 

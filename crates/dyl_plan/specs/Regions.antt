@@ -1,4 +1,5 @@
 -- Regions and sizes, as the definitions see them, and what placing answers.
+-- Serves the contracts of this crate, which follow Plans of `spec_linking`.
 use Rattle.std.specs.Prelude.{◌≡◌, ◌≢◌, ℕ, ◌≤◌, max, Option, Some, None, Result, Ok, Err}
 use Rattle.spec_linking.specs.declared.fault.PlanFault.{PlanFault}
 use Rattle.spec_linking.specs.declared.fault.PlanFault.TheVariants.{MemoryLimit, TableLimit, Memory}

@@ -1,4 +1,5 @@
 -- What is kept of the members that were told of.
+-- Serves the contracts of this crate, which follow Definitions of `spec_linking`.
 use Rattle.std.specs.Prelude.{List, [], length, map}
 use Rattle.std.specs.List.{range_with_len}
 use Rattle.dyl_scope.specs.Names.{Defined, with_all, definition_value}

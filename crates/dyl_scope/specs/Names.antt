@@ -1,4 +1,5 @@
 -- The names that a member defines, in the order of the exports that define them.
+-- Serves the contracts of this crate, which follow Definitions of `spec_linking`.
 use Rattle.std.specs.Prelude.{◌≡◌, ℕ, List, [], ◌∷◌, ◌++◌, Option, Some, None, slice_get}
 use Rattle.wasm_form.specs.declared.module.Export.{Export}
 use Rattle.wasm_form.specs.declared.module.Module.{Module}

@@ -1,4 +1,5 @@
 -- The orders in which members are gone through, by what each of them needs.
+-- Serves the contracts of this crate, which follow Orders of `spec_linking`.
 use Rattle.std.specs.Prelude.{ℕ, zero, suc, ◌+◌, List, [], ◌∷◌, Option, Some, None, slice_get, if◌then◌else◌}
 use Rattle.spec_linking.specs.Orders.{is_among, with_numbers, Walk, walk_each, entering, leaving}
 use Rattle.dyl_scope.specs.declared.maker.Told.{Told}

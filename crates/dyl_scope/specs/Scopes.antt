@@ -1,4 +1,5 @@
 -- The definition of a name, by what is kept of a set.
+-- Serves the contracts of this crate, which follow Definitions of `spec_linking`.
 use Rattle.std.specs.Prelude.{◌≡◌, ℕ, ◌<◌, unwrap_or, List, [], length, map, Bool, Option, None, slice_get, All}
 use Rattle.std.specs.Map.{lookup}
 use Rattle.std.specs.Str.{bytes_eq}

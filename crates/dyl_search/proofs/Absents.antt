@@ -1,6 +1,6 @@
 -- How the count of Absent answers rises.
 use Rattle.std.proofs.Common.{◌≡◌, ℕ, List, [], ◌∷◌, ◌++◌, Some, None, refl, sym, ap, ◌∙◌, subst, append-nil, append_assoc}
-use Rattle.dyl_outside.specs.Faults.{Rises}
+use Rattle.dyl_outside.specs.Faults.{RisesByOne}
 use Rattle.spec_linking.specs.Sets.{Files, Member, SetOptions}
 use Rattle.spec_linking.specs.Gathering.{first_in, Reaches, tried_from, tried_next}
 use Rattle.dyl_search.specs.Absents.{RisesOnce, RisesAt, BreaksOff}
@@ -11,7 +11,7 @@ module _ (files : Files) where
   pub rises_there : (path bytes : List ℕ) (before now : ℕ) → files path ≡ Some bytes → now ≡ before → RisesAt files (path ∷ []) before now
   rises_there path bytes before now there same = (before, subst (λ o. RisesOnce o before before) (sym there) refl, same)
 
-  pub rises_nowhere : (path : List ℕ) (before now : ℕ) → files path ≡ None → Rises before now → RisesAt files (path ∷ []) before now
+  pub rises_nowhere : (path : List ℕ) (before now : ℕ) → files path ≡ None → RisesByOne before now → RisesAt files (path ∷ []) before now
   rises_nowhere path before now none rises = (now, subst (λ o. RisesOnce o before now) (sym none) rises, refl)
 
   -- ---- at some paths, and then at others

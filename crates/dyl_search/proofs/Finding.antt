@@ -4,7 +4,7 @@ use Rattle.std.specs.Prelude.{IsSomeAnd}
 use Rattle.std.specs.Option.{ForSome}
 use Rattle.std.specs.FinMap.{get}
 use Rattle.std.proofs.lemmas.List.{map-append, take-append-drop, take_more, take_all}
-use Rattle.dyl_outside.specs.Faults.{Rises}
+use Rattle.dyl_outside.specs.Faults.{RisesByOne}
 use Rattle.dyl_outside.specs.FileMap.{FileMap}
 use Rattle.spec_linking.specs.Sets.{Files, SetOptions}
 use Rattle.spec_linking.specs.Paths.{file_or, first_file, unless_file, tried_of, IsTried, has_slash, in_directory, expanded, folder, search_paths}
@@ -33,7 +33,7 @@ module _ (told : Option FileMap) (path : List ℕ) (most before now : ℕ) where
     absents = λ m e. record { tried = path ∷ []; are = sym (one_to_try (get m) path); absents = rises_there (get m) path f.bytes.items before now (there m e) same };
   }
 
-  pub finds_none : ForSome told (λ m. get m path ≡ None) → Rises before now → Finds told (path ∷ []) most (Ok None) before now
+  pub finds_none : ForSome told (λ m. get m path ≡ None) → RisesByOne before now → Finds told (path ∷ []) most (Ok None) before now
   finds_none none rises = record {
     finding = tt;
     files = λ m e. ap (λ o. file_or path o None) (none m e);

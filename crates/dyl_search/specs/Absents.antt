@@ -1,8 +1,9 @@
--- How the count of Absent answers rises: once for each path that is tried and has no file, and no more.
+-- How the count of Absent answers rises: by one for each path that is tried and has no file, up to its last value, and no more.
+-- This profile: docs/DECISIONS.md, "The outside".
 use Rattle.std.specs.Prelude.{◌≡◌, ℕ, List, [], ◌∷◌, ◌++◌, Option, Some, None, Result, Err}
 use Rattle.std.specs.Option.{ForSome}
 use Rattle.std.specs.FinMap.{get}
-use Rattle.dyl_outside.specs.Faults.{Rises}
+use Rattle.dyl_outside.specs.Faults.{RisesByOne}
 use Rattle.dyl_outside.specs.FileMap.{FileMap}
 use Rattle.spec_linking.specs.declared.fault.SetFault.{SetFault}
 use Rattle.spec_linking.specs.declared.fault.SetFault.TheVariants.{ReadFault, Memory}
@@ -11,7 +12,7 @@ use Rattle.spec_linking.specs.Gathering.{first_in, Reaches, tried_from, tried_ne
 
 -- at a path, by what is there
 abbrev pub RisesOnce : Option (List ℕ) → ℕ → ℕ → Type 0
-RisesOnce None before now = Rises before now
+RisesOnce None before now = RisesByOne before now
 RisesOnce (Some bytes) before now = now ≡ before
 
 -- at each of some paths, one after the other

@@ -1,4 +1,5 @@
 -- Directories to search.
+-- Serves the contracts of this crate, which follow Paths of `spec_linking`.
 use Rattle.std.specs.Prelude.{ℕ, List, Option, Some, None}
 use Rattle.spec_linking.specs.Paths.{expanded}
 

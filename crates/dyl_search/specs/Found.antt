@@ -1,4 +1,5 @@
 -- What a search for a file answers.
+-- Serves the contracts of this crate, which follow Paths of `spec_linking`.
 use Rattle.std.specs.Prelude.{◌≡◌, ℕ, ◌<◌, ◌≤◌, List, ◌∷◌, ◌++◌, length, Option, Some, None, Result, Ok, Err}
 use Rattle.std.specs.Option.{ForSome}
 use Rattle.std.specs.FinMap.{get}

@@ -1,4 +1,5 @@
 -- What is gathered so far, and what gathering answers.
+-- Serves the contracts of this crate, which follow Gathering of `spec_linking`.
 use Rattle.std.specs.Prelude.{◌≡◌, ℕ, ◌+◌, ◌<◌, ◌≤◌, List, [], map, length, slice_get, Option, Some, None, Result, Ok, Err}
 use Rattle.std.specs.Option.{ForSome}
 use Rattle.std.specs.FinMap.{get}

@@ -1,4 +1,5 @@
 -- The names that have numbers, as they are kept.
+-- Serves the contracts of this crate, which follow Wanted of `spec_linking`.
 use Rattle.std.specs.Prelude.{ℕ, List, map, String, string_bytes}
 use Rattle.spec_linking.specs.Wanted.{Wanted}
 

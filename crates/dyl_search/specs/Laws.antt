@@ -1,4 +1,5 @@
 -- Laws of gathering, from any files.
+-- Part of the statement of laws: docs/LAWS.md, "There is one set, or one first fault".
 use Rattle.std.specs.Prelude.{◌≡◌, Result}
 use Rattle.spec_linking.specs.declared.fault.SetFault.{SetFault}
 use Rattle.spec_linking.specs.Sets.{ClosedSet, SetOptions, Files}

@@ -1,4 +1,5 @@
 -- What the bytes of a member come to.
+-- Serves the contracts of this crate, which follow Gathering of `spec_linking`.
 use Rattle.std.specs.Prelude.{◌≡◌, ◌≢◌, ℕ, List, Some, None, Result, Ok, Err}
 use Rattle.wasm_form.specs.declared.module.Module.{Module}
 use Rattle.spec_reading.specs.spec_binary.declared.fault.DecodeFault.{DecodeFault}

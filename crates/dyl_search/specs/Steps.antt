@@ -1,4 +1,5 @@
 -- One member more.
+-- Serves the contracts of this crate, which follow Wanted of `spec_linking`.
 use Rattle.std.specs.Prelude.{◌≡◌, ℕ, List, map, length, slice_get, Some}
 use Rattle.spec_linking.specs.Wanted.{Wanted, with_names, number_of}
 use Rattle.dyl_search.specs.declared.set.Member.{Member}

@@ -1,6 +1,6 @@
 // The file at the first of some paths.
 ghost use Rattle.std.specs.Prelude.{◌≡◌, ◌∷◌, [], map, Some, None, Ok, string_bytes};
-ghost use Rattle.dyl_outside.specs.Faults.{Rises};
+ghost use Rattle.dyl_outside.specs.Faults.{Rises, RisesByOne};
 ghost use Rattle.std.specs.Prelude.{◌++◌};
 ghost use Rattle.spec_linking.specs.Paths.{in_directory, folder, search_paths};
 ghost use Rattle.dyl_search.specs.Gathers.{options_of};
@@ -31,7 +31,7 @@ pub fn find_at<F: Files>(
 ) -> Result<Option<Found>, SetFault>
     ensures answer { Finds (F.seen files.old).told (string_bytes path ∷ []) most result (F.seen files.old).absents (F.seen files.new).absents }
     ensures outside { Leaves result (F.seen files.old) (F.seen files.new) }
-    ensures absent { result ≡ Ok None → Rises (F.seen files.old).absents (F.seen files.new).absents }
+    ensures absent { result ≡ Ok None → RisesByOne (F.seen files.old).absents (F.seen files.new).absents }
 {
     match files.fetch(alloc, path.as_str(), most) {
         Ok(bytes) => Ok(Some(Found {

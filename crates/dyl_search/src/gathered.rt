@@ -104,7 +104,7 @@ fn gathered_set<F: Files>(
 /// reaches.
 ///
 /// Where the files are told, each answer but ReadFault and Memory is the set, or the first fault, that they give, and there is no other;
-/// ReadFault names a path that is tried; and the count of Absent answers rises once for each path that is tried and has no file, and no
+/// ReadFault names a path that is tried; and the count of Absent answers rises by one for each path that is tried and has no file, and no
 /// more. Whatever is told, a set has its shape, ReadFault comes only where the count of read faults rose in this call, Missing only where
 /// that of Absent answers did, and no file changes.
 pub fn gather<F: Files>(alloc: Global, files: &mut F, o: &SetOptions) -> Result<ClosedSet, SetFault>

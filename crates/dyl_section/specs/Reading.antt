@@ -1,4 +1,5 @@
 -- Reading the subsections of a record from left to right.
+-- Serves the contracts of this crate, which follow Records of `spec_linking`.
 use Rattle.std.specs.Prelude.{◌≡◌, ℕ, zero, suc, ◌+◌, ◌-◌, ◌^◌, min, List, [], ◌∷◌, ◌++◌, Result, Ok, Err, nat_lt, nat_eq, if◌then◌else◌}
 use Rattle.spec_linking.specs.Records.{most_align}
 use Rattle.spec_reading.specs.Steps.{Break, Broken, ◌>>=◌, Read, whole}

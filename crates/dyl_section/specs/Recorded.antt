@@ -1,4 +1,5 @@
 -- What a record of this crate says, and what an answer stands for.
+-- Serves the contracts of this crate, which follow Records of `spec_linking`.
 use Rattle.std.specs.Prelude.{◌≡◌, ℕ, map, Result, Ok, Err}
 use Rattle.wasm_form.specs.declared.module.Module.{Module}
 use Rattle.wasm_read.specs.declared.broken.Break.{Break}

@@ -1,4 +1,5 @@
 -- Which records are written, and what writing them does.
+-- By DynamicLinking.md, "The dylink.0 section", with each number in its shortest form.
 use Rattle.std.specs.Prelude.{◌≡◌, ◌≢◌, ℕ, ◌^◌, ◌<◌, ◌≤◌, List, [], ◌∷◌, ◌++◌, length, map}
 use Rattle.spec_reading.specs.spec_binary.Number.{SpellsUnsigned, IsShortest}
 use Rattle.spec_reading.specs.spec_binary.Name.{SpellsName}

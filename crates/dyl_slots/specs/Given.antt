@@ -1,4 +1,5 @@
 -- What is given of a linked set, and what is found of its members.
+-- Serves the contracts of this crate, which follow Slots of `spec_linking`.
 use Rattle.std.specs.Prelude.{◌≡◌, ℕ, ◌+◌, ◌<◌, ◌≤◌, ◌^◌, List, [], ◌∷◌, map, length, slice_get, true, Some, None}
 use Rattle.wasm_form.specs.declared.module.Module.{Module}
 use Rattle.wasm_form.specs.declared.runtime.Ref.{Ref}

@@ -1,4 +1,5 @@
 -- What a test against a limit answers.
+-- Serves the contracts of this crate, which follow Links of `spec_linking`.
 use Rattle.std.specs.Prelude.{◌≡◌, ◌≢◌, Option, Some, None, Result, Ok, Err}
 use Rattle.spec_loading.specs.spec_linking.declared.fault.LinkFault.{LinkFault}
 use Rattle.spec_loading.specs.spec_linking.declared.fault.LinkFault.TheVariants.{Memory}

@@ -1,4 +1,5 @@
 -- The functions of the loader and of the host among references, each once.
+-- Serves the contracts of this crate, which follow Slots of `spec_linking`.
 use Rattle.std.specs.Prelude.{ℕ, List, [], ◌∷◌, ◌++◌, map, if◌then◌else◌}
 use Rattle.std.specs.List.{filter, list_any}
 use Rattle.wasm_form.specs.declared.runtime.LoaderCall.{LoaderCall}

@@ -1,4 +1,5 @@
 -- What a member's active element segments place on the shared table, by what its numbers name.
+-- Serves the contracts of this crate, which follow Slots of `spec_linking`.
 use Rattle.std.specs.Prelude.{ℕ, List, [], ◌∷◌, ◌++◌, length, map, nat_lt, Option, Some, if◌then◌else◌}
 use Rattle.std.specs.List.{cons_option}
 use Rattle.wasm_form.specs.declared.instr.Expr.{Expr}

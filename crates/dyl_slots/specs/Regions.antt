@@ -1,4 +1,5 @@
 -- What lies in a region of the table, and where functions are left in it.
+-- Serves the contracts of this crate, which follow Slots of `spec_linking`.
 use Rattle.std.specs.Prelude.{◌≡◌, ℕ, ◌+◌, ◌-◌, ◌<◌, length, List, Option, Some, None, ◌&&◌, nat_le, nat_lt, nat_eq, slice_index_or, if◌then◌else◌}
 use Rattle.std.specs.List.{position_from}
 use Rattle.wasm_form.specs.declared.runtime.Ref.{Ref}

@@ -1,4 +1,5 @@
 -- The tables of a linked set, and what making them answers.
+-- Serves the contracts of this crate, which follow Slots of `spec_linking`.
 use Rattle.std.specs.Prelude.{◌≡◌, ℕ, List, length}
 use Rattle.wasm_form.specs.declared.runtime.Ref.{Ref}
 use Rattle.spec_loading.specs.spec_linking.Plans.{Plan, sizes_of}

@@ -1,4 +1,5 @@
 -- Calls of the functions of the loader, and how they are answered.
+-- Serves the contracts of this crate, which follow LoaderAnswers of `spec_loading`.
 use Rattle.std.specs.Prelude.{◌≡◌, ℕ, List, Some, Bool, true, false}
 use Rattle.wasm_form.specs.declared.runtime.LoaderCall.{LoaderCall}
 use Rattle.spec_loading.specs.spec_linking.LinkedSets.{LinkedSet}

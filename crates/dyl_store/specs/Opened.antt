@@ -1,4 +1,5 @@
 -- How the members of a linked set begin.
+-- Serves the contracts of this crate, which follow Members of `spec_loading`.
 use Rattle.std.specs.Prelude.{◌≡◌}
 use Rattle.spec_loading.specs.spec_linking.LinkedSets.{LinkedSet}
 use Rattle.spec_loading.specs.Members.{opening_store}

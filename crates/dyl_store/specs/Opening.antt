@@ -1,4 +1,5 @@
 -- What the members of a linked set begin with, by what their numbers name.
+-- Serves the contracts of this crate, which follow Members of `spec_loading`.
 use Rattle.std.specs.Prelude.{◌≡◌, ◌++◌, ◌+◌, ℕ, List, [], ◌∷◌, length, map, take, slice_get, nat_eq, Option, Some, unwrap_or, if◌then◌else◌}
 use Rattle.std.specs.List.{range_with_len}
 use Rattle.wasm_form.specs.declared.instr.Expr.{Expr}

@@ -1,4 +1,5 @@
 -- What placing a member changes.
+-- Serves the contracts of this crate, which follow LoadedSet of `spec_loading`.
 use Rattle.std.specs.Prelude.{◌≡◌, ◌<◌, ℕ, List, [], length, map, Option, Some, None, MatchOption, Result, Ok, Err}
 use Rattle.wasm_form.specs.declared.instr.Expr.{Expr}
 use Rattle.wasm_form.specs.declared.module.ElemMode.{ElemMode}

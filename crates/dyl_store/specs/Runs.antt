@@ -1,4 +1,5 @@
 -- A loaded set in its run, without what is counted and recorded of it.
+-- Serves the contracts of this crate, which follow LoadedSet of `spec_loading`.
 use Rattle.std.specs.Prelude.{◌≡◌, ◌<◌, ℕ, List, length, slice_get, Some, IfSome, Bool, true, false}
 use Rattle.wasm_form.specs.declared.runtime.Ref.{Ref}
 use Rattle.spec_loading.specs.spec_linking.Gathering.{IsSet}

@@ -1,4 +1,5 @@
 -- A linked set in its run, as the recorder sees it.
+-- Serves the contracts of this crate, which follow LoadedSet of `spec_loading`.
 use Rattle.std.specs.Prelude.{◌≡◌, None}
 use Rattle.spec_loading.specs.spec_linking.LinkedSets.{LinkedSet, set_hosts, hosts_of}
 use Rattle.spec_loading.specs.LoadedSet.{SetState, set_loading}

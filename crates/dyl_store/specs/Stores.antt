@@ -1,4 +1,5 @@
 -- The run of a linked set, as contracts see it.
+-- Serves the contracts of this crate, which follow LoadedSet of `spec_loading`.
 use Rattle.std.specs.Prelude.{◌≡◌, ℕ, ◌≤◌, ◌<◌, List, [], ◌∷◌, Option, Some, None, Bool, true, false, ◌&&◌}
 use Rattle.wasm_form.specs.declared.runtime.Trap.{Trap}
 use Rattle.spec_loading.specs.spec_runs.Systems.{Status, Moving}

@@ -1,4 +1,5 @@
 -- What is kept of a member.
+-- Serves the contracts of this crate, which follow Members of `spec_loading`.
 use Rattle.std.specs.Prelude.{◌≡◌, ◌<◌, ℕ, List, length, map, slice_get, Some, is_some, IsTrue}
 use Rattle.spec_loading.specs.spec_binary.IndexSpaces.{imported_count, global_space, table_space}
 use Rattle.spec_loading.specs.spec_execution.Instances.{ModuleParts}

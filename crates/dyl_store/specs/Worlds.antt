@@ -1,4 +1,5 @@
 -- The members of a linked set over one store.
+-- Serves the contracts of this crate, which follow Members of `spec_loading`.
 use Rattle.std.specs.Prelude.{◌≡◌, ◌<◌, ℕ, length, Some}
 use Rattle.spec_loading.specs.spec_runtime.Memories.{MemoryInstance}
 use Rattle.spec_loading.specs.spec_execution.Instances.{ModuleParts, Instances}

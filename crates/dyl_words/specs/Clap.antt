@@ -1,4 +1,5 @@
 -- The commands that `clap` is given, and what its matches hold.
+-- Serves the contracts of this crate, which follow Words of `dyl_words`.
 use Rattle.std.specs.Prelude.{cond, Bool, true, false, map, List, [], ◌∷◌, Option, Some, None, codes}
 use Rattle.std.specs.Str.{bytes_eq}
 use Rattle.std.specs.Borrow.{Bor}

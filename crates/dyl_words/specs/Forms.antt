@@ -1,4 +1,5 @@
 -- What a word before `--` looks like.
+-- This profile: docs/FORMATS.md, "Options".
 use Rattle.std.specs.Prelude.{ℕ, ◌==◌, Bool, List, [], ◌∷◌, Option, Some, None, is_some, if◌then◌else◌}
 use Rattle.std.specs.List.{list_any, before_first, after_first}
 

@@ -1,4 +1,5 @@
 -- What was read, as the definitions have it.
+-- Serves the contracts of this crate, which follow Words of `dyl_words`.
 use Rattle.std.specs.Prelude.{List, ℕ, map, option_map, Option}
 use Rattle.std.specs.Borrow.{Bor}
 use Rattle.dyl_words.specs.Words.{Asked}

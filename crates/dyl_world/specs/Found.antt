@@ -1,4 +1,5 @@
 -- How members and names are found.
+-- Serves the contracts of this crate, which follow LoaderAnswers of `spec_loading`.
 use Rattle.std.specs.Prelude.{◌≡◌, ℕ, List, Bool, None, bytes_eq, All}
 use Rattle.spec_loading.specs.spec_binary.Exports.{exported_as}
 use Rattle.spec_loading.specs.spec_linking.Definitions.{Definition, LoaderFunction, HeapBase, HeapEnd, MemberFunction, MemberData, HostFunction, WeakSymbol, Undefined}

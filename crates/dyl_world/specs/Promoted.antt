@@ -1,4 +1,5 @@
 -- The promoted members of a set, as contracts see them.
+-- Serves the contracts of this crate, which follow LoaderAnswers of `spec_loading`.
 use Rattle.std.specs.Prelude.{ℕ, ◌<◌, ◌≤◌, List, length, take, nat_eq}
 use Rattle.std.specs.List.{All, IsDistinct}
 

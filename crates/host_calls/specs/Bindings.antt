@@ -1,4 +1,5 @@
 -- What answers the host functions that a module imports, as the code keeps it.
+-- Serves the contracts of this crate, which follow Hosted of `spec_hosts`.
 use Rattle.std.specs.Prelude.{◌≡◌, ℕ, List, Some, IsSomeAnd, slice_get, true, false, bytes_eq}
 use Rattle.std.specs.Option.{option_map}
 use Rattle.spec_hosts.specs.spec_runtime.Names.{HostName}

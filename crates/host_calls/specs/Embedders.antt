@@ -1,4 +1,5 @@
 -- What answers the host calls of a run: WASI, and then a host table.
+-- This profile: docs/DECISIONS.md, "The parts of a machine".
 use Rattle.std.specs.Prelude.{ℕ, List, Result}
 use Rattle.spec_hosts.specs.wasm_form.declared.memory.Memory.{Memory}
 use Rattle.spec_hosts.specs.wasm_form.declared.runtime.Answer.{Answer}

@@ -1,4 +1,5 @@
 -- What the callback of a host table answers to a host call.
+-- This profile: docs/DECISIONS.md, "The parts of a machine".
 use Rattle.std.specs.Prelude.{◌≡◌, ℕ, List, [], ◌∷◌, length, slice_get, Option, Some, None, IsSomeAnd}
 use Rattle.std.specs.Borrow.{Bor}
 use Rattle.std.specs.declared.dyn_box.DynBox.{DynBox}

@@ -1,4 +1,5 @@
 -- What a host function must do for each call that its type allows.
+-- This profile: docs/DECISIONS.md, "The parts of a machine".
 use Rattle.std.specs.Prelude.{◌≡◌, ◌<◌, ◌≤◌, ◌+◌, ℕ, List, [], ◌∷◌, Option, Some, Bool, false, IsTrue, nat_eq}
 use Rattle.std.specs.Borrow.{Bor}
 use Rattle.spec_runtime.specs.wasm_form.declared.types.ValType.{ValType}

@@ -1,4 +1,5 @@
 -- What host names hold, as the meanings see it.
+-- Serves the contracts of this crate, which follow Names of `spec_runtime`.
 use Rattle.std.specs.Prelude.{◌≡◌, ℕ, List, map, String, string_bytes, Bool, IsTrue, ◌&&◌, if◌then◌else◌}
 use Rattle.std.specs.List.{All}
 use Rattle.std.specs.Str.{bytes_eq}

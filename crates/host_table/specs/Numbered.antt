@@ -1,4 +1,5 @@
 -- Entries with their numbers.
+-- Serves the contracts of this crate, which follow Names of `spec_runtime`.
 use Rattle.std.specs.Prelude.{◌≡◌, ℕ, List}
 use Rattle.std.specs.List.{position_from}
 use Rattle.spec_runtime.specs.Names.{HostName}

@@ -1,4 +1,5 @@
 -- Numbers of host functions by their modules and names.
+-- Serves the contracts of this crate, which follow Names of `spec_runtime`.
 use Rattle.std.specs.Prelude.{ℕ, List, [], ◌∷◌, ◌++◌, Option, Some, None, if◌then◌else◌}
 use Rattle.std.specs.Map.{lookup}
 use Rattle.std.specs.Str.{bytes_eq}

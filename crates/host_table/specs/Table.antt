@@ -1,4 +1,5 @@
 -- What a host table holds.
+-- This profile: docs/DECISIONS.md, "The parts of a machine".
 use Rattle.std.specs.Prelude.{◌≡◌, ℕ, List, ◌++◌, ◌∷◌, [], map, Option, slice_get, length, IfSome, IsTrue, Bool, true, false}
 use Rattle.std.specs.Borrow.{Bor}
 use Rattle.std.specs.List.{position_from}

@@ -1,4 +1,5 @@
 -- The buffers of a call.
+-- Serves the contracts of this crate, which follow Calls of `spec_hosts`.
 use Rattle.std.specs.Prelude.{◌≡◌, ℕ, ◌+◌, ◌*◌, ◌≤◌, List, take, drop, length, IsTrue}
 use Rattle.spec_hosts.specs.spec_runtime.Memories.{MemoryInstance}
 use Rattle.spec_hosts.specs.Calls as calls

@@ -1,4 +1,5 @@
 -- One use of a device, and the answer that came of it, if memory could be had for that.
+-- Serves the contracts of this crate, which follow Hosted of `spec_hosts`.
 use Rattle.std.specs.Prelude.{ℕ, List, [], Option, Result, Ok, Err, IfOk, Vec}
 use Rattle.std.specs.Option.{option_map}
 use Rattle.std.specs.declared.alloc.Global.{Global}

@@ -1,4 +1,5 @@
 -- What a call wants, as the code keeps it.
+-- Serves the contracts of this crate, which follow Calls of `spec_hosts`.
 use Rattle.std.specs.Prelude.{ℕ, ◌+◌, ◌/◌, ◌<◌, List, ◌++◌, length, map, take, Option, IfSome, IsTrue}
 use Rattle.spec_hosts.specs.spec_runtime.Memories.{little}
 use Rattle.spec_hosts.specs.spec_runtime.Hosts.{numbers_fit}

@@ -35,7 +35,7 @@ use Rattle.spec_loading.specs.declared.answers.Finding.{Finding}
 use Rattle.spec_loading.specs.declared.answers.Finding.TheVariants as finding
 use Rattle.spec_loading.specs.Phases.{LoaderFrame, open_frame, open_global_frame}
 use Rattle.spec_loading.specs.Costs.{next_cost}
-use Rattle.spec_loading.specs.SetCosts.{read_length, call_cost, set_prices}
+use Rattle.spec_loading.specs.SetCosts.{open_cost, call_cost, set_prices}
 use Rattle.spec_loading.specs.Loading.{LoaderState, LoaderAnswer, answered, goes_on, went}
 use Rattle.spec_loading.specs.Loading as loading
 use Rattle.spec_loading.specs.LoaderAnswers.{other_flags, global_flag, begin_or, member_named, open_named, open_answer, find_named, found_number, symbol_answer, close_answer, error_answer, handle_list, with_error, opened, found, closed, string_at, is_handle}
@@ -67,7 +67,7 @@ use Rattle.merge_dl.proofs.Preferred.{PlacesHeld}
 use Rattle.merge_dl.proofs.Handles.{symbol_answers}
 use Rattle.merge_dl.proofs.Closes.{closing_outcome, close_answers}
 use Rattle.merge_find.specs.Finding.{SearchComes}
-use Rattle.merge_dl.proofs.Opens.{opening_outcome, open_answers}
+use Rattle.merge_dl.proofs.Opens.{opening_outcome, open_steps, open_price, open_answers}
 use Rattle.merge_dl.proofs.Texts.{error_answers}
 
 -- ---- what comes of a call
@@ -347,11 +347,12 @@ module _ (comes : SearchComes) (L : LinkedSet) (n : Numbers) (x : Starts) (d : F
   open_called (Num flags ∷ Num name ∷ rest) =
       let y = open_answer L s.run.memory (low W32 name) (low W32 flags) in
       let vs : List Value = Num flags ∷ Num name ∷ rest in
-      let i = 227 + 205 * read_length s.run.memory (low W32 name) in
+      let i = open_steps L s.run.memory (low W32 name) in
+      let price = open_price L s.run.memory (low W32 name) in
       both Dlopen vs (Num flags ∷ Num name ∷ []) rest (opened L s.loader y) (opening_outcome L x begin d y) i refl (taken_by_set Dlopen vs) refl (taken_by_code Dlopen vs)
       (open_answers ground comes name flags)
-      (λ t0 leads. open_met L n x merged s t alike a fs gs below rest (n.function (Loader Dlopen)) deep enough i (suc (228 + 205 * read_length s.run.memory (low W32 name))) (omega arith)
-      set d ready used (omega arith) t0 y (open_sound L s.run.memory (low W32 name) (low W32 flags)) leads)
+      (λ t0 leads. open_met L n x merged s t alike a fs gs below rest (n.function (Loader Dlopen)) deep enough i (suc (open_cost L s.run.memory (low W32 name))) (omega (arith, price))
+      set d ready used (omega (arith, price)) t0 y (open_sound L s.run.memory (low W32 name) (low W32 flags)) leads)
   open_called [] = neither Dlopen [] (taken_by_set Dlopen []) (taken_by_code Dlopen [])
   open_called (Func r ∷ vs) = neither Dlopen (Func r ∷ vs) (taken_by_set Dlopen (Func r ∷ vs)) (taken_by_code Dlopen (Func r ∷ vs))
   open_called (Num flags ∷ []) = neither Dlopen (Num flags ∷ []) (taken_by_set Dlopen (Num flags ∷ [])) (taken_by_code Dlopen (Num flags ∷ []))

@@ -1,6 +1,6 @@
 -- The code for the length of a string, and for the search of a member, does what is said of it, at whatever number of a module it stands.
-use Rattle.std.proofs.Common.{◌≡◌, ℕ, zero, suc, ◌+◌, ◌*◌, ◌≤◌, List, [], ◌∷◌, length, drop, slice_get, Option, Some, None, refl, sym, ap, ◌∙◌, subst, arith}
-use Rattle.std.proofs.lemmas.List.{length-drop}
+use Rattle.std.proofs.Common.{◌≡◌, ℕ, zero, suc, ◌+◌, ◌*◌, ◌≤◌, min, List, [], ◌∷◌, length, drop, slice_get, Option, Some, None, unwrap_or, option_map, refl, sym, ap, ◌∙◌, subst, arith}
+use Rattle.std.proofs.Math.Nat.{min-le_left, min-le_right, le-min}
 use Rattle.wasm_form.specs.declared.module.Module.{Module}
 use Rattle.wasm_form.specs.declared.runtime.Trap.TheVariants.{MemoryBounds}
 use Rattle.wasm_form.specs.declared.runtime.Value.TheVariants.{Num}
@@ -15,13 +15,14 @@ use Rattle.spec_loading.proofs.of_spec_binary.Options.{went_on}
 use Rattle.spec_loading.proofs.of_spec_binary.SpelledParts.{decoded_text}
 use Rattle.spec_loading.specs.spec_linking.Links.{Links}
 use Rattle.spec_loading.specs.LoaderAnswers.{string_at}
+use Rattle.spec_loading.specs.SetCosts.{search_cost, exports_count}
 use Rattle.spec_loading.specs.Members.{from_members}
 use Rattle.merge_match.specs.Bounded.{IsBounded}
 use Rattle.merge_start.specs.Words.{Starts}
 use Rattle.merge_start.specs.Running.{Changing}
 use Rattle.merge_start.proofs.Reaching.{does_more}
 use Rattle.wasm_form.specs.declared.module.Part.{Part}
-use Rattle.merge_find.specs.Finding.{first_named, SearchFindsAny, SearchFinds}
+use Rattle.merge_find.specs.Finding.{first_named, search_steps, SearchFindsAny, SearchFinds}
 use Rattle.merge_find.specs.Exports.{ExportsAreTexts, ExportsAreApart}
 use Rattle.merge_find.specs.Typed.{BodyIsTyped}
 use Rattle.merge_dl.specs.Words.{unary_type, search_type, name_numbers, length_code, length_body, find_body}
@@ -33,7 +34,7 @@ use Rattle.merge_dl.proofs.Calls.{call_gives, call_traps, does_within}
 use Rattle.merge_dl.proofs.Lengths.{measured, measured_steps, measures}
 use Rattle.merge_dl.proofs.Names.{string_lies}
 use Rattle.merge_dl.proofs.Defined.{definition_numbered}
-use Rattle.merge_dl.proofs.Searches.{finds_defined, words, texts, apart}
+use Rattle.merge_dl.proofs.Searches.{finds_defined, numbers_few, words, texts, apart}
 use Rattle.merge_dl.proofs.Typed.{length_height, find_height}
 
 -- the code opens no member
@@ -43,46 +44,61 @@ no_starts = starts_in (record { error = 0; guard = 0; first_function = 0; opens 
 -- ---- the length of a string
 
 module _ (merged : Module) (f : ℕ) (has : HasFunction merged f unary_type length_body) (c : Changing) (a : ℕ) where
-  length_given : (k : ℕ) → k ≤ length c.memory.bytes → (o : Option (List ℕ))
-      → Answers merged no_starts 0 (measured_steps k o) length_code c (Num a ∷ Num 0 ∷ []) (measured c o) → GivesLength merged f c a o
-  length_given k le None r = does_more (omega (arith, le)) (call_traps has (Num a ∷ []) (refl, λ rest. refl) MemoryBounds r)
-  length_given k le (Some s) r = does_more (omega arith) (call_gives has (Num a ∷ []) (refl, λ rest. refl) (Num (length s)) r)
+  length_given : (o : Option (List ℕ))
+      → Answers merged no_starts 0 (measured_steps (length (drop (low W32 a) c.memory.bytes)) o) length_code c (Num a ∷ Num 0 ∷ []) (measured c o) → GivesLength merged f c a o
+  length_given None r = does_more (omega arith) (call_traps has (Num a ∷ []) (refl, λ rest. refl) MemoryBounds r)
+  length_given (Some s) r = does_more (omega arith) (call_gives has (Num a ∷ []) (refl, λ rest. refl) (Num (length s)) r)
 
 pub lengths_given : LengthsAreGiven
 lengths_given merged f has = record {
-  calls = λ c bounded a.
-      let rest = length-drop (low W32 a) c.memory.bytes in
-      length_given merged f has c a (length (drop (low W32 a) c.memory.bytes)) (omega (arith, rest)) (string_at c.memory (low W32 a)) (measures merged 0 no_starts c bounded a);
+  calls = λ c bounded a. length_given merged f has c a (string_at c.memory (low W32 a)) (measures merged 0 no_starts c bounded a);
 }
 
 -- ---- the search of a member
+
+-- No more names are searched than the member exports.
+searched_few : (bits few many k : ℕ) → few ≤ many → search_steps bits few k ≤ search_cost bits many k
+searched_few bits few many k le =
+    let less = min-le_left few (bits * k + 33) in
+    let names : min few (bits * k + 33) ≤ min many (bits * k + 33) = le-min (omega (arith, less, le)) (min-le_right few (bits * k + 33)) in
+    omega (arith, names)
+
+named_few : (L : LinkedSet) (m : ℕ) (wasm : Module) → wasm_of L m ≡ Some wasm → length (name_numbers L m wasm) ≤ exports_count L m
+named_few L m wasm found =
+    let few = numbers_few L m wasm.exports in
+    let many : exports_count L m ≡ length wasm.exports = ap (λ o. unwrap_or (option_map (λ (w : Module). length w.exports) o) 0) found in
+    omega (arith, few, many)
 
 pub members_searched : SearchFindsAny → MembersAreSearched
 members_searched any L links m wasm found merged f has = record { calls = calls }
   where
     calls : (c : Changing) → IsBounded c.memory → (a : ℕ) (s : List ℕ) → string_at c.memory (low W32 a) ≡ Some s
-        → CallGives merged (197 * length s + 202) f c (Num (length s) ∷ Num a ∷ []) (Num (search_value (defined_number L m s)))
+        → CallGives merged (search_cost 32 (exports_count L m) (length s) + 4) f c (Num (length s) ∷ Num a ∷ []) (Num (search_value (defined_number L m s)))
     calls c bounded a s known =
         let r = any merged f (name_numbers L m wasm) has (words L m links wasm.exports) c.units c.memory a s (string_lies c.memory a s known bounded) in
-        let given : CallGives merged (197 * length s + 202) f c (Num (length s) ∷ Num a ∷ []) (Num (search_value (first_named (name_numbers L m wasm) s))) = does_within r in
-        subst (λ o. CallGives merged (197 * length s + 202) f c (Num (length s) ∷ Num a ∷ []) (Num (search_value o))) (finds_defined L m wasm found s) given
+        let few = searched_few 32 (length (name_numbers L m wasm)) (exports_count L m) (length s) (named_few L m wasm found) in
+        let given : CallGives merged (search_cost 32 (exports_count L m) (length s) + 4) f c (Num (length s) ∷ Num a ∷ []) (Num (search_value (first_named (name_numbers L m wasm) s))) =
+        does_more (omega (arith, few)) (does_within r) in
+        subst (λ o. CallGives merged (search_cost 32 (exports_count L m) (length s) + 4) f c (Num (length s) ∷ Num a ∷ []) (Num (search_value o))) (finds_defined L m wasm found s) given
 
 -- the names that a member of a set defines are of bytes, and no two of them are the same
 module _ (soon : SearchFinds) (are_texts : ExportsAreTexts) (are_apart : ExportsAreApart) (L : LinkedSet) (set : IsSet L.set) (links : Links L) where
   searched_soon : (m : ℕ) (y : Member) → slice_get L.set.members m ≡ Some y → (merged : Module) (f : ℕ)
-      → HasFunction merged f search_type (find_body L m y.wasm) → SearchesMember 53 L m merged f
+      → HasFunction merged f search_type (find_body L m y.wasm) → SearchesMember 8 L m merged f
   searched_soon m y at merged f has = record { calls = calls }
     where
       calls : (c : Changing) → IsBounded c.memory → (a : ℕ) (s : List ℕ) → string_at c.memory (low W32 a) ≡ Some s
-          → CallGives merged (53 * length s + 202) f c (Num (length s) ∷ Num a ∷ []) (Num (search_value (defined_number L m s)))
+          → CallGives merged (search_cost 8 (exports_count L m) (length s) + 4) f c (Num (length s) ∷ Num a ∷ []) (Num (search_value (defined_number L m s)))
       calls c bounded a s known =
           let read = (holds_at IsMember L.set.members m y set.members at).read in
           let spelled = decoded_text _ _ read.told y.wasm refl in
           let found : wasm_of L m ≡ Some y.wasm = ap (λ (o : Option Member). o >>= λ x. Some x.wasm) at in
           let r = soon merged f (name_numbers L m y.wasm) has (words L m links y.wasm.exports) (texts L m y.wasm.exports (are_texts y.wasm _ spelled))
           (apart L m y.wasm.exports (are_apart y.wasm read.valid)) c.units c.memory a s (string_lies c.memory a s known bounded) in
-          let given : CallGives merged (53 * length s + 202) f c (Num (length s) ∷ Num a ∷ []) (Num (search_value (first_named (name_numbers L m y.wasm) s))) = does_within r in
-          subst (λ o. CallGives merged (53 * length s + 202) f c (Num (length s) ∷ Num a ∷ []) (Num (search_value o))) (finds_defined L m y.wasm found s) given
+          let few = searched_few 8 (length (name_numbers L m y.wasm)) (exports_count L m) (length s) (named_few L m y.wasm found) in
+          let given : CallGives merged (search_cost 8 (exports_count L m) (length s) + 4) f c (Num (length s) ∷ Num a ∷ []) (Num (search_value (first_named (name_numbers L m y.wasm) s))) =
+          does_more (omega (arith, few)) (does_within r) in
+          subst (λ o. CallGives merged (search_cost 8 (exports_count L m) (length s) + 4) f c (Num (length s) ∷ Num a ∷ []) (Num (search_value o))) (finds_defined L m y.wasm found s) given
 
 pub members_searched_soon : SearchFinds → ExportsAreTexts → ExportsAreApart → MembersAreSearchedSoon
 members_searched_soon soon are_texts are_apart L set links m wasm found merged f has =

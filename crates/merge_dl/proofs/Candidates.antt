@@ -1,7 +1,8 @@
--- The members that may be promoted are members of the set, and no more of them are promoted than there are promoted members.
-use Rattle.std.proofs.Common.{◌≡◌, ℕ, zero, suc, ◌+◌, ◌<◌, ◌≤◌, Bool, true, false, ◌||◌, List, [], ◌∷◌, length, nat_eq, cond, refl, arith}
+-- The members that may be promoted are members of the set, and those of them that are promoted count no more than the promoted members.
+use Rattle.std.proofs.Common.{◌≡◌, ℕ, zero, suc, ◌+◌, ◌*◌, ◌<◌, ◌≤◌, Bool, true, false, ◌||◌, List, [], ◌∷◌, length, nat_eq, cond, refl, ap, arith}
 use Rattle.std.specs.Prelude.{not}
 use Rattle.std.specs.List.{All, filter, range_with_len}
+use Rattle.std.proofs.Math.Nat.{mul-le-mul_right}
 use Rattle.std.proofs.lemmas.Bool.Decides.{nat_tests}
 use Rattle.std.proofs.lemmas.List.FromFn.{length-range_with_len}
 use Rattle.std.proofs.lemmas.List.Elements.{All-nil, All-cons, All-filter}
@@ -24,35 +25,49 @@ module _ (S : ClosedSet) where
 
 -- ---- how many there are
 
--- how many of these numbers are promoted
-abbrev pub among : List ℕ → List ℕ → ℕ
-among ps [] = 0
-among ps (k ∷ ks) = cond (is_among k ps) 1 0 + among ps ks
+-- of numbers that count so much each
+module _ (weight : ℕ → ℕ) where
+  abbrev pub total : List ℕ → ℕ
+  total [] = 0
+  total (k ∷ ks) = weight k + total ks
+
+  -- how much those of them count that are promoted
+  abbrev pub among : List ℕ → List ℕ → ℕ
+  among ps [] = 0
+  among ps (k ∷ ks) = cond (is_among k ps) (weight k) 0 + among ps ks
+
+equal : {q k : ℕ} → nat_eq q k ≡ true → q ≡ k
+equal e = grind (arith, nat_tests)
 
 -- how often a number is among these
 abbrev times : ℕ → List ℕ → ℕ
 times q [] = 0
 times q (k ∷ ks) = cond (nat_eq q k) 1 0 + times q ks
 
-among_none : (ks : List ℕ) → among [] ks ≡ 0
-among_none [] = refl
-among_none (k ∷ ks) = (let none = among_none ks in omega (arith, none))
+module _ (weight : ℕ → ℕ) where
+  among_none : (ks : List ℕ) → among weight [] ks ≡ 0
+  among_none [] = refl
+  among_none (k ∷ ks) = (let none = among_none ks in omega (arith, none))
 
-among_cons : (q : ℕ) (ps ks : List ℕ) → among (q ∷ ps) ks ≤ times q ks + among ps ks
-among_cons q ps [] = omega arith
-among_cons q ps (k ∷ ks) = go (nat_eq q k) (is_among k ps) (among_cons q ps ks)
-  where
-    go : (z y : Bool) → among (q ∷ ps) ks ≤ times q ks + among ps ks
-        → cond (z || y) 1 0 + among (q ∷ ps) ks ≤ cond z 1 0 + times q ks + (cond y 1 0 + among ps ks)
-    go true true le = omega (arith, le)
-    go true false le = omega (arith, le)
-    go false true le = omega (arith, le)
-    go false false le = omega (arith, le)
+  among_cons : (q : ℕ) (ps ks : List ℕ) → among weight (q ∷ ps) ks ≤ times q ks * weight q + among weight ps ks
+  among_cons q ps [] = omega arith
+  among_cons q ps (k ∷ ks) = go (nat_eq q k) refl (is_among k ps) (among_cons q ps ks)
+    where
+      go : (z : Bool) → nat_eq q k ≡ z → (y : Bool) → among weight (q ∷ ps) ks ≤ times q ks * weight q + among weight ps ks
+          → cond (z || y) (weight k) 0 + among weight (q ∷ ps) ks ≤ (cond z 1 0 + times q ks) * weight q + (cond y (weight k) 0 + among weight ps ks)
+      go true e true le = (let same : weight q ≡ weight k = ap weight (equal e) in omega (arith, le, same))
+      go true e false le = (let same : weight q ≡ weight k = ap weight (equal e) in omega (arith, le, same))
+      go false e true le = omega (arith, le)
+      go false e false le = omega (arith, le)
 
--- where each number is there once at most
-among_few : (ks : List ℕ) → ((q : ℕ) → times q ks ≤ 1) → (ps : List ℕ) → among ps ks ≤ length ps
-among_few ks once [] = (let none = among_none ks in omega (arith, none))
-among_few ks once (q ∷ ps) = (let le = among_cons q ps ks in let here = once q in let later = among_few ks once ps in omega (arith, le, here, later))
+  -- where each number is there once at most
+  among_few : (ks : List ℕ) → ((q : ℕ) → times q ks ≤ 1) → (ps : List ℕ) → among weight ps ks ≤ total weight ps
+  among_few ks once [] = (let none = among_none ks in omega (arith, none))
+  among_few ks once (q ∷ ps) =
+      let le = among_cons q ps ks in
+      let here = mul-le-mul_right (weight q) (once q) in
+      let later = among_few ks once ps in
+      omega (arith, le, here, later)
 
 times_below : (q start count : ℕ) → q < start → times q (range_with_len start count) ≡ 0
 times_below q start zero lt = refl
@@ -101,6 +116,6 @@ module _ (S : ClosedSet) where
       let long = length-range_with_len 0 (length S.members) in
       omega (arith, le, long)
 
-  pub candidates_among : (ps : List ℕ) → among ps (candidates S) ≤ length ps
-  candidates_among ps =
-      among_few (candidates S) (λ q. let le = times_filter (λ k. not (is_among k S.startup)) q numbers in let once = times_range q 0 (length S.members) in omega (arith, le, once)) ps
+  pub candidates_among : (weight : ℕ → ℕ) (ps : List ℕ) → among weight ps (candidates S) ≤ total weight ps
+  candidates_among weight ps =
+      among_few weight (candidates S) (λ q. let le = times_filter (λ k. not (is_among k S.startup)) q numbers in let once = times_range q 0 (length S.members) in omega (arith, le, once)) ps

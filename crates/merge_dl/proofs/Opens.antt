@@ -1,5 +1,5 @@
 -- dlopen: the member of a name is opened.
-use Rattle.std.proofs.Common.{◌≡◌, ℕ, zero, suc, ◌+◌, ◌*◌, ◌^◌, ◌<◌, Bool, true, false, List, [], ◌∷◌, ◌++◌, length, nat_eq, bit_and, Option, Some, None, unwrap_or, option_map, cond, refl, ap, ◌∙◌, subst, arith, append_assoc, mod-eq_of_lt, if◌then◌else◌}
+use Rattle.std.proofs.Common.{◌≡◌, ℕ, zero, suc, ◌+◌, ◌*◌, ◌^◌, ◌<◌, ◌≤◌, Bool, true, false, List, [], ◌∷◌, ◌++◌, length, drop, nat_eq, bit_and, Option, Some, None, unwrap_or, option_map, cond, refl, ap, ◌∙◌, subst, arith, append_assoc, mod-eq_of_lt, if◌then◌else◌}
 use Rattle.std.specs.Prelude.{bytes_eq}
 use Rattle.std.specs.List.{position_from}
 use Rattle.std.proofs.lemmas.Nat.{and_le_r}
@@ -9,6 +9,7 @@ use Rattle.wasm_form.specs.declared.module.Module.{Module}
 use Rattle.wasm_form.specs.declared.runtime.Trap.TheVariants.{MemoryBounds}
 use Rattle.wasm_form.specs.declared.runtime.Value.{Value}
 use Rattle.wasm_form.specs.declared.runtime.Value.TheVariants.{Num}
+use Rattle.spec_loading.specs.spec_runtime.Memories.{MemoryInstance}
 use Rattle.spec_loading.specs.spec_runtime.Numerics.{W32}
 use Rattle.spec_loading.specs.spec_execution.Values.{low}
 use Rattle.spec_loading.specs.spec_execution.Activations.{one_if}
@@ -17,12 +18,13 @@ use Rattle.spec_loading.specs.spec_linking.LinkedSets.{LinkedSet}
 use Rattle.spec_loading.specs.declared.answers.Opening.{Opening}
 use Rattle.spec_loading.specs.declared.answers.Opening.TheVariants as opening
 use Rattle.spec_loading.specs.LoaderAnswers.{bad_flags_error, no_module_error, other_flags, global_flag, begin_or, member_named, open_named, open_answer, string_at}
+use Rattle.spec_loading.specs.SetCosts.{named_cost, search_cost, open_cost}
 use Rattle.merge_start.specs.Words.{Starts, number, promote_code}
 use Rattle.merge_pieces.specs.Running.{there}
 use Rattle.merge_start.specs.Running.{Changing}
 use Rattle.merge_start.proofs.Reaching.{with_global, does_number, does_eqz}
 use Rattle.merge_find.specs.Counted.{Comes}
-use Rattle.merge_find.specs.Finding.{first_named, SearchComes}
+use Rattle.merge_find.specs.Finding.{first_named, search_steps, SearchComes}
 use Rattle.merge_dl.specs.Words.{Finders, when, give_code, fault_code, opens_code, named_members, open_goal, members_code, open_call_code, return_code}
 use Rattle.merge_dl.proofs.Operators.{does_and}
 use Rattle.merge_dl.proofs.Sites.{Outcome, Passes, Gives, Fails, Opens, Runs, Answers, runs_then, runs_ends, runs_does, runs_get, runs_set, runs_when, runs_over, answers_runs, runs_more, OpensThen, IsEnd}
@@ -123,12 +125,22 @@ module _ {L : LinkedSet} {x : Starts} {d : Finders} {merged : Module} {stages : 
   runs_opened None = runs_fault ls d no_module_error 0 ground.old (omega arith) (omega arith) ground.held
   runs_opened (Some m) = runs_opens m
 
-  opens : Runs merged x 1 (203 + 197 * length s) (members_code L x d) c ls [] (opened (member_named L.set s))
+  named_many : (m : ℕ) (members : List Member) → length (named_members L x m members) ≡ length members
+  named_many m [] = refl
+  named_many m (y ∷ ys) = ap suc (named_many (m + 1) ys)
+
+  -- what the search of the name takes
+  abbrev search : ℕ
+  search = search_cost 32 (length L.set.members) (length s)
+
+  opens : Runs merged x 1 (5 + search) (members_code L x d) c ls [] (opened (member_named L.set s))
   opens =
       let o = named 0 L.set.members in
       let r = comes merged (open_goal d) (named_members L x 0 L.set.members) c.units c.memory p s (string_lies c.memory p s known ground.bounded) ls refl refl in
+      let among = subst (λ n. Comes merged (search_steps 32 n (length s)) (members_code L x d) c.units c.memory ls (unwrap_or (first_named (named_members L x 0 L.set.members) s) (open_goal d).missed))
+      (named_many 0 L.set.members) r in
       runs_more (omega arith) (runs_comes 5 (opened o) (opened_ends o)
-      (subst (λ u. Comes merged (197 * length s + 198) (members_code L x d) c.units c.memory ls (unwrap_or u (open_goal d).missed)) (named_opens 0 L.set.members) r) (runs_opened o))
+      (subst (λ u. Comes merged search (members_code L x d) c.units c.memory ls (unwrap_or u (open_goal d).missed)) (named_opens 0 L.set.members) among) (runs_opened o))
 
   -- the flags are tested before the name
   abbrev flags : ℕ
@@ -147,7 +159,7 @@ module _ {L : LinkedSet} {x : Starts} {d : Finders} {merged : Module} {stages : 
   some_flags q = some_word flags flags_word q
 
   by_flags : (z : Bool) → nat_eq flags 0 ≡ z
-      → Runs merged x 1 (208 + 197 * length s) (flags_code ++ when (fault_code d bad_flags_error 0) ∷ members_code L x d) c ls []
+      → Runs merged x 1 (10 + search) (flags_code ++ when (fault_code d bad_flags_error 0) ∷ members_code L x d) c ls []
       (opening_outcome L x c d (if z then begin_or (low W32 f) (member_named L.set s) else opening.Refused bad_flags_error))
   by_flags true q =
       let o = opening_outcome L x c d (begin_or (low W32 f) (member_named L.set s)) in
@@ -160,6 +172,27 @@ module _ {L : LinkedSet} {x : Starts} {d : Finders} {merged : Module} {stages : 
       (runs_ends (members_code L x d) o tt
       (runs_when flags some.0 o some.1 tt (runs_fault ls d bad_flags_error 0 ground.old (omega arith) (omega arith) ground.held))))
 
+-- ---- how many steps it takes
+
+-- from where the name is read
+abbrev named_steps : LinkedSet → MemoryInstance → ℕ → Option (List ℕ) → ℕ
+named_steps L memory at None = 8 * length (drop at memory.bytes) + 7
+named_steps L memory at (Some s) = 25 + 8 * length s + search_cost 32 (length L.set.members) (length s)
+
+abbrev pub open_steps : LinkedSet → MemoryInstance → ℕ → ℕ
+open_steps L memory zero = 6
+open_steps L memory (suc at) = 4 + named_steps L memory (suc at) (string_at memory (suc at))
+
+-- one fewer than it costs
+pub open_price : (L : LinkedSet) (memory : MemoryInstance) (at : ℕ) → suc (open_steps L memory at) ≤ open_cost L memory at
+open_price L memory zero = omega arith
+open_price L memory (suc at) = go (string_at memory (suc at))
+  where
+    go : (o : Option (List ℕ)) → suc (4 + named_steps L memory (suc at) o)
+        ≤ named_cost (length (drop (suc at) memory.bytes)) (λ k. 30 + search_cost 32 (length L.set.members) k) o
+    go None = omega arith
+    go (Some s) = omega arith
+
 module _ {L : LinkedSet} {x : Starts} {d : Finders} {merged : Module} {stages : List ℕ} {c : Changing} (ground : Ground L x d merged stages c) (comes : SearchComes)
     (p f : ℕ) where
   abbrev begun : List Value
@@ -171,12 +204,8 @@ module _ {L : LinkedSet} {x : Starts} {d : Finders} {merged : Module} {stages : 
       ∷ Index 0x20 1 ∷ number other_flags ∷ Plain 0x71 ∷ when (fault_code d bad_flags_error 0)
       ∷ members_code L x d
 
-  -- the string that is read, or all bytes of the memory where none is
-  abbrev pub read : Option (List ℕ) → ℕ
-  read o = unwrap_or (option_map length o) (length c.memory.bytes)
-
   by_string : (o : Option (List ℕ)) → string_at c.memory (low W32 p) ≡ o
-      → Runs merged x 1 (223 + 205 * read o) named_part c begun [] (opening_outcome L x c d (open_named L (low W32 f) o))
+      → Runs merged x 1 (named_steps L c.memory (low W32 p) o) named_part c begun [] (opening_outcome L x c d (open_named L (low W32 f) o))
   by_string None q =
       let o = Fails c MemoryBounds in
       runs_more (omega arith) (runs_then o (runs_get 0 (Num p) [] refl)
@@ -197,15 +226,17 @@ module _ {L : LinkedSet} {x : Starts} {d : Finders} {merged : Module} {stages : 
       subst (λ b. Runs merged x 1 2 (Index 0x20 0 ∷ Plain 0x45 ∷ []) c begun [] (Passes c begun (Num (one_if b) ∷ []))) same
       (runs_then o (runs_get 0 (Num p) [] refl) (runs_does begun (does_eqz p [])))
 
-  by_name : (a : ℕ) → low W32 p ≡ a → Runs merged x 1 (227 + 205 * read (string_at c.memory a)) whole c begun [] (opening_outcome L x c d (open_answer L c.memory a (low W32 f)))
+  by_name : (a : ℕ) → low W32 p ≡ a → Runs merged x 1 (open_steps L c.memory a) whole c begun [] (opening_outcome L x c d (open_answer L c.memory a (low W32 f)))
   by_name zero e =
       runs_more (omega arith) (runs_then (Gives c (Num 1)) (tests_zero 0 true e refl)
       (runs_ends named_part (Gives c (Num 1)) tt (runs_when 1 0 (Gives c (Num 1)) refl tt (runs_give begun 1 (omega arith)))))
   by_name (suc a) e =
       let o = opening_outcome L x c d (open_named L (low W32 f) (string_at c.memory (suc a))) in
       runs_more (omega arith) (runs_then o (tests_zero (suc a) false e (not_zero a))
-      (runs_then o (runs_over (give_code 1) 0 refl) (by_string (string_at c.memory (suc a)) (ap (string_at c.memory) e))))
+      (runs_then o (runs_over (give_code 1) 0 refl)
+      (subst (λ b. Runs merged x 1 (named_steps L c.memory b (string_at c.memory (suc a))) named_part c begun [] o) e
+      (by_string (string_at c.memory (suc a)) (ap (string_at c.memory) e)))))
 
-  pub open_answers : Answers merged x 1 (227 + 205 * read (string_at c.memory (low W32 p))) (open_call_code L x d) c begun (opening_outcome L x c d (open_answer L c.memory (low W32 p) (low W32 f)))
+  pub open_answers : Answers merged x 1 (open_steps L c.memory (low W32 p)) (open_call_code L x d) c begun (opening_outcome L x c d (open_answer L c.memory (low W32 p) (low W32 f)))
   unfolding open_call_code
   open_answers = answers_runs (by_name (low W32 p) refl)

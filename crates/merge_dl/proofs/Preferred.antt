@@ -2,7 +2,6 @@
 use Rattle.std.proofs.Common.{◌≡◌, ℕ, zero, suc, ◌+◌, ◌*◌, ◌%◌, ◌^◌, ◌<◌, ◌≤◌, Bool, true, false, cond, List, [], ◌∷◌, ◌++◌, length, nat_lt, slice_get, Option, Some, None, refl, sym, ap, ◌∙◌, subst, arith, mod-eq_of_lt, ⊎_elim}
 use Rattle.std.specs.Prelude.{not}
 use Rattle.std.specs.List.{All}
-use Rattle.std.proofs.Math.Nat.{mul-le-mul_right}
 use Rattle.std.proofs.lemmas.Bool.Decides.{nat_tests}
 use Rattle.std.proofs.lemmas.List.Elements.{All-nil, All-cons, All-head, All-tail}
 use Rattle.wasm_form.specs.declared.instr.Instr.{Instr, Plain, Index}
@@ -18,6 +17,7 @@ use Rattle.spec_loading.specs.spec_linking.Slots.{cell_number}
 use Rattle.spec_loading.specs.spec_linking.Links.{Links}
 use Rattle.spec_loading.specs.declared.answers.Finding.TheVariants as finding
 use Rattle.spec_loading.specs.LoaderAnswers.{no_symbol_error, found_number, string_at}
+use Rattle.spec_loading.specs.SetCosts.{search_cost, exports_count, tries_cost}
 use Rattle.merge_match.specs.Bounded.{IsBounded}
 use Rattle.merge_start.specs.Words.{Starts, place_global}
 use Rattle.merge_pieces.specs.Running.{there}
@@ -30,7 +30,7 @@ use Rattle.merge_dl.specs.Called.{defined_number, search_value, SearchesMember}
 use Rattle.merge_dl.proofs.Operators.{does_sub, does_wrap}
 use Rattle.merge_dl.proofs.Sites.{Passes, Gives, Runs, runs_then, runs_ends, runs_does, runs_get, runs_set, runs_when, runs_when_on, runs_over, runs_return, runs_more}
 use Rattle.merge_dl.proofs.Defined.{definition_numbered}
-use Rattle.merge_dl.proofs.Tries.{runs_fault, finding_outcome, search_locals, asked, sought, each_steps, found_wide, found_low, asks, tests}
+use Rattle.merge_dl.proofs.Tries.{runs_fault, finding_outcome, search_locals, asked, sought, each_steps, each_total, found_wide, found_low, asks, tests}
 use Rattle.merge_dl.proofs.Candidates.{candidates_inside, among, candidates_few, candidates_among}
 use Rattle.merge_dl.proofs.Firsts.{IsLow, IsBest, nothing, best, none_found, best_is_first, kept_in_range}
 
@@ -42,7 +42,7 @@ pub record PlacesHeld (L : LinkedSet) (x : Starts) (promoted : List ℕ) (c : Ch
 
 -- how many steps the search of the promoted members makes at most
 abbrev pub promoted_steps : LinkedSet → List ℕ → List ℕ → ℕ
-promoted_steps L promoted s = 12 + 7 * length L.set.members + length promoted * each_steps s
+promoted_steps L promoted s = 12 + 7 * length L.set.members + tries_cost L (length s) promoted
 
 -- a place counted from 0, and the last place of all for a member that has none
 abbrev before : ℕ → ℕ
@@ -55,7 +55,7 @@ less_one (suc j) le = (let whole : low W32 (suc j) ≡ suc j = mod-eq_of_lt (ome
 
 module _ (merged : Module) (x : Starts) (c : Changing) (bounded : IsBounded c.memory) (h p : ℕ) (s : List ℕ)
     (known : string_at c.memory (low W32 p) ≡ Some s) (L : LinkedSet) (links : Links L) (d : Finders)
-    (finds : (m : ℕ) → m < length L.set.members → SearchesMember 53 L m merged (d.find m)) (ps : List ℕ) (held : PlacesHeld L x ps c) where
+    (finds : (m : ℕ) → m < length L.set.members → SearchesMember 8 L m merged (d.find m)) (ps : List ℕ) (held : PlacesHeld L x ps c) where
   abbrev ls : ℕ → ℕ → ℕ → List Value
   ls v w b = search_locals h p s v w b
 
@@ -119,14 +119,14 @@ module _ (merged : Module) (x : Starts) (c : Changing) (bounded : IsBounded c.me
   tests_code k = Index 0x20 1 ∷ Index 0x20 2 ∷ Index 0x10 (d.find k) ∷ Index 0x22 3 ∷ Plain 0x50 ∷ Plain 0x45 ∷ []
 
   -- it is asked, and gives this
-  tested : (k v w b i : ℕ) → IsInside k → value k ≡ i → Runs merged x 1 (207 + 53 * length s) (tests_code k) c (ls v w b) [] (Passes c (ls i w b) (Num (asked i) ∷ []))
+  tested : (k v w b i : ℕ) → IsInside k → value k ≡ i → Runs merged x 1 (9 + search_cost 8 (exports_count L k) (length s)) (tests_code k) c (ls v w b) [] (Passes c (ls i w b) (Num (asked i) ∷ []))
   tested k v w b i inside is =
       let u = value k in
-      subst (λ y. Runs merged x 1 (207 + 53 * length s) (tests_code k) c (ls v w b) [] (Passes c (ls y w b) (Num (asked y) ∷ []))) is
+      subst (λ y. Runs merged x 1 (9 + search_cost 8 (exports_count L k) (length s)) (tests_code k) c (ls v w b) [] (Passes c (ls y w b) (Num (asked y) ∷ []))) is
       (runs_more (omega arith) (runs_then (Passes c (ls u w b) (Num (asked u) ∷ [])) (asks merged x c bounded h p s known L links d finds w b k v inside)
       (tests merged x c bounded h p s known L links d finds w b (ls u w b) u)))
 
-  asks_none : (k v w b : ℕ) → IsInside k → number k ≡ None → Runs merged x 1 (each_steps s) (ask_code x d k) c (ls v w b) [] (Passes c (ls 0 w b) [])
+  asks_none : (k v w b : ℕ) → IsInside k → number k ≡ None → Runs merged x 1 (each_steps L s k) (ask_code x d k) c (ls v w b) [] (Passes c (ls 0 w b) [])
   asks_none k v w b inside none =
       runs_more (omega arith) (runs_then (Passes c (ls 0 w b) []) (tested k v w b 0 inside (ap search_value none)) (runs_over (keep_code x k) (asked 0) refl))
 
@@ -138,7 +138,7 @@ module _ (merged : Module) (x : Starts) (c : Changing) (bounded : IsBounded c.me
       (runs_then o (runs_get 3 (Num v) [] refl) (runs_set 4 (Num v) (Num w) [] refl)))
 
   asks_some : (k v w b u : ℕ) → IsInside k → number k ≡ Some u
-      → Runs merged x 1 (each_steps s) (ask_code x d k) c (ls v w b) [] (Passes c (ls (found_value u) (found_value u) (before (place_of ps k))) [])
+      → Runs merged x 1 (each_steps L s k) (ask_code x d k) c (ls v w b) [] (Passes c (ls (found_value u) (found_value u) (before (place_of ps k))) [])
   asks_some k v w b u inside some =
       let f = found_value u in
       let yes : low W32 (asked f) ≡ 1 = rw (found_wide u (number_small k u some)) refl in
@@ -151,8 +151,8 @@ module _ (merged : Module) (x : Starts) (c : Changing) (bounded : IsBounded c.me
   skips k v w b inside word q = runs_then (Passes c (ls v w b) []) (compares k v w b false inside word q) (runs_over (ask_code x d k) 0 refl)
 
   prefers : (k v w b v' w' b' : ℕ) → IsInside k → b < 2 ^ 32 → nat_lt (before (place_of ps k)) b ≡ true
-      → Runs merged x 1 (each_steps s) (ask_code x d k) c (ls v w b) [] (Passes c (ls v' w' b') [])
-      → Runs merged x 1 (7 + each_steps s) (prefer_code x d k) c (ls v w b) [] (Passes c (ls v' w' b') [])
+      → Runs merged x 1 (each_steps L s k) (ask_code x d k) c (ls v w b) [] (Passes c (ls v' w' b') [])
+      → Runs merged x 1 (7 + each_steps L s k) (prefer_code x d k) c (ls v w b) [] (Passes c (ls v' w' b') [])
   prefers k v w b v' w' b' inside word q r =
       runs_more (omega arith) (runs_then (Passes c (ls v' w' b') []) (compares k v w b true inside word q) (runs_when_on 1 0 refl r))
 
@@ -175,12 +175,12 @@ module _ (merged : Module) (x : Starts) (c : Changing) (bounded : IsBounded c.me
 
   -- a promoted member is searched, and no other
   abbrev prefer_steps : ℕ → ℕ
-  prefer_steps k = 7 + cond (is_among k ps) 1 0 * each_steps s
+  prefer_steps k = 7 + cond (is_among k ps) (each_steps L s k) 0
 
-  searched_steps : (k i : ℕ) → place_of ps k ≡ suc i → 7 + each_steps s ≤ prefer_steps k
+  searched_steps : (k i : ℕ) → place_of ps k ≡ suc i → 7 + each_steps L s k ≤ prefer_steps k
   searched_steps k i at = go (is_among k ps) refl
     where
-      go : (z : Bool) → is_among k ps ≡ z → 7 + each_steps s ≤ 7 + cond z 1 0 * each_steps s
+      go : (z : Bool) → is_among k ps ≡ z → 7 + each_steps L s k ≤ 7 + cond z (each_steps L s k) 0
       go true q = omega arith
       go false q = absurd (let none : zero ≡ suc i = sym (place_none k ps q) ∙ at in cc)
 
@@ -220,7 +220,7 @@ module _ (merged : Module) (x : Starts) (c : Changing) (bounded : IsBounded c.me
           by (Some u) some =
               let f = found_value u in
               let here : before (place_of ps k) ≡ i = ap before e in
-              let asked_it = subst (λ y. Runs merged x 1 (each_steps s) (ask_code x d k) c (ls v w b) [] (Passes c (ls f f y) [])) here (asks_some k v w b u inside some) in (
+              let asked_it = subst (λ y. Runs merged x 1 (each_steps L s k) (ask_code x d k) c (ls v w b) [] (Passes c (ls f f y) [])) here (asks_some k v w b u inside some) in (
                 f,
                 f,
                 i,
@@ -230,7 +230,7 @@ module _ (merged : Module) (x : Starts) (c : Changing) (bounded : IsBounded c.me
                 λ j y at tells. (let same : suc i ≡ suc j = sym e ∙ at in omega (arith, same)),
               )
 
-  each : (ks : List ℕ) → All IsInside ks → (v w b : ℕ) → Best b w → Preferred (7 * length ks + among ps ks * each_steps s) (prefers_code x d ks) v w b (λ b'. All (Low b') ks)
+  each : (ks : List ℕ) → All IsInside ks → (v w b : ℕ) → Best b w → Preferred (7 * length ks + among (each_steps L s) ps ks) (prefers_code x d ks) v w b (λ b'. All (Low b') ks)
   each [] all v w b is = (v, w, b, record { runs = λ y. there }, is, omega arith, All-nil (Low b))
   each (k ∷ ks) all v w b is =
       let first = one k (All-head IsInside k ks all) v w b is in
@@ -303,6 +303,7 @@ module _ (merged : Module) (x : Starts) (c : Changing) (bounded : IsBounded c.me
         let o = finding_outcome c d (sought L s ps) in
         let all = each (candidates L.set) (candidates_inside L.set) v 0 last_place (nothing refl refl) in
         let few = candidates_few L.set in
-        let searched_few = mul-le-mul_right (each_steps s) (candidates_among L.set ps) in
-        runs_more (omega (arith, few, searched_few)) (runs_then o (runs_does (ls v 0 b) (does_number last_place [] (omega arith))) (runs_then o (runs_set 5 (Num last_place) (Num b) [] refl)
+        let searched_few = candidates_among L.set (each_steps L s) ps in
+        let searched = each_total L s ps in
+        runs_more (omega (arith, few, searched_few, searched)) (runs_then o (runs_does (ls v 0 b) (does_number last_place [] (omega arith))) (runs_then o (runs_set 5 (Num last_place) (Num b) [] refl)
         (runs_then o all.3 (ends all.0 all.1 all.2 all.4 (covers all.2 all.6)))))

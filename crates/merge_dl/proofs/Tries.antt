@@ -18,6 +18,7 @@ use Rattle.spec_loading.specs.spec_linking.Links.{Links}
 use Rattle.spec_loading.specs.declared.answers.Finding.{Finding}
 use Rattle.spec_loading.specs.declared.answers.Finding.TheVariants as finding
 use Rattle.spec_loading.specs.LoaderAnswers.{found_number, string_at}
+use Rattle.spec_loading.specs.SetCosts.{search_cost, exports_count, tries_cost}
 use Rattle.merge_match.specs.Bounded.{IsBounded}
 use Rattle.merge_start.specs.Words.{Starts}
 use Rattle.merge_start.specs.Running.{Changing}
@@ -28,6 +29,7 @@ use Rattle.merge_dl.specs.Called.{defined_number, search_value, SearchesMember}
 use Rattle.merge_dl.proofs.Operators.{does_equal, does_wide_eqz, does_wrap}
 use Rattle.merge_dl.proofs.Sites.{Outcome, Passes, Gives, Fails, IsEnd, Runs, runs_then, runs_ends, runs_does, runs_get, runs_tee, runs_when, runs_when_on, runs_over, runs_return, runs_more}
 use Rattle.merge_dl.proofs.Defined.{definition_numbered}
+use Rattle.merge_dl.proofs.Candidates.{total}
 
 -- ---- pieces
 
@@ -83,8 +85,16 @@ abbrev pub search_locals : ℕ → ℕ → List ℕ → ℕ → ℕ → ℕ → 
 search_locals h p s v w b = Num h ∷ Num p ∷ Num (length s) ∷ Num v ∷ Num w ∷ Num b ∷ []
 
 -- how many steps a member takes at most, where it is searched
-abbrev pub each_steps : List ℕ → ℕ
-each_steps s = 215 + 53 * length s
+abbrev pub each_steps : LinkedSet → List ℕ → ℕ → ℕ
+each_steps L s m = 17 + search_cost 8 (exports_count L m) (length s)
+
+pub each_total : (L : LinkedSet) (s : List ℕ) (ms : List ℕ) → total (each_steps L s) ms ≡ tries_cost L (length s) ms
+each_total L s [] = refl
+each_total L s (m ∷ ms) = (let later = each_total L s ms in omega (arith, later))
+
+pub tries_then_cost : (L : LinkedSet) (k : ℕ) (ms others : List ℕ) → tries_cost L k (ms ++ others) ≡ tries_cost L k ms + tries_cost L k others
+tries_then_cost L k [] others = omega arith
+tries_then_cost L k (m ∷ ms) others = (let later = tries_then_cost L k ms others in omega (arith, later))
 
 abbrev gets : List Instr
 gets = Index 0x20 3 ∷ Plain 0xA7 ∷ return_code
@@ -115,7 +125,7 @@ first_numbered L s Undefined other k e = absurd cc
 
 module _ (merged : Module) (x : Starts) (c : Changing) (bounded : IsBounded c.memory) (h p : ℕ) (s : List ℕ)
     (known : string_at c.memory (low W32 p) ≡ Some s) (L : LinkedSet) (links : Links L) (d : Finders)
-    (finds : (m : ℕ) → m < length L.set.members → SearchesMember 53 L m merged (d.find m)) (w b : ℕ) where
+    (finds : (m : ℕ) → m < length L.set.members → SearchesMember 8 L m merged (d.find m)) (w b : ℕ) where
   abbrev locals : ℕ → List Value
   locals v = search_locals h p s v w b
 
@@ -123,7 +133,7 @@ module _ (merged : Module) (x : Starts) (c : Changing) (bounded : IsBounded c.me
   value m = search_value (defined_number L m s)
 
   pub asks : (m v : ℕ) → m < length L.set.members
-      → Runs merged x 1 (205 + 53 * length s) (Index 0x20 1 ∷ Index 0x20 2 ∷ Index 0x10 (d.find m) ∷ Index 0x22 3 ∷ []) c (locals v) [] (Passes c (locals (value m)) (Num (value m) ∷ []))
+      → Runs merged x 1 (7 + search_cost 8 (exports_count L m) (length s)) (Index 0x20 1 ∷ Index 0x20 2 ∷ Index 0x10 (d.find m) ∷ Index 0x22 3 ∷ []) c (locals v) [] (Passes c (locals (value m)) (Num (value m) ∷ []))
   asks m v lt =
       let o = Passes c (locals (value m)) (Num (value m) ∷ []) in
       runs_more (omega arith) (runs_then o (runs_get 1 (Num p) [] refl) (runs_then o (runs_get 2 (Num (length s)) (Num p ∷ []) refl)
@@ -133,18 +143,18 @@ module _ (merged : Module) (x : Starts) (c : Changing) (bounded : IsBounded c.me
   pub tests : (ls : List Value) (v : ℕ) → Runs merged x 1 2 (Plain 0x50 ∷ Plain 0x45 ∷ []) c ls (Num v ∷ []) (Passes c ls (Num (asked v) ∷ []))
   tests ls v = runs_then (Passes c ls (Num (asked v) ∷ [])) (runs_does ls (does_wide_eqz v [])) (runs_does ls (does_eqz (one_if (nat_eq (low W64 v) 0)) []))
 
-  tries_none : (m v : ℕ) → m < length L.set.members → defined_number L m s ≡ None → Runs merged x 1 (each_steps s) (try_code d m) c (locals v) [] (Passes c (locals 0) [])
+  tries_none : (m v : ℕ) → m < length L.set.members → defined_number L m s ≡ None → Runs merged x 1 (each_steps L s m) (try_code d m) c (locals v) [] (Passes c (locals 0) [])
   tries_none m v lt none =
       let zero_value : value m ≡ 0 = ap search_value none in
-      let asked_it = subst (λ k. Runs merged x 1 (205 + 53 * length s) (Index 0x20 1 ∷ Index 0x20 2 ∷ Index 0x10 (d.find m) ∷ Index 0x22 3 ∷ []) c (locals v) [] (Passes c (locals k) (Num k ∷ []))) zero_value (asks m v lt) in
+      let asked_it = subst (λ k. Runs merged x 1 (7 + search_cost 8 (exports_count L m) (length s)) (Index 0x20 1 ∷ Index 0x20 2 ∷ Index 0x10 (d.find m) ∷ Index 0x22 3 ∷ []) c (locals v) [] (Passes c (locals k) (Num k ∷ []))) zero_value (asks m v lt) in
       runs_more (omega arith) (runs_then (Passes c (locals 0) []) asked_it (runs_then (Passes c (locals 0) []) (tests (locals 0) 0) (runs_over gets 0 refl)))
 
-  tries_some : (m v k : ℕ) → m < length L.set.members → defined_number L m s ≡ Some k → k < 2 ^ 32 → Runs merged x 1 (each_steps s) (try_code d m) c (locals v) [] (Gives c (Num k))
+  tries_some : (m v k : ℕ) → m < length L.set.members → defined_number L m s ≡ Some k → k < 2 ^ 32 → Runs merged x 1 (each_steps L s m) (try_code d m) c (locals v) [] (Gives c (Num k))
   tries_some m v k lt some small =
       let some_value : value m ≡ found_value k = ap search_value some in
       let ls = locals (found_value k) in
       let o = Gives c (Num k) in
-      let asked_it = subst (λ j. Runs merged x 1 (205 + 53 * length s) (Index 0x20 1 ∷ Index 0x20 2 ∷ Index 0x10 (d.find m) ∷ Index 0x22 3 ∷ []) c (locals v) [] (Passes c (locals j) (Num j ∷ []))) some_value (asks m v lt) in
+      let asked_it = subst (λ j. Runs merged x 1 (7 + search_cost 8 (exports_count L m) (length s)) (Index 0x20 1 ∷ Index 0x20 2 ∷ Index 0x10 (d.find m) ∷ Index 0x22 3 ∷ []) c (locals v) [] (Passes c (locals j) (Num j ∷ []))) some_value (asks m v lt) in
       let yes : low W32 (asked (found_value k)) ≡ 1 = rw (found_wide k small) refl in
       let gets_it : Runs merged x 1 4 gets c ls [] o =
       runs_then o (runs_get 3 (Num (found_value k)) [] refl)
@@ -155,7 +165,7 @@ module _ (merged : Module) (x : Starts) (c : Changing) (bounded : IsBounded c.me
   -- the others are searched last
   pub runs_tries : (last : List Instr) (others : List ℕ) (i : ℕ) → ((v : ℕ) → Runs merged x 1 i last c (locals v) [] (finding_outcome c d (sought L s others)))
       → (ms : List ℕ) → All (λ m. m < length L.set.members) ms → (v : ℕ)
-      → Runs merged x 1 (length ms * each_steps s + i) (tries_then d last ms) c (locals v) [] (finding_outcome c d (sought L s (ms ++ others)))
+      → Runs merged x 1 (tries_cost L (length s) ms + i) (tries_then d last ms) c (locals v) [] (finding_outcome c d (sought L s (ms ++ others)))
   runs_tries last others i does [] all v = runs_more (omega arith) (does v)
   runs_tries last others i does (m ∷ ms) all v =
       let later = runs_tries last others i does ms (All-tail (λ k. k < length L.set.members) m ms all) 0 in
@@ -164,17 +174,17 @@ module _ (merged : Module) (x : Starts) (c : Changing) (bounded : IsBounded c.me
       lt : m < length L.set.members
       lt = All-head (λ k. k < length L.set.members) m ms all
 
-      none : Runs merged x 1 (length ms * each_steps s + i) (tries_then d last ms) c (locals 0) [] (finding_outcome c d (sought L s (ms ++ others))) → member_definition L.set m s ≡ Undefined
-          → Runs merged x 1 (length (m ∷ ms) * each_steps s + i) (tries_then d last (m ∷ ms)) c (locals v) [] (finding_outcome c d (sought L s (m ∷ (ms ++ others))))
+      none : Runs merged x 1 (tries_cost L (length s) ms + i) (tries_then d last ms) c (locals 0) [] (finding_outcome c d (sought L s (ms ++ others))) → member_definition L.set m s ≡ Undefined
+          → Runs merged x 1 (tries_cost L (length s) (m ∷ ms) + i) (tries_then d last (m ∷ ms)) c (locals v) [] (finding_outcome c d (sought L s (m ∷ (ms ++ others))))
       none later e =
           let same : sought L s (m ∷ (ms ++ others)) ≡ sought L s (ms ++ others) = ap (λ z. found_number (cell_number L s (or_defined z (searched L.set (ms ++ others) s)))) e in
-          subst (λ f. Runs merged x 1 (length (m ∷ ms) * each_steps s + i) (tries_then d last (m ∷ ms)) c (locals v) [] (finding_outcome c d f)) (sym same)
+          subst (λ f. Runs merged x 1 (tries_cost L (length s) (m ∷ ms) + i) (tries_then d last (m ∷ ms)) c (locals v) [] (finding_outcome c d f)) (sym same)
           (runs_more (omega arith) (runs_then (finding_outcome c d (sought L s (ms ++ others))) (tries_none m v lt (ap (cell_number L s) e)) later))
 
       some : (k : ℕ) × (defined_number L m s ≡ Some k) × (k < 2 ^ 32)
-          → Runs merged x 1 (length (m ∷ ms) * each_steps s + i) (tries_then d last (m ∷ ms)) c (locals v) [] (finding_outcome c d (sought L s (m ∷ (ms ++ others))))
+          → Runs merged x 1 (tries_cost L (length s) (m ∷ ms) + i) (tries_then d last (m ∷ ms)) c (locals v) [] (finding_outcome c d (sought L s (m ∷ (ms ++ others))))
       some t =
           let same : sought L s (m ∷ (ms ++ others)) ≡ finding.Address t.0 =
           ap found_number (first_numbered L s (member_definition L.set m s) (searched L.set (ms ++ others) s) t.0 t.1) in
-          subst (λ f. Runs merged x 1 (length (m ∷ ms) * each_steps s + i) (tries_then d last (m ∷ ms)) c (locals v) [] (finding_outcome c d f)) (sym same)
+          subst (λ f. Runs merged x 1 (tries_cost L (length s) (m ∷ ms) + i) (tries_then d last (m ∷ ms)) c (locals v) [] (finding_outcome c d f)) (sym same)
           (runs_more (omega arith) (runs_ends (tries_then d last ms) (Gives c (Num t.0)) tt (tries_some m v t.0 lt t.1 t.2)))

@@ -1,7 +1,8 @@
 -- What the functions do that the functions of the loader call: one that gives the length of a string, and for each member one that searches the
 -- names which it defines. Each is said of a call, from wherever it is made, over any store, and over any memory that ends before the last address.
 -- Nothing is said of their code: other code may do the same.
-use Rattle.std.specs.Prelude.{◌≡◌, ℕ, ◌+◌, ◌*◌, List, [], ◌∷◌, length, Option, Some, None, true, slice_get}
+-- Part of the statement of laws: docs/LAWS.md, "Laws of the parts".
+use Rattle.std.specs.Prelude.{◌≡◌, ℕ, ◌+◌, ◌*◌, List, [], ◌∷◌, length, drop, Option, Some, None, true, slice_get}
 use Rattle.wasm_form.specs.declared.instr.Instr.{Index}
 use Rattle.wasm_form.specs.declared.module.Module.{Module}
 use Rattle.wasm_form.specs.declared.runtime.Trap.{Trap}
@@ -15,6 +16,7 @@ use Rattle.spec_loading.specs.spec_linking.Definitions.{member_definition}
 use Rattle.spec_loading.specs.spec_linking.LinkedSets.{LinkedSet}
 use Rattle.spec_loading.specs.spec_linking.Slots.{cell_number}
 use Rattle.spec_loading.specs.LoaderAnswers.{string_at}
+use Rattle.spec_loading.specs.SetCosts.{search_cost, exports_count}
 use Rattle.merge_match.specs.Bounded.{IsBounded}
 use Rattle.merge_pieces.specs.Opcodes as op
 use Rattle.merge_start.specs.Running.{Changing, Does}
@@ -39,7 +41,7 @@ CallTraps wasm n f c args why = Does wasm 1 n (Index op.call f ∷ []) c args c 
 -- With an address, the function gives the length of the string there. Where no zero byte follows inside the memory, it traps as a load past
 -- the end of the memory does. It takes eight steps for each byte that it goes over.
 abbrev pub GivesLength : Module → ℕ → Changing → ℕ → Option (List ℕ) → Type 0
-GivesLength wasm f c a None = CallTraps wasm (8 * length c.memory.bytes + 6) f c (Num a ∷ []) MemoryBounds
+GivesLength wasm f c a None = CallTraps wasm (8 * length (drop (low W32 a) c.memory.bytes) + 6) f c (Num a ∷ []) MemoryBounds
 GivesLength wasm f c a (Some s) = CallGives wasm (8 * length s + 13) f c (Num a ∷ []) (Num (length s))
 
 -- The function gives the length of the string at each address, or its trap. Of the number on the stack the low 32 bits are the address.
@@ -52,11 +54,11 @@ pub record GivesLengths (wasm : Module) (f : ℕ) : Type 0 where
 abbrev pub defined_number : LinkedSet → ℕ → List ℕ → Option ℕ
 defined_number L m name = cell_number L name (member_definition L.set m name)
 
--- With the address of a string and its length, the function gives what member m defines the name as, or 0, in at most so many steps for each
--- byte of the string, and 202.
-pub record SearchesMember (each : ℕ) (L : LinkedSet) (m : ℕ) (wasm : Module) (f : ℕ) : Type 0 where
+-- With the address of a string and its length, the function gives what member m defines the name as, or 0, in at most the steps of a search
+-- among what the member exports, in bytes of so many bits, and four.
+pub record SearchesMember (bits : ℕ) (L : LinkedSet) (m : ℕ) (wasm : Module) (f : ℕ) : Type 0 where
   pub calls : (c : Changing) → IsBounded c.memory → (a : ℕ) (s : List ℕ) → string_at c.memory (low W32 a) ≡ Some s
-      → CallGives wasm (each * length s + 202) f c (Num (length s) ∷ Num a ∷ []) (Num (search_value (defined_number L m s)))
+      → CallGives wasm (search_cost bits (exports_count L m) (length s) + 4) f c (Num (length s) ∷ Num a ∷ []) (Num (search_value (defined_number L m s)))
 
 -- ---- functions to be put into a module
 
@@ -70,7 +72,7 @@ pub record IsLengthPart (p : Part) : Type 0 where
 pub record IsSearchPart (L : LinkedSet) (m : ℕ) (p : Part) : Type 0 where
   pub ty : p.ty ≡ search_type
   pub typed : (c : Context) → c.memory ≡ true → HasHeight c p.ty p.code
-  pub works : (wasm : Module) (f : ℕ) → HasFunction wasm f p.ty p.code → SearchesMember 53 L m wasm f
+  pub works : (wasm : Module) (f : ℕ) → HasFunction wasm f p.ty p.code → SearchesMember 8 L m wasm f
 
 -- one for each member of the set, in order
 pub record AreSearchParts (L : LinkedSet) (parts : List Part) : Type 0 where

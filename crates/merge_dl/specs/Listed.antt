@@ -1,4 +1,5 @@
 -- The numbers that the functions of the loader name, as they are kept, and the functions that are made by them.
+-- Serves the contracts of this crate, which follow Words of `merge_dl`.
 use Rattle.std.specs.Prelude.{◌≡◌, ℕ, ◌+◌, ◌<◌, List, [], ◌∷◌, ◌++◌, length, slice_get, Option, Some, None}
 use Rattle.wasm_form.specs.declared.module.Export.{Export}
 use Rattle.wasm_form.specs.declared.module.Module.{Module}

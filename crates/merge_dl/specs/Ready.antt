@@ -1,4 +1,5 @@
 -- What a merged module must have for the functions of the loader.
+-- Part of the statement of laws: docs/LAWS.md, "Laws of the parts".
 use Rattle.std.specs.Prelude.{◌≡◌, ℕ, ◌+◌, ◌<◌, ◌^◌, length}
 use Rattle.wasm_form.specs.declared.module.Module.{Module}
 use Rattle.wasm_form.specs.declared.runtime.LoaderCall.{LoaderCall}
@@ -21,6 +22,6 @@ pub record LoaderReady (L : LinkedSet) (n : Numbers) (x : Starts) (d : Finders) 
   pub error : d.error ≡ x.guards + length L.set.members
   pub promoted : x.promoted ≡ x.guards + length L.set.members + 1
   pub lengths : GivesLengths merged d.length
-  pub finds : (m : ℕ) → m < length L.set.members → SearchesMember 53 L m merged (d.find m)
+  pub finds : (m : ℕ) → m < length L.set.members → SearchesMember 8 L m merged (d.find m)
   pub calls : (which : LoaderCall) → HasFunction merged (n.function (Loader which)) (loader_type which) (call_body L x d which)
   pub opens : (m : ℕ) → m < length L.set.members → OpenReady L n x merged m

@@ -1,5 +1,6 @@
 -- The code that a merged module has for the functions of the loader: the length of a string, the search among the names of a member, and
 -- `dlopen`, `dlsym`, `dlclose` and `dlerror` themselves. Names stand in code alone, so nothing that a program writes changes an answer.
+-- This profile: docs/FORMATS.md, "What merge writes".
 use Rattle.std.specs.Prelude.{ℕ, ◌+◌, ◌^◌, List, [], ◌∷◌, ◌++◌, length, drop, not, Option, Some, unwrap_or, slice_get}
 use Rattle.std.specs.List.{filter, filter_map, range_with_len}
 use Rattle.wasm_form.specs.declared.types.ValType.TheVariants.{I32, I64}

@@ -21,21 +21,7 @@ fn try_code(alloc: Global, n: &DlNumbers, m: u32) -> Result<Vec<Instr>, Memory>
     requires first { n.now.first_function < 2 ^ 31 }
     ensures { IfOk result (λ x. x.items ≡ try_code (finders_in n.now) m) }
 {
-    let find = n.first_function + 1 + m;
-    let found = vec![in alloc;
-        Instr::Index(opcodes::LOCAL_GET, 3),
-        Instr::Plain(opcodes::I32_WRAP_I64),
-        Instr::Plain(opcodes::RETURN),
-    ]?;
-    Ok(vec![in alloc;
-        Instr::Index(opcodes::LOCAL_GET, 1),
-        Instr::Index(opcodes::LOCAL_GET, 2),
-        Instr::Index(opcodes::CALL, find),
-        Instr::Index(opcodes::LOCAL_TEE, 3),
-        Instr::Plain(opcodes::I64_EQZ),
-        Instr::Plain(opcodes::I32_EQZ),
-        when(found),
-    ]?)
+    merge_find::try_code(alloc, n.first_function + 1 + m)
 }
 
 // Members are searched in order, and then some other code is done.

@@ -92,7 +92,7 @@ fn put_finds(alloc: Global, to: &mut Vec<Part>, linked: &Linked) -> Result<(), M
 
 /// The functions that search the names of the members of a linked set, one for each member. Each takes the address of a string and its length,
 /// and gives 2^32 with the slot of the function or the address of the data that the member defines by that name, or 0 where it defines none, in
-/// at most 53 steps for each byte of the string, and 202.
+/// at most the steps of a search among what the member exports, and four.
 /// `Memory` where no memory could be had.
 pub fn find_functions(alloc: Global, linked: &Linked, _n: &DlNumbers) -> Result<List<Part>, Memory>
     ensures code { IfOk result (λ parts. parts ≡ from_members (find_parts linked.now) 0 linked.now.set.members) }

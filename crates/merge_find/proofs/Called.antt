@@ -17,11 +17,11 @@ use Rattle.spec_execution.specs.OneModule.{Starting, ModuleState}
 use Rattle.merge_pieces.specs.Opcodes as op
 use Rattle.merge_find.specs.Decisions.{Named, wide, return_code, search_code, strings}
 use Rattle.merge_pieces.specs.Running.{Reaches}
-use Rattle.merge_pieces.proofs.Running.{reaches_more, reaches_deeper, one_step}
+use Rattle.merge_pieces.proofs.Running.{reaches_deeper, one_step}
 use Rattle.merge_find.specs.Counted.{standing, Comes}
-use Rattle.merge_find.specs.Finding.{first_named, search_value, number_goal, number_code, numbered, AreWords, search_type, HasFunction, SearchFindsAny, SearchFinds}
+use Rattle.merge_find.specs.Finding.{first_named, search_steps, search_value, number_goal, number_code, numbered, AreWords, search_type, HasFunction, SearchFindsAny, SearchFinds}
 use Rattle.merge_find.proofs.Steps.{within_then, spot, before, Steps, steps_wide}
-use Rattle.merge_find.proofs.Names.{number_named, number_texts, number_apart, word_named}
+use Rattle.merge_find.proofs.Names.{number_many, number_named, number_texts, number_apart, word_named}
 use Rattle.merge_find.proofs.Finds.{searches_come, searches_come_soon}
 
 -- a value was given to what called
@@ -83,12 +83,16 @@ module _ (wasm : Module) (f : ℕ) (xs : List (List ℕ × ℕ)) (names : List N
 
 pub searches_find : SearchFinds
 searches_find wasm f xs has words texts apart us memory p s lies =
-    let comes = searches_come_soon wasm number_goal (numbered xs) (number_texts xs texts) (number_apart xs apart) us memory p s lies (Num p ∷ Num (length s) ∷ []) refl refl in
-    let found = subst (λ o. Comes wasm (53 * length s + 198) (search_code number_goal (strings (numbered xs))) us memory (Num p ∷ Num (length s) ∷ []) (unwrap_or o number_goal.missed)) (number_named xs s) comes in
-    record { runs = λ a under. reaches_more (omega arith) (call_within wasm f xs (strings (numbered xs)) has words us memory p s (53 * length s + 198) found a under) }
+    let ls : List Value = Num p ∷ Num (length s) ∷ [] in
+    let comes = searches_come_soon wasm number_goal (numbered xs) (number_texts xs texts) (number_apart xs apart) us memory p s lies ls refl refl in
+    let among = subst (λ m. Comes wasm (search_steps 8 m (length s)) (search_code number_goal (strings (numbered xs))) us memory ls (unwrap_or (first_named (numbered xs) s) number_goal.missed)) (number_many xs) comes in
+    let found = subst (λ o. Comes wasm (search_steps 8 (length xs) (length s)) (search_code number_goal (strings (numbered xs))) us memory ls (unwrap_or o number_goal.missed)) (number_named xs s) among in
+    record { runs = λ a under. call_within wasm f xs (strings (numbered xs)) has words us memory p s (search_steps 8 (length xs) (length s)) found a under }
 
 pub searches_find_any : SearchFindsAny
 searches_find_any wasm f xs has words us memory p s lies =
-    let comes = searches_come wasm number_goal (numbered xs) us memory p s lies (Num p ∷ Num (length s) ∷ []) refl refl in
-    let found = subst (λ o. Comes wasm (197 * length s + 198) (search_code number_goal (strings (numbered xs))) us memory (Num p ∷ Num (length s) ∷ []) (unwrap_or o number_goal.missed)) (number_named xs s) comes in
-    record { runs = λ a under. reaches_more (omega arith) (call_within wasm f xs (strings (numbered xs)) has words us memory p s (197 * length s + 198) found a under) }
+    let ls : List Value = Num p ∷ Num (length s) ∷ [] in
+    let comes = searches_come wasm number_goal (numbered xs) us memory p s lies ls refl refl in
+    let among = subst (λ m. Comes wasm (search_steps 32 m (length s)) (search_code number_goal (strings (numbered xs))) us memory ls (unwrap_or (first_named (numbered xs) s) number_goal.missed)) (number_many xs) comes in
+    let found = subst (λ o. Comes wasm (search_steps 32 (length xs) (length s)) (search_code number_goal (strings (numbered xs))) us memory ls (unwrap_or o number_goal.missed)) (number_named xs s) among in
+    record { runs = λ a under. call_within wasm f xs (strings (numbered xs)) has words us memory p s (search_steps 32 (length xs) (length s)) found a under }

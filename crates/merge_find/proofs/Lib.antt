@@ -8,4 +8,5 @@ pub mod Called
 pub mod Shapes
 pub mod Types
 pub mod Typed
+pub mod Tried
 pub mod Exports

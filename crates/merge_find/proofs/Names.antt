@@ -125,6 +125,14 @@ pub texts_fit : (xs : List Named) → AreTexts xs → Each (Fits 8) xs
 texts_fit xs texts =
     each_map (λ x. IsText x.0) (Fits 8) (λ x text. record { short = text.short; words = text.bytes }) xs (each_of (λ (x : Named). IsText x.0) xs texts)
 
+pub strings_few : {A : Type 0} (xs : List (List ℕ × A)) → length (strings xs) ≤ length xs
+strings_few [] = omega arith
+strings_few {A} (x ∷ xs) = go (may_be_string x.0) (strings_few xs)
+  where
+    go : (z : Bool) → length (strings xs) ≤ length xs → length (if z then x ∷ strings xs else strings xs) ≤ suc (length xs)
+    go true few = omega (arith, few)
+    go false few = omega (arith, few)
+
 low_all : (t bytes : List ℕ) → Begins t bytes → list_all (λ b. nat_lt b (2 ^ 32)) t ≡ true
 low_all [] bytes begins = refl
 low_all (b ∷ t) [] begins = absurd begins
@@ -174,6 +182,10 @@ number_named (x ∷ xs) s = go (bytes_eq s x.0) (number_named xs s)
         → (if z then Some (number_code x.1) else first_named (numbered xs) s) ≡ option_map number_code (if z then Some x.1 else first_named xs s)
     go true later = refl
     go false later = later
+
+pub number_many : (xs : List (List ℕ × ℕ)) → length (numbered xs) ≡ length xs
+number_many [] = refl
+number_many (x ∷ xs) = ap suc (number_many xs)
 
 pub number_texts : (xs : List (List ℕ × ℕ)) → AreTexts xs → AreTexts (numbered xs)
 number_texts [] texts = All-nil (λ (x : Named). IsText x.0)

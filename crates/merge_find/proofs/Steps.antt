@@ -117,7 +117,7 @@ module _ {wasm : Module} {us : ModuleParts} {memory : MemoryInstance} {ls : List
         → Reaches wasm (length (activations under) + 1) 1 (spot us memory ls a under (Num x ∷ []) (when p ∷ [])) (spot us memory ls (inner a) under [] p)
     into_when p x k e = rw (append-nil p) (one_step (omega arith) refl (rw (outs-If Empty (record { list = p }) None, e, leb-zero (length a.values)) refl))
 
-    over_when : (p : List Instr) (x : ℕ) → low W32 x ≡ 0
+    pub over_when : (p : List Instr) (x : ℕ) → low W32 x ≡ 0
         → Reaches wasm (length (activations under) + 1) 2 (spot us memory ls a under (Num x ∷ []) (when p ∷ [])) (spot us memory ls a under [] [])
     over_when p x e = within_then 1 2 (omega arith) (one_step (omega arith) refl (rw (outs-If Empty (record { list = p }) None, e, leb-zero (length a.values)) refl)) off_inner
 

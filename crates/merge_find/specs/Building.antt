@@ -1,4 +1,5 @@
 -- What is kept while the code of a search is built.
+-- Serves the contracts of this crate, which follow Decisions of `merge_find`.
 use Rattle.std.specs.Prelude.{◌≡◌, ℕ, ◌+◌, ◌*◌, ◌^◌, ◌<◌, ◌≤◌, List, ◌∷◌, length, map, Bool, true, false}
 use Rattle.std.specs.List.{All}
 use Rattle.wasm_form.specs.declared.instr.Instr.{Instr, Index}

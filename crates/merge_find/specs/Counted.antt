@@ -1,4 +1,5 @@
 -- Runs of pieces of code with their steps counted, wherever the pieces stand in functions of a module.
+-- Part of the statement of laws: docs/LAWS.md, "Laws of the parts".
 use Rattle.std.specs.Prelude.{ℕ, suc, ◌+◌, List, [], ◌∷◌, ◌++◌, length}
 use Rattle.wasm_form.specs.declared.instr.Instr.{Instr}
 use Rattle.wasm_form.specs.declared.module.Module.{Module}

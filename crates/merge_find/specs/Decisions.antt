@@ -1,5 +1,6 @@
 -- The search for a string among names by decisions: the length is asked first, and then one byte after the other. What names share is compared
 -- once. Names stand in code alone.
+-- This profile: docs/FORMATS.md, "What merge writes".
 use Rattle.std.specs.Prelude.{ℕ, zero, suc, ◌+◌, ◌^◌, List, [], ◌∷◌, ◌++◌, length, get_or, nat_lt, nat_le, Bool, true, false, ◌&&◌, None, if◌then◌else◌}
 use Rattle.std.specs.Int.{cast_signed, w64}
 use Rattle.std.specs.List.{list_all}

@@ -1,4 +1,5 @@
 -- The names of the exports of a module.
+-- Part of the statement of laws: docs/LAWS.md, "Laws of the parts".
 use Rattle.std.specs.Prelude.{◌≡◌, ℕ, List, map, None}
 use Rattle.std.specs.List.{All}
 use Rattle.wasm_form.specs.declared.module.Module.{Module}

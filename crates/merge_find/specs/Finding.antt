@@ -1,5 +1,6 @@
 -- What a search finds, and in how many steps.
-use Rattle.std.specs.Prelude.{◌≡◌, ℕ, ◌+◌, ◌*◌, ◌^◌, ◌<◌, List, [], ◌∷◌, length, drop, map, slice_get, get_or, bytes_eq, Option, Some, None, unwrap_or, if◌then◌else◌}
+-- Part of the statement of laws: docs/LAWS.md, "Laws of the parts".
+use Rattle.std.specs.Prelude.{◌≡◌, ℕ, ◌+◌, ◌*◌, ◌^◌, ◌<◌, min, List, [], ◌∷◌, length, drop, map, slice_get, get_or, bytes_eq, Option, Some, None, unwrap_or, if◌then◌else◌}
 use Rattle.std.specs.List.{All}
 use Rattle.wasm_form.specs.declared.types.ValType.TheVariants.{I32, I64}
 use Rattle.wasm_form.specs.declared.types.FuncType.{FuncType}
@@ -53,19 +54,24 @@ pub record Lies (memory : MemoryInstance) (p : ℕ) (s : List ℕ) : Type 0 wher
 
 -- ---- the code of a search
 
--- Among whatever names, the search comes to the code of the first one that is the string, or to that for no name, in at most 197 steps for each
--- byte of the string, and 198. It changes nothing.
+-- Among so many names, of bytes of so many bits, how many steps it takes for a string of k bytes. Each byte is compared in five steps. Each
+-- question takes six: there are no more than names, nor than bits, of which a length has 32.
+abbrev pub search_steps : ℕ → ℕ → ℕ → ℕ
+search_steps bits names k = 5 * k + 6 * min names (bits * k + 33)
+
+-- Among whatever names, the search comes to the code of the first one that is the string, or to that for no name, in at most so many steps. It
+-- changes nothing.
 abbrev pub SearchComes : Type 0
 SearchComes = (wasm : Module) (g : Goal) (xs : List Named) (us : ModuleParts) (memory : MemoryInstance) (p : ℕ) (s : List ℕ) → Lies memory p s
     → (ls : List Value) → slice_get ls 0 ≡ Some (Num p) → slice_get ls g.len ≡ Some (Num (length s))
-    → Comes wasm (197 * length s + 198) (search_code g (strings xs)) us memory ls (unwrap_or (first_named xs s) g.missed)
+    → Comes wasm (search_steps 32 (length xs) (length s)) (search_code g (strings xs)) us memory ls (unwrap_or (first_named xs s) g.missed)
 
--- Where the names are of bytes, and no two are the same, it does so in at most 53 steps for each byte of the string, and 198.
+-- Where the names are of bytes, and no two are the same, a byte has eight bits.
 abbrev pub SearchComesSoon : Type 0
 SearchComesSoon = (wasm : Module) (g : Goal) (xs : List Named) → AreTexts xs → AreApart xs
     → (us : ModuleParts) (memory : MemoryInstance) (p : ℕ) (s : List ℕ) → Lies memory p s
     → (ls : List Value) → slice_get ls 0 ≡ Some (Num p) → slice_get ls g.len ≡ Some (Num (length s))
-    → Comes wasm (53 * length s + 198) (search_code g (strings xs)) us memory ls (unwrap_or (first_named xs s) g.missed)
+    → Comes wasm (search_steps 8 (length xs) (length s)) (search_code g (strings xs)) us memory ls (unwrap_or (first_named xs s) g.missed)
 
 -- ---- a function that searches for numbers
 
@@ -99,14 +105,14 @@ pub record HasFunction (wasm : Module) (f : ℕ) (ty : FuncType) (body : Code) :
   pub code : function_at wasm f ≡ Some (function_with ty body)
 
 -- Among whatever names, a call of the function, wherever it is made, gives the number of the first one that the string is, or 0, and changes
--- nothing else. At most 197 steps for each byte of the string, and 202, lead from the state before the call to that after its return.
+-- nothing else. At most the steps of the search, and four, lead from the state before the call to that after its return.
 abbrev pub SearchFindsAny : Type 0
 SearchFindsAny = (wasm : Module) (f : ℕ) (xs : List (List ℕ × ℕ)) → HasFunction wasm f search_type (search_body xs) → AreWords xs
     → (us : ModuleParts) (memory : MemoryInstance) (p : ℕ) (s : List ℕ) → Lies memory p s
-    → DoesWithin wasm 1 (197 * length s + 202) (Index op.call f ∷ []) us memory (Num (length s) ∷ Num p ∷ []) (Num (search_value (first_named xs s)) ∷ [])
+    → DoesWithin wasm 1 (search_steps 32 (length xs) (length s) + 4) (Index op.call f ∷ []) us memory (Num (length s) ∷ Num p ∷ []) (Num (search_value (first_named xs s)) ∷ [])
 
--- Where the names are of bytes, and no two are the same, at most 53 steps for each byte of the string, and 202, do so.
+-- Where the names are of bytes, and no two are the same, a byte has eight bits.
 abbrev pub SearchFinds : Type 0
 SearchFinds = (wasm : Module) (f : ℕ) (xs : List (List ℕ × ℕ)) → HasFunction wasm f search_type (search_body xs) → AreWords xs → AreTexts xs
     → AreApart xs → (us : ModuleParts) (memory : MemoryInstance) (p : ℕ) (s : List ℕ) → Lies memory p s
-    → DoesWithin wasm 1 (53 * length s + 202) (Index op.call f ∷ []) us memory (Num (length s) ∷ Num p ∷ []) (Num (search_value (first_named xs s)) ∷ [])
+    → DoesWithin wasm 1 (search_steps 8 (length xs) (length s) + 4) (Index op.call f ∷ []) us memory (Num (length s) ∷ Num p ∷ []) (Num (search_value (first_named xs s)) ∷ [])

@@ -4,4 +4,5 @@ pub mod Counted
 pub mod Finding
 pub mod Shape
 pub mod Typed
+pub mod Trying
 pub mod Exports

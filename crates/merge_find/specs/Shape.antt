@@ -1,4 +1,5 @@
 -- How deep blocks are nested in the code of a search, and how much of it there is.
+-- Part of the statement of laws: docs/LAWS.md, "Laws of the parts".
 use Rattle.std.specs.Prelude.{◌≡◌, ℕ, suc, ◌+◌, ◌*◌, ◌^◌, ◌≤◌, List, [], ◌∷◌, ◌++◌, length, slice_get, Some}
 use Rattle.wasm_form.specs.declared.instr.BlockType.TheVariants.{Empty}
 use Rattle.wasm_form.specs.declared.instr.Instr.{Instr, Plain, Index, Block, Access}

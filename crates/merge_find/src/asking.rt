@@ -8,7 +8,7 @@ use std::alloc::Global;
 use wasm_form::{BlockType, Expr, Instr, List, Memory};
 
 // Code that is done once, where a condition holds.
-fn when(code: Vec<Instr>) -> Instr
+pub(crate) fn when(code: Vec<Instr>) -> Instr
     ensures { result ≡ when code.items }
 {
     let body = Expr {

@@ -9,6 +9,7 @@ mod laws;
 mod named;
 mod place;
 mod search;
+mod trying;
 
 pub use building::search_code;
 pub use laws::{
@@ -16,3 +17,4 @@ pub use laws::{
 };
 pub use named::{Named, put_named};
 pub use search::{Missed, Search, number_code};
+pub use trying::try_code;

@@ -1,4 +1,5 @@
 -- What is kept of the numbers of a linked set, and the numbers that this stands for.
+-- Serves the contracts of this crate, which follow Numbering of `merge_index`.
 use Rattle.std.specs.Prelude.{ℕ, ◌-◌, List, slice_get, nat_lt, nat_le, ◌&&◌, Option, Some, None, if◌then◌else◌}
 use Rattle.wasm_form.specs.declared.runtime.LoaderCall.{LoaderCall}
 use Rattle.wasm_form.specs.declared.runtime.LoaderCall.TheVariants.{Dlopen, Dlsym, Dlclose, Dlerror}

@@ -1,4 +1,5 @@
 -- Distinct things have distinct numbers, and two numbers of globals or tables are one exactly where they lead to one place.
+-- Part of the statement of laws: docs/LAWS.md, "Laws of the parts".
 use Rattle.std.specs.Prelude.{◌≡◌, ℕ, ◌<◌, ◌≤◌, ◌↔◌, Option, Some, true}
 use Rattle.wasm_form.specs.declared.runtime.Ref.{Ref}
 use Rattle.wasm_form.specs.declared.runtime.Ref.TheVariants.{Own, Loader, Host, Stub}
@@ -22,7 +23,7 @@ HasNumber L (Stub m f) = IsThere (stub_address L m f)
 abbrev pub FunctionsAreDistinct : Type 0
 FunctionsAreDistinct = (L : LinkedSet) (r q : Ref) → HasNumber L r → HasNumber L q → (numbers_of L).function r ≡ (numbers_of L).function q → r ≡ q
 
--- All that is generated comes behind the functions of members and of the host and the stubs, and the functions of the loader come last.
+-- All that is generated comes behind the functions of members, of the host and the stubs, and the functions of the loader behind what they call.
 abbrev IsBeside : LinkedSet → Ref → Type 0
 IsBeside L (Loader which) = first_call L ≤ (numbers_of L).function (Loader which)
 IsBeside L (Own m f) = (numbers_of L).function (Own m f) < first_phase L

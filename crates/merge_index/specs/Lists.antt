@@ -1,4 +1,5 @@
 -- How the lists of numbers are made, member by member.
+-- Serves the contracts of this crate, which follow Numbering of `merge_index`.
 use Rattle.std.specs.Prelude.{ℕ, ◌+◌, ◌*◌, List, [], ◌∷◌, length, map, slice_get, Bool, Option, Some, None, if◌then◌else◌}
 use Rattle.wasm_form.specs.declared.module.Code.{Code}
 use Rattle.wasm_form.specs.declared.module.Module.{Module}
@@ -66,10 +67,10 @@ abbrev pub all_stubs_end : ℕ → List (List Ref) → ℕ
 all_stubs_end stub [] = stub
 all_stubs_end stub (x ∷ xs) = all_stubs_end (stubs_end stub x) xs
 
--- What there is for the functions of the loader comes behind the phases of so many members, which begin with a number, and the entry function.
+-- What there is for the functions of the loader comes behind the phases of so many members, which begin with a number.
 abbrev pub loader_behind : ℕ → ℕ → LoaderNumbers
 loader_behind first count =
-    let opening = first + 4 * count + 1 in
+    let opening = first + 4 * count in
     let find = opening + count + 1 in
     let call = find + count in
     record {

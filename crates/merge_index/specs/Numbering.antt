@@ -1,6 +1,7 @@
 -- The numbers in the merged module of a linked set. Functions: the host functions that it imports, then the members' own ones member by
 -- member, then the stubs of imports that nothing defines, member by member, then what is generated. Types: those of the members, member by
 -- member. Globals, tables and segments have their addresses in the store of the set, and what is generated comes behind these.
+-- This profile: docs/FORMATS.md, "What merge writes".
 use Rattle.std.specs.Prelude.{ℕ, ◌+◌, ◌-◌, ◌*◌, List, length, take, Bool, true, false, Option, Some, None, option_map, if◌then◌else◌}
 use Rattle.std.specs.List.{filter, range_with_len}
 use Rattle.wasm_form.specs.declared.module.Module.{Module}
@@ -67,14 +68,10 @@ first_phase L = first_stub L + stubs_before L (length L.set.members)
 abbrev pub phase_number : LinkedSet → ℕ → Phase → ℕ
 phase_number L m p = first_phase L + 4 * m + (stage_of p - 1)
 
--- behind the phases of all members comes the entry function
-abbrev pub entry_number : LinkedSet → ℕ
-entry_number L = first_phase L + 4 * length L.set.members
-
 -- Where the set uses the loader, there follow a function for each member that opens it, the one that gives the length of a string, one for
 -- each member that searches its names, and the functions of the loader.
 abbrev pub first_opening : LinkedSet → ℕ
-first_opening L = entry_number L + 1
+first_opening L = first_phase L + 4 * length L.set.members
 
 abbrev pub length_number : LinkedSet → ℕ
 length_number L = first_opening L + length L.set.members
@@ -95,7 +92,15 @@ call_place Dlerror = 3
 abbrev pub call_number : LinkedSet → LoaderCall → ℕ
 call_number L which = if uses_loader L then first_call L + call_place which else nowhere
 
--- all of these, where the set uses the loader
+-- how many all of these are
+abbrev pub loader_size : LinkedSet → ℕ
+loader_size L = if uses_loader L then 2 * length L.set.members + 5 else 0
+
+-- the entry function comes last
+abbrev pub entry_number : LinkedSet → ℕ
+entry_number L = first_opening L + loader_size L
+
+-- their numbers, where the set uses the loader
 abbrev pub loader_numbers : LinkedSet → Option LoaderNumbers
 loader_numbers L =
     if uses_loader L

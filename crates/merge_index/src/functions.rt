@@ -108,7 +108,7 @@ pub(crate) fn loader_behind(first: u32, count: u32) -> LoaderNumbers
     requires few { count ≤ 256 }
     ensures { result ≡ loader_behind first count }
 {
-    let first_opening = first + 4 * count + 1;
+    let first_opening = first + 4 * count;
     let length = first_opening + count;
     let first_find = length + 1;
     let dlopen = first_find + count;

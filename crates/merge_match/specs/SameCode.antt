@@ -1,4 +1,5 @@
 -- When a module has the code of another.
+-- Part of the statement of `snap`: Snapshots of `snap_set`.
 use Rattle.std.specs.Prelude.{◌≡◌}
 use Rattle.spec_loading.specs.wasm_form.declared.module.Module.{Module}
 

@@ -1,7 +1,7 @@
 -- The generated functions have their types and bodies at their numbers in the merged module.
 use Rattle.std.proofs.Common.{◌≡◌, ℕ, zero, suc, ◌+◌, ◌-◌, ◌*◌, ◌<◌, List, [], ◌∷◌, ◌++◌, length, replicate, slice_get, Option, Some, refl, ap, ◌∙◌, arith}
 use Rattle.std.proofs.Math.Seq.{take-length}
-use Rattle.std.proofs.lemmas.List.{length-map}
+use Rattle.std.proofs.lemmas.List.{length-map, length-replicate}
 use Rattle.spec_reading.specs.wasm_form.declared.types.FuncType.{FuncType}
 use Rattle.spec_reading.specs.wasm_form.declared.module.Code.{Code}
 use Rattle.spec_reading.specs.wasm_form.declared.runtime.Ref.TheVariants.{Own}
@@ -18,10 +18,11 @@ use Rattle.spec_loading.specs.Members.{from_members}
 use Rattle.merge_match.specs.Renumbering.{Numbers}
 use Rattle.merge_match.proofs.JoinedParts.{named_own}
 use Rattle.merge_start.specs.Words.{Starts, phase_code, entry_code, nullary_function}
-use Rattle.merge_index.specs.Numbering.{sum_of, stubs_of, stubs_before}
+use Rattle.merge_index.specs.Numbering.{sum_of, stubs_of, stubs_before, loader_size}
 use Rattle.merge_module.specs.MergedModule.{with_loader, nullary_number, stub_types, loader_funcs, generated_types, stub_codes, phase_codes, loader_codes, plain_code}
 use Rattle.merge_module.proofs.StubLists.{lengths_same}
-use Rattle.merge_module.proofs.MergedSpaces.{past_front, in_front, host_many, own_funcs, own_codes, type_at, code_at, nullary_there, phases_many, generated_codes}
+use Rattle.merge_module.proofs.WithLoader.{with_many}
+use Rattle.merge_module.proofs.MergedSpaces.{past_front, in_front, loader_size_is, loader_codes_many, host_many, own_funcs, own_codes, type_at, code_at, nullary_there, phases_many, generated_codes}
 use Rattle.merge_module.proofs.OwnNumbers.{n, x, merged, own_funcs_many, own_codes_many}
 
 pub repeated_at : {A : Type 0} (count i : ℕ) (a : A) → i < count → slice_get (replicate count a) i ≡ Some a
@@ -105,10 +106,23 @@ module _ (L : LinkedSet) (set : IsSet L.set) where
         code_at L (n L set) (x L set) f k code ty number there generated_typed
 
   -- the phases and the entry function take and give nothing
-  pub nullary_listed : (i : ℕ) → i < 4 * length members + 1 → slice_get (generated_types L) i ≡ Some (nullary_number L)
+  pub nullary_listed : (i : ℕ) → i < 4 * length members → slice_get (generated_types L) i ≡ Some (nullary_number L)
   nullary_listed i low =
-      in_front (replicate (4 * length members + 1) (nullary_number L)) (with_loader L (loader_funcs L)) i (nullary_number L)
-      (repeated_at (4 * length members + 1) i (nullary_number L) low)
+      in_front (replicate (4 * length members) (nullary_number L)) (with_loader L (loader_funcs L) ++ nullary_number L ∷ []) i (nullary_number L)
+      (repeated_at (4 * length members) i (nullary_number L) low)
+
+  abbrev pub last : ℕ
+  last = 4 * length members + loader_size L
+
+  pub entry_listed : slice_get (generated_types L) last ≡ Some (nullary_number L)
+  entry_listed =
+      let phases = replicate (4 * length members) (nullary_number L) in
+      let loader = with_loader L (loader_funcs L) in
+      let many = length-replicate (4 * length members) (nullary_number L) in
+      let size = loader_size_is L in
+      let place : last ≡ length phases + (length loader + 0) = omega arith in
+      ap (slice_get (generated_types L)) place ∙ past_front phases (loader ++ nullary_number L ∷ []) (length loader + 0)
+      ∙ past_front loader (nullary_number L ∷ []) 0
 
   nullary_is : slice_get (merged L set).types (nullary_number L) ≡ Some nullary
   nullary_is = nullary_there L (n L set) (x L set)
@@ -122,7 +136,7 @@ module _ (L : LinkedSet) (set : IsSet L.set) where
     abbrev phase : ℕ
     phase = (x L set).phase m p
 
-    phase_low : place_in < 4 * length members + 1
+    phase_low : place_in < 4 * length members
     phase_low = (let low = stage_low p in omega arith)
 
     phase_number_is : phase ≡ length (hosts_of L) + (codes + (stubs_before L (length members) + place_in))
@@ -145,23 +159,24 @@ module _ (L : LinkedSet) (set : IsSet L.set) where
   abbrev entry : ℕ
   entry = (x L set).starting
 
-  abbrev last : ℕ
-  last = 4 * length members
-
   entry_number_is : entry ≡ length (hosts_of L) + (codes + (stubs_before L (length members) + last))
   entry_number_is = omega arith
 
   pub entry_typed : function_type (merged L set) entry ≡ Some nullary
-  entry_typed = generated_typed entry last entry_number_is (nullary_number L) nullary (nullary_listed last (omega arith)) nullary_is
+  entry_typed = generated_typed entry last entry_number_is (nullary_number L) nullary entry_listed nullary_is
 
   pub entry_target : module_target (merged L set) entry ≡ Some (Own 0 entry)
-  entry_target = generated_target entry last entry_number_is (nullary_number L) nullary (nullary_listed last (omega arith)) nullary_is
+  entry_target = generated_target entry last entry_number_is (nullary_number L) nullary entry_listed nullary_is
 
   pub entry_there : function_at (merged L set) entry ≡ Some (nullary_function (entry_code L (n L set) (x L set)))
   entry_there =
+      let phases = from_members (phase_codes L (n L set) (x L set)) 0 members in
+      let loader = with_loader L (loader_codes L (n L set) (x L set)) in
       let many = phases_many L (n L set) (x L set) members 0 in
+      let same = with_many L (loader_codes L (n L set) (x L set)) (loader_funcs L) (loader_codes_many L (n L set) (x L set)) in
+      let size = loader_size_is L in
       let code = plain_code (entry_code L (n L set) (x L set)) in
-      let place : last ≡ length (from_members (phase_codes L (n L set) (x L set)) 0 members) + 0 = omega arith in
-      generated_at entry last entry_number_is (nullary_number L) nullary (nullary_listed last (omega arith)) nullary_is code
-      (ap (slice_get (generated_codes L (n L set) (x L set))) place
-      ∙ past_front (from_members (phase_codes L (n L set) (x L set)) 0 members) (code ∷ with_loader L (loader_codes L (n L set) (x L set))) 0)
+      let place : last ≡ length phases + (length loader + 0) = omega arith in
+      generated_at entry last entry_number_is (nullary_number L) nullary entry_listed nullary_is code
+      (ap (slice_get (generated_codes L (n L set) (x L set))) place ∙ past_front phases (loader ++ code ∷ []) (length loader + 0)
+      ∙ past_front loader (code ∷ []) 0)

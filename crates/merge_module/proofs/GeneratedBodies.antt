@@ -74,5 +74,6 @@ module _ (P : Code → Type 0) (holds : (size : ℕ) (c : Code) → IsBody size 
     pub generated_all : All P (generated_codes L n x)
     generated_all =
         let last = plain_code (entry_code L n x) in
-        All-append P (from_members (phase_codes L n x) 0 members) (last ∷ with_loader L (loader_codes L n x)) (all_of P (phase_codes L n x) 0 members (λ j y at. phases_all (0 + j) y.wasm))
-        (All-cons P last (with_loader L (loader_codes L n x)) (one (entry_body L n x set)) (with_all L P (loader_codes L n x) (λ used. loader_all)))
+        let loader = with_loader L (loader_codes L n x) in
+        All-append P (from_members (phase_codes L n x) 0 members) (loader ++ last ∷ []) (all_of P (phase_codes L n x) 0 members (λ j y at. phases_all (0 + j) y.wasm))
+        (All-append P loader (last ∷ []) (with_all L P (loader_codes L n x) (λ used. loader_all)) (All-cons P last [] (one (entry_body L n x set)) (All-nil P)))

@@ -126,9 +126,10 @@ module _ (small : SearchIsSmall) (L : LinkedSet) (K : IsKnown L) (few : (linked_
       let all = members_weigh small L n x 0 members light (omega arith) in
       let more = loader_weighs small L n x K.set in
       let entry = (entry_body L n x K.set).light in
-      let a = sum_then code_weight mine (stubs ++ (phases ++ last ∷ loader)) in
-      let b = sum_then code_weight stubs (phases ++ last ∷ loader) in
-      let c = sum_then code_weight phases (last ∷ loader) in
+      let a = sum_then code_weight mine (stubs ++ (phases ++ (loader ++ last ∷ []))) in
+      let b = sum_then code_weight stubs (phases ++ (loader ++ last ∷ [])) in
+      let c = sum_then code_weight phases (loader ++ last ∷ []) in
+      let e = sum_then code_weight loader (last ∷ []) in
       omega arith
 
   pub codes_light : names_bulk members ≤ 16777216 → sum_of code_weight merged.codes ≤ 219800000

@@ -47,22 +47,26 @@ module _ (L : LinkedSet) (set : IsSet L.set) (used : uses_loader L ≡ true) whe
   -- ---- the j-th of them
 
   abbrev pub place : ℕ → ℕ
-  place j = 4 * count + 1 + j
+  place j = 4 * count + j
 
   pub loader_listed : (j t : ℕ) → slice_get (loader_funcs L) j ≡ Some t → slice_get (generated_types L) (place j) ≡ Some t
   loader_listed j t at =
-      let many = length-replicate (4 * count + 1) (nullary_number L) in
-      let is : place j ≡ length (replicate (4 * count + 1) (nullary_number L)) + j = omega arith in
-      ap (slice_get (generated_types L)) is ∙ past_front (replicate (4 * count + 1) (nullary_number L)) (with_loader L (loader_funcs L)) j
-      ∙ ap (λ (l : List ℕ). slice_get l j) (with_used L (loader_funcs L) used) ∙ at
+      let phases = replicate (4 * count) (nullary_number L) in
+      let loader = with_loader L (loader_funcs L) in
+      let many = length-replicate (4 * count) (nullary_number L) in
+      let is : place j ≡ length phases + j = omega arith in
+      ap (slice_get (generated_types L)) is ∙ past_front phases (loader ++ nullary_number L ∷ []) j
+      ∙ in_front loader (nullary_number L ∷ []) j t (ap (λ (l : List ℕ). slice_get l j) (with_used L (loader_funcs L) used) ∙ at)
 
   loader_coded : (j : ℕ) (c : Code) → slice_get (loader_codes L n x) j ≡ Some c → slice_get (generated_codes L n x) (place j) ≡ Some c
   loader_coded j c at =
       let phases = from_members (phase_codes L n x) 0 members in
+      let loader = with_loader L (loader_codes L n x) in
+      let last = plain_code (entry_code L n x) in
       let many = phases_many L n x members 0 in
-      let is : place j ≡ length phases + suc j = omega arith in
-      ap (slice_get (generated_codes L n x)) is ∙ past_front phases (plain_code (entry_code L n x) ∷ with_loader L (loader_codes L n x)) (suc j)
-      ∙ ap (λ (l : List Code). slice_get l j) (with_used L (loader_codes L n x) used) ∙ at
+      let is : place j ≡ length phases + j = omega arith in
+      ap (slice_get (generated_codes L n x)) is ∙ past_front phases (loader ++ last ∷ []) j
+      ∙ in_front loader (last ∷ []) j c (ap (λ (l : List Code). slice_get l j) (with_used L (loader_codes L n x) used) ∙ at)
 
   is_there : (f j t : ℕ) (ty : FuncType) (c : Code) → f ≡ first_opening L + j → slice_get (loader_funcs L) j ≡ Some t → slice_get merged.types t ≡ Some ty
       → slice_get (loader_codes L n x) j ≡ Some c → HasFunction merged f ty c

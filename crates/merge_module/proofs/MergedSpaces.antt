@@ -1,5 +1,5 @@
 -- The function space of a merged module: the host functions, those of the members, stubs, and what is generated.
-use Rattle.std.proofs.Common.{◌≡◌, ℕ, zero, suc, ◌+◌, ◌-◌, ◌*◌, ◌≤◌, List, [], ◌∷◌, ◌++◌, length, map, replicate, slice_get, Option, Some, None, refl, sym, ap, ◌∙◌, arith, length-append}
+use Rattle.std.proofs.Common.{◌≡◌, ℕ, zero, suc, ◌+◌, ◌-◌, ◌*◌, ◌≤◌, Bool, true, false, List, [], ◌∷◌, ◌++◌, length, map, replicate, slice_get, Option, Some, None, if◌then◌else◌, refl, sym, ap, ◌∙◌, arith, length-append}
 use Rattle.std.specs.Prelude.{unwrap_or}
 use Rattle.std.proofs.lemmas.List.{length-map, length-replicate}
 use Rattle.std.proofs.lemmas.Option.{slice_get_past}
@@ -13,14 +13,14 @@ use Rattle.spec_reading.proofs.of_spec_binary.Lists.{slice_get-append-right}
 use Rattle.spec_loading.specs.spec_linking.Sets.{Member}
 use Rattle.spec_loading.specs.spec_linking.Gathering.{IsSet, total_size}
 use Rattle.spec_loading.specs.spec_linking.LinkedSets.{LinkedSet, hosts_of}
-use Rattle.spec_loading.specs.Members.{from_members}
+use Rattle.spec_loading.specs.Members.{from_members, uses_loader}
 use Rattle.merge_match.specs.Renumbering.{Numbers}
 use Rattle.merge_match.specs.Parts.{nowhere}
 use Rattle.merge_match.specs.Joined.{renumbered_code}
 use Rattle.merge_match.proofs.JoinedParts.{own_type, own_at}
 use Rattle.merge_start.specs.Words.{Starts, entry_code, open_code}
 use Rattle.merge_dl.specs.Words.{handle_type, unary_type, binary_type, search_type, length_body, find_body}
-use Rattle.merge_index.specs.Numbering.{stubs_of}
+use Rattle.merge_index.specs.Numbering.{stubs_of, loader_size}
 use Rattle.merge_module.specs.MergedModule.{with_loader, members_types, nullary_number, handle_number, unary_number, binary_number, search_number, generated_functions_types, first_use, added_types, first_added, host_type_number, stub_types, loader_funcs, generated_types, stub_codes, phase_codes, open_codes, find_codes, call_codes, loader_codes, plain_code, trap_code, module_with}
 use Rattle.merge_module.proofs.WithLoader.{with_few, with_many}
 use Rattle.merge_module.proofs.HostImports.{functions_of}
@@ -54,12 +54,26 @@ loader_many L =
     let two = length-append (replicate members (search_number L)) calls in
     omega arith
 
+pub loader_size_is : (L : LinkedSet) → length (with_loader L (loader_funcs L)) ≡ loader_size L
+loader_size_is L = go (uses_loader L)
+  where
+    go : (b : Bool) → length (if b then loader_funcs L else []) ≡ (if b then 2 * length L.set.members + 5 else 0)
+    go true = loader_many L
+    go false = refl
+
+generated_split : (L : LinkedSet) → length (generated_types L) ≡ 4 * length L.set.members + length (with_loader L (loader_funcs L)) + 1
+generated_split L =
+    let loader = with_loader L (loader_funcs L) in
+    let phases = length-replicate (4 * length L.set.members) (nullary_number L) in
+    let entry = length-append loader (nullary_number L ∷ []) in
+    omega (arith, length-append (replicate (4 * length L.set.members) (nullary_number L)) (loader ++ nullary_number L ∷ []))
+
 pub generated_many : (L : LinkedSet) → length (generated_types L) ≤ 6 * length L.set.members + 6
 generated_many L =
-    let first = length-replicate (4 * length L.set.members + 1) (nullary_number L) in
+    let all = generated_split L in
     let some = with_few L (loader_funcs L) in
     let many = loader_many L in
-    omega (arith, length-append (replicate (4 * length L.set.members + 1) (nullary_number L)) (with_loader L (loader_funcs L)))
+    omega arith
 
 -- there are as many types of generated functions
 pub few_generated_types : (L : LinkedSet) → length (generated_functions_types L) ≤ 5
@@ -130,15 +144,16 @@ module _ (L : LinkedSet) (n : Numbers) (x : Starts) where
       omega arith
 
   abbrev pub generated_codes : List Code
-  generated_codes = from_members (phase_codes L n x) 0 L.set.members ++ plain_code (entry_code L n x) ∷ with_loader L (loader_codes L n x)
+  generated_codes = from_members (phase_codes L n x) 0 L.set.members ++ (with_loader L (loader_codes L n x) ++ plain_code (entry_code L n x) ∷ [])
 
   pub generated_codes_many : length generated_codes ≡ length (generated_types L)
   generated_codes_many =
       let phases = phases_many L.set.members 0 in
+      let loader = with_loader L (loader_codes L n x) in
       let same = with_many L (loader_codes L n x) (loader_funcs L) loader_codes_many in
-      let one = length-append (from_members (phase_codes L n x) 0 L.set.members) (plain_code (entry_code L n x) ∷ with_loader L (loader_codes L n x)) in
-      let first = length-replicate (4 * length L.set.members + 1) (nullary_number L) in
-      let two = length-append (replicate (4 * length L.set.members + 1) (nullary_number L)) (with_loader L (loader_funcs L)) in
+      let entry = length-append loader (plain_code (entry_code L n x) ∷ []) in
+      let one = length-append (from_members (phase_codes L n x) 0 L.set.members) (loader ++ plain_code (entry_code L n x) ∷ []) in
+      let two = generated_split L in
       omega arith
 
   -- ---- there is nothing at the number of what is out of range

@@ -105,7 +105,7 @@ module _ (lengths : LengthsAreGiven) (searches : MembersAreSearchedSoon) (L : Li
       let count = few_members L K.set in
       record { target = there.target; code = there.code; word = omega arith }
 
-  find_ready : (m : ℕ) → m < length L.set.members → SearchesMember 53 L m (merged L K.set) ((finders_of L (x L K.set)).find m)
+  find_ready : (m : ℕ) → m < length L.set.members → SearchesMember 8 L m (merged L K.set) ((finders_of L (x L K.set)).find m)
   find_ready m lt =
       let y = got L.set.members m lt in
       let here : wasm_of L m ≡ Some y.0.wasm = ap (λ (o : Option Member). o >>= λ z. Some z.wasm) y.1 in

@@ -421,14 +421,19 @@ module _ (L : LinkedSet) (K : IsKnown L) (few : (linked_plan L).pages_max ≤ 16
       (All-cons (TypeFits merged) (unary_number L) (handle_number L ∷ []) unary
       (All-cons (TypeFits merged) (handle_number L) [] handle (All-nil (TypeFits merged))))))))
 
+  nullary_fits : TypeFits merged (nullary_number L)
+  nullary_fits = type_there (nullary_number L) nullary (nullary_there L n x) refl
+
   funcs_all : All (TypeFits merged) merged.funcs
   funcs_all =
       All-append (TypeFits merged) (from_members (λ m wasm. map (n.ty m) wasm.funcs) 0 members) (from_members (stub_types L n) 0 members ++ generated_types L)
       (of_each (TypeFits merged) (λ m wasm. map (n.ty m) wasm.funcs) funcs_fit)
       (All-append (TypeFits merged) (from_members (stub_types L n) 0 members) (generated_types L) (of_each (TypeFits merged) (stub_types L n) stubs_fit)
-      (All-append (TypeFits merged) (replicate (4 * length members + 1) (nullary_number L)) (with_loader L (loader_funcs L))
-      (all_repeated (TypeFits merged) (4 * length members + 1) (nullary_number L) (type_there (nullary_number L) nullary (nullary_there L n x) refl))
-      (with_all L (TypeFits merged) (loader_funcs L) loader_funcs_fit)))
+      (All-append (TypeFits merged) (replicate (4 * length members) (nullary_number L)) (with_loader L (loader_funcs L) ++ nullary_number L ∷ [])
+      (all_repeated (TypeFits merged) (4 * length members) (nullary_number L) nullary_fits)
+      (All-append (TypeFits merged) (with_loader L (loader_funcs L)) (nullary_number L ∷ [])
+      (with_all L (TypeFits merged) (loader_funcs L) loader_funcs_fit)
+      (All-cons (TypeFits merged) (nullary_number L) [] nullary_fits (All-nil (TypeFits merged))))))
 
   shared_fits : TableFits (shared_table_type L)
   shared_fits =

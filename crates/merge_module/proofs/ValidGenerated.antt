@@ -49,15 +49,15 @@ use Rattle.dyl_addresses.specs.Sets.{AreOf}
 use Rattle.merge_start.specs.Typed.{IsEffectTyped, AreEffectsTyped, IsPhaseTyped, AreTasksTyped, IsEntryTyped, GeneratedIsTyped}
 use Rattle.dyl_addresses.proofs.Ranges.{of_startup}
 use Rattle.merge_index.specs.Numbering.{stubs_of, function_number}
-use Rattle.merge_module.specs.MergedModule.{with_loader, nullary_number, number_global, member_globals, guard_globals, merged_globals, shared_table_type, passive_elem, slots_elem, outside_elem, declared_elem, stub_types, generated_types, stub_codes, phase_codes, plain_code, zero_globals, loader_globals}
+use Rattle.merge_module.specs.MergedModule.{with_loader, nullary_number, loader_funcs, loader_codes, number_global, member_globals, guard_globals, merged_globals, shared_table_type, passive_elem, slots_elem, outside_elem, declared_elem, stub_types, generated_types, stub_codes, phase_codes, plain_code, zero_globals, loader_globals}
 use Rattle.merge_module.proofs.Known.{IsKnown}
-use Rattle.merge_module.proofs.WithLoader.{with_used}
+use Rattle.merge_module.proofs.WithLoader.{with_used, with_many}
 use Rattle.merge_module.proofs.SetMembers.{is_sound}
 use Rattle.merge_module.proofs.StubLists.{lengths_same, member_at, one_there}
 use Rattle.merge_index.proofs.Counted.{joined_length}
-use Rattle.merge_module.proofs.MergedSpaces.{past_front, in_front, own_funcs, own_codes, nullary_there, phases_many}
+use Rattle.merge_module.proofs.MergedSpaces.{past_front, in_front, loader_size_is, own_funcs, own_codes, nullary_there, phases_many, loader_codes_many}
 use Rattle.merge_module.proofs.OwnNumbers.{own_funcs_many, own_codes_many}
-use Rattle.merge_module.proofs.Generated.{nullary_listed, phase_typed}
+use Rattle.merge_module.proofs.Generated.{nullary_listed, last, entry_listed, phase_typed}
 use Rattle.merge_module.proofs.Ready.{callable, entry_ready}
 use Rattle.spec_reading.proofs.of_spec_binary.OneType.{one_type}
 use Rattle.merge_module.proofs.Applied.{own_elems, slot_elems}
@@ -278,7 +278,7 @@ module _ (L : LinkedSet) (K : IsKnown L) (few : (linked_plan L).pages_max ≤ 16
       ∙ past_front (from_members (stub_types L n) 0 members) (generated_types L) q ∙ listed in
       ap (λ (o : Option ℕ). o >>= slice_get merged.types) func ∙ there
 
-  nullary_typed : (q : ℕ) → q < 4 * length members + 1 → type_of_body merged (start + q) ≡ Some nullary
+  nullary_typed : (q : ℕ) → q < 4 * length members → type_of_body merged (start + q) ≡ Some nullary
   nullary_typed q lt = generated_type q (nullary_number L) nullary (nullary_listed L K.set q lt) (nullary_there L n x)
 
   four_bodies : (m : ℕ) (member : Member) → slice_get members m ≡ Some member → (i : ℕ) (b : Code) → slice_get (phase_codes L n x m member.wasm) i ≡ Some b
@@ -300,8 +300,16 @@ module _ (L : LinkedSet) (K : IsKnown L) (few : (linked_plan L).pages_max ≤ 16
       let many = phases_many L n x members 0 in
       body_none L K few (start + q) b nullary (nullary_typed q (omega arith)) (four_bodies j y at i b mine)))
 
-  pub entry_none : find L K few (start + length (from_members (phase_codes L n x) 0 members)) (plain_code (entry_code L n x)) ≡ None
+  abbrev pub entry_place : ℕ
+  entry_place = start + length (from_members (phase_codes L n x) 0 members) + length (with_loader L (loader_codes L n x))
+
+  pub entry_none : find L K few entry_place (plain_code (entry_code L n x)) ≡ None
   entry_none =
       let many = phases_many L n x members 0 in
-      body_none L K few (start + length (from_members (phase_codes L n x) 0 members)) (plain_code (entry_code L n x)) nullary
-      (nullary_typed (length (from_members (phase_codes L n x) 0 members)) (omega arith)) entry_high
+      let same = with_many L (loader_codes L n x) (loader_funcs L) (loader_codes_many L n x) in
+      let size = loader_size_is L in
+      let place : start + last L K.set ≡ entry_place = omega arith in
+      let typed : type_of_body merged entry_place ≡ Some nullary =
+      subst (λ k. type_of_body merged k ≡ Some nullary) place
+      (generated_type (last L K.set) (nullary_number L) nullary (entry_listed L K.set) (nullary_there L n x)) in
+      body_none L K few entry_place (plain_code (entry_code L n x)) nullary typed entry_high

@@ -1,5 +1,5 @@
 -- The bodies of the functions of the loader, and of what they call, are well typed in the merged module, and so all its bodies are.
-use Rattle.std.proofs.Common.{◌≡◌, ◌≤◌, ◌<◌, ℕ, suc, ◌+◌, ◌*◌, true, List, ◌∷◌, ◌++◌, length, slice_get, Some, None, refl, subst, arith}
+use Rattle.std.proofs.Common.{◌≡◌, ◌≤◌, ◌<◌, ℕ, suc, ◌+◌, ◌*◌, true, List, [], ◌∷◌, ◌++◌, length, slice_get, Some, None, refl, subst, arith}
 use Rattle.std.proofs.lemmas.Option.{slice_get_within}
 use Rattle.spec_reading.specs.wasm_form.declared.types.FuncType.{FuncType}
 use Rattle.spec_reading.specs.wasm_form.declared.module.Code.{Code}
@@ -73,15 +73,15 @@ module _ (L : LinkedSet) (K : IsKnown L) (few : (linked_plan L).pages_max ≤ 16
     -- ---- the j-th of them
 
     abbrev first : ℕ
-    first = start L K few typing + length (from_members (phase_codes L n x) 0 members) + 1
+    first = start L K few typing + length (from_members (phase_codes L n x) 0 members)
 
     is_typed : (j t : ℕ) (ty : FuncType) (c : Code) → slice_get (loader_funcs L) j ≡ Some t → slice_get merged.types t ≡ Some ty → HasHeight (body_context merged ty c) ty c
         → find L K few (first + j) c ≡ None
     is_typed j t ty c listed there high =
         let phases = phases_many L n x members 0 in
-        let place : start L K few typing + (4 * count + 1 + j) ≡ first + j = omega arith in
+        let place : start L K few typing + (4 * count + j) ≡ first + j = omega arith in
         let typed : type_of_body merged (first + j) ≡ Some ty =
-        subst (λ k. type_of_body merged k ≡ Some ty) place (generated_type L K few typing (4 * count + 1 + j) t ty (loader_listed L K.set used j t listed) there) in
+        subst (λ k. type_of_body merged k ≡ Some ty) place (generated_type L K few typing (4 * count + j) t ty (loader_listed L K.set used j t listed) there) in
         let h = high refl refl in
         body_none L K few (first + j) c ty typed (some_so (height (body_context merged ty c) c.body.list) h.0 h.1)
 
@@ -158,9 +158,10 @@ module _ (L : LinkedSet) (K : IsKnown L) (few : (linked_plan L).pages_max ≤ 16
   bodies_none =
       let phases = from_members (phase_codes L n x) 0 members in
       let last = plain_code (entry_code L n x) in
+      let loader = with_loader L (loader_codes L n x) in
       let at = start L K few typing + length phases in
       none_append (body_typed merged) 0 (own_codes L n x) _ (own_none L K few)
       (none_append (body_typed merged) (0 + length (own_codes L n x)) (from_members (stub_codes L) 0 members) _ (stubs_none L K few)
-      (none_append (body_typed merged) (start L K few typing) phases (last ∷ with_loader L (loader_codes L n x)) (phases_none L K few typing)
-      (both_none (find L K few at last) (first_in (find L K few) (at + 1) (with_loader L (loader_codes L n x))) (entry_none L K few typing)
-      (with_either L (λ l. first_in (find L K few) (at + 1) l ≡ None) (loader_codes L n x) refl loader_none))))
+      (none_append (body_typed merged) (start L K few typing) phases (loader ++ last ∷ []) (phases_none L K few typing)
+      (none_append (body_typed merged) at loader (last ∷ []) (with_either L (λ l. first_in (find L K few) at l ≡ None) (loader_codes L n x) refl loader_none)
+      (both_none (find L K few (at + length loader) last) None (entry_none L K few typing) refl))))

@@ -1,4 +1,6 @@
 -- What is so of the merged module of a linked set.
+-- Part of the statement of laws: docs/LAWS.md, "It does what the set does", "It asks for no more
+-- than the set, and isn't long" and "Laws of the parts".
 use Rattle.std.specs.Prelude.{◌≡◌, ℕ, ◌+◌, ◌*◌, ◌≤◌, ◌<◌, ◌^◌, List, [], ◌∷◌, length, map, Contains, Ok}
 use Rattle.std.specs.List.{All}
 use Rattle.spec_reading.specs.wasm_form.declared.types.FuncType.{FuncType}

@@ -1,4 +1,5 @@
 -- The module that is written for a linked set, part by part.
+-- This profile: docs/FORMATS.md, "What merge writes".
 use Rattle.std.specs.Prelude.{ℕ, ◌+◌, ◌*◌, true, false, List, [], ◌∷◌, ◌++◌, length, map, replicate, slice_get, nat_eq, Bool, Option, Some, None, unwrap_or, if◌then◌else◌}
 use Rattle.std.specs.Int.{cast_signed, w64}
 use Rattle.std.specs.List.{flat_map, find, list_any, position_or_len, range_with_len}
@@ -158,9 +159,9 @@ loader_funcs L =
     ++ unary_number L ∷ (replicate (length L.set.members) (search_number L)
     ++ binary_number L ∷ binary_number L ∷ unary_number L ∷ handle_number L ∷ [])
 
--- the four phases of each member, and the entry function, and those of the loader
+-- the four phases of each member, those of the loader, and the entry function
 abbrev pub generated_types : LinkedSet → List ℕ
-generated_types L = replicate (4 * length L.set.members + 1) (nullary_number L) ++ with_loader L (loader_funcs L)
+generated_types L = replicate (4 * length L.set.members) (nullary_number L) ++ (with_loader L (loader_funcs L) ++ nullary_number L ∷ [])
 
 abbrev pub merged_funcs : LinkedSet → Numbers → List ℕ
 merged_funcs L n = of_members L (λ m wasm. map (n.ty m) wasm.funcs) ++ (of_members L (stub_types L n) ++ generated_types L)
@@ -207,7 +208,8 @@ abbrev pub merged_codes : LinkedSet → Numbers → Starts → List Code
 merged_codes L n x =
     of_members L (λ m wasm. map (renumbered_code n m) wasm.codes)
     ++ (of_members L (stub_codes L)
-    ++ (of_members L (phase_codes L n x) ++ plain_code (entry_code L n x) ∷ with_loader L (loader_codes L n x)))
+    ++ (of_members L (phase_codes L n x)
+    ++ (with_loader L (loader_codes L n x) ++ plain_code (entry_code L n x) ∷ [])))
 
 -- ---- tables
 

@@ -1,6 +1,7 @@
 -- What a module is that merges a linked set: it stands for the set, and it has the shape of what is written for one. None of it is about how
 -- the module is made.
-use Rattle.std.specs.Prelude.{◌≡◌, ℕ, List, [], ◌∷◌, map, slice_get, Option, Some, None, Ok, IsTrue, codes}
+-- This profile: docs/FORMATS.md, "What merge writes".
+use Rattle.std.specs.Prelude.{◌≡◌, ℕ, List, [], ◌∷◌, map, slice_get, Option, Some, None, Ok, IsTrue}
 use Rattle.spec_reading.specs.wasm_form.declared.types.ValType.TheVariants.{FuncRef}
 use Rattle.spec_reading.specs.wasm_form.declared.types.FuncType.{FuncType}
 use Rattle.spec_reading.specs.wasm_form.declared.types.Limits.{Limits}
@@ -8,11 +9,10 @@ use Rattle.spec_reading.specs.wasm_form.declared.types.TableType.{TableType}
 use Rattle.spec_reading.specs.wasm_form.declared.module.ImportDesc.{ImportDesc}
 use Rattle.spec_reading.specs.wasm_form.declared.module.ImportDesc.TheVariants as imported
 use Rattle.spec_reading.specs.wasm_form.declared.module.Import.{Import}
-use Rattle.spec_reading.specs.wasm_form.declared.module.ExportDesc.TheVariants as exported
-use Rattle.spec_reading.specs.wasm_form.declared.module.Export.{Export}
 use Rattle.spec_reading.specs.wasm_form.declared.module.Module.{Module}
 use Rattle.spec_reading.specs.spec_binary.Options.{◌>>=◌}
 use Rattle.spec_reading.specs.spec_binary.Indices.{function_type, nullary}
+pub use Rattle.spec_merging.specs.Exports.{entry_exports}
 use Rattle.spec_loading.specs.spec_runs.Agreement.{Agree}
 use Rattle.spec_loading.specs.spec_runs.Costs.{AgreeWithin}
 use Rattle.spec_loading.specs.spec_runtime.Names.{HostName}
@@ -43,10 +43,6 @@ shared_table_type L = record { elem = FuncRef; limits = record { min = table_ent
 
 abbrev pub shared_memory_type : LinkedSet → Limits
 shared_memory_type L = record { min = (linked_plan L).pages; max = Some (linked_plan L).pages_max }
-
--- the entry function and the memory
-abbrev pub entry_exports : ℕ → List Export
-entry_exports entry = record { name = codes "_start"; desc = exported.Func entry } ∷ record { name = codes "memory"; desc = exported.Space 0 } ∷ []
 
 -- the type that the module has for an imported function; what is no function has none
 abbrev pub imported_type : Module → ImportDesc → Option FuncType

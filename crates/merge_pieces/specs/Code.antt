@@ -1,4 +1,5 @@
 -- The code that opens members, and their guards, by numbers alone.
+-- This profile: docs/FORMATS.md, "What merge writes".
 use Rattle.std.specs.Prelude.{ℕ, All, ◌+◌, ◌*◌, ◌<◌, ◌^◌, List, [], ◌∷◌, ◌++◌, map, None}
 use Rattle.std.specs.Int.{cast_signed, w32}
 use Rattle.wasm_form.specs.declared.instr.BlockType.TheVariants.{Empty}

@@ -1,4 +1,5 @@
 -- The numbers that addresses get, and those of members, in lists.
+-- This profile: docs/FORMATS.md, "What merge writes".
 use Rattle.std.specs.Prelude.{ℕ, List, slice_get, Option, Some, None}
 use Rattle.spec_binary.specs.Options.{◌>>=◌}
 

@@ -1,4 +1,5 @@
 -- Runs of pieces of code in a module: how many steps they make, and how deep the call stack is on the way.
+-- Part of the statement of laws: docs/LAWS.md, "Laws of the parts".
 use Rattle.std.specs.Prelude.{◌≡◌, ℕ, ◌<◌, ◌≤◌, length, Some}
 use Rattle.wasm_form.specs.declared.module.Module.{Module}
 use Rattle.spec_execution.specs.spec_runs.Systems.{Moving}

@@ -1,6 +1,7 @@
 // The code that opens members, and their guards.
 ghost use Rattle.std.specs.Prelude.{◌≡◌, ◌+◌, ◌<◌, ◌^◌, ◌++◌, IfOk, OnOk};
 ghost use Rattle.merge_pieces.specs.Code.{number, guarded, phase_calls, phases_code, opening_code, AreFew};
+ghost use Rattle.merge_pieces.specs.Guards.{GuardsWithin};
 
 use crate::opcodes;
 use std::alloc::Global;
@@ -14,7 +15,8 @@ pub fn number(k: u32) -> Instr
 }
 
 /// The work of a stage of member m, which is done once: where the member's guard is below the stage it is raised to it, and then the work is
-/// done. The guards are globals from a number on, one for each member. `Memory` where no memory could be had.
+/// done. The guards are globals from a number on, one for each member. Five steps lead over it, or six to the work. `Memory` where no memory
+/// could be had.
 #[tactic(auto, unfolding(crate::specs::Code::guarded))]
 pub fn guarded(
     alloc: Global,
@@ -25,7 +27,8 @@ pub fn guarded(
 ) -> Result<Vec<Instr>, Memory>
     requires few { m < 2 ^ 16 }
     requires guards { guards < 2 ^ 31 }
-    ensures { IfOk result (λ x. x.items ≡ guarded (guards + m) stage work.items) }
+    ensures code { IfOk result (λ x. x.items ≡ guarded (guards + m) stage work.items) }
+    ensures steps { IfOk result (λ x. GuardsWithin (guards + m) stage work.items x.items) }
 {
     let guard = guards + m;
     let mut work = work;

@@ -1,4 +1,5 @@
 -- What is so of a merged module with the generated code beside the set.
+-- Part of the statement of laws: docs/LAWS.md, "Laws of the parts".
 use Rattle.std.specs.Prelude.{◌≡◌, ℕ, ◌+◌, ◌*◌, ◌<◌, ◌≤◌, List, [], ◌∷◌, length, Option, Some, false}
 use Rattle.wasm_form.specs.declared.instr.Instr.{Instr, Index}
 use Rattle.wasm_form.specs.declared.module.Module.{Module}

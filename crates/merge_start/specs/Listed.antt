@@ -1,4 +1,5 @@
 -- The numbers that generated code names, as lists, and what is made by them.
+-- Serves the contracts of this crate, which follow Words of `merge_start`.
 use Rattle.std.specs.Prelude.{◌≡◌, ℕ, ◌+◌, ◌-◌, ◌*◌, ◌<◌, ◌^◌, List, [], ◌∷◌, ◌++◌, length, slice_get, nat_lt, Option, Some, option_map, if◌then◌else◌}
 use Rattle.wasm_form.specs.declared.types.ValType.{ValType}
 use Rattle.wasm_form.specs.declared.types.ValType.TheVariants.{I32}

@@ -1,4 +1,5 @@
 -- The members' segments in a merged module: code applies them, so none is active, and the functions in them have the module's numbers.
+-- This profile: docs/FORMATS.md, "What merge writes".
 use Rattle.std.specs.Prelude.{◌≡◌, ◌<◌, ℕ, All, List, [], ◌∷◌, ◌++◌, length, map, Some}
 use Rattle.wasm_form.specs.declared.instr.Instr.{Instr, out-Instr}
 use Rattle.wasm_form.specs.declared.instr.Instr.TheOpen as Open

@@ -1,4 +1,5 @@
 -- The points of generated code that stand for the loader's frames.
+-- Part of the statement of `snap`: Snapshots of `snap_set`.
 use Rattle.std.specs.Prelude.{◌≡◌, ℕ, ◌+◌, List, [], ◌∷◌, ◌++◌, length, None, true}
 use Rattle.wasm_form.specs.declared.instr.Instr.{Instr, Plain}
 use Rattle.spec_loading.specs.spec_execution.Activations.{Activation}

@@ -1,4 +1,5 @@
 -- What a merged module must have for its code to do the loader's work, and what is the same of the loader's state.
+-- Part of the statement of `snap`: Snapshots of `snap_set`.
 use Rattle.std.specs.Prelude.{◌≡◌, ℕ, ◌+◌, ◌<◌, ◌≤◌, ◌^◌, List, [], ◌∷◌, ◌++◌, length, map, nat_eq, Option, Some, None, slice_get, unwrap_or, true, false}
 use Rattle.std.specs.List.{All, IsDistinct, position_from}
 use Rattle.wasm_form.specs.declared.module.Module.{Module}

@@ -1,4 +1,5 @@
 -- The code that a merged module has for the loader's work: the phases of each member, and what goes through them.
+-- This profile: docs/FORMATS.md, "What merge writes".
 use Rattle.std.specs.Prelude.{ℕ, ◌+◌, List, [], ◌∷◌, ◌++◌, length, Option, Some, None, option_map}
 use Rattle.wasm_form.specs.declared.types.ValType.TheVariants.{I32}
 use Rattle.wasm_form.specs.declared.instr.BlockType.TheVariants.{Empty}

@@ -27,10 +27,10 @@ from_same : {X : Type 0} (of other : ℕ → Module → List X) → ((m : ℕ) (
 from_same of other same m [] = refl
 from_same of other same m (x ∷ xs) = ap₂ (λ a b. a ++ b) (same m x.wasm) (from_same of other same (m + 1) xs)
 
-four_are : (t m : ℕ) (xs : List Member) → from_members (four_of t) m xs ++ t ∷ [] ≡ replicate (4 * length xs + 1) t
+four_are : (t m : ℕ) (xs : List Member) → from_members (four_of t) m xs ≡ replicate (4 * length xs) t
 four_are t m [] = refl
 four_are t m (x ∷ xs) =
-    let e : 4 * length (x ∷ xs) + 1 ≡ suc (suc (suc (suc (4 * length xs + 1)))) = omega arith in
+    let e : 4 * length (x ∷ xs) ≡ suc (suc (suc (suc (4 * length xs)))) = omega arith in
     rw e (ap (λ l. t ∷ t ∷ t ∷ t ∷ l) (four_are t (m + 1) xs))
 
 ones_are : (t m : ℕ) (xs : List Member) → from_members (one_of t) m xs ≡ replicate (length xs) t
@@ -117,16 +117,16 @@ used_put L n x loader d is has to all put =
 -- and those of all that is generated
 pub generated_put : (L : LinkedSet) (n : Numbers) (x : Starts) (phases : List Part) (entry : Code)
     → phases ≡ from_members (phase_parts L n x) 0 L.set.members → entry ≡ plain_code (entry_code L n x) → (old one two all : List Code)
-    → one ≡ old ++ map code_of phases → two ≡ one ++ entry ∷ [] → all ≡ two ++ with_loader L (loader_codes L n x)
+    → one ≡ old ++ map code_of phases → two ≡ one ++ with_loader L (loader_codes L n x) → all ≡ two ++ entry ∷ []
     → all ≡ old ++ generated_codes L n x
 generated_put L n x phases entry p e old one two all a b c =
     let phasing = from_members (phase_codes L n x) 0 L.set.members in
     let loading = with_loader L (loader_codes L n x) in
     let first : one ≡ old ++ phasing = a ∙ ap (λ l. old ++ l) (ap (map code_of) p ∙ phases_are L n x) in
     c
-    ∙ ap (λ l. l ++ loading) (b ∙ ap₂ (λ u v. u ++ v ∷ []) first e)
-    ∙ append_assoc (old ++ phasing) (plain_code (entry_code L n x) ∷ []) loading
-    ∙ append_assoc old phasing (plain_code (entry_code L n x) ∷ loading)
+    ∙ ap₂ (λ u v. u ++ v ∷ []) (b ∙ ap (λ l. l ++ loading) first) e
+    ∙ append_assoc (old ++ phasing) loading (plain_code (entry_code L n x) ∷ [])
+    ∙ append_assoc old phasing (loading ++ plain_code (entry_code L n x) ∷ [])
 
 -- ---- a set
 
@@ -165,9 +165,7 @@ module _ (L : LinkedSet) where
   generated_funcs_are : generated_funcs_in L ≡ generated_types L
   generated_funcs_are =
       let t = nullary_number L in
-      let more = funcs_for_loader t L.set.members in
-      sym (append_assoc (from_members (four_of t) 0 L.set.members) (t ∷ []) (with_loader L more))
-      ∙ ap₂ (λ (a b : List ℕ). a ++ b) (four_are t 0 L.set.members) (ap (with_loader L) loader_funcs_are)
+      ap₂ (λ (a b : List ℕ). a ++ (b ++ t ∷ [])) (four_are t 0 L.set.members) (ap (with_loader L) loader_funcs_are)
 
   pub funcs_are : (n : Numbers) → funcs_in L n ≡ merged_funcs L n
   funcs_are n =

@@ -15,14 +15,14 @@ use Rattle.spec_loading.specs.spec_linking.LinkedSets.{LinkedSet}
 use Rattle.spec_loading.specs.declared.task.Phase.TheVariants.{Place}
 use Rattle.merge_start.specs.declared.numbers.StartNumbers.{StartNumbers}
 use Rattle.merge_start.specs.Listed.{AreListed}
-use Rattle.merge_index.specs.Numbering.{first_phase, numbers_of, starts_of}
+use Rattle.merge_index.specs.Numbering.{first_phase, loader_size, numbers_of, starts_of}
 use Rattle.merge_module.specs.MergedModule.{merged_types, merged_imports, merged_funcs, merged_tables, shared_memory_type, merged_globals, entry_exports, merged_elems, merged_codes, merged_datas, merged_module}
 
 pub starting_is : (L : LinkedSet) (s : StartNumbers) → AreListed L s (numbers_of L) (starts_of L) → (n : ℕ)
-    → n ≡ s.first_function + 4 * length L.set.members → n ≡ (starts_of L).starting
+    → n ≡ s.first_function + 4 * length L.set.members + loader_size L → n ≡ (starts_of L).starting
 starting_is L s listed n is =
     let same : first_phase L + 4 * 0 + (1 - 1) ≡ s.first_function + 4 * 0 + (1 - 1) = listed.phases 0 Place in
-    let e : n ≡ first_phase L + 4 * length L.set.members = omega arith in
+    let e : n ≡ first_phase L + 4 * length L.set.members + loader_size L = omega arith in
     e
 
 abbrev made : List FuncType → List Import → List ℕ → List TableType → List Limits → List GlobalDef → List Export → List Elem → ℕ → List Code

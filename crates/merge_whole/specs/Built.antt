@@ -1,4 +1,5 @@
 -- The parts of the merged module, as they are put together.
+-- Serves the contracts of this crate, which follow MergedModule of `merge_module`.
 use Rattle.std.specs.Prelude.{◌≡◌, ℕ, ◌+◌, List, [], ◌∷◌, ◌++◌, map, slice_get, if◌then◌else◌}
 use Rattle.wasm_form.specs.declared.types.FuncType.{FuncType}
 use Rattle.wasm_form.specs.declared.types.TableType.{TableType}
@@ -70,11 +71,12 @@ funcs_for_loader t members =
     from_members (one_of (t + 1)) 0 members
     ++ (t + 2) ∷ (from_members (one_of (t + 4)) 0 members ++ (t + 3) ∷ (t + 3) ∷ (t + 2) ∷ (t + 1) ∷ [])
 
--- those of the phases of each member, of the entry function, and of the loader
+-- those of the phases of each member, of the loader, and of the entry function
 abbrev pub generated_funcs_in : LinkedSet → List ℕ
 generated_funcs_in L =
     let members = L.set.members in
-    from_members (four_of (nullary_number L)) 0 members ++ nullary_number L ∷ with_loader L (funcs_for_loader (nullary_number L) members)
+    let t = nullary_number L in
+    from_members (four_of t) 0 members ++ (with_loader L (funcs_for_loader t members) ++ t ∷ [])
 
 abbrev pub funcs_in : LinkedSet → Numbers → List ℕ
 funcs_in L n =
@@ -99,7 +101,7 @@ code_of part = part.code
 -- those of what is generated
 abbrev pub generated_codes : LinkedSet → Numbers → Starts → List Code
 generated_codes L n x =
-    from_members (phase_codes L n x) 0 L.set.members ++ plain_code (entry_code L n x) ∷ with_loader L (loader_codes L n x)
+    from_members (phase_codes L n x) 0 L.set.members ++ (with_loader L (loader_codes L n x) ++ plain_code (entry_code L n x) ∷ [])
 
 -- ---- tables
 

@@ -1,4 +1,5 @@
 -- How much there is of a linked set, and the lists of the numbers that generated code names.
+-- Serves the contracts of this crate, which follow Listed of `merge_start`.
 use Rattle.std.specs.Prelude.{ℕ, ◌+◌, List, [], ◌∷◌, length, map, Option, None, option_map, unwrap_or}
 use Rattle.std.specs.List.{range_with_len}
 use Rattle.wasm_form.specs.declared.module.Module.{Module}

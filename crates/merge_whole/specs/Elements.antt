@@ -1,4 +1,5 @@
 -- What exports name, by the numbers of a merged module.
+-- Serves the contracts of this crate, which follow MergedModule of `merge_module`.
 use Rattle.std.specs.Prelude.{ℕ, List, map}
 use Rattle.wasm_form.specs.declared.module.Export.{Export}
 use Rattle.wasm_form.specs.declared.module.Module.{Module}

@@ -1,4 +1,5 @@
 -- The globals of the merged module of a set, as they are put together.
+-- Serves the contracts of this crate, which follow MergedModule of `merge_module`.
 use Rattle.std.specs.Prelude.{ℕ, ◌+◌, ◌<◌, ◌^◌, All, true, false, List, [], ◌∷◌, ◌++◌, length, map, Option, unwrap_or}
 use Rattle.wasm_form.specs.declared.types.ValType.{ValType}
 use Rattle.wasm_form.specs.declared.types.ValType.TheVariants.{I64}

@@ -1,4 +1,5 @@
 -- The types of host functions: which numbers imported functions give them, and where types are added.
+-- Serves the contracts of this crate, which follow MergedModule of `merge_module`.
 use Rattle.std.specs.Prelude.{ℕ, ◌+◌, List, [], ◌∷◌, nat_eq, slice_index_or, Option, Some, None, if◌then◌else◌}
 use Rattle.wasm_form.specs.declared.types.FuncType.{FuncType}
 use Rattle.wasm_form.specs.declared.runtime.Ref.{Ref}

@@ -1,4 +1,5 @@
 -- What it is that bytes merge a linked set in the form that is written here, how much there is of a set, and when a section is too long.
+-- This profile: docs/FORMATS.md, "What merge writes" and "How long it is".
 use Rattle.std.specs.Prelude.{ℕ, ◌+◌, ◌*◌, ◌≤◌, ◌^◌, List, length, map, sum_by, Ok}
 use Rattle.spec_reading.specs.spec_binary.Number.{IsShortest}
 use Rattle.spec_reading.specs.spec_binary.Modules.{SpellsModule}
@@ -21,7 +22,7 @@ most_bytes L =
     352 * total_size L.set.members + 80 * sum_by (λ (m : Member). length m.name) L.set.members + 96912 * length L.set.members
     + 16 * table_entries L + 16 * types_bulk (map (λ (h : HostName). h.ty) (hosts_of L)) + 6320
 
--- no bytes that spell the merged module of the set are shorter
+-- The bytes are the shortest that spell the merged module of the set. Of these there is one list: the same set has the same bytes each time.
 abbrev pub AreShortestFor : LinkedSet → List ℕ → Type 0
 AreShortestFor L bytes = IsShortest (SpellsModule (merged_module L)) bytes
 

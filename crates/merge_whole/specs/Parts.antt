@@ -1,4 +1,5 @@
 -- What is made for a linked set: its merged module, and the numbers of what the module has.
+-- Serves the contracts of this crate, which follow MergedModule of `merge_module`.
 use Rattle.std.specs.Prelude.{◌≡◌, ℕ, Some}
 use Rattle.spec_loading.specs.spec_linking.LinkedSets.{LinkedSet}
 use Rattle.spec_loading.specs.spec_linking.Links.{set_entry}

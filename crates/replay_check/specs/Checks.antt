@@ -1,4 +1,5 @@
 -- What checking a trace answers, and what it is to make one.
+-- Serves the contracts of this crate, which follow Traces of `spec_traces`.
 use Rattle.std.specs.Prelude.{◌≡◌, ◌≤◌, ◌<◌, ℕ, Result, Ok, Err}
 use Rattle.spec_traces.specs.spec_hosts.spec_runtime.Courses.{Course, no_steps}
 use Rattle.spec_traces.specs.spec_hosts.declared.ran.Ran.{Ran}
@@ -49,7 +50,7 @@ Loads p (Err why) = IsUnloaded p why
 
 -- ---- checking a trace
 
--- The answer of checking a trace of at most so many steps.
+-- The answer of checking a trace of at most so many steps. Memory is wanting only where it has no more of them.
 abbrev pub Checks : Program → Trace → ℕ → Result (Unit {0}) TraceFault → Type 0
 Checks p t most (Ok done) = (t.steps ≤ most) × (o : Origin) × IsOpened p o × Traces (course_of o) t
 Checks p t most (Err (fault.Line line)) = ⊥
@@ -57,7 +58,7 @@ Checks p t most (Err fault.Steps) = most < t.steps
 Checks p t most (Err (fault.Single why)) = (t.steps ≤ most) × IsRefused p why
 Checks p t most (Err (fault.Differs call)) =
     (t.steps ≤ most) × (o : Origin) × IsOpened p o × IsAgreeing (course_of o) t call × (Traces (course_of o) t → ⊥)
-Checks p t most (Err fault.Memory) = Unit {0}
+Checks p t most (Err fault.Memory) = t.steps ≤ most
 
 -- ---- making a trace
 

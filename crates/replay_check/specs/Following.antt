@@ -1,4 +1,5 @@
 -- A run that follows a trace: what is kept of it between its steps.
+-- Serves the contracts of this crate, which follow Traces of `spec_traces`.
 use Rattle.std.specs.Prelude.{◌≡◌, ◌≤◌, ◌<◌, ◌⊎◌, ℕ, length, map, sum, take, drop, slice_get, Bool, true, false, Option, Some, None, if◌then◌else◌}
 use Rattle.spec_traces.specs.spec_hosts.wasm_form.declared.runtime.Trap.{Trap}
 use Rattle.spec_traces.specs.spec_hosts.wasm_form.declared.runtime.Asked.{Asked}

@@ -1,4 +1,6 @@
 -- What is so of the calls in which a run agrees with a trace, and of the traces of one run.
+-- Part of the statement of laws: docs/LAWS.md, "A run has one trace" and "A run agrees with a trace
+-- up to one call".
 use Rattle.std.specs.Prelude.{◌≡◌, ℕ, length}
 use Rattle.spec_traces.specs.spec_hosts.declared.ran.Ran.{Ran}
 use Rattle.spec_traces.specs.declared.trace.Trace.{Trace}

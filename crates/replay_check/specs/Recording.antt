@@ -1,4 +1,5 @@
 -- A run that is made again over the answers of another, whose host calls are noted.
+-- Serves the contracts of this crate, which follow Traces of `spec_traces`.
 use Rattle.std.specs.Prelude.{◌≡◌, ◌≤◌, ◌<◌, ◌^◌, ℕ, List, ◌++◌, map, slice_get, Option, Some, false}
 use Rattle.std.specs.List.{All}
 use Rattle.spec_traces.specs.spec_hosts.wasm_form.declared.runtime.Trap.{Trap}

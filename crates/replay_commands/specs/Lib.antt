@@ -1,1 +1,3 @@
 pub mod Tracing
+pub mod Written
+pub mod Laws

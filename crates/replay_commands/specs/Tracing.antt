@@ -1,5 +1,6 @@
 -- What comes of `trace` and `replay`, step by step.
 -- Cited by no clause of `serve`: what the parts of both promise.
+-- Serves the contracts of this crate, which follow Traced of `dyl_commands`.
 use Rattle.std.specs.Prelude.{◌≡◌, ◌⊎◌, ◌<◌, ◌≤◌, ◌^◌, ℕ, List, [], length, Bool, false, Some, IsSomeAnd, IfOk, IfErr, OnOk, Result, Ok, Err}
 use Rattle.std.specs.Option.{ForSome}
 use Rattle.std.specs.FinMap.{get, insert}

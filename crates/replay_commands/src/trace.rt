@@ -9,6 +9,7 @@ ghost use Rattle.dyl_commands.specs.Counts.{StoresFor, Counts};
 ghost use Rattle.dyl_commands.specs.Served.{Serves, StoreCounts, BeginsAsModule};
 ghost use Rattle.dyl_commands.specs.Clauses.{TraceWorksBy};
 ghost use Rattle.replay_commands.specs.Tracing.{WasMade, IsTextFor, StoresText, StoresTrace, SetTraces, ModuleTraces};
+ghost use Rattle.replay_commands.specs.Written.{TraceWrites};
 
 use dyl_commands::{
     MOST_RUN, exec_module, linked_set, read_module, refused, run_linked, store_output,
@@ -127,6 +128,7 @@ fn trace_set<F: Files, I: Source, O: Sink, E: Sink, A: Ambient>(
     ensures counts { Counts (Ok (Order.Trace false set.now link.now steps out.now args.now)) result (F.seen files.old) (F.seen files.new) }
     ensures done { is_done result ≡ false }
     ensures works { TraceWorksBy host.now (F.seen files.old) false set.now link.now steps out.now args.now result (I.seen input.old) (O.seen output.old) (E.seen errors.old) (A.seen ambient.old) (I.seen input.new) (O.seen output.new) (E.seen errors.new) (A.seen ambient.new) }
+    ensures writes { TraceWrites host.now (F.seen files.old) false set.now link.now steps out.now args.now result (F.seen files.new) (I.seen input.old) (O.seen output.old) (E.seen errors.old) (A.seen ambient.old) (I.seen input.new) (O.seen output.new) (E.seen errors.new) (A.seen ambient.new) }
 {
     match linked_set(alloc, set, link, files, host) {
         Ok(linked) => {
@@ -212,6 +214,7 @@ fn trace_file<F: Files, I: Source, O: Sink, E: Sink, A: Ambient>(
     ensures counts { Counts (Ok (Order.Trace true set.now link.now steps out.now args.now)) result (F.seen files.old) (F.seen files.new) }
     ensures done { is_done result ≡ false }
     ensures works { TraceWorksBy host.now (F.seen files.old) true set.now link.now steps out.now args.now result (I.seen input.old) (O.seen output.old) (E.seen errors.old) (A.seen ambient.old) (I.seen input.new) (O.seen output.new) (E.seen errors.new) (A.seen ambient.new) }
+    ensures writes { TraceWrites host.now (F.seen files.old) true set.now link.now steps out.now args.now result (F.seen files.new) (I.seen input.old) (O.seen output.old) (E.seen errors.old) (A.seen ambient.old) (I.seen input.new) (O.seen output.new) (E.seen errors.new) (A.seen ambient.new) }
 {
     match read_module(alloc, set.main.as_str(), files) {
         Ok(checked) => {
@@ -248,6 +251,7 @@ pub fn trace_main<F: Files, I: Source, O: Sink, E: Sink, A: Ambient>(
     ensures counts { Counts (Ok (Order.Trace one set.now link.now steps out.now args.now)) result (F.seen files.old) (F.seen files.new) }
     ensures done { is_done result ≡ false }
     ensures works { TraceWorksBy host.now (F.seen files.old) one set.now link.now steps out.now args.now result (I.seen input.old) (O.seen output.old) (E.seen errors.old) (A.seen ambient.old) (I.seen input.new) (O.seen output.new) (E.seen errors.new) (A.seen ambient.new) }
+    ensures writes { TraceWrites host.now (F.seen files.old) one set.now link.now steps out.now args.now result (F.seen files.new) (I.seen input.old) (O.seen output.old) (E.seen errors.old) (A.seen ambient.old) (I.seen input.new) (O.seen output.new) (E.seen errors.new) (A.seen ambient.new) }
 {
     if one {
         trace_file(

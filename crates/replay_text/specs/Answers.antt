@@ -1,4 +1,5 @@
 -- What printing and reading the text of a trace answer.
+-- Serves the contracts of this crate, which follow Texts of `spec_traces`.
 use Rattle.std.specs.Prelude.{ℕ, List, Result, Ok, Err}
 use Rattle.spec_traces.specs.declared.trace.Trace.{Trace}
 use Rattle.spec_traces.specs.declared.trace.TraceFault.{TraceFault}

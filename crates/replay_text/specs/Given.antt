@@ -1,4 +1,5 @@
 -- What a reader of a part of a line returns.
+-- Serves the contracts of this crate, which follow Texts of `spec_traces`.
 use Rattle.std.specs.Prelude.{◌≡◌, Option, Some, None, Result, Ok, Err}
 use Rattle.replay_text.specs.declared.unread.Unread.{Unread}
 use Rattle.replay_text.specs.declared.unread.Unread.TheVariants as unread

@@ -1,4 +1,5 @@
 -- How a trace is read, line by line.
+-- Serves the contracts of this crate, which follow Texts of `spec_traces`.
 use Rattle.std.specs.Prelude.{◌≡◌, ◌+◌, ℕ, List, [], ◌∷◌, ◌++◌, length, Option, Some, None, Result, Ok, Err}
 use Rattle.spec_traces.specs.spec_hosts.spec_binary.Options.{◌>>=◌}
 use Rattle.spec_traces.specs.spec_hosts.wasm_form.declared.runtime.Answer.{Answer}

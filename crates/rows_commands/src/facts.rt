@@ -18,6 +18,7 @@ const KEYS: &[(&str, &str)] = &[
     ("order", ""),
     ("has", "*"),
     ("holds", "*"),
+    ("keeps", "*"),
     ("end", "*"),
     ("steps", "*"),
     ("answers", "*"),
@@ -43,7 +44,7 @@ fn put_other(
     came: &str,
     to: &mut String,
 ) -> Result<(), AllocError> {
-    if key == "has" || told == "*" || told == came {
+    if key == "has" || key == "keeps" || told == "*" || told == came {
         return Ok(());
     }
     to.push_str(&format!(in alloc; " {key} told {told} came {came};")?)
@@ -87,12 +88,18 @@ impl<'a> Facts<'a> {
         shown(alloc, &all)
     }
 
-    /// Appends each text that is told to stand in the output and doesn't.
-    fn seek(&self, alloc: Global, output: &str, to: &mut String) -> Result<(), AllocError> {
-        for (key, bytes) in &self.facts {
+    /// Appends each text that is told by a key to stand in what came and doesn't.
+    fn seek(
+        &self,
+        alloc: Global,
+        key: &str,
+        came: &str,
+        to: &mut String,
+    ) -> Result<(), AllocError> {
+        for (other, bytes) in &self.facts {
             let text = shown(alloc, bytes)?;
-            if *key == "has" && !output.contains(text.as_str()) {
-                to.push_str(&format!(in alloc; " has told {text} came {output};")?)?;
+            if *other == key && !came.contains(text.as_str()) {
+                to.push_str(&format!(in alloc; " {key} told {text} came {came};")?)?;
             }
         }
         Ok(())
@@ -111,7 +118,8 @@ impl<'a> Facts<'a> {
         put_other(alloc, key, told.as_str(), came, to)
     }
 
-    /// Appends one thing, if it is told otherwise than it came. Where texts are told to stand in the output, nothing else is told of that.
+    /// Appends one thing, if it is told otherwise than it came. Where texts are told to stand in the output or in what was written, nothing else
+    /// is told of that.
     fn compare_came(
         &self,
         alloc: Global,
@@ -121,10 +129,10 @@ impl<'a> Facts<'a> {
         to: &mut String,
     ) -> Result<(), AllocError> {
         let came = came.of(alloc, key, unnamed)?;
-        if key == "out" && self.names("has") {
-            self.seek(alloc, came.as_str(), to)
-        } else {
-            self.compare_one(alloc, key, unnamed, came.as_str(), to)
+        match key {
+            "out" if self.names("has") => self.seek(alloc, "has", came.as_str(), to),
+            "holds" if self.names("keeps") => self.seek(alloc, "keeps", came.as_str(), to),
+            _ => self.compare_one(alloc, key, unnamed, came.as_str(), to),
         }
     }
 

@@ -1,5 +1,6 @@
 // What a row's commands find.
 use dyl_outside::MemFiles;
+use rows_texts::Refused;
 use spec_binary::wasm_form::Memory;
 use std::alloc::{AllocError, Global};
 
@@ -11,20 +12,68 @@ pub struct Cut<'a> {
     pub most: usize,
 }
 
+/// What a command calls, and may be let fail.
+#[derive(Clone, Copy)]
+pub enum Device {
+    Files,
+    Input,
+    Output,
+    Errors,
+    Clock,
+}
+
 /// A row: what its commands find, and what is told otherwise than it came.
 #[derive(Drop)]
 pub struct Row<'a> {
     pub name: &'a str,
     pub files: Vec<(String, Vec<u8>)>,
     pub input: Vec<u8>,
-    pub clock: &'a str,
-    pub random: &'a str,
+    pub clock: Vec<u64>,
+    pub random: Vec<u64>,
     pub table: &'a str,
     pub picker: &'a str,
-    pub fails: Vec<&'a str>,
+    pub fails: Vec<(Device, u64)>,
     pub cut: Option<Cut<'a>>,
     pub counts_calls: bool,
     pub report: String,
+}
+
+/// The device with a name.
+fn device_named(name: &str) -> Result<Device, Refused> {
+    match name {
+        "files" => Ok(Device::Files),
+        "input" => Ok(Device::Input),
+        "output" => Ok(Device::Output),
+        "errors" => Ok(Device::Errors),
+        "clock" => Ok(Device::Clock),
+        _ => Err(Refused::Text),
+    }
+}
+
+/// The device and the number of a call that is to fail.
+pub fn failing(text: &str) -> Result<(Device, u64), Refused> {
+    let (name, call) = text.split_once(' ').unwrap_or((text, ""));
+    Ok((device_named(name)?, call.parse::<u64>()?))
+}
+
+/// A path, and how many bytes of its file are left at the least and at the most.
+pub fn cut_of(text: &str) -> Result<Cut<'_>, Refused> {
+    let (path, lengths) = text.split_once(' ').unwrap_or((text, ""));
+    let (least, most) = lengths.split_once(' ').unwrap_or((lengths, lengths));
+    Ok(Cut {
+        path,
+        least: least.parse::<usize>()?,
+        most: most.parse::<usize>()?,
+    })
+}
+
+/// The numbers of a text.
+pub fn numbers_of(alloc: Global, text: &str) -> Result<Vec<u64>, Refused> {
+    let mut numbers = Vec::new(alloc);
+    for word in text.split_ascii_whitespace() {
+        numbers.push(word.parse::<u64>()?)?;
+    }
+    Ok(numbers)
 }
 
 impl<'a> Row<'a> {
@@ -34,8 +83,8 @@ impl<'a> Row<'a> {
             name,
             files: Vec::new(alloc),
             input: Vec::new(alloc),
-            clock: "",
-            random: "",
+            clock: Vec::new(alloc),
+            random: Vec::new(alloc),
             table: "",
             picker: "",
             fails: Vec::new(alloc),
@@ -45,8 +94,7 @@ impl<'a> Row<'a> {
         }
     }
 
-    /// Reports that something isn't performed, since a word has no bytes, a name stands for nothing, or no memory could be
-    /// had.
+    /// Reports that something isn't performed, since it stands for nothing, or no memory could be had.
     pub fn refuse(&mut self, alloc: Global, text: &str) -> Result<(), AllocError> {
         let text = format!(in alloc; " {text} not performed;")?;
         self.report.push_str(&text)

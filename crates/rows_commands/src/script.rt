@@ -3,10 +3,9 @@ use crate::facts::{Facts, is_told};
 use crate::lines::note_line;
 use crate::orders::note_words;
 use crate::pickers::perform;
-use crate::row::{Cut, Row};
+use crate::row::{Cut, Row, cut_of, failing, numbers_of};
 use crate::world::add_generated;
-use rows_texts::{Module, Words, bytes_of, names_of, words_of};
-use spec_binary::wasm_form::Memory;
+use rows_texts::{Module, Refused, Words, bytes_of, is_part, names_of, words_of};
 use std::alloc::{AllocError, Global};
 
 /// How far a text has come: what words stand for, its modules, the row, a command with what is told of it, what is to
@@ -30,7 +29,7 @@ fn compare(
     line: &str,
     told: &Facts,
     row: &mut Row,
-) -> Result<(), Memory> {
+) -> Result<(), Refused> {
     let words = words_of(alloc, line)?;
     let mut came = Facts::new(alloc);
     row.counts_calls = told.names("calls");
@@ -43,7 +42,7 @@ fn compare(
 }
 
 /// What a command makes of a set, which is written as `out.wasm`.
-fn compare_made(alloc: Global, command: &str, options: &str, row: &mut Row) -> Result<(), Memory> {
+fn compare_made(alloc: Global, command: &str, options: &str, row: &mut Row) -> Result<(), Refused> {
     let made = format!(in alloc; "wdyl {command} {options} main.wasm out.wasm")?;
     let mut written = Facts::new(alloc);
     written.add("wrote", bytes_of(alloc, "out.wasm")?)?;
@@ -57,7 +56,7 @@ fn compare_both(
     options: &str,
     told: &Facts,
     row: &mut Row,
-) -> Result<(), Memory> {
+) -> Result<(), Refused> {
     let _ = row.changes(alloc, "out.wasm", Vec::new(alloc))?;
     let run = format!(in alloc; "wdyl run {options} main.wasm")?;
     compare(alloc, "run", &run, told, row)?;
@@ -72,7 +71,7 @@ fn perform_line(
     text: &str,
     told: &Facts,
     row: &mut Row,
-) -> Result<(), Memory> {
+) -> Result<(), Refused> {
     match key {
         "both" => compare_both(alloc, "merge", text, told, row),
         "snapped" => compare_both(alloc, "snap", text, told, row),
@@ -89,7 +88,7 @@ fn perform_cut(
     text: &str,
     told: &Facts,
     row: &mut Row,
-) -> Result<(), Memory> {
+) -> Result<(), Refused> {
     let kept = row.files.len();
     for length in cut.least..=cut.most {
         let reported = row.report.len();
@@ -104,17 +103,6 @@ fn perform_cut(
     Ok(())
 }
 
-/// A path, and how many bytes of its file are left at the least and at the most.
-fn cut_of(text: &str) -> Option<Cut<'_>> {
-    let (path, lengths) = text.split_once(' ')?;
-    let (least, most) = lengths.split_once(' ').unwrap_or((lengths, lengths));
-    Some(Cut {
-        path,
-        least: least.parse::<usize>().ok()?,
-        most: most.parse::<usize>().ok()?,
-    })
-}
-
 /// Adds files: a path, or more of one name, with a module, or a module at the path of its own name.
 fn add_files<'a>(
     alloc: Global,
@@ -122,7 +110,7 @@ fn add_files<'a>(
     modules: &[Module<'a>],
     row: &mut Row<'a>,
     word: &str,
-) -> Result<(), Memory> {
+) -> Result<(), Refused> {
     let (paths, name) = word.split_once('=').unwrap_or((word, word));
     let mut found = None;
     for other in modules {
@@ -131,7 +119,7 @@ fn add_files<'a>(
         }
     }
     let Some(module) = found else {
-        return Err(Memory);
+        return Err(Refused::Text);
     };
     let bytes = module.bytes(alloc, words)?;
     for path in names_of(alloc, paths)? {
@@ -145,7 +133,7 @@ fn begin_module<'a>(
     alloc: Global,
     modules: &mut Vec<Module<'a>>,
     text: &'a str,
-) -> Result<(), Memory> {
+) -> Result<(), Refused> {
     let (name, like) = text.split_once(" like ").unwrap_or((text, ""));
     let mut parts = Vec::new(alloc);
     for other in modules.iter() {
@@ -173,11 +161,14 @@ impl<'a> Script<'a> {
     }
 
     /// A part of the last module.
-    fn put_part(&mut self, key: &'a str, text: &'a str) -> Result<(), Memory> {
-        if let Some(last) = self.modules.last_mut() {
-            last.parts.push((key, text))?;
+    fn put_part(&mut self, key: &'a str, text: &'a str) -> Result<(), Refused> {
+        if !is_part(key) {
+            return Err(Refused::Text);
         }
-        Ok(())
+        match self.modules.last_mut() {
+            Some(last) => Ok(last.parts.push((key, text))?),
+            None => Err(Refused::Text),
+        }
     }
 
     /// Puts what is to be printed of the last row, if there was one.
@@ -198,7 +189,7 @@ impl<'a> Script<'a> {
     }
 
     /// Begins a row.
-    fn begin_row(&mut self, alloc: Global, text: &'a str) -> Result<(), Memory> {
+    fn begin_row(&mut self, alloc: Global, text: &'a str) -> Result<(), Refused> {
         self.end_row(alloc)?;
         let (name, _) = text.split_once(':').unwrap_or((text, ""));
         self.row = Row::new(alloc, name);
@@ -206,7 +197,7 @@ impl<'a> Script<'a> {
     }
 
     /// Performs the last command, if it isn't performed yet.
-    fn end_command(&mut self, alloc: Global) -> Result<(), Memory> {
+    fn end_command(&mut self, alloc: Global) -> Result<(), Refused> {
         let Some((key, text)) = self.command.take() else {
             return Ok(());
         };
@@ -222,7 +213,7 @@ impl<'a> Script<'a> {
     }
 
     /// Adds the files of each word.
-    fn add_each(&mut self, alloc: Global, text: &str) -> Result<(), Memory> {
+    fn add_each(&mut self, alloc: Global, text: &str) -> Result<(), Refused> {
         for word in text.split_ascii_whitespace() {
             add_files(alloc, &self.words, &self.modules, &mut self.row, word)?;
         }
@@ -230,19 +221,17 @@ impl<'a> Script<'a> {
     }
 
     /// A line that says what the commands of a row find, or a part of a module.
-    fn set(&mut self, alloc: Global, key: &'a str, text: &'a str) -> Result<(), Memory> {
+    fn set(&mut self, alloc: Global, key: &'a str, text: &'a str) -> Result<(), Refused> {
         match key {
             "files" => self.add_each(alloc, text)?,
-            "generated" => {
-                add_generated(alloc, text.parse::<u32>().unwrap_or(0), &mut self.row)?;
-            }
+            "generated" => add_generated(alloc, text.parse::<u32>()?, &mut self.row)?,
             "fails" if text == "nothing" => self.row.fails.clear(),
-            "fails" => self.row.fails.push(text)?,
-            "cut" => self.row.cut = cut_of(text),
+            "fails" => self.row.fails.push(failing(text)?)?,
+            "cut" => self.row.cut = Some(cut_of(text)?),
             "input" => self.row.input = bytes_of(alloc, text)?,
             "reads" => self.row.input = self.words.bytes(alloc, text)?,
-            "clock" => self.row.clock = text,
-            "random" => self.row.random = text,
+            "clock" => self.row.clock = numbers_of(alloc, text)?,
+            "random" => self.row.random = numbers_of(alloc, text)?,
             "table" => self.row.table = text,
             "picker" => self.row.picker = text,
             _ => self.put_part(key, text)?,
@@ -251,7 +240,7 @@ impl<'a> Script<'a> {
     }
 
     /// A line that isn't told of a command.
-    fn begin(&mut self, alloc: Global, key: &'a str, text: &'a str) -> Result<(), Memory> {
+    fn begin(&mut self, alloc: Global, key: &'a str, text: &'a str) -> Result<(), Refused> {
         self.end_command(alloc)?;
         match key {
             "word" => self.words.add(alloc, text),
@@ -272,14 +261,15 @@ impl<'a> Script<'a> {
     }
 
     /// A line.
-    fn read(&mut self, alloc: Global, line: &'a str) -> Result<(), Memory> {
+    fn read(&mut self, alloc: Global, line: &'a str) -> Result<(), Refused> {
         let line = line.trim_start();
         let (key, text) = line.split_once(' ').unwrap_or((line, ""));
         if key.is_empty() || key.starts_with('#') {
             return Ok(());
         }
         if is_told(key) && !self.begins_order(key) {
-            return self.told.add(key, bytes_of(alloc, text)?);
+            self.told.add(key, bytes_of(alloc, text)?)?;
+            return Ok(());
         }
         self.begin(alloc, key, text)
     }
@@ -288,7 +278,7 @@ impl<'a> Script<'a> {
     pub fn take(&mut self, alloc: Global, line: &'a str) -> Result<(), AllocError> {
         match self.read(alloc, line) {
             Ok(()) => Ok(()),
-            Err(Memory) => self.row.refuse(alloc, line),
+            Err(_) => self.row.refuse(alloc, line),
         }
     }
 

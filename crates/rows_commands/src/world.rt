@@ -1,14 +1,13 @@
 // Commands over what stands in memory.
 use crate::facts::Facts;
 use crate::hosts::{perform_doubling, perform_knocking};
-use crate::row::Row;
+use crate::row::{Device, Row};
 use dyl_app::{Outcome, Picker, Ran, RunEnd, serve, status};
 use dyl_gen::make;
 use dyl_outside::{
     Ambient, FileFault, Files, IoFault, MemAmbient, MemFiles, MemSink, MemSource, Sink, Source,
 };
 use host_table::HostTable;
-use rows_texts::words_of;
 use spec_binary::wasm_form::Memory;
 use std::alloc::{AllocError, Global};
 
@@ -22,20 +21,11 @@ struct World {
     ambient: MemAmbient,
 }
 
-/// The numbers of a text.
-fn numbers_of(alloc: Global, text: &str) -> Result<Vec<u64>, AllocError> {
-    let mut numbers = Vec::new(alloc);
-    for word in text.split_ascii_whitespace() {
-        numbers.push(word.parse::<u64>().unwrap_or(0))?;
-    }
-    Ok(numbers)
-}
-
 /// What a row says of input, clock and random words, with no files.
 fn world_of(alloc: Global, row: &Row) -> Result<World, Memory> {
     let input = row.input.clone()?;
-    let times = numbers_of(alloc, row.clock)?;
-    let words = numbers_of(alloc, row.random)?;
+    let times = row.clock.clone()?;
+    let words = row.random.clone()?;
     Ok(World {
         files: MemFiles::new(alloc),
         input: MemSource::new(alloc, input),
@@ -46,44 +36,37 @@ fn world_of(alloc: Global, row: &Row) -> Result<World, Memory> {
 }
 
 /// Lets a call of a device fail.
-fn let_fail(alloc: Global, world: &mut World, what: &str, call: u64) -> Result<(), Memory> {
-    match what {
-        "files" => world.files.fail_at(alloc, call),
-        "input" => world.input.fail_at(alloc, call),
-        "output" => world.output.fail_at(alloc, call),
-        "errors" => world.errors.fail_at(alloc, call),
-        "clock" => world.ambient.fail_at(alloc, call),
-        _ => Err(Memory),
+fn let_fail(alloc: Global, world: &mut World, device: Device, call: u64) -> Result<(), Memory> {
+    match device {
+        Device::Files => world.files.fail_at(alloc, call),
+        Device::Input => world.input.fail_at(alloc, call),
+        Device::Output => world.output.fail_at(alloc, call),
+        Device::Errors => world.errors.fail_at(alloc, call),
+        Device::Clock => world.ambient.fail_at(alloc, call),
     }
 }
 
-/// Lets the call fail that a text names.
-fn set_failing(alloc: Global, world: &mut World, text: &str) -> Result<(), Memory> {
-    let (what, number) = text.split_once(' ').unwrap_or((text, ""));
-    let_fail(alloc, world, what, number.parse::<u64>().unwrap_or(0))
-}
-
 /// Whether the next call of a device fails.
-fn is_failing(alloc: Global, world: &mut World, what: &str) -> bool {
-    match what {
-        "files" => matches!(world.files.fetch(alloc, "", 0), Err(FileFault::Failed)),
-        "input" => matches!(world.input.take(alloc, 1), Err(IoFault::Failed)),
-        "output" => matches!(world.output.put(alloc, b""), Err(IoFault::Failed)),
-        "errors" => matches!(world.errors.put(alloc, b""), Err(IoFault::Failed)),
-        _ => matches!(world.ambient.now(alloc), Err(IoFault::Failed)),
+fn is_failing(alloc: Global, world: &mut World, device: Device) -> bool {
+    match device {
+        Device::Files => matches!(world.files.fetch(alloc, "", 0), Err(FileFault::Failed)),
+        Device::Input => matches!(world.input.take(alloc, 1), Err(IoFault::Failed)),
+        Device::Output => matches!(world.output.put(alloc, b""), Err(IoFault::Failed)),
+        Device::Errors => matches!(world.errors.put(alloc, b""), Err(IoFault::Failed)),
+        Device::Clock => matches!(world.ambient.now(alloc), Err(IoFault::Failed)),
     }
 }
 
 /// How many calls were made of a device, of which no later one is to fail yet: before the call that comes so many calls later, those with
 /// numbers up to twice as many are let fail.
-fn calls_of(alloc: Global, world: &mut World, what: &str) -> Result<u64, Memory> {
-    let_fail(alloc, world, what, 0)?;
+fn calls_of(alloc: Global, world: &mut World, device: Device) -> Result<u64, Memory> {
+    let_fail(alloc, world, device, 0)?;
     for later in 0..100_000u64 {
-        if is_failing(alloc, world, what) {
+        if is_failing(alloc, world, device) {
             return Ok(later);
         }
-        let_fail(alloc, world, what, 2 * later + 1)?;
-        let_fail(alloc, world, what, 2 * later + 2)?;
+        let_fail(alloc, world, device, 2 * later + 1)?;
+        let_fail(alloc, world, device, 2 * later + 2)?;
     }
     Err(Memory)
 }
@@ -91,8 +74,14 @@ fn calls_of(alloc: Global, world: &mut World, what: &str) -> Result<u64, Memory>
 /// Notes how many calls were made of each device.
 fn note_calls(alloc: Global, world: &mut World, came: &mut Facts) -> Result<(), Memory> {
     let mut space = "";
-    for what in ["files", "input", "output", "errors", "clock"] {
-        let calls = calls_of(alloc, world, what)?;
+    for device in [
+        Device::Files,
+        Device::Input,
+        Device::Output,
+        Device::Errors,
+        Device::Clock,
+    ] {
+        let calls = calls_of(alloc, world, device)?;
         came.add("calls", format!(in alloc; "{space}{calls}")?.into_bytes())?;
         space = " ";
     }
@@ -217,7 +206,9 @@ fn note_written(
 
 /// Adds the files of a generated set.
 pub fn add_generated(alloc: Global, n: u32, row: &mut Row) -> Result<(), Memory> {
-    let mut paths = words_of(alloc, "m0.wasm e.so")?;
+    let mut paths = Vec::new(alloc);
+    paths.push(String::from_str(alloc, "m0.wasm")?)?;
+    paths.push(String::from_str(alloc, "e.so")?)?;
     for member in 1..=n.min(255) {
         paths.push(format!(in alloc; "m{member}.so")?)?;
     }
@@ -232,8 +223,8 @@ pub fn add_generated(alloc: Global, n: u32, row: &mut Row) -> Result<(), Memory>
 /// Adds the files of a row, and lets the calls fail that it names.
 fn set_up(alloc: Global, world: &mut World, row: &Row) -> Result<(), Memory> {
     row.put_files(alloc, &mut world.files)?;
-    for text in &row.fails {
-        set_failing(alloc, world, text)?;
+    for (device, call) in &row.fails {
+        let_fail(alloc, world, *device, *call)?;
     }
     Ok(())
 }

@@ -2,6 +2,7 @@
 use crate::code::hex;
 use dyl_gen::{GenFault, make};
 use dyl_outside::{Files, MemFiles};
+use rows_texts::Refused;
 use std::alloc::{AllocError, Global};
 
 // The bytes of the file at a path, if there is one.
@@ -13,16 +14,17 @@ fn of_path(alloc: Global, files: &mut MemFiles, path: &str) -> Result<String, Al
 }
 
 /// What the set of so many members has at a path: the number is told, and the path behind it, where `""` is the empty one.
-pub fn answer(alloc: Global, part: &str) -> Result<String, AllocError> {
+pub fn answer(alloc: Global, part: &str) -> Result<String, Refused> {
     let (members, path) = part.split_once(' ').unwrap_or((part, ""));
-    match make(alloc, members.parse::<u32>().unwrap_or(0)) {
+    let told = match make(alloc, members.parse::<u32>()?) {
         Ok(files) => {
             let mut files = files;
             let told = of_path(alloc, &mut files, path.trim_matches('"'));
             drop(files);
-            told
+            told?
         }
-        Err(GenFault::Range) => String::from_str(alloc, "out of range"),
-        Err(GenFault::Memory) => String::from_str(alloc, "out of memory"),
-    }
+        Err(GenFault::Range) => String::from_str(alloc, "out of range")?,
+        Err(GenFault::Memory) => String::from_str(alloc, "out of memory")?,
+    };
+    Ok(told)
 }

@@ -11,21 +11,41 @@ mod record;
 mod row;
 mod value;
 
-use code::words_in;
 use row::{judged, row_of};
+use rows_texts::Words;
 use std::io;
 
-fn main(rt: HostRuntime) -> io::Result<()> {
-    let text = io::read_to_string(rt.alloc(), rt.stdin())?;
-    let words = words_in(rt.alloc(), text.as_str())?;
-    let (_, rows) = text.as_str().split_once("\nrow ").unwrap_or(("", ""));
+// The words that lines of the text name. A line that can't be read is printed.
+fn words_in<'a>(rt: &HostRuntime, text: &'a str) -> io::Result<Words<'a>> {
+    let mut words = Words::new(rt.alloc());
+    for line in text.lines() {
+        if let Some(rest) = line.strip_prefix("word ") {
+            if words.add(rt.alloc(), rest).is_err() {
+                println!(rt; "{line} not performed")?;
+            }
+        }
+    }
+    Ok(words)
+}
+
+// Performs the rows, and prints a line of each.
+fn perform(rt: &HostRuntime, words: &Words, rows: &str) -> io::Result<()> {
     let mut count = 0u32;
     let mut wrong = 0u32;
     for row in rows.split("\nrow ") {
-        let (is_told, line) = judged(rt.alloc(), &words, &row_of(row))?;
+        let (is_told, line) = judged(rt.alloc(), words, &row_of(row))?;
         println!(rt; "{line}")?;
         count = count.saturating_add(1);
         wrong = wrong.saturating_add(u32::from(!is_told));
     }
     println!(rt; "{count} rows, {wrong} not as told")
+}
+
+fn main(rt: HostRuntime) -> io::Result<()> {
+    let text = io::read_to_string(rt.alloc(), rt.stdin())?;
+    let words = words_in(&rt, text.as_str())?;
+    let (_, rows) = text.as_str().split_once("\nrow ").unwrap_or(("", ""));
+    let performed = perform(&rt, &words, rows);
+    drop(words);
+    performed
 }

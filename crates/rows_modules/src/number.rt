@@ -2,9 +2,10 @@
 ghost use Rattle.std.specs.Prelude.{◌≤◌, ◌<◌, length};
 
 use crate::code::hex;
+use rows_texts::Refused;
 use std::alloc::{AllocError, Global};
 use std::fmt::Display;
-use wasm_form::{Memory, Trap};
+use wasm_form::Trap;
 use wasm_leb::{
     put_name, put_s32, put_s33, put_s64, put_u32, read_name, read_s32, read_s33, read_s64, read_u32,
 };
@@ -81,26 +82,38 @@ pub fn answer(alloc: Global, verb: &str, bytes: &[u8]) -> Result<String, AllocEr
     }
 }
 
+// Appends a number of the 33 bits that a block type has.
+fn put_block_type(alloc: Global, part: &str, to: &mut Vec<u8>) -> Result<(), Refused> {
+    let number = part.parse::<i64>()?;
+    if number < -4_294_967_296 || number >= 4_294_967_296 {
+        return Err(Refused::Text);
+    }
+    Ok(put_s33(alloc, to, number)?)
+}
+
+// Appends a name.
+fn put_name_of(alloc: Global, part: &str, to: &mut Vec<u8>) -> Result<(), Refused> {
+    if part.len() >= 4_294_967_296 {
+        return Err(Refused::Text);
+    }
+    Ok(put_name(alloc, to, part)?)
+}
+
 // Appends a number or a name.
-fn put(alloc: Global, verb: &str, part: &str, to: &mut Vec<u8>) -> Result<(), Memory> {
-    let number = part.parse::<i64>().unwrap_or(0);
+fn put(alloc: Global, verb: &str, part: &str, to: &mut Vec<u8>) -> Result<(), Refused> {
     match verb {
-        "put_u32" => put_u32(alloc, to, part.parse::<u32>().unwrap_or(0)),
-        "put_s32" => put_s32(alloc, to, part.parse::<i32>().unwrap_or(0)),
-        "put_s33" if number >= -4_294_967_296 && number < 4_294_967_296 => {
-            put_s33(alloc, to, number)
-        }
-        "put_s64" => put_s64(alloc, to, number),
-        "put_name" if part.len() < 4_294_967_296 => put_name(alloc, to, part),
-        _ => Ok(()),
+        "put_u32" => Ok(put_u32(alloc, to, part.parse::<u32>()?)?),
+        "put_s32" => Ok(put_s32(alloc, to, part.parse::<i32>()?)?),
+        "put_s33" => put_block_type(alloc, part, to),
+        "put_s64" => Ok(put_s64(alloc, to, part.parse::<i64>()?)?),
+        "put_name" => put_name_of(alloc, part, to),
+        _ => Err(Refused::Text),
     }
 }
 
 /// The bytes that spell a number or a name.
-pub fn written(alloc: Global, verb: &str, part: &str) -> Result<String, AllocError> {
+pub fn written(alloc: Global, verb: &str, part: &str) -> Result<String, Refused> {
     let mut bytes = Vec::new(alloc);
-    match put(alloc, verb, part, &mut bytes) {
-        Ok(()) => hex(alloc, &bytes),
-        Err(Memory) => String::from_str(alloc, "out of memory"),
-    }
+    put(alloc, verb, part, &mut bytes)?;
+    Ok(hex(alloc, &bytes)?)
 }

@@ -1,6 +1,7 @@
 // A row, and what comes of it.
-use crate::code::{Word, bytes_of, hex};
+use crate::code::hex;
 use crate::{file, module, number, value};
+use rows_texts::{Refused, Words};
 use std::alloc::{AllocError, Global};
 
 /// A row: its name, what is done, with what, and what is told to come of it.
@@ -49,30 +50,45 @@ fn of_bytes(alloc: Global, verb: &str, bytes: &[u8]) -> Result<String, AllocErro
     }
 }
 
-// What comes of a text that stands for bytes.
-fn of_code(alloc: Global, words: &[Word], verb: &str, code: &str) -> Result<String, AllocError> {
-    match bytes_of(alloc, words, code) {
-        Some(bytes) => of_bytes(alloc, verb, &bytes),
-        None => String::from_str(alloc, "a word that is not explained"),
+// The bytes of a text, if it stands for some.
+fn spelled(alloc: Global, words: &Words, verb: &str) -> Result<Option<Vec<u8>>, AllocError> {
+    match words.bytes(alloc, verb) {
+        Ok(bytes) => Ok(Some(bytes)),
+        Err(Refused::Text) => Ok(None),
+        Err(Refused::Memory) => Err(AllocError),
     }
 }
 
-// What comes of a part of a row. A verb that is explained is an operator.
-fn of_part(alloc: Global, words: &[Word], verb: &str, part: &str) -> Result<String, AllocError> {
-    match bytes_of(alloc, words, verb) {
-        Some(opcode) => number::computed(alloc, &opcode, part),
+// What comes of a part of a row. A verb that stands for bytes is an operator.
+fn of_part(alloc: Global, words: &Words, verb: &str, part: &str) -> Result<String, Refused> {
+    match spelled(alloc, words, verb)? {
+        Some(opcode) => Ok(number::computed(alloc, &opcode, part)?),
         None if verb == "file" => file::answer(alloc, part),
-        None if verb == "want" => module::want(alloc, part),
+        None if verb == "want" => Ok(module::want(alloc, part)?),
         None if verb.starts_with("put_") => number::written(alloc, verb, part),
-        None => of_code(alloc, words, verb, part),
+        None => Ok(of_bytes(alloc, verb, &words.bytes(alloc, part)?)?),
+    }
+}
+
+// What comes of a part of a row, or the part, if it isn't performed.
+fn of_part_told(
+    alloc: Global,
+    words: &Words,
+    verb: &str,
+    part: &str,
+) -> Result<String, AllocError> {
+    match of_part(alloc, words, verb, part) {
+        Ok(said) => Ok(said),
+        Err(Refused::Text) => format!(in alloc; "{verb} {part} not performed"),
+        Err(Refused::Memory) => Err(AllocError),
     }
 }
 
 // What comes of all parts of a row.
-fn of_row(alloc: Global, words: &[Word], row: &Row) -> Result<String, AllocError> {
+fn of_row(alloc: Global, words: &Words, row: &Row) -> Result<String, AllocError> {
     let mut said = String::new(alloc);
     for part in row.parts.split(", ") {
-        let one = of_part(alloc, words, row.verb, part)?;
+        let one = of_part_told(alloc, words, row.verb, part)?;
         if !said.as_str().is_empty() {
             said.push_str(", ")?;
         }
@@ -82,18 +98,18 @@ fn of_row(alloc: Global, words: &[Word], row: &Row) -> Result<String, AllocError
 }
 
 // Whether this is what is told, as a text or as bytes.
-fn is_told(alloc: Global, words: &[Word], told: &str, came: &str) -> Result<bool, AllocError> {
+fn is_told(alloc: Global, words: &Words, told: &str, came: &str) -> Result<bool, AllocError> {
     if came == told {
         return Ok(true);
     }
-    match bytes_of(alloc, words, told) {
+    match spelled(alloc, words, told)? {
         Some(bytes) => Ok(hex(alloc, &bytes)?.as_str() == came),
         None => Ok(false),
     }
 }
 
 /// Whether a row came as told, and what is printed of it.
-pub fn judged(alloc: Global, words: &[Word], row: &Row) -> Result<(bool, String), AllocError> {
+pub fn judged(alloc: Global, words: &Words, row: &Row) -> Result<(bool, String), AllocError> {
     let came = of_row(alloc, words, row)?;
     if is_told(alloc, words, row.told, came.as_str())? {
         Ok((true, format!(in alloc; "{}: as told", row.name)?))

@@ -1,4 +1,5 @@
 // Modules by their parts.
+use crate::refused::Refused;
 use crate::texts::{bytes_of, names_of, word_of};
 use crate::words::{Words, put_sized};
 use spec_binary::wasm_form::Memory;
@@ -33,6 +34,15 @@ fn sections() -> &'static [(&'static str, u8)] {
     SECTIONS
 }
 
+/// Whether a line with this first word says a part of a module.
+pub fn is_part(key: &str) -> bool {
+    let is_other = matches!(
+        key,
+        "memory" | "needed" | "notes" | "record" | "further" | "bytes" | "text" | "first"
+    );
+    is_other || sections().iter().any(|(part, _)| *part == key)
+}
+
 /// Appends a section of these contents, if there are any.
 fn put_section(alloc: Global, to: &mut Vec<u8>, id: u8, contents: &[u8]) -> Result<(), Memory> {
     if contents.is_empty() {
@@ -43,7 +53,7 @@ fn put_section(alloc: Global, to: &mut Vec<u8>, id: u8, contents: &[u8]) -> Resu
 }
 
 /// Appends the imports of the names that a word stands for, behind that of a module, and answers how many these are.
-fn put_imports(alloc: Global, words: &Words, to: &mut Vec<u8>, text: &str) -> Result<u32, Memory> {
+fn put_imports(alloc: Global, words: &Words, to: &mut Vec<u8>, text: &str) -> Result<u32, Refused> {
     let (from, rest) = text.split_once(' ').unwrap_or((text, ""));
     let (name, of) = rest.split_once(' ').unwrap_or((rest, ""));
     let from = word_of(alloc, from)?;
@@ -59,7 +69,7 @@ fn put_imports(alloc: Global, words: &Words, to: &mut Vec<u8>, text: &str) -> Re
 
 /// Appends the exports of the names that a word stands for, and answers how many these are. A last `#` of what they
 /// are of stands for the number of each.
-fn put_exports(alloc: Global, words: &Words, to: &mut Vec<u8>, text: &str) -> Result<u32, Memory> {
+fn put_exports(alloc: Global, words: &Words, to: &mut Vec<u8>, text: &str) -> Result<u32, Refused> {
     let (name, of) = text.split_once(' ').unwrap_or((text, ""));
     let mut count = 0u32;
     for name in &names_of(alloc, name)? {
@@ -77,7 +87,7 @@ fn put_exports(alloc: Global, words: &Words, to: &mut Vec<u8>, text: &str) -> Re
 }
 
 /// Appends the names of a word, and answers how many these are.
-fn put_names(alloc: Global, to: &mut Vec<u8>, word: &str) -> Result<u32, Memory> {
+fn put_names(alloc: Global, to: &mut Vec<u8>, word: &str) -> Result<u32, Refused> {
     let mut count = 0u32;
     for name in &names_of(alloc, word)? {
         count = count.saturating_add(1);
@@ -87,9 +97,9 @@ fn put_names(alloc: Global, to: &mut Vec<u8>, word: &str) -> Result<u32, Memory>
 }
 
 /// Appends a body behind its size.
-fn put_body(alloc: Global, words: &Words, to: &mut Vec<u8>, text: &str) -> Result<(), Memory> {
+fn put_body(alloc: Global, words: &Words, to: &mut Vec<u8>, text: &str) -> Result<(), Refused> {
     let body = words.bytes(alloc, text)?;
-    put_sized(alloc, to, &body)
+    Ok(put_sized(alloc, to, &body)?)
 }
 
 /// Appends the items of a text of a list, and answers how many these are.
@@ -99,7 +109,7 @@ fn put_items(
     to: &mut Vec<u8>,
     key: &str,
     text: &str,
-) -> Result<u32, Memory> {
+) -> Result<u32, Refused> {
     match key {
         "exports" => return put_exports(alloc, words, to, text),
         "needed" => return put_names(alloc, to, text),
@@ -116,7 +126,7 @@ fn list_of(
     key: &str,
     text: &str,
     between: &str,
-) -> Result<Vec<u8>, Memory> {
+) -> Result<Vec<u8>, Refused> {
     let mut items = Vec::new(alloc);
     let mut count = 0u32;
     for item in text.split(between) {
@@ -141,19 +151,19 @@ impl<'a> Module<'a> {
     }
 
     /// The contents of the section of a part, empty where there is no text.
-    fn contents(&self, alloc: Global, words: &Words, key: &str) -> Result<Vec<u8>, Memory> {
+    fn contents(&self, alloc: Global, words: &Words, key: &str) -> Result<Vec<u8>, Refused> {
         let text = self.part(key);
         match key {
             _ if text.is_empty() => Ok(Vec::new(alloc)),
             "imports" | "exports" | "bodies" => list_of(alloc, words, key, text, ", "),
             "needed" => list_of(alloc, words, key, text, " "),
-            "text" => Ok(bytes_of(alloc, text)?),
+            "text" => bytes_of(alloc, text),
             _ => words.bytes(alloc, text),
         }
     }
 
     /// Appends the `dylink.0` section, unless the module is to have none.
-    fn put_record(&self, alloc: Global, words: &Words, to: &mut Vec<u8>) -> Result<(), Memory> {
+    fn put_record(&self, alloc: Global, words: &Words, to: &mut Vec<u8>) -> Result<(), Refused> {
         if self.part("record") == "none" {
             return Ok(());
         }
@@ -172,11 +182,11 @@ impl<'a> Module<'a> {
             &self.contents(alloc, words, "needed")?,
         )?;
         words.put(alloc, &mut record, self.part("notes"))?;
-        put_section(alloc, to, 0, &record)
+        Ok(put_section(alloc, to, 0, &record)?)
     }
 
     /// Appends all sections.
-    fn put_sections(&self, alloc: Global, words: &Words, to: &mut Vec<u8>) -> Result<(), Memory> {
+    fn put_sections(&self, alloc: Global, words: &Words, to: &mut Vec<u8>) -> Result<(), Refused> {
         to.extend_from_slice(b"\0asm\x01\0\0\0")?;
         self.put_record(alloc, words, to)?;
         for (key, id) in sections() {
@@ -185,8 +195,8 @@ impl<'a> Module<'a> {
         words.put(alloc, to, self.part("further"))
     }
 
-    /// The bytes of the module.
-    pub fn bytes(&self, alloc: Global, words: &Words) -> Result<Vec<u8>, Memory> {
+    /// The bytes of the module, of which a part may say how many are left.
+    pub fn bytes(&self, alloc: Global, words: &Words) -> Result<Vec<u8>, Refused> {
         let mut bytes = self.contents(alloc, words, "bytes")?;
         if bytes.is_empty() {
             bytes = self.contents(alloc, words, "text")?;
@@ -194,8 +204,9 @@ impl<'a> Module<'a> {
         if bytes.is_empty() {
             self.put_sections(alloc, words, &mut bytes)?;
         }
-        if let Ok(first) = self.part("first").parse::<usize>() {
-            bytes.truncate(first);
+        let first = self.part("first");
+        if !first.is_empty() {
+            bytes.truncate(first.parse::<usize>()?);
         }
         Ok(bytes)
     }

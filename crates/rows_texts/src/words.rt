@@ -1,4 +1,5 @@
 // Bytes by words.
+use crate::refused::Refused;
 use crate::texts::bytes_of;
 use spec_binary::wasm_form::Memory;
 use std::alloc::Global;
@@ -21,22 +22,19 @@ pub fn put_sized(alloc: Global, to: &mut Vec<u8>, bytes: &[u8]) -> Result<(), Me
 }
 
 /// A word, and how often its bytes come: those behind a star so many times, a text once.
-fn repeated(word: &str) -> (&str, usize) {
-    if word.starts_with('\'') {
-        return (word, 1);
-    }
+fn repeated(word: &str) -> Result<(&str, usize), Refused> {
     match word.rsplit_once('*') {
-        Some((word, count)) => (word, count.parse::<usize>().unwrap_or(0)),
-        None => (word, 1),
+        Some((word, count)) if !word.starts_with('\'') => Ok((word, count.parse::<usize>()?)),
+        _ => Ok((word, 1)),
     }
 }
 
 /// Appends a number in its shortest spelling as LEB128.
-fn put_number(alloc: Global, to: &mut Vec<u8>, sign: &str, text: &str) -> Result<(), Memory> {
+fn put_number(alloc: Global, to: &mut Vec<u8>, sign: &str, text: &str) -> Result<(), Refused> {
     if sign == "#" {
-        return put_u32(alloc, to, text.parse::<u32>().unwrap_or(0));
+        return Ok(put_u32(alloc, to, text.parse::<u32>()?)?);
     }
-    put_s64(alloc, to, text.parse::<i64>().unwrap_or(0))
+    Ok(put_s64(alloc, to, text.parse::<i64>()?)?)
 }
 
 /// Appends bytes so many times.
@@ -61,7 +59,7 @@ impl<'a> Words<'a> {
     }
 
     /// Names the bytes of further words.
-    pub fn add(&mut self, alloc: Global, line: &'a str) -> Result<(), Memory> {
+    pub fn add(&mut self, alloc: Global, line: &'a str) -> Result<(), Refused> {
         let (name, text) = line.split_once(' ').unwrap_or((line, ""));
         let bytes = self.bytes(alloc, text)?;
         self.named.push((name, bytes))?;
@@ -69,14 +67,14 @@ impl<'a> Words<'a> {
     }
 
     /// The bytes of the words of a text.
-    pub fn bytes(&self, alloc: Global, text: &str) -> Result<Vec<u8>, Memory> {
+    pub fn bytes(&self, alloc: Global, text: &str) -> Result<Vec<u8>, Refused> {
         let mut bytes = Vec::new(alloc);
         self.put(alloc, &mut bytes, text)?;
         Ok(bytes)
     }
 
     /// Appends the bytes of a name, or the byte of two hexadecimal digits.
-    fn put_named(&self, to: &mut Vec<u8>, word: &str) -> Result<(), Memory> {
+    fn put_named(&self, to: &mut Vec<u8>, word: &str) -> Result<(), Refused> {
         for (name, bytes) in &self.named {
             if *name == word {
                 to.extend_from_slice(bytes)?;
@@ -85,12 +83,12 @@ impl<'a> Words<'a> {
         }
         match u8::from_str_radix(word, 16) {
             Ok(byte) if word.len() == 2 => Ok(to.push(byte)?),
-            _ => Err(Memory),
+            _ => Err(Refused::Text),
         }
     }
 
     /// Appends the bytes of a word.
-    fn put_word(&self, alloc: Global, to: &mut Vec<u8>, word: &str) -> Result<(), Memory> {
+    fn put_word(&self, alloc: Global, to: &mut Vec<u8>, word: &str) -> Result<(), Refused> {
         match word.split_at_checked(1) {
             Some(("'", text)) => Ok(to.extend_from_slice(&bytes_of(alloc, text)?)?),
             Some((sign, text)) if sign == "=" || sign == "#" => put_number(alloc, to, sign, text),
@@ -99,9 +97,9 @@ impl<'a> Words<'a> {
     }
 
     /// Appends the bytes of the words of a text.
-    pub fn put(&self, alloc: Global, to: &mut Vec<u8>, text: &str) -> Result<(), Memory> {
+    pub fn put(&self, alloc: Global, to: &mut Vec<u8>, text: &str) -> Result<(), Refused> {
         for word in text.split_ascii_whitespace() {
-            let (word, count) = repeated(word);
+            let (word, count) = repeated(word)?;
             let mut bytes = Vec::new(alloc);
             self.put_word(alloc, &mut bytes, word)?;
             put_times(alloc, to, &bytes, count)?;

@@ -1,4 +1,5 @@
 -- What is run: a module from its opening state, or a linked set from its own. Both are runs of a step system.
+-- This profile: docs/FORMATS.md, "Runs".
 use Rattle.std.specs.Prelude.{◌≡◌, []}
 use Rattle.spec_hosts.specs.wasm_form.declared.module.Module.{Module}
 use Rattle.spec_loading.specs.spec_execution.OneModule.{ModuleState}

@@ -1,4 +1,5 @@
 -- What came of a step.
+-- Serves the contracts of this crate, which follow Ends of `spec_hosts`.
 use Rattle.std.specs.Prelude.{Option, Some, None}
 use Rattle.spec_hosts.specs.wasm_form.declared.runtime.Asked.{Asked}
 use Rattle.spec_hosts.specs.declared.ran.RunEnd.{RunEnd}

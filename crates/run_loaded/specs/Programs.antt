@@ -1,4 +1,5 @@
 -- A loaded program, as contracts see it.
+-- Serves the contracts of this crate, which follow Courses of `run_loaded`.
 use Rattle.std.specs.Prelude.{◌≡◌, Ok}
 use Rattle.spec_hosts.specs.spec_runtime.Recorded.{Recorded}
 use Rattle.wasm_single.specs.Starts.{opened}

@@ -1,4 +1,5 @@
 pub mod Lefts
+pub mod Own
 pub mod Going
 pub mod Taking
 pub mod Seating

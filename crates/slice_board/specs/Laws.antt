@@ -1,14 +1,22 @@
 -- What is so of turns of linked sets, and of the calls that are answered between them.
-use Rattle.std.specs.Prelude.{◌≡◌, ◌≢◌, ℕ, List, [], ◌∷◌, slice_get, Some}
+-- Part of the statement of laws: docs/LAWS.md, "Programs on a board don't see each other", "A program
+-- on a board runs as it does alone" and "Turns make steps of a program's own run".
+use Rattle.std.specs.Prelude.{◌≡◌, ◌≢◌, ℕ, List, [], ◌∷◌, slice_get, Bool, Some}
 use Rattle.std.specs.List.{All}
 use Rattle.spec_loading.specs.wasm_form.declared.runtime.Answer.{Answer}
 use Rattle.spec_loading.specs.spec_linking.Gathering.{IsSet}
 use Rattle.spec_loading.specs.spec_linking.LinkedSets.{LinkedSet}
 use Rattle.spec_loading.specs.spec_linking.Links.{Links}
 use Rattle.spec_loading.specs.spec_safety.ValueTypes.{IsOfBytes}
+use Rattle.spec_loading.specs.Loading.{loaded_too_deep}
+use Rattle.spec_loading.specs.LoadedSet.{set_loading, set_system, set_opening}
 use Rattle.spec_loading.specs.SoundSets.{HoldBytes, HasFewPages}
+use Rattle.spec_hosts.specs.declared.ran.Ran.{Ran}
+use Rattle.spec_hosts.specs.declared.ran.RunEnd.TheVariants as end
+use Rattle.spec_hosts.specs.Ends.{RunsTo}
 use Rattle.spec_boards.specs.Turns.{Place, turn_of}
 use Rattle.spec_boards.specs.Boards.{Board, turn, board}
+use Rattle.spec_boards.specs.BoardRuns.{IsRanAs}
 use Rattle.spec_boards.specs.Laws.{IsTurn, IsRealPlace, IsFurther, CallsGrow, AllServed, alone}
 use Rattle.dyl_store.specs.Stores.{set_course}
 
@@ -45,3 +53,9 @@ CallsAreTheirs = (programs : List (LinkedSet × (ℕ × List Answer))) (slice : 
 abbrev pub ProgramsStandAlone : Type 0
 ProgramsStandAlone = (programs : List (LinkedSet × (ℕ × List Answer))) (slice : ℕ) (picks : List ℕ) (i : ℕ) (x : LinkedSet × (ℕ × List Answer)) → slice_get programs i ≡ Some x
     → slice_get (board set_course programs slice picks).seats i ≡ slice_get (board set_course (x ∷ []) slice (alone i picks)).seats 0
+
+-- What is told of a program of a board, unless the turns were used up, is the run of its set alone, within the same limit of steps: the same steps, the
+-- same answers and the same end.
+abbrev pub ProgramsRunAsAlone : Type 0
+ProgramsRunAsAlone = (L : LinkedSet) (used : Bool) (most : ℕ) (p : Place) (ran : Ran) → IsRanAs used (set_course L) most p ran → ran.end ≢ end.TurnLimit
+    → RunsTo (set_system L) (loaded_too_deep (set_loading L)) (set_opening L) most ran

@@ -1,4 +1,5 @@
 -- The steps of a turn.
+-- Serves the contracts of this crate, which follow Turns of `spec_boards`.
 use Rattle.std.specs.Prelude.{◌≡◌, ◌≤◌, ◌<◌, ◌-◌, ◌⊎◌, ℕ, min, nat_eq, Bool, true, false, Option, Some, None, if◌then◌else◌}
 use Rattle.spec_loading.specs.spec_runtime.Recorded.{Recorded}
 use Rattle.spec_loading.specs.spec_runtime.Courses.{Course, reached, status_at, memory_at}

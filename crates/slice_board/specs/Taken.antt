@@ -1,4 +1,5 @@
 -- What the calls of a board do to its programs.
+-- Serves the contracts of this crate, which follow Turns and Boards of `spec_boards`.
 use Rattle.std.specs.Prelude.{◌≡◌, ◌≤◌, ◌<◌, ◌+◌, ◌-◌, ◌^◌, ◌⊎◌, ℕ, List, length, slice_get, slice_set, min, Some, true, false, Result, Ok, Err}
 use Rattle.spec_loading.specs.wasm_form.declared.memory.Memory.{Memory}
 use Rattle.spec_loading.specs.wasm_form.declared.runtime.Answer.{Answer}

@@ -1,7 +1,7 @@
 //! Several loaded programs that run in turns, one turn at a time: who is next is picked by a callback.
 #![tactic(auto)]
 
-ghost use Rattle.slice_board.specs.Laws.{TurnsAreSteps, TurnsLeaveTheOthers, CallsAreFirst, CallsAreTheirs, ProgramsStandAlone};
+ghost use Rattle.slice_board.specs.Laws.{TurnsAreSteps, TurnsLeaveTheOthers, CallsAreFirst, CallsAreTheirs, ProgramsStandAlone, ProgramsRunAsAlone};
 
 mod board;
 mod picker;
@@ -33,4 +33,9 @@ pub fn calls_are_joined()
 /// turns, with the same answers.
 pub fn programs_stand_alone()
     ensures { ProgramsStandAlone }
+{}
+
+/// A program of a board that doesn't end by the limit of turns makes the run that its set makes alone, within the same limit of steps.
+pub fn programs_run_as_alone()
+    ensures { ProgramsRunAsAlone }
 {}

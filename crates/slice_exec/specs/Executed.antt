@@ -1,4 +1,5 @@
 -- What came of running linked sets in turns.
+-- Serves the contracts of this crate, which follow BoardRuns of `spec_boards`.
 use Rattle.std.specs.Prelude.{ℕ, List, Result, Ok, Err}
 use Rattle.spec_hosts.specs.wasm_form.declared.memory.Memory.{Memory}
 use Rattle.spec_hosts.specs.Devices.{Devices}

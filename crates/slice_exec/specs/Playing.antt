@@ -1,4 +1,5 @@
 -- A board of linked sets between its turns, and what answers the calls of its programs.
+-- Serves the contracts of this crate, which follow BoardRuns of `spec_boards`.
 use Rattle.std.specs.Prelude.{◌≡◌, ◌≤◌, ◌<◌, ◌+◌, ◌-◌, ◌⊎◌, ℕ, List, [], ◌∷◌, length, map, sum, take, slice_get, slice_set, Some, true, false, Result, Ok, Err, OnOk, IfOk}
 use Rattle.std.specs.List.{All, AllZip}
 use Rattle.spec_hosts.specs.wasm_form.declared.memory.Memory.{Memory}

@@ -1,20 +1,27 @@
 -- What is answered of a snapshot.
-use Rattle.std.proofs.Common.{◌≡◌, ◌⊎◌, inr, ℕ, ◌+◌, ◌≤◌, ◌<◌, ◌^◌, List, [], ◌∷◌, length, map, Some, Result, Ok, Err, IfOk, Vec, Global, refl, sym, ap, ◌∙◌, subst, arith}
+use Rattle.std.proofs.Common.{◌≡◌, ◌⊎◌, inr, ℕ, ◌+◌, ◌≤◌, ◌<◌, ◌^◌, List, [], ◌∷◌, length, map, Some, Result, Ok, Err, IfOk, Option, Vec, Global, slice_get, refl, sym, ap, ◌∙◌, subst, arith}
 use Rattle.std.specs.Prelude.{IfErr}
 use Rattle.std.specs.List.{All}
 use Rattle.std.proofs.lemmas.List.Elements.{All-nil}
+use Rattle.spec_reading.specs.spec_binary.Number.{IsShortest}
 use Rattle.spec_reading.specs.spec_binary.Modules.{SpellsModule}
+use Rattle.spec_reading.specs.spec_binary.Options.{◌>>=◌}
 use Rattle.spec_reading.specs.spec_binary.WellFormed.{IsWellFormed}
 use Rattle.spec_reading.specs.Laws.{OneModule}
+use Rattle.spec_loading.specs.wasm_form.declared.types.FuncType.{FuncType}
+use Rattle.spec_loading.specs.wasm_form.declared.module.ImportDesc.{ImportDesc}
+use Rattle.spec_loading.specs.wasm_form.declared.module.ImportDesc.TheVariants as imported
+use Rattle.spec_loading.specs.wasm_form.declared.module.Import.{Import}
 use Rattle.spec_loading.specs.wasm_form.declared.module.Module.{Module}
 use Rattle.spec_loading.specs.spec_runtime.Memories.{MemoryInstance}
 use Rattle.spec_loading.specs.spec_runtime.Tables.{TableInstance}
 use Rattle.spec_loading.specs.spec_runtime.Recorded.{Recorded}
 use Rattle.spec_loading.specs.spec_runtime.Courses.{state_at}
+use Rattle.spec_loading.specs.spec_execution.Instances.{named_host}
 use Rattle.spec_loading.specs.spec_safety.ValueTypes.{IsOfBytes}
 use Rattle.spec_loading.specs.spec_linking.Sets.{Member}
 use Rattle.spec_loading.specs.spec_linking.Gathering.{total_size}
-use Rattle.spec_loading.specs.spec_linking.LinkedSets.{LinkedSet}
+use Rattle.spec_loading.specs.spec_linking.LinkedSets.{LinkedSet, hosts_of}
 use Rattle.spec_loading.specs.LoadedSet.{SetState}
 use Rattle.spec_loading.specs.SoundLoading.{IsSoundLoader}
 use Rattle.spec_loading.specs.SoundSets.{HoldBytes, SetRunIsSound}
@@ -26,8 +33,10 @@ use Rattle.wasm_encode.specs.SectionSizes.{IsFirstTooLong}
 use Rattle.merge_match.specs.Renumbering.{table_instance}
 use Rattle.merge_index.specs.Numbering.{numbers_of}
 use Rattle.merge_index.proofs.FewItems.{total_cons}
-use Rattle.merge_module.specs.MergedModule.{added_types}
-use Rattle.merge_module.specs.Laws.{IsMergeable, types_bulk, names_bulk}
+use Rattle.merge_match.specs.SameCode.{SameCode}
+use Rattle.merge_module.specs.Shape.{HasShape, imported_type, asked_host}
+use Rattle.merge_module.specs.MergedModule.{added_types, merged_module}
+use Rattle.merge_module.specs.Laws.{IsMergeable, MergedHasShape, types_bulk, names_bulk}
 use Rattle.merge_whole.specs.Counts.{members_of, sizes}
 use Rattle.merge_whole.proofs.Little.{sizes_are, is_decoded}
 use Rattle.merge_whole.proofs.ShortFits.{never_first_long}
@@ -109,11 +118,11 @@ tells_long one L s m h r only = λ id c held too.
 
 -- ---- the whole
 
-pub spelled_of : (L : LinkedSet) (s : SetState) (m : Module) → IsHolding L s m → (bytes : List ℕ) → SpellsModule m bytes → IsSpelled L s bytes
-spelled_of L s m h bytes spelled = record {
+pub spelled_of : (L : LinkedSet) (s : SetState) (m : Module) → IsHolding L s m → (bytes : List ℕ) → IsShortest (SpellsModule m) bytes → IsSpelled L s bytes
+spelled_of L s m h bytes shortest = record {
   contents = h.contents;
   held = h.held;
-  spelled = subst (λ (q : Module). SpellsModule q bytes) h.is spelled;
+  shortest = subst (λ (q : Module). IsShortest (SpellsModule q) bytes) h.is shortest;
   formed = subst IsWellFormed h.is h.formed;
 }
 
@@ -158,19 +167,45 @@ little_of law L able bytes most id x few types =
     never_first_long (snapshot_module L (state_after L x.steps) x.contents)
     (law L able bytes x.steps x.contents (record { make = x.held.make; written = x.held.written; types = types; few = omega arith })) refl id x.long
 
-pub snapped_of : SpelledSnapshot → OneModule → (L : LinkedSet) → IsMergeable L → HoldBytes L → (most n : ℕ) → IsFirst L most n Takes → (s : SetState) → s ≡ state_after L n → (bytes : List ℕ)
+-- a module that has the types and imports of another asks for the same host functions
+module _ (one other : Module) (same : other.types ≡ one.types) where
+  type_same : (d : ImportDesc) → imported_type other d ≡ imported_type one d
+  type_same (imported.Func t) = ap (λ (tys : List FuncType). slice_get tys t) same
+  type_same (imported.Table ty) = refl
+  type_same (imported.Space limits) = refl
+  type_same (imported.Global ty) = refl
+
+  asked_same : (i : Import) → asked_host other i ≡ asked_host one i
+  asked_same i = ap (λ (o : Option FuncType). o >>= λ ty. Some (named_host i ty)) (type_same i.desc)
+
+imports_are : (L : LinkedSet) (wasm : Module) → SameCode (merged_module L) wasm → HasShape L (merged_module L)
+    → map (asked_host wasm) wasm.imports ≡ map Some (hosts_of L)
+imports_are L wasm code shape =
+    ap (map (asked_host wasm)) code.imports
+    ∙ (λ k. map (λ (i : Import). asked_same (merged_module L) wasm code.types i k) (merged_module L).imports)
+    ∙ shape.imports
+
+pub snapped_of : SpelledSnapshot → OneModule → MergedHasShape → (L : LinkedSet) → IsMergeable L → HoldBytes L → (most n : ℕ) → IsFirst L most n Takes → (s : SetState) → s ≡ state_after L n → (bytes : List ℕ)
     → IsSpelled L s bytes → (k : ℕ) × IsFirst L most k Takes × Snapped L bytes (state_after L k)
-snapped_of law one L able holds most n first s is bytes spelled =
+snapped_of law one has L able holds most n first s is bytes spelled =
     let h = subst (λ (t : SetState). IsSpelled L t bytes) is spelled in
-    let snapshot = law L able holds most n first h.contents h.held bytes h.spelled in
-    let same = one (snapshot_module L (state_after L n) h.contents) snapshot.wasm bytes h.spelled snapshot.spelled in
-    (n, first, record { snapshot = snapshot; decoded = is_decoded snapshot.wasm bytes snapshot.spelled (subst IsWellFormed same h.formed) })
+    let snapshot = law L able holds most n first h.contents h.held bytes h.shortest.spelled in
+    let same = one (snapshot_module L (state_after L n) h.contents) snapshot.wasm bytes h.shortest.spelled snapshot.spelled in (
+      n,
+      first,
+      record {
+        snapshot = snapshot;
+        decoded = is_decoded snapshot.wasm bytes snapshot.spelled (subst IsWellFormed same h.formed);
+        imports = imports_are L snapshot.wasm snapshot.is.items.code (has L able);
+        shortest = (h.contents, h.held, h.shortest);
+      },
+    )
 
 pub spelled_first : (L : LinkedSet) (most n : ℕ) → IsFirst L most n Takes → (s : SetState) → s ≡ state_after L n → (bytes : List ℕ) → IsSpelled L s bytes
     → IsSpelledFirst L most bytes
 spelled_first L most n first s is bytes spelled =
     let h = subst (λ (t : SetState). IsSpelled L t bytes) is spelled in
-    record { steps = n; first = first; contents = h.contents; held = h.held; spelled = h.spelled }
+    record { steps = n; first = first; contents = h.contents; held = h.held; spelled = h.shortest.spelled }
 
 pub written_tells : (L : LinkedSet) (most n : ℕ) → IsFirst L most n Takes → (s : SetState) → s ≡ state_after L n → (f : SnapFault) → WriteTells L s f → SnapTells L most f
 written_tells L most n first s is faults.HostCall w = absurd w

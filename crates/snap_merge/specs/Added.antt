@@ -1,4 +1,5 @@
 -- What the loader keeps, as the merged module has it behind what the members have.
+-- Serves the contracts of this crate, which follow Parts of `snap_set`.
 use Rattle.std.specs.Prelude.{◌≡◌, ℕ, List, [], ◌∷◌, map, slice_get, nat_eq, ◌&&◌, Option, Some, None, Bool, false}
 use Rattle.spec_loading.specs.wasm_form.declared.module.Module.{Module}
 use Rattle.spec_loading.specs.wasm_form.declared.runtime.Value.TheVariants.{Num}

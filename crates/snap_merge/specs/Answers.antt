@@ -1,13 +1,16 @@
 -- What is answered of the snapshot of a linked set.
-use Rattle.std.specs.Prelude.{ℕ, ◌+◌, ◌*◌, ◌^◌, ◌≤◌, List, length, sum_by, Ok}
+-- This profile: docs/FORMATS.md, "The snapshot".
+use Rattle.std.specs.Prelude.{◌≡◌, ℕ, ◌+◌, ◌*◌, ◌^◌, ◌≤◌, List, length, map, sum_by, Some, Ok}
 use Rattle.spec_reading.specs.spec_binary.DecodeAnswers.{DecodeAnswer}
+use Rattle.spec_loading.specs.spec_binary.Number.{IsShortest}
 use Rattle.spec_loading.specs.spec_binary.Modules.{SpellsModule}
-use Rattle.spec_loading.specs.spec_linking.LinkedSets.{LinkedSet}
+use Rattle.spec_loading.specs.spec_linking.LinkedSets.{LinkedSet, hosts_of}
 use Rattle.spec_loading.specs.LoadedSet.{SetState}
 use Rattle.spec_snapshots.specs.declared.fault.SnapFault.{SnapFault}
 use Rattle.spec_snapshots.specs.declared.fault.SnapFault.TheVariants as faults
 use Rattle.wasm_encode.specs.SectionSizes.{IsFirstTooLong}
 use Rattle.merge_index.specs.Numbering.{numbers_of, starts_of}
+use Rattle.merge_module.specs.Shape.{asked_host}
 use Rattle.merge_module.specs.MergedModule.{merged_module}
 use Rattle.merge_whole.specs.Merges.{bulk}
 use Rattle.spec_snapshots.specs.Stretches.{Contents, entries}
@@ -15,10 +18,17 @@ use Rattle.spec_snapshots.specs.Causes.{Takes, TrapsSo, Calls, StepsEnd, IsDeep,
 use Rattle.snap_set.specs.Snapshots as snapshots
 use Rattle.snap_set.specs.Parts.{start_number, snapshot_module, IsHeldWith}
 
--- bytes are a snapshot of the set at this state, and its module is what they are decoded to
+-- The bytes are the shortest that spell the module that holds the state. Of these there is one list: the same state has the same bytes each time.
+abbrev pub AreShortestAfter : LinkedSet → SetState → List ℕ → Type 0
+AreShortestAfter L s bytes = (c : Contents) × IsHeldWith L s c × IsShortest (SpellsModule (snapshot_module L s c)) bytes
+
+-- Bytes are a snapshot of the set at this state. Its module is what they are decoded to, and imports what a merged one does: the host functions of
+-- the set and nothing else, each once, in the order of the first imports of them. The bytes are the shortest.
 pub record Snapped (L : LinkedSet) (bytes : List ℕ) (s : SetState) : Type 0 where
   pub snapshot : snapshots.Snapped L (numbers_of L) (starts_of L) (merged_module L) (start_number L) bytes s
   pub decoded : DecodeAnswer bytes (Ok snapshot.wasm)
+  pub imports : map (asked_host snapshot.wasm) snapshot.wasm.imports ≡ map Some (hosts_of L)
+  pub shortest : AreShortestAfter L s bytes
 
 -- How much there is to be written of a state: twice the bulk of the set, the bytes of its memory, and 8 for each entry of its tables.
 abbrev pub amount : LinkedSet → SetState → ℕ

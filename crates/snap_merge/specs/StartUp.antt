@@ -1,4 +1,5 @@
 -- The start-up of a linked set, as it is recorded, and what is to be said of it.
+-- Serves the contracts of this crate, which follow Causes of `spec_snapshots`.
 use Rattle.std.specs.Prelude.{◌≡◌, ◌<◌, ◌≤◌, ℕ, [], Bool, true, false, Some, None}
 use Rattle.spec_loading.specs.spec_runs.Systems.{Moving}
 use Rattle.spec_loading.specs.spec_linking.LinkedSets.{LinkedSet}

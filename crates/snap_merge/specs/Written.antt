@@ -1,7 +1,9 @@
 -- The module that holds the state of a start-up, and its bytes.
+-- Serves the contracts of this crate, which follow Parts of `snap_set`.
 use Rattle.std.specs.Prelude.{◌≡◌, ◌<◌, ◌⊎◌, ◌^◌, ℕ, ◌+◌, ◌*◌, List, [], length, map, false, sum_by, Result, Err, Vec}
 use Rattle.std.specs.Global.{Global}
 use Rattle.std.specs.List.{All}
+use Rattle.spec_reading.specs.spec_binary.Number.{IsShortest}
 use Rattle.spec_reading.specs.spec_binary.Modules.{SpellsModule}
 use Rattle.spec_reading.specs.spec_binary.IndexSpaces.{function_space}
 use Rattle.spec_reading.specs.spec_binary.WellFormed.{IsFormedType, IsWellFormed}
@@ -53,11 +55,11 @@ pub record IsHolding (L : LinkedSet) (s : SetState) (m : Module) : Type 0 where
 abbrev pub amount_of : List Member → MemoryInstance → List TableInstance → ℕ
 amount_of members memory tables = 2 * bulk_of members + length memory.bytes + 8 * sum_by entries tables
 
--- bytes spell a module that holds the state, and that is well formed
+-- bytes are the shortest that spell a module which holds the state and is well formed
 pub record IsSpelled (L : LinkedSet) (s : SetState) (bytes : List ℕ) : Type 0 where
   pub contents : Contents
   pub held : IsHeldWith L s contents
-  pub spelled : SpellsModule (snapshot_module L s contents) bytes
+  pub shortest : IsShortest (SpellsModule (snapshot_module L s contents)) bytes
   pub formed : IsWellFormed (snapshot_module L s contents)
 
 -- faults of writing

@@ -20,6 +20,7 @@ use crate::starting::start_up;
 use crate::writing::written;
 use dyl_link::Linked;
 use dyl_store::Store;
+use merge_module::merged_modules_are_formed;
 use snap_set::{first_states_are_one, spelled_snapshots_are_snapshots};
 use snap_sizes::snapshots_are_short;
 use spec_reading::bytes_spell_one_module;
@@ -51,6 +52,7 @@ fn taken(alloc: Global, linked: &Linked, store: &mut Store, most: u64) -> Result
     store.holds_bytes();
     spelled_snapshots_are_snapshots();
     bytes_spell_one_module();
+    merged_modules_are_formed();
     first_states_are_one();
     match start_up(alloc, store, most) {
         Ok(()) => written(alloc, linked, store),

@@ -1,6 +1,7 @@
 // The module that holds the state of a start-up, and its bytes.
 ghost use Rattle.std.specs.Prelude.{◌≡◌, ◌≤◌, ◌⊎◌, ◌^◌, ℕ, length, false, Err, IfOk, IfErr};
 ghost use Rattle.spec_snapshots.specs.declared.fault.SnapFault.TheVariants as faults;
+ghost use Rattle.spec_reading.specs.spec_binary.Number.{IsShortest};
 ghost use Rattle.spec_reading.specs.spec_binary.Modules.{SpellsModule};
 ghost use Rattle.spec_reading.specs.spec_binary.WellFormed.{IsWellFormed};
 ghost use Rattle.spec_loading.specs.spec_runtime.Courses.{state_at};
@@ -37,7 +38,7 @@ fn encoded(
 ) -> Result<Vec<u8>, SnapFault>
     requires formed { IsWellFormed wasm.now }
     requires few { length members.now ≤ 256 }
-    ensures spelled { IfOk result (λ bytes. SpellsModule wasm.now bytes.items) }
+    ensures shortest { IfOk result (λ bytes. IsShortest (SpellsModule wasm.now) bytes.items) }
     ensures faults { IfErr result IsWriteFault }
     ensures long { (id : ℕ) → result ≡ Err (faults.SectionSize id) → IsFirstTooLong wasm.now id }
     ensures much { (id : ℕ) → result ≡ Err (faults.SectionSize id) → 2 ^ 32 ≤ amount_of (members_of members.now) memory.now tables.now }

@@ -1,6 +1,7 @@
 -- The module that begins where a run of a module stands: its globals, tables and memory begin with what they hold there, its segments are those
 -- that are left, and it begins with a function of its own.
-use Rattle.std.specs.Prelude.{◌≡◌, ◌≤◌, ◌<◌, ◌⊎◌, ◌^◌, ℕ, zero, suc, ◌+◌, List, [], ◌∷◌, ◌++◌, length, map, min, codes, Option, Some, None, unwrap_or}
+-- This profile: docs/FORMATS.md, "The snapshot".
+use Rattle.std.specs.Prelude.{◌≡◌, ◌≤◌, ◌<◌, ◌⊎◌, ◌^◌, ℕ, zero, suc, ◌+◌, List, [], ◌∷◌, ◌++◌, length, map, min, Option, Some, None, unwrap_or}
 use Rattle.std.specs.Int.{cast_signed, w64}
 use Rattle.std.specs.List.{All}
 use Rattle.spec_loading.specs.wasm_form.declared.types.ValType.{ValType}
@@ -10,8 +11,6 @@ use Rattle.spec_loading.specs.wasm_form.declared.types.TableType.{TableType}
 use Rattle.spec_loading.specs.wasm_form.declared.instr.Instr.{Instr, Index, I64Const, RefNull}
 use Rattle.spec_loading.specs.wasm_form.declared.instr.Expr.{Expr}
 use Rattle.spec_loading.specs.wasm_form.declared.module.GlobalDef.{GlobalDef}
-use Rattle.spec_loading.specs.wasm_form.declared.module.ExportDesc.TheVariants as exported
-use Rattle.spec_loading.specs.wasm_form.declared.module.Export.{Export}
 use Rattle.spec_loading.specs.wasm_form.declared.module.ElemMode.TheVariants as elem_mode
 use Rattle.spec_loading.specs.wasm_form.declared.module.ElemItems.TheVariants as elem_items
 use Rattle.spec_loading.specs.wasm_form.declared.module.Elem.{Elem}
@@ -22,7 +21,6 @@ use Rattle.spec_loading.specs.wasm_form.declared.runtime.Ref.{Ref}
 use Rattle.spec_loading.specs.wasm_form.declared.runtime.Ref.TheVariants.{Own, Loader, Host, Stub}
 use Rattle.spec_loading.specs.wasm_form.declared.runtime.Value.{Value}
 use Rattle.spec_loading.specs.wasm_form.declared.runtime.Value.TheVariants.{Num, Func}
-use Rattle.spec_loading.specs.spec_binary.Exports.{start_name}
 use Rattle.spec_loading.specs.spec_binary.IndexSpaces.{function_space}
 use Rattle.spec_loading.specs.spec_validation.Faults.{most_entries, most_pages}
 use Rattle.spec_loading.specs.spec_runtime.Memories.{MemoryInstance, pages}
@@ -30,6 +28,7 @@ use Rattle.spec_loading.specs.spec_runtime.Tables.{TableInstance}
 use Rattle.spec_loading.specs.spec_execution.Segments.{opened_items}
 use Rattle.spec_loading.specs.spec_execution.Instances.{ModuleParts, module_target, segment_items}
 use Rattle.spec_loading.specs.spec_safety.ValueTypes.{IsMemory}
+pub use Rattle.spec_merging.specs.Exports.{entry_exports}
 pub use Rattle.spec_snapshots.specs.Stretches.{Stretch, put, all_put, IsWithin, Make, Contents}
 use Rattle.merge_pieces.specs.Opcodes as op
 use Rattle.merge_pieces.specs.Code.{number}
@@ -124,12 +123,6 @@ abbrev pub held_datas : List (List ℕ) → List (Stretch ℕ) → List Data
 held_datas bytes ss = map passive_data bytes ++ map memory_data ss
 
 -- ---- the whole
-
-abbrev pub memory_name : List ℕ
-memory_name = codes "memory"
-
-abbrev pub entry_exports : ℕ → List Export
-entry_exports f = record { name = start_name; desc = exported.Func f } ∷ record { name = memory_name; desc = exported.Space 0 } ∷ []
 
 abbrev pub held : Module → ℕ → ModuleParts → MemoryInstance → Contents → Module
 held m entry p memory c = record m {

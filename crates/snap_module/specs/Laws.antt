@@ -1,4 +1,5 @@
 -- What is so of the module that begins where a run stands.
+-- Part of the statement of laws: docs/LAWS.md, "Laws of the parts".
 use Rattle.std.specs.Prelude.{◌≡◌, ℕ, [], ◌∷◌, Some, None, true, IsTrue, Ok}
 use Rattle.spec_loading.specs.wasm_form.declared.module.Module.{Module}
 use Rattle.spec_loading.specs.wasm_form.declared.runtime.Ref.TheVariants.{Own}

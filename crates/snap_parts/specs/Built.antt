@@ -1,4 +1,5 @@
 -- What the module that holds a state is made of, and what it is.
+-- Serves the contracts of this crate, which follow Held of `snap_module`.
 use Rattle.std.specs.Prelude.{◌≡◌, ◌<◌, ◌^◌, ℕ, [], ◌∷◌, length, map}
 use Rattle.spec_loading.specs.wasm_form.declared.module.Module.{Module}
 use Rattle.spec_loading.specs.wasm_form.declared.runtime.Value.TheVariants.{Num}

@@ -1,4 +1,5 @@
 -- The places of what is written of a list, as they are found from its beginning on.
+-- Serves the contracts of this crate, which follow Stretches of `spec_snapshots`.
 use Rattle.std.specs.Prelude.{◌≡◌, ◌≢◌, ℕ, ◌+◌, ◌-◌, ◌<◌, ◌≤◌, List, [], ◌∷◌, ◌++◌, length, map, take, drop, replicate, slice_index_or, nat_le, Bool, if◌then◌else◌}
 use Rattle.std.specs.List.{All}
 use Rattle.snap_module.specs.Held.{Stretch, all_put}

@@ -1,4 +1,5 @@
 -- The parts of a module, one after the other, as they are changed for a state.
+-- Serves the contracts of this crate, which follow Held of `snap_module`.
 use Rattle.std.specs.Prelude.{◌≡◌, ◌≤◌, ◌^◌, ℕ, ◌++◌, length, map, None, Some}
 use Rattle.spec_loading.specs.wasm_form.declared.module.Module.{Module}
 use Rattle.spec_loading.specs.wasm_form.declared.runtime.Value.TheVariants.{Num}

@@ -1,4 +1,5 @@
 -- The element and the data segments of the module, and how many there are.
+-- Serves the contracts of this crate, which follow Held of `snap_module`.
 use Rattle.std.specs.Prelude.{◌≡◌, ◌≤◌, ◌<◌, ◌^◌, ℕ, List, [], ◌∷◌, ◌++◌, length, map, Bool, Option}
 use Rattle.spec_loading.specs.wasm_form.declared.module.Elem.{Elem}
 use Rattle.spec_loading.specs.wasm_form.declared.module.Data.{Data}

@@ -1,4 +1,5 @@
 -- The segments that are written of tables, behind others.
+-- Serves the contracts of this crate, which follow Held of `snap_module`.
 use Rattle.std.specs.Prelude.{◌≡◌, ℕ, List, ◌++◌, map, Option, None}
 use Rattle.spec_loading.specs.wasm_form.declared.module.Elem.{Elem}
 use Rattle.spec_loading.specs.wasm_form.declared.runtime.Ref.{Ref}

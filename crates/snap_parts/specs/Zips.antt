@@ -1,4 +1,5 @@
 -- Lists side by side, as far as both go.
+-- Serves the contracts of this crate, which follow Held of `snap_module`.
 use Rattle.std.specs.Prelude.{List, [], ◌∷◌, Bool, true, false}
 use Rattle.spec_loading.specs.wasm_form.declared.types.TableType.{TableType}
 use Rattle.spec_loading.specs.wasm_form.declared.module.GlobalDef.{GlobalDef}

@@ -1,4 +1,6 @@
 -- What is so of the module that begins where the start-up of a linked set ended.
+-- Part of the statement of laws: docs/LAWS.md, "It goes on where start-up ended", "There is one, or
+-- one cause why not" and "Laws of the parts".
 use Rattle.std.specs.Prelude.{◌≡◌, ◌≤◌, ℕ, List, [], ◌∷◌, Some, None, IsTrue, Ok}
 use Rattle.std.specs.List.{All}
 use Rattle.spec_loading.specs.wasm_form.declared.module.Module.{Module}

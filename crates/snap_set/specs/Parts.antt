@@ -1,4 +1,5 @@
 -- What the snapshot of a linked set holds, by a state of the loaded run, and the snapshot.
+-- This profile: docs/FORMATS.md, "The snapshot".
 use Rattle.std.specs.Prelude.{ℕ, List, [], ◌∷◌, ◌++◌, length, map, nat_eq, Option, None, Some, unwrap_or, if◌then◌else◌}
 use Rattle.std.specs.List.{All}
 use Rattle.spec_loading.specs.wasm_form.declared.module.Module.{Module}

@@ -1,4 +1,5 @@
 -- The snapshot of a linked set after its start-up.
+-- This profile: docs/FORMATS.md, "The snapshot".
 use Rattle.std.specs.Prelude.{◌≡◌, ◌≢◌, ℕ, List, [], ◌∷◌, ◌++◌, map, Option, Some, Ok}
 use Rattle.spec_loading.specs.wasm_form.declared.types.Limits.{Limits}
 use Rattle.spec_loading.specs.wasm_form.declared.types.ValType.{ValType}

@@ -1,4 +1,5 @@
 -- What is so of the length of a snapshot.
+-- Part of the statement of laws: docs/LAWS.md, "Laws of the parts".
 use Rattle.std.specs.Prelude.{ℕ, ◌+◌, ◌*◌, ◌^◌, ◌≤◌, ◌<◌, map, sum_by}
 use Rattle.spec_loading.specs.spec_linking.Gathering.{total_size}
 use Rattle.spec_loading.specs.spec_linking.LinkedSets.{LinkedSet}

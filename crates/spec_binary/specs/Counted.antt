@@ -1,4 +1,5 @@
 -- Lists of instructions over values of one type, by the number of values: each instruction puts one there, or makes one of two.
+-- Serves the contracts of `wasm_check`: docs/DECISIONS.md, "The binary format".
 use Rattle.std.specs.Prelude.{ℕ, suc, Bool, false, nat_eq, List, [], ◌∷◌, Option, Some, None}
 use Rattle.wasm_form.specs.declared.instr.Instr.{Instr}
 use Rattle.spec_binary.specs.Options.{◌>>=◌}

@@ -1,4 +1,5 @@
 -- What a run of a board is, over one host: its turns, how each program ends, and what all host calls together do to the devices.
+-- This profile: docs/FORMATS.md, "Turns".
 use Rattle.std.specs.Prelude.{◌≡◌, ◌≤◌, ◌<◌, ◌⊎◌, ℕ, List, [], ◌∷◌, length, map, take, slice_get, nat_eq, Bool, true, false, ◌||◌, Some}
 use Rattle.std.specs.List.{All}
 use Rattle.spec_hosts.specs.wasm_form.declared.runtime.Answer.{Answer}

@@ -1,4 +1,5 @@
 -- Several programs that run in turns: each turn is one program's, and the call at which it stops is answered before the next.
+-- This profile: docs/FORMATS.md, "Turns".
 use Rattle.std.specs.Prelude.{ℕ, List, [], ◌∷◌, ◌++◌, map, slice_get, slice_set, nat_eq, Option, Some, None, if◌then◌else◌}
 use Rattle.spec_hosts.specs.wasm_form.declared.runtime.Answer.{Answer}
 use Rattle.spec_hosts.specs.wasm_form.declared.runtime.Trap.{Trap}

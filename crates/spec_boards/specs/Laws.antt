@@ -1,4 +1,5 @@
 -- What is so of turns and of the calls that are answered between them.
+-- Part of the statement of laws: docs/LAWS.md, "Of programs in turns".
 use Rattle.std.specs.Prelude.{◌≡◌, ◌≤◌, ◌<◌, ℕ, ◌+◌, ◌*◌, ◌%◌, List, [], ◌∷◌, ◌++◌, length, slice_get, nat_eq, Bool, Some, None, if◌then◌else◌}
 use Rattle.std.specs.List.{All}
 use Rattle.spec_hosts.specs.wasm_form.declared.runtime.Answer.{Answer}

@@ -1,4 +1,5 @@
 -- How far a run of a board has come, all of whose answers are recorded.
+-- Serves the contracts of this crate, which follow BoardRuns of `spec_boards`.
 use Rattle.std.specs.Prelude.{◌≡◌, ℕ, List, [], ◌∷◌, length, map}
 use Rattle.spec_hosts.specs.wasm_form.declared.runtime.Answer.{Answer}
 use Rattle.spec_hosts.specs.spec_runtime.Courses.{Course}

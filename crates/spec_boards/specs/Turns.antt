@@ -1,4 +1,5 @@
 -- One turn of a program: it makes steps until a cause to stop is due.
+-- This profile: docs/FORMATS.md, "Turns".
 use Rattle.std.specs.Prelude.{ℕ, zero, suc, List, [], ◌∷◌, Bool, false, nat_eq, Option, Some, None, unwrap_or, if◌then◌else◌}
 use Rattle.spec_hosts.specs.wasm_form.declared.runtime.Trap.{Trap}
 use Rattle.spec_hosts.specs.wasm_form.declared.runtime.Answer.{Answer}

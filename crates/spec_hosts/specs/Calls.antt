@@ -1,4 +1,5 @@
 -- The calls of WASI preview 1: their names and types, what they test, and what they want of the outside.
+-- What they answer here: docs/FORMATS.md, "WASI calls".
 use Rattle.std.specs.Prelude.{ℕ, zero, suc, ◌+◌, ◌*◌, ◌/◌, List, [], ◌∷◌, ◌++◌, length, map, take, drop, replicate, sum, min, nat_eq, nat_lt, nat_le, Bool, true, false, ◌||◌, not, Option, Some, None, bytes_eq, codes, if◌then◌else◌}
 use Rattle.std.specs.List.{list_all, flat_map}
 use Rattle.spec_runtime.specs.wasm_form.declared.types.ValType.{ValType}

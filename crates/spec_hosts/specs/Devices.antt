@@ -1,4 +1,5 @@
 -- The devices of a run: its input, its two outputs, and the clock with the random words.
+-- This profile: docs/DECISIONS.md, "The outside".
 use Rattle.std.specs.Prelude.{◌≡◌, ◌≤◌, List, ℕ, ◌++◌, Option, Some, None, Result, Ok, Err, IsSomeAnd}
 use Rattle.std.specs.Option.{ForSome}
 use Rattle.dyl_outside.specs.declared.fault.IoFault.{IoFault}

@@ -1,4 +1,5 @@
 -- How a run over a host ends: by itself, or because of a limit.
+-- This profile: docs/FORMATS.md, "The line" and "Runs".
 use Rattle.std.specs.Prelude.{◌≡◌, ◌≤◌, ◌<◌, ◌-◌, ℕ, List, ◌++◌, length, map, sum, take, nat_le, Bool, true, false, ◌||◌}
 use Rattle.spec_runtime.specs.wasm_form.declared.runtime.Trap.{Trap}
 use Rattle.spec_runtime.specs.wasm_form.declared.runtime.Answer.{Answer}

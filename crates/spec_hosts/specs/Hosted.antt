@@ -1,4 +1,5 @@
 -- The host relation: a chain of host calls with their answers, and what they do to the devices.
+-- By WASI preview 1 and docs/FORMATS.md, "WASI calls".
 use Rattle.std.specs.Prelude.{◌≡◌, ◌⊎◌, ℕ, zero, suc, List, [], ◌∷◌, ◌++◌, Bool, true, false, bytes_eq, Result, Ok, Err, Vec}
 use Rattle.std.specs.declared.alloc.Global.{Global}
 use Rattle.dyl_outside.specs.declared.fault.IoFault.{IoFault}

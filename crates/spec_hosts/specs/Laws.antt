@@ -1,4 +1,5 @@
 -- What is so of the calls of WASI, and of the names that are declared for a run: those of WASI, and then those of a table.
+-- Part of the statement of laws: docs/LAWS.md, "The answers of WASI fit" and "Laws of the parts".
 use Rattle.std.specs.Prelude.{◌≡◌, ℕ, List, [], ◌∷◌, Option, Some, None, IsSomeAnd, false, ◌&&◌, bytes_eq, IsTrue, if◌then◌else◌}
 use Rattle.spec_runtime.specs.wasm_form.declared.types.FuncType.{FuncType}
 use Rattle.spec_runtime.specs.wasm_form.declared.runtime.Answer.{Answer}

@@ -1,6 +1,7 @@
 pub mod Devices
 pub mod Calls
 pub mod Hosted
+pub mod Allowed
 pub mod Laws
 pub mod Ends
 pub use Rattle.dyl_outside.specs as dyl_outside

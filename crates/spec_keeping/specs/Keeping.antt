@@ -1,5 +1,6 @@
 -- What the run of a linked set keeps of its store: how many globals and tables there are, the maxima of the tables and of the memory, and the
 -- segments but for those that are dropped.
+-- Part of the statement of laws: docs/LAWS.md, "Laws of the parts".
 use Rattle.std.specs.Prelude.{◌≡◌, ◌⊎◌, ℕ, List, [], ◌∷◌, length, map}
 use Rattle.spec_loading.specs.wasm_form.declared.runtime.Answer.{Answer}
 use Rattle.spec_loading.specs.spec_runtime.Tables.{TableInstance}

@@ -1,4 +1,5 @@
 -- Whether the start-up of a loaded run is done: its entry was called.
+-- This profile: docs/FORMATS.md, "The snapshot".
 use Rattle.std.specs.Prelude.{◌&&◌, Bool, true, false, not}
 use Rattle.std.specs.List.{list_any}
 use Rattle.spec_loading.specs.wasm_form.declared.runtime.Trap.{Trap}

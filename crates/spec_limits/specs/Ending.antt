@@ -1,4 +1,5 @@
 -- Where the run of a linked set ends, that of its merged module ends so too, within the limits of a running interpreter.
+-- Part of the statement of laws: docs/LAWS.md, "It ends as the set ends".
 use Rattle.std.specs.Prelude.{◌≡◌, ◌≤◌, ◌+◌, ◌*◌, ℕ, List}
 use Rattle.spec_loading.specs.spec_linking.LinkedSets.{LinkedSet}
 use Rattle.spec_loading.specs.spec_execution.Limits.{most_activations, most_values, room_of}

@@ -1,5 +1,6 @@
 -- A linked set and its merged module do the same: over the same answers they end alike, with the same host calls on the same memory, and so
 -- with the same changes of every device.
+-- Part of the statement of laws: docs/LAWS.md, "Each does what the other does".
 use Rattle.std.specs.Prelude.{◌≡◌, ◌≤◌, ◌<◌, ℕ, List, Bool, false, IsTrue}
 use Rattle.spec_loading.specs.spec_linking.LinkedSets.{LinkedSet}
 use Rattle.spec_loading.specs.spec_execution.OneModule.{module_system, module_run, module_too_deep}

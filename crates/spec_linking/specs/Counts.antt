@@ -1,4 +1,5 @@
 -- How many items the parts of a module have.
+-- Part of the statement of laws: docs/LAWS.md, "Laws of the parts".
 use Rattle.std.specs.Prelude.{ℕ, ◌+◌, ◌≤◌, length}
 use Rattle.spec_execution.specs.wasm_form.declared.module.Module.{Module}
 

@@ -28,6 +28,7 @@ opening_loader : (members : List Member) → IsSoundLoader (length members) (rec
 opening_loader members = record {
   count = length-map members (λ (m : Member). 0);
   stages = All-map (λ n. n ≤ 4) (λ (m : Member). 0) members (λ i d lt. omega arith);
+  error = omega arith;
   promoted = All-nil (λ m. m < length members);
   apart = none_distinct;
 }

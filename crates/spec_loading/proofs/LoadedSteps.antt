@@ -33,11 +33,11 @@ use Rattle.spec_loading.specs.Phases.{stage_of, LoaderFrame}
 use Rattle.spec_loading.specs.Loading.{stage_in, LoaderAnswer, Loading, LoadedState, with_run, goes_on, Comes, comes_to, call_next, ended_by, place_next, work_next, raised, task_next, gives, promoting, after_next, frame_next, loaded_next, answered, went, came_to, loaded_step}
 use Rattle.spec_loading.specs.Loading as loading
 use Rattle.spec_safety.specs.ValueTypes.{AreArguments, IsOfBytes, IsMemory}
-use Rattle.spec_safety.specs.TypedFrames.{Stand, IsSoundNext}
+use Rattle.spec_safety.specs.TypedFrames.{IsCalledOver, Stand, IsSoundNext}
 use Rattle.spec_loading.specs.SoundLoading.{IsNullary, Follows, on_loader, IsSoundLoader, StacksFit, IsSound, GivesHandle, IsSoundAnswer, IsSoundLoading}
 use Rattle.spec_safety.proofs.KnownStacks.{then_is}
 use Rattle.spec_safety.proofs.HeldValues.{have_reverse}
-use Rattle.spec_safety.proofs.ModuleSteps.{results_typed}
+use Rattle.spec_safety.proofs.ModuleSteps.{nullary_over, results_typed}
 use Rattle.spec_safety.proofs.KeptMemories.{writes_kept}
 use Rattle.spec_safety.proofs.SoundSteps.{code_step, call_ok, given_stand}
 
@@ -85,7 +85,7 @@ module _ {Units : Type 0} (D : Loading Units) (N : ℕ → Context) (Kept : Unit
   called_ok : (s : LoadedState Units) (fs : List (Frame LoaderFrame)) (r : Ref) → Holds s → IsNullary D.view r → Stands fs [] → IsSoundComes (call_next D s fs (Some r))
   called_ok s fs r h e st =
       comes_ok s (call D.view s.run.units s.run.memory (λ values. fs) [] r) h
-      (call_ok D.view N Kept (on_loader members) sound.view s.run.units s.run.memory h.units h.memory (λ values. fs) [] [] r nullary e tt (λ ws k. st))
+      (call_ok D.view N Kept (on_loader members) sound.view s.run.units s.run.memory h.units h.memory (λ values. fs) [] [] r nullary e tt (λ ws k. st) (λ ws. nullary_over fs))
 
   callee_ok : (s : LoadedState Units) (f : Frame LoaderFrame) (fs : List (Frame LoaderFrame)) (o : Option Ref) → Holds s → IfSome o (IsNullary D.view) → Stands (f ∷ fs) []
       → IsSoundComes (call_next D s (f ∷ fs) o)
@@ -139,6 +139,7 @@ module _ {Units : Type 0} (D : Loading Units) (N : ℕ → Context) (Kept : Unit
         loader = record {
           count = length-set s.loader.stages task.member (stage_of task.phase) ∙ h.loader.count;
           stages = All-set (λ n. n ≤ 4) s.loader.stages task.member (stage_of task.phase) (few_stages task.phase) h.loader.stages;
+          error = h.loader.error;
           promoted = h.loader.promoted;
           apart = h.loader.apart;
         };
@@ -214,7 +215,13 @@ module _ {Units : Type 0} (D : Loading Units) (N : ℕ → Context) (Kept : Unit
           units = h.units;
           memory = h.memory;
           loader = h.loader;
-          stack = (subst (λ ty. AreArguments D.view ty args) (sym host.2) n.2, subst (λ (ty : FuncType). Stands fs (reverse ty.results)) (sym host.2) n.3);
+          stack = (
+            entry,
+            host.1,
+            subst (λ ty. AreArguments D.view ty args) (sym host.2) n.2,
+            subst (IsCalledOver fs) (sym host.2) n.3,
+            subst (λ (ty : FuncType). Stands fs (reverse ty.results)) (sym host.2) n.4,
+          );
         },
       )
   went_ok s (Loads which args fs) h n =
@@ -255,4 +262,4 @@ module _ {Units : Type 0} (D : Loading Units) (N : ℕ → Context) (Kept : Unit
   answer_sound s asked (Reply results writes) is waits fits bytes =
       let st : StacksFit D N Kept members (Waits asked) s.run.stack = subst (λ z. StacksFit D N Kept members z s.run.stack) waits is.stack in
       let p = and_parts (numbers_fit asked.host.ty.results results) (writes_fit writes s.run.memory) fits in
-      returned_ok s (all_written writes s.run.memory) asked.host.ty results s.run.stack is (writes_kept writes s.run.memory p.1 bytes is.memory) p.0 st.1
+      returned_ok s (all_written writes s.run.memory) asked.host.ty results s.run.stack is (writes_kept writes s.run.memory p.1 bytes is.memory) p.0 st.4

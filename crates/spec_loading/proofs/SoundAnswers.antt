@@ -66,18 +66,19 @@ module _ (L : LinkedSet) (set : IsSet L.set) (links : Links L) (few : HasFewPage
   promoting_sound m loader lt is = record {
     count = is.count;
     stages = is.stages;
+    error = is.error;
     promoted = promoted_inside L.set set m loader.promoted lt is.promoted;
     apart = with_distinct (later_members L.set m) loader.promoted is.apart;
   }
 
   module _ (loader : LoaderState) (is : IsSoundLoader many loader) where
-    with_error_sound : (e : ℕ) → IsSoundLoader many (with_error loader e)
-    with_error_sound e = record { count = is.count; stages = is.stages; promoted = is.promoted; apart = is.apart }
+    with_error_sound : (e : ℕ) → e ≤ 5 → IsSoundLoader many (with_error loader e)
+    with_error_sound e le = record { count = is.count; stages = is.stages; error = le; promoted = is.promoted; apart = is.apart }
 
     -- ---- dlopen
 
     begin_sound : (flags : ℕ) (o : Option ℕ) → ((m : ℕ) → o ≡ Some m → m < many) → IsFine (opened L loader (begin_or flags o))
-    begin_sound flags None inside = (omega arith, with_error_sound 2)
+    begin_sound flags None inside = (omega arith, with_error_sound 2 (omega arith))
     begin_sound flags (Some m) inside = go (nat_eq (bit_and flags global_flag) 0)
       where
         go : (b : Bool) → IsFine (opened L loader (if b then opening.Begin m else opening.BeginGlobal m))
@@ -90,7 +91,7 @@ module _ (L : LinkedSet) (set : IsSet L.set) (links : Links L) (few : HasFewPage
       where
         go : (b : Bool) → IsFine (opened L loader (if b then begin_or flags (member_named L.set name) else opening.Refused bad_flags_error))
         go true = begin_sound flags (member_named L.set name) (λ m e. let within = position_within (λ x. bytes_eq name x.name) 0 L.set.members m e in omega arith)
-        go false = (omega arith, with_error_sound bad_flags_error)
+        go false = (omega arith, with_error_sound bad_flags_error (omega arith))
 
     open_sound : (memory : MemoryInstance) (name flags : ℕ) → IsFine (opened L loader (open_answer L memory name flags))
     open_sound memory zero flags = (omega arith, is)
@@ -99,7 +100,7 @@ module _ (L : LinkedSet) (set : IsSet L.set) (links : Links L) (few : HasFewPage
     -- ---- dlsym
 
     number_sound : (o : Option ℕ) → ((k : ℕ) → o ≡ Some k → k < 2 ^ 32) → IsFine (found loader (found_number o))
-    number_sound None small = (omega arith, with_error_sound 4)
+    number_sound None small = (omega arith, with_error_sound 4 (omega arith))
     number_sound (Some k) small = (small k refl, is)
 
     symbol_sound : (handle : ℕ) (name : Option (List ℕ)) → IsFine (found loader (find_named L loader.stages loader.promoted handle name))
@@ -111,13 +112,13 @@ module _ (L : LinkedSet) (set : IsSet L.set) (links : Links L) (few : HasFewPage
 
         go : (b : Bool) → IsFine (found loader (if b then found_number number else finding.Refused bad_handle_error))
         go true = number_sound number (λ k e. number_small L links few name (searched L.set (handle_list L.set loader.promoted handle) name) k e)
-        go false = (omega arith, with_error_sound bad_handle_error)
+        go false = (omega arith, with_error_sound bad_handle_error (omega arith))
 
     -- ---- dlclose and dlerror
 
     close_sound : (b : Bool) → IsFine (closed loader b)
     close_sound true = (omega arith, is)
-    close_sound false = (omega arith, with_error_sound 5)
+    close_sound false = (omega arith, with_error_sound 5 (omega arith))
 
     offset_few : (e : ℕ) → unwrap_or (slice_get error_offsets e) 0 ≤ 81
     offset_few zero = omega arith
@@ -154,7 +155,7 @@ module _ (L : LinkedSet) (set : IsSet L.set) (links : Links L) (few : HasFewPage
         let n = one_number V taken h in
         subst (λ vs. Answers Dlclose (arguments (loader_type Dlclose) vs) memory) (sym n.1) (_, refl, close_sound (close_answer loader.stages (number_of I32 n.0)))
     of_taken Dlerror memory taken h =
-        subst (λ vs. Answers Dlerror (arguments (loader_type Dlerror) vs) memory) (sym (none V taken h)) (_, refl, (error_small loader.error, with_error_sound 0))
+        subst (λ vs. Answers Dlerror (arguments (loader_type Dlerror) vs) memory) (sym (none V taken h)) (_, refl, (error_small loader.error, with_error_sound 0 (omega arith)))
 
     pub answers_sound : (which : LoaderCall) (args : List ℕ) (memory : MemoryInstance) → AreArguments V (loader_type which) args → Answers which args memory
     answers_sound which args memory given = subst (λ ns. Answers which ns memory) (sym given.2) (of_taken which memory given.0 given.1)

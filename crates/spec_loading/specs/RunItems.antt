@@ -1,5 +1,6 @@
 -- The globals and the tables of the run of a linked set: which of them the numbers of its members lead to, their addresses, and the types
 -- of the globals with the values with which they begin.
+-- Part of the statement of laws: docs/LAWS.md, "Laws of the parts".
 use Rattle.std.specs.Prelude.{ℕ, ◌-◌, slice_get, Option, Some, None, unwrap_or, if◌then◌else◌}
 use Rattle.spec_linking.specs.wasm_form.declared.types.ValType.{ValType}
 use Rattle.spec_linking.specs.wasm_form.declared.types.ValType.TheVariants.{I32}

@@ -1,4 +1,5 @@
 -- When a state of the run of units that a loader opens is sound.
+-- Part of the statement of laws: docs/LAWS.md, "Linked sets never get stuck".
 use Rattle.std.specs.Prelude.{◌≡◌, ◌≢◌, ◌<◌, ◌≤◌, ◌-◌, ◌^◌, ℕ, List, [], ◌∷◌, length, nat_eq, reverse, Option, Some, IfSome}
 use Rattle.std.specs.List.{All, IsDistinct}
 use Rattle.spec_linking.specs.spec_runs.Systems.{Status, Moving, Waits, Returned, Exited, Trapped}
@@ -24,7 +25,7 @@ use Rattle.spec_loading.specs.Phases.{LoaderFrame}
 use Rattle.spec_loading.specs.Loading.{LoaderState, LoaderAnswer, Gives, Traps, Opens, Loading, LoadedState}
 use Rattle.spec_safety.specs.ValueTypes.{AreArguments, IsMemory}
 use Rattle.spec_safety.specs.TypedViews.{IsTypedView}
-use Rattle.spec_safety.specs.TypedFrames.{OnMark, Stand}
+use Rattle.spec_safety.specs.TypedFrames.{OnMark, IsCalledOver, Stand}
 
 -- a function that takes and gives nothing
 abbrev pub IsNullary : {Units : Type 0} → View Units → Ref → Type 0
@@ -40,19 +41,22 @@ Follows members (GiveAndPromote m) under stands = (m < members) × stands (I32 �
 abbrev pub on_loader : ℕ → OnMark LoaderFrame
 on_loader members frame under stands = All (λ (t : Task). t.member < members) frame.tasks × Follows members frame.after under stands
 
--- What the loader keeps of so many members: each is at a stage of 0 to 4, and those that are promoted are distinct members.
+-- What the loader keeps of so many members: each is at a stage of 0 to 4, the error is one of 0 to 5, and those that are promoted are
+-- distinct members.
 pub record IsSoundLoader (members : ℕ) (loader : LoaderState) : Type 0 where
   pub count : length loader.stages ≡ members
   pub stages : All (λ n. n ≤ 4) loader.stages
+  pub error : loader.error ≤ 5
   pub promoted : All (λ m. m < members) loader.promoted
   pub apart : IsDistinct nat_eq loader.promoted
 
 module _ {Units : Type 0} (D : Loading Units) (N : ℕ → Context) (Kept : Units → Type 0) (members : ℕ) where
-  -- A moving state has something on its call stack. A wait is for a host function with arguments of its type, and stands on what takes
-  -- its results.
+  -- A moving state has something on its call stack. A wait is for a host function that an entry names, with arguments of its type, and
+  -- stands on what takes its results.
   abbrev pub StacksFit : Status HostCall Trap → List (Frame LoaderFrame) → Type 0
   StacksFit Moving stack = (stack ≢ []) × Stand D.view N (on_loader members) stack []
-  StacksFit (Waits call) stack = AreArguments D.view call.host.ty call.args × Stand D.view N (on_loader members) stack (reverse call.host.ty.results)
+  StacksFit (Waits call) stack = (entry : ℕ) × (D.names entry ≡ Some call.host) × AreArguments D.view call.host.ty call.args
+      × IsCalledOver stack call.host.ty × Stand D.view N (on_loader members) stack (reverse call.host.ty.results)
   StacksFit Returned stack = Unit {0}
   StacksFit (Exited code) stack = Unit {0}
   StacksFit (Trapped why) stack = Unit {0}

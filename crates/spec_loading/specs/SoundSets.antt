@@ -1,4 +1,6 @@
 -- When the store of a linked set is sound, and that its run never gets stuck.
+-- Part of the statement of laws: docs/LAWS.md, "Linked sets never get stuck" and "Laws of the
+-- parts".
 use Rattle.std.specs.Prelude.{◌≡◌, ◌<◌, ℕ, List, length, slice_get, Option, Some, IsTrue}
 use Rattle.std.specs.List.{All}
 use Rattle.spec_linking.specs.wasm_form.declared.runtime.Ref.{Ref}

@@ -1,1 +1,2 @@
+pub mod Exports
 pub use Rattle.wasm_form.specs as wasm_form

@@ -1,4 +1,4 @@
-//! What there is to say of merged modules.
+//! What there is to say of merged modules: what they export, and why none is written.
 #![tactic(auto)]
 
 mod fault;

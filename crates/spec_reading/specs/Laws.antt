@@ -1,4 +1,6 @@
 -- What reading from left to right finds is what the definition of spelling says.
+-- Part of the statement of laws: docs/LAWS.md, "There is one answer for bytes" and "Laws of the
+-- parts".
 use Rattle.std.specs.Prelude.{◌≡◌, ℕ, List, All, Result}
 use Rattle.spec_binary.specs.wasm_form.declared.module.Module.{Module}
 use Rattle.spec_binary.specs.BodyLimits.{IsWithinLimits}

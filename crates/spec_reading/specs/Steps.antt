@@ -1,4 +1,5 @@
 -- Reading from left to right: what stands at the front of a text, and what follows it, or why no such thing stands there.
+-- Serves the proof of laws: docs/LAWS.md, "There is one answer for bytes".
 use Rattle.std.specs.Prelude.{ℕ, List, [], ◌∷◌, Result, Ok, Err}
 
 -- The text breaks off being well spelled; or, in a body, a limit is passed before that.

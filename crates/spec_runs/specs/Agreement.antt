@@ -1,4 +1,5 @@
 -- When two runs agree, and a law of one step from which they do.
+-- This profile: docs/ARCHITECTURE.md, "What agreement is".
 use Rattle.std.specs.Prelude.{◌≡◌, ◌≢◌, ℕ, zero, suc, List, Some, None, IsTrue}
 use Rattle.spec_runs.specs.Systems.{Outside, Moving, Waits, System, Ran, run}
 

@@ -1,4 +1,5 @@
 -- Step systems, and their runs over lists of answers.
+-- This profile: docs/ARCHITECTURE.md, "What agreement is".
 use Rattle.std.specs.Prelude.{◌≡◌, ℕ, zero, suc, List, [], ◌∷◌, ◌++◌, Option, Some, None, Bool, true, false}
 
 -- what a run asks of the outside and gets from it, what is seen of its memory, and why it may be stopped

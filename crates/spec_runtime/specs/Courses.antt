@@ -1,4 +1,5 @@
 -- The course of a run: what is run, a module or a linked set, as a step system with the state from which its steps begin.
+-- This profile: docs/FORMATS.md, "Runs".
 use Rattle.std.specs.Prelude.{ℕ, suc, List, [], ◌∷◌, ◌++◌, Bool, true, false, Option}
 use Rattle.spec_binary.specs.wasm_form.declared.runtime.Trap.{Trap}
 use Rattle.spec_binary.specs.wasm_form.declared.runtime.Answer.{Answer}

@@ -21,13 +21,19 @@ use Rattle.spec_execution.specs.OneModule.{Starting, ModuleState, start_next, mo
 use Rattle.spec_safety.specs.Laws.{IsAlone}
 use Rattle.spec_safety.specs.ValueTypes.{HasType, HaveTypes, AreArguments, IsOfBytes, IsMemory}
 use Rattle.spec_safety.specs.TypedViews.{HoldTypes, IsTypedView}
-use Rattle.spec_safety.specs.TypedFrames.{Stand, IsSoundNext}
+use Rattle.spec_safety.specs.TypedFrames.{IsCalledOver, Stand, IsSoundNext}
 use Rattle.spec_safety.specs.SoundModules.{HoldsNumbers, IsCalled, StartsOn, on_start, StacksFit, IsSound}
 use Rattle.spec_safety.proofs.KnownStacks.{some_same, went_on, then_is}
 use Rattle.spec_safety.proofs.HeldValues.{have_reverse}
 use Rattle.spec_safety.proofs.KeptMemories.{writes_kept}
 use Rattle.spec_safety.proofs.SoundCode.{function_typed, checked_is_typed}
 use Rattle.spec_safety.proofs.SoundSteps.{code_step, call_ok, given_stand}
+
+-- a function that takes nothing may be called over any frames
+pub nullary_over : {Mark : Type 0} (fs : List (Frame Mark)) → IsCalledOver fs nullary
+nullary_over [] = refl
+nullary_over (Active a ∷ fs) = tt
+nullary_over (Marked mark ∷ fs) = refl
 
 -- the results of a host function are of their types
 pub results_typed : {Units : Type 0} (V : View Units) (ts : List ValType) (ns : List ℕ) → numbers_fit ts ns ≡ true → HaveTypes V ts (map Num ns)
@@ -63,7 +69,7 @@ module _ (m : Module) (alone : IsAlone m) (numbers : HoldsNumbers m) where
     called_ok f under e st =
         let r = function_typed m alone 0 f nullary e in
         rw r.1
-        (call_ok (module_view m) (module_names m) Holds (on_start m) typed s.units s.memory holds is (λ values. under) [] [] r.0 nullary r.2 tt (λ ws h. st))
+        (call_ok (module_view m) (module_names m) Holds (on_start m) typed s.units s.memory holds is (λ values. under) [] [] r.0 nullary r.2 tt (λ ws h. st) (λ ws. nullary_over under))
 
     start_ok : (under : List (Frame Starting)) (starting : Starting) → StartsOn m starting under → NextIsSound (start_next m s under starting)
     start_ok under starting on = go starting.start refl
@@ -95,10 +101,11 @@ module _ (m : Module) (alone : IsAlone m) (numbers : HoldsNumbers m) where
         let host = went_on (module_hosts m entry) (λ (x : HostName). Some x.ty) h.0 h.1 in
         let same : h.0 ≡ host.0.ty = sym (some_same host.2) in
         let asked = subst (λ ty. AreArguments (module_view m) ty args) same h.2 in
-        let stand = subst (λ (ty : FuncType). Stands fs (reverse ty.results)) same h.3 in (
+        let over = subst (IsCalledOver fs) same h.3 in
+        let stand = subst (λ (ty : FuncType). Stands fs (reverse ty.results)) same h.4 in (
           stands s fs (Waits (record { host = host.0; args = args })),
           then_is (module_hosts m entry) (λ h. Some (stands s fs (Waits (record { host = h; args = args })))) host.0 host.1,
-          record { units = holds; memory = is; stack = (asked, stand) },
+          record { units = holds; memory = is; stack = (entry, host.1, asked, over, stand) },
         )
     became_ok (Some (Loads which args fs)) h = absurd (let no = h.0 in cc)
     became_ok (Some Ends) h = (_, refl, record { units = holds; memory = is; stack = tt })
@@ -124,4 +131,4 @@ module _ (m : Module) (alone : IsAlone m) (numbers : HoldsNumbers m) where
       let st : StacksFit m (Waits asked) s.stack = subst (λ z. StacksFit m z s.stack) waits sound.stack in
       let p = and_parts (numbers_fit asked.host.ty.results results) (writes_fit writes s.memory) fits in
       returned_ok (record s { memory = all_written writes s.memory }) asked.host.ty results s.stack sound.units
-      (writes_kept writes s.memory p.1 bytes sound.memory) p.0 st.1
+      (writes_kept writes s.memory p.1 bytes sound.memory) p.0 st.4

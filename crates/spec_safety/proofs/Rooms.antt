@@ -3,6 +3,7 @@ use Rattle.std.proofs.Common.{◌≡◌, ◌≤◌, ℕ, suc, ◌+◌, List, [],
 use Rattle.std.proofs.lemmas.List.{length-append}
 use Rattle.spec_execution.specs.wasm_form.declared.types.ValType.{ValType}
 use Rattle.spec_execution.specs.spec_binary.BodyLimits.{most_nested}
+use Rattle.spec_execution.specs.spec_binary.Indices.{Function}
 use Rattle.spec_execution.specs.spec_validation.Context.{Context, Labels}
 use Rattle.spec_execution.specs.Activations.{Level, Activation}
 use Rattle.spec_execution.specs.Views.{View}
@@ -20,10 +21,12 @@ module _ {Units : Type 0} (V : View Units) (N : ℕ → Context) where
   labels_counted c most (l ∷ ls) [] ends o = absurd o
   labels_counted c most (l ∷ ls) (taken ∷ labels) ends o = ap suc (labels_counted c most ls labels o.0 o.2)
 
-  module _ (results given : List ValType) (a : Activation) (x : IsTyped V N results [] given a) where
+  module _ (function : Function) (given : List ValType) (a : Activation) (x : IsTyped V N function [] given a) where
+    abbrev c : Context
+    c = within (N a.unit) (function.ty.params ++ function.locals) function.ty.results
+
     pub within_height : length a.values + count_below a.levels ≤ V.height a.unit a.func
     within_height =
-        let c = within (N a.unit) x.local_types results in
         let most = V.height a.unit a.func in
         let room = listed c x.labels (count_below a.levels) most (given ++ x.kept) x.ends a.rest x.rest in
         let l = have_length V x.kept a.values x.values in
@@ -32,7 +35,6 @@ module _ {Units : Type 0} (V : View Units) (N : ℕ → Context) where
 
     pub few_open : length a.levels ≤ most_nested
     few_open =
-        let c = within (N a.unit) x.local_types results in
         let n = labels_counted c (V.height a.unit a.func) a.levels x.labels x.ends x.levels in
         let nested = x.rest.nested in
         omega arith

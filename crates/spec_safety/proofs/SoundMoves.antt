@@ -33,6 +33,7 @@ use Rattle.spec_execution.specs.wasm_form.declared.runtime.Value.TheVariants.{Nu
 use Rattle.spec_execution.specs.spec_binary.Options.{◌>>=◌}
 use Rattle.spec_execution.specs.spec_binary.Trees.{nesting_here, nesting_all, every_here}
 use Rattle.spec_execution.specs.spec_binary.BodyLimits.{most_nested}
+use Rattle.spec_execution.specs.spec_binary.Indices.{Function}
 use Rattle.spec_execution.specs.spec_binary.SameTypes.{same_type}
 use Rattle.spec_execution.specs.spec_runtime.Numerics.{W32, bits, Outcome, Whole, Traps, unary, binary, convert, converts_from, converts_to}
 use Rattle.spec_execution.specs.spec_validation.Stacks.{Stack, take_off, choose_one, ends_with}
@@ -43,7 +44,7 @@ use Rattle.spec_execution.specs.Activations.{Level, Activation, Effect, TableGet
 use Rattle.spec_execution.specs.Views.{View, type_bits}
 use Rattle.spec_execution.specs.Ranges.{ReferenceExists}
 use Rattle.spec_safety.specs.ValueTypes.{HasType, HaveTypes, constant_fits, constants_fit}
-use Rattle.spec_safety.specs.TypedActivations.{known, count_below, Leads, GoesOnAt, IsOpen, AreOpen, within, IsTyped}
+use Rattle.spec_safety.specs.TypedActivations.{known, count_below, Leads, GoesOnAt, IsOpen, AreOpen, within, IsOf, IsTyped}
 use Rattle.spec_safety.specs.TypedMoves.{IsTypedEffect, IsTypedMove}
 use Rattle.spec_safety.proofs.KnownStacks.{went_on, some_same, gives_known, jumps_known, taken_known, ends_known, ends_self, plainly_some, shape_is, flat_is, was_given, named, named_given, both_given, drops_known, chooses_known, land_known, tabled_known}
 use Rattle.spec_safety.proofs.HeldValues.{have_append, have_length, split, have_at, have_set}
@@ -51,10 +52,17 @@ use Rattle.spec_safety.proofs.Widths.{unary_fits, binary_fits, convert_fits, low
 use Rattle.spec_safety.proofs.OpenBlocks.{opened, listed, nested_known, either_known, else_is}
 use Rattle.spec_safety.proofs.OperatorTypes.{at_width, plain_operator, access_number, tests, compares, counts, computes, converts}
 
-module _ {Units : Type 0} (V : View Units) (N : ℕ → Context) (own : List ValType)
+module _ {Units : Type 0} (V : View Units) (N : ℕ → Context) (function : Function)
     (tables : (unit t : ℕ) (ty : ValType) → (N unit).tables t ≡ Some ty → is_number ty ≡ false) where
+  -- what the function returns, and what its locals hold
+  abbrev own : List ValType
+  own = function.ty.results
+
+  abbrev held : List ValType
+  held = function.ty.params ++ function.locals
+
   abbrev Ok : Move → Type 0
-  Ok m = IsTypedMove V N own m
+  Ok m = IsTypedMove V N function m
 
   -- ---- operands
 
@@ -80,21 +88,21 @@ module _ {Units : Type 0} (V : View Units) (N : ℕ → Context) (own : List Val
   reference_ok t kept (Num n ∷ vs) go e h f = absurd (let o = h.0.0 in cc)
   reference_ok t kept (Func r ∷ vs) go e h f = f r vs h.0.1 h.1
 
-  abbrev body : Activation → List ValType → Context
-  body a lt = within (N a.unit) lt own
+  abbrev body : Activation → Context
+  body a = within (N a.unit) held own
 
   abbrev room : Activation → ℕ
   room a = V.height a.unit a.func
 
   -- ---- branches
 
-  module _ (a : Activation) (lt : List ValType) (res : length own ≡ a.results) (locs : HaveTypes V lt a.locals) where
+  module _ (a : Activation) (res : IsOf V function a) (locs : HaveTypes V held a.locals) where
     at_end : (t kept : List ValType) → t ≡ own → HaveTypes V (reverse t ++ kept) a.values → length a.values ≤ room a → Ok (on_some (to_end a))
     at_end t kept q h fits =
         let s = split V (reverse t) kept a.values h in
         let n = s.enough in
         let l = length-reverse t in
-        let same_length : length t ≡ a.results = ap length q ∙ res in
+        let same_length : length t ≡ a.results = ap length q ∙ res.1 in
         let enough : nat_le a.results (length a.values) ≡ true = grind (arith, nat_tests) in
         let k = length-map (reverse own) (λ t. Some t) in
         let r = length-reverse own in
@@ -102,11 +110,10 @@ module _ {Units : Type 0} (V : View Units) (N : ℕ → Context) (own : List Val
         subst (λ m. HaveTypes V (reverse t) (take m a.values)) (l ∙ same_length) s.top in
         let top_own : HaveTypes V (reverse own) (take a.results a.values) = subst (λ z. HaveTypes V (reverse z) (take a.results a.values)) q top in
         rw enough (record {
-          local_types = lt;
           labels = own ∷ [];
           ends = own;
           kept = reverse own;
-          results_are = res;
+          is_of = res;
           locals = locs;
           values = top_own;
           rest = record {
@@ -121,15 +128,14 @@ module _ {Units : Type 0} (V : View Units) (N : ℕ → Context) (own : List Val
         })
 
     left_ok : (l : Level) (ls : List Level) (t : List ValType) (labels : Labels) (ends outer : List ValType) (vs : List Value)
-        → IsOpen V (body a lt) (room a) l ls t labels ends outer → AreOpen V (body a lt) (room a) ls labels outer → HaveTypes V (reverse ends) vs
-        → IsTyped V N own [] [] (left_block a vs l ls)
+        → IsOpen V (body a) (room a) l ls t labels ends outer → AreOpen V (body a) (room a) ls labels outer → HaveTypes V (reverse ends) vs
+        → IsTyped V N function [] [] (left_block a vs l ls)
     left_ok l ls t labels ends outer vs o levs h =
         record {
-          local_types = lt;
           labels = labels;
           ends = outer;
           kept = reverse ends ++ o.kept;
-          results_are = res;
+          is_of = res;
           locals = locs;
           values = have_append V (reverse ends) o.kept vs l.below h o.below;
           rest = o.after;
@@ -137,24 +143,23 @@ module _ {Units : Type 0} (V : View Units) (N : ℕ → Context) (own : List Val
         }
 
     landed_ok : (l : Level) (ls : List Level) (t : List ValType) (labels : Labels) (ends outer : List ValType) (vs : List Value)
-        (again : Option (List Instr)) → IsOpen V (body a lt) (room a) l ls t labels ends outer → AreOpen V (body a lt) (room a) ls labels outer
-        → GoesOnAt (body a lt) (t ∷ labels) (count_below (l ∷ ls)) (room a) t ends again → HaveTypes V (reverse t) vs
-        → IsTyped V N own [] [] (landed a vs l ls again)
+        (again : Option (List Instr)) → IsOpen V (body a) (room a) l ls t labels ends outer → AreOpen V (body a) (room a) ls labels outer
+        → GoesOnAt (body a) (t ∷ labels) (count_below (l ∷ ls)) (room a) t ends again → HaveTypes V (reverse t) vs
+        → IsTyped V N function [] [] (landed a vs l ls again)
     landed_ok l ls t labels ends outer vs None o levs g h = left_ok l ls t labels ends outer vs o levs (subst (λ z. HaveTypes V (reverse z) vs) g h)
     landed_ok l ls t labels ends outer vs (Some c) o levs g h =
         record {
-          local_types = lt;
           labels = t ∷ labels;
           ends = ends;
           kept = reverse t;
-          results_are = res;
+          is_of = res;
           locals = locs;
           values = h;
           rest = g;
           levels = (outer, o, levs);
         }
 
-    branch_ok : (k : ℕ) (ls : List Level) (labels : Labels) (ends t kept : List ValType) → AreOpen V (body a lt) (room a) ls labels ends
+    branch_ok : (k : ℕ) (ls : List Level) (labels : Labels) (ends t kept : List ValType) → AreOpen V (body a) (room a) ls labels ends
         → slice_get labels k ≡ Some t → HaveTypes V (reverse t ++ kept) a.values → length a.values ≤ room a → Ok (on_some (branched a k ls))
     branch_ok zero [] labels ends t kept levs e h fits = at_end t kept (sym (some_same (rw levs.0 at e))) h fits
     branch_ok (suc k) [] labels ends t kept levs e h fits = absurd (let o = rw levs.0 at e in cc)
@@ -171,20 +176,20 @@ module _ {Units : Type 0} (V : View Units) (N : ℕ → Context) (own : List Val
 
   -- ---- one instruction: the code after it leads on, over open blocks
 
-  module _ (a : Activation) (lt : List ValType) (labels : Labels) (ending : List ValType) (res : length own ≡ a.results)
-      (locs : HaveTypes V lt a.locals) (levs : AreOpen V (body a lt) (room a) a.levels labels ending) where
+  module _ (a : Activation) (labels : Labels) (ending : List ValType) (res : IsOf V function a)
+      (locs : HaveTypes V held a.locals) (levs : AreOpen V (body a) (room a) a.levels labels ending) where
     abbrev Gone : Stack → Type 0
-    Gone s = Leads (body a lt) labels (count_below a.levels) (room a) s ending a.rest
+    Gone s = Leads (body a) labels (count_below a.levels) (room a) s ending a.rest
 
     abbrev GoesOn : List ValType → Type 0
     GoesOn ts = Gone (known ts)
 
     entered_ok : (f : FuncType) (kept t : List ValType) (again : Option (List Instr)) (is : List Instr) (arity : ℕ) (q : Reach)
         → HaveTypes V (reverse f.params ++ kept) a.values → GoesOn (reverse f.results ++ kept) → length t ≡ arity
-        → afters (body a lt) is (t ∷ labels) (known (reverse f.params)) ≡ Some q → ends_with f.results q.stack ≡ true
+        → afters (body a) is (t ∷ labels) (known (reverse f.params)) ≡ Some q → ends_with f.results q.stack ≡ true
         → count_below a.levels + (length kept + q.high) ≤ room a → constants_fit is ≡ true
-        → suc (length labels) + nesting_all is ≤ suc most_nested → ((under : ℕ) → Leads (body a lt) (t ∷ labels) under (room a) (known (reverse f.params)) f.results is
-        → GoesOnAt (body a lt) (t ∷ labels) under (room a) t f.results again) → Ok (on_some (entered_block a (length f.params) arity again is))
+        → suc (length labels) + nesting_all is ≤ suc most_nested → ((under : ℕ) → Leads (body a) (t ∷ labels) under (room a) (known (reverse f.params)) f.results is
+        → GoesOnAt (body a) (t ∷ labels) under (room a) t f.results again) → Ok (on_some (entered_block a (length f.params) arity again is))
     entered_ok f kept t again is arity q h r ea inner ended fits constants deep again_ok =
         let s = split V (reverse f.params) kept a.values h in
         let m = s.enough in
@@ -192,43 +197,41 @@ module _ {Units : Type 0} (V : View Units) (N : ℕ → Context) (own : List Val
         let enough : nat_le (length f.params) (length a.values) ≡ true = grind (arith, nat_tests) in
         let under : HaveTypes V kept (drop (length f.params) a.values) = subst (λ m. HaveTypes V kept (drop m a.values)) l s.under in
         let k = have_length V kept (drop (length f.params) a.values) under in
-        let runs : Leads (body a lt) (t ∷ labels) (length (drop (length f.params) a.values) + count_below a.levels) (room a)
+        let runs : Leads (body a) (t ∷ labels) (length (drop (length f.params) a.values) + count_below a.levels) (room a)
         (known (reverse f.params)) f.results is = record { reach = q; typed = inner; ends = ended; high = omega arith; constants = constants; nested = deep } in
         rw enough (record {
-          local_types = lt;
           labels = t ∷ labels;
           ends = f.results;
           kept = reverse f.params;
-          results_are = res;
+          is_of = res;
           locals = locs;
           values = subst (λ m. HaveTypes V (reverse f.params) (take m a.values)) l s.top;
           rest = runs;
           levels = (ending, record { arity = ea; again = again_ok _ runs; kept = kept; below = under; after = r }, levs);
         })
 
-  module _ (a : Activation) (lt : List ValType) (labels : Labels) (ending : List ValType) (res : length own ≡ a.results)
-      (locs : HaveTypes V lt a.locals) (levs : AreOpen V (body a lt) (room a) a.levels labels ending) where
+  module _ (a : Activation) (labels : Labels) (ending : List ValType) (res : IsOf V function a)
+      (locs : HaveTypes V held a.locals) (levs : AreOpen V (body a) (room a) a.levels labels ending) where
     abbrev After : Stack → Type 0
-    After s = Leads (body a lt) labels (count_below a.levels) (room a) s ending a.rest
+    After s = Leads (body a) labels (count_below a.levels) (room a) s ending a.rest
 
     abbrev Goes : List ValType → Type 0
     Goes ts = After (known ts)
 
-    goes : (ps rs kept : List ValType) (vs : List Value) → HaveTypes V (ps ++ kept) vs → Goes (rs ++ kept) → IsTyped V N own ps rs (with_values a vs)
+    goes : (ps rs kept : List ValType) (vs : List Value) → HaveTypes V (ps ++ kept) vs → Goes (rs ++ kept) → IsTyped V N function ps rs (with_values a vs)
     goes ps rs kept vs h r =
         record {
-          local_types = lt;
           labels = labels;
           ends = ending;
           kept = kept;
-          results_are = res;
+          is_of = res;
           locals = locs;
           values = h;
           rest = r;
           levels = levs;
         }
 
-    on : (ts : List ValType) (vs : List Value) → HaveTypes V ts vs → Goes ts → IsTyped V N own [] [] (with_values a vs)
+    on : (ts : List ValType) (vs : List Value) → HaveTypes V ts vs → Goes ts → IsTyped V N function [] [] (with_values a vs)
     on ts vs h r = goes [] [] ts vs h r
 
     -- what an instruction takes is on top, and what it gives is what the code after it begins with
@@ -286,7 +289,7 @@ module _ {Units : Type 0} (V : View Units) (N : ℕ → Context) (own : List Val
         picked_has (suc n) x y k k' = k
 
     plain_ok : (op : ℕ) (form : Option PlainForm) → plain_form op ≡ form → (ts : List ValType) (r : Reach) → HaveTypes V ts a.values
-        → length a.values ≤ room a → plainly (form >>= λ f. Some (plain_shape (body a lt) f)) (known ts) ≡ Some r → After r.stack
+        → length a.values ≤ room a → plainly (form >>= λ f. Some (plain_shape (body a) f)) (known ts) ≡ Some r → After r.stack
         → Ok (plain_move op form a)
     plain_ok op None is ts r h fits e g = absurd cc
     plain_ok op (Some plain.Unreachable) is ts r h fits e g = tt
@@ -295,7 +298,7 @@ module _ {Units : Type 0} (V : View Units) (N : ℕ → Context) (own : List Val
         on q.0 a.values q.1 q.2
     plain_ok op (Some plain.Return) is ts r h fits e g =
         let q = jumps_known own ts r.stack (shape_is (Jumps own) (known ts) r e) in
-        at_end a lt res locs own q.0 refl (subst (λ z. HaveTypes V z a.values) q.1 h) fits
+        at_end a res locs own q.0 refl (subst (λ z. HaveTypes V z a.values) q.1 h) fits
     plain_ok op (Some plain.Drop) is ts r h fits e g =
         let q = drops_known ts r.stack (shape_is Drops (known ts) r e) in
         top_ok q.0 q.1 a.values _ (subst (λ z. HaveTypes V z a.values) q.2 h) (λ v us k hs. on q.1 us hs (subst After q.3 g))
@@ -311,17 +314,16 @@ module _ {Units : Type 0} (V : View Units) (N : ℕ → Context) (own : List Val
         let q = gave (operator_type o) ts r.stack (shape_is (Gives (operator_type o)) (known ts) r e) h g in
         operator_ok op o (plain_operator op o is) q.0 q.1 q.2
 
-    set_ok : (x : ℕ) (t : ValType) (v : Value) (kept : List ValType) (us : List Value) → slice_get lt x ≡ Some t → HasType V t v → HaveTypes V kept us
+    set_ok : (x : ℕ) (t : ValType) (v : Value) (kept : List ValType) (us : List Value) → slice_get held x ≡ Some t → HasType V t v → HaveTypes V kept us
         → Goes kept → Ok (local_set a x v us (slice_get a.locals x))
     set_ok x t v kept us e k h r =
-        let old = have_at V lt a.locals x t locs e in
+        let old = have_at V held a.locals x t locs e in
         rw old.1 (record {
-          local_types = lt;
           labels = labels;
           ends = ending;
           kept = kept;
-          results_are = res;
-          locals = have_set V lt a.locals x t v locs e k;
+          is_of = res;
+          locals = have_set V held a.locals x t v locs e k;
           values = h;
           rest = r;
           levels = levs;
@@ -330,7 +332,7 @@ module _ {Units : Type 0} (V : View Units) (N : ℕ → Context) (own : List Val
     branch_if_ok : (l : ℕ) (t kept : List ValType) (n : ℕ) (us : List Value) → slice_get labels l ≡ Some t → HaveTypes V (reverse t ++ kept) us
         → length us ≤ room a → Goes (reverse t ++ kept) → Ok (branch_if_move (with_values a us) l n)
     branch_if_ok l t kept zero us e h fits r = on (reverse t ++ kept) us h r
-    branch_if_ok l t kept (suc n) us e h fits r = branch_ok (with_values a us) lt res locs l a.levels labels ending t kept levs e h fits
+    branch_if_ok l t kept (suc n) us e h fits r = branch_ok (with_values a us) res locs l a.levels labels ending t kept levs e h fits
 
     -- an i32 above these types
     above : (ps kept : List ValType) → HaveTypes V (reverse (ps ++ I32 ∷ []) ++ kept) a.values → HaveTypes V (I32 ∷ (reverse ps ++ kept)) a.values
@@ -344,12 +346,12 @@ module _ {Units : Type 0} (V : View Units) (N : ℕ → Context) (own : List Val
         omega arith
 
     index_ok : (n : ℕ) (form : Option IndexForm) (ts : List ValType) (r : Reach) → HaveTypes V ts a.values → length a.values ≤ room a
-        → plainly (form >>= λ f. index_shape (body a lt) labels f n) (known ts) ≡ Some r → After r.stack → Ok (index_move n form a)
+        → plainly (form >>= λ f. index_shape (body a) labels f n) (known ts) ≡ Some r → After r.stack → Ok (index_move n form a)
     index_ok n None ts r h fits e g = absurd cc
     index_ok n (Some index.Br) ts r h fits e g =
         let p = named (slice_get labels n) Jumps (known ts) r e in
         let q = jumps_known p.0 ts r.stack p.2 in
-        branch_ok a lt res locs n a.levels labels ending p.0 q.0 levs p.1 (subst (λ z. HaveTypes V z a.values) q.1 h) fits
+        branch_ok a res locs n a.levels labels ending p.0 q.0 levs p.1 (subst (λ z. HaveTypes V z a.values) q.1 h) fits
     index_ok n (Some index.BrIf) ts r h fits e g =
         let p = named (slice_get labels n) (λ t. Gives (from_to (t ++ I32 ∷ []) t)) (known ts) r e in
         let q = gave (from_to (p.0 ++ I32 ∷ []) p.0) ts r.stack p.2 h g in
@@ -361,16 +363,16 @@ module _ {Units : Type 0} (V : View Units) (N : ℕ → Context) (own : List Val
         let q = gave p.0 ts r.stack p.2 h g in
         (p.0, p.1, goes (reverse p.0.params) (reverse p.0.results) q.0 a.values q.1 q.2)
     index_ok n (Some index.LocalGet) ts r h fits e g =
-        let p = named (slice_get lt n) (λ t. Gives (from_to [] (t ∷ []))) (known ts) r e in
+        let p = named (slice_get held n) (λ t. Gives (from_to [] (t ∷ []))) (known ts) r e in
         let q = gave (from_to [] (p.0 ∷ [])) ts r.stack p.2 h g in
-        let v = have_at V lt a.locals n p.0 locs p.1 in
+        let v = have_at V held a.locals n p.0 locs p.1 in
         rw v.1 (on (p.0 ∷ q.0) (v.0 ∷ a.values) (v.2, q.1) q.2)
     index_ok n (Some index.LocalSet) ts r h fits e g =
-        let p = named (slice_get lt n) (λ t. Gives (from_to (t ∷ []) [])) (known ts) r e in
+        let p = named (slice_get held n) (λ t. Gives (from_to (t ∷ []) [])) (known ts) r e in
         let q = gave (from_to (p.0 ∷ []) []) ts r.stack p.2 h g in
         top_ok p.0 q.0 a.values _ q.1 (λ v us k hs. set_ok n p.0 v q.0 us p.1 k hs q.2)
     index_ok n (Some index.LocalTee) ts r h fits e g =
-        let p = named (slice_get lt n) (λ t. Gives (from_to (t ∷ []) (t ∷ []))) (known ts) r e in
+        let p = named (slice_get held n) (λ t. Gives (from_to (t ∷ []) (t ∷ []))) (known ts) r e in
         let q = gave (from_to (p.0 ∷ []) (p.0 ∷ [])) ts r.stack p.2 h g in
         top_ok p.0 q.0 a.values _ q.1 (λ v us k hs. set_ok n p.0 v (p.0 ∷ q.0) (v ∷ us) p.1 k (k, hs) q.2)
     index_ok n (Some index.GlobalGet) ts r h fits e g =
@@ -400,7 +402,7 @@ module _ {Units : Type 0} (V : View Units) (N : ℕ → Context) (own : List Val
 
     access_ok : (op align offset : ℕ) (m : Option MemoryAccess) → memory_access op ≡ m → (ts : List ValType) (r : Reach)
         → ((x : MemoryAccess) → memory_access op ≡ Some x → is_number x.value ≡ true) → HaveTypes V ts a.values
-        → plainly (m >>= access_shape (body a lt) align) (known ts) ≡ Some r → After r.stack → Ok (access_move op offset m a)
+        → plainly (m >>= access_shape (body a) align) (known ts) ≡ Some r → After r.stack → Ok (access_move op offset m a)
     access_ok op align offset None is ts r numbers h e g = absurd cc
     access_ok op align offset (Some m) is ts r numbers h e g = go m.writes refl
       where
@@ -432,7 +434,7 @@ module _ {Units : Type 0} (V : View Units) (N : ℕ → Context) (own : List Val
         (λ to us hs''. ([], k to from n, on q.0 us hs'' q.2))))
 
     second_ok : (x y : ℕ) (form : Option SecondForm) (ts : List ValType) (r : Reach) → HaveTypes V ts a.values
-        → plainly (form >>= λ f. second_shape (body a lt) f x y) (known ts) ≡ Some r → After r.stack → Ok (second_move form x y a)
+        → plainly (form >>= λ f. second_shape (body a) f x y) (known ts) ≡ Some r → After r.stack → Ok (second_move form x y a)
     second_ok x y None ts r h e g = absurd cc
     second_ok x y (Some second.MemoryInit) ts r h e g =
         let w = was_given ((N a.unit).memory && nat_lt x (N a.unit).datas) three_numbers (known ts) r e in
@@ -480,15 +482,15 @@ module _ {Units : Type 0} (V : View Units) (N : ℕ → Context) (own : List Val
 
     either_ok : (f : FuncType) (kept : List ValType) (is js : List Instr) (q p : Reach) (n : ℕ) (us : List Value)
         → HaveTypes V (reverse f.params ++ kept) us → Goes (reverse f.results ++ kept)
-        → afters (body a lt) is (f.results ∷ labels) (known (reverse f.params)) ≡ Some q → ends_with f.results q.stack ≡ true
-        → afters (body a lt) js (f.results ∷ labels) (known (reverse f.params)) ≡ Some p → ends_with f.results p.stack ≡ true
+        → afters (body a) is (f.results ∷ labels) (known (reverse f.params)) ≡ Some q → ends_with f.results q.stack ≡ true
+        → afters (body a) js (f.results ∷ labels) (known (reverse f.params)) ≡ Some p → ends_with f.results p.stack ≡ true
         → count_below a.levels + (length kept + max q.high p.high) ≤ room a → constants_fit is ≡ true → constants_fit js ≡ true
         → suc (length labels) + nesting_all is ≤ suc most_nested → suc (length labels) + nesting_all js ≤ suc most_nested → Ok (if_move (with_values a us) is js f n)
     either_ok f kept is js q p zero us h r i ei j ej fits fi fj di dj =
-        entered_ok (with_values a us) lt labels ending res locs levs f kept f.results None js (length f.results) p h r refl j ej (omega arith) fj dj
+        entered_ok (with_values a us) labels ending res locs levs f kept f.results None js (length f.results) p h r refl j ej (omega arith) fj dj
         (λ b x. refl)
     either_ok f kept is js q p (suc n) us h r i ei j ej fits fi fj di dj =
-        entered_ok (with_values a us) lt labels ending res locs levs f kept f.results None is (length f.results) q h r refl i ei (omega arith) fi di
+        entered_ok (with_values a us) labels ending res locs levs f kept f.results None is (length f.results) q h r refl i ei (omega arith) fi di
         (λ b x. refl)
 
     const_ok : (t : ValType) (v : Value) (ts : List ValType) (r : Reach) → HasType V t v → HaveTypes V ts a.values
@@ -516,9 +518,9 @@ module _ {Units : Type 0} (V : View Units) (N : ℕ → Context) (own : List Val
     block_is c (block.Index n) = refl
 
     -- a block's type is found
-    blocked : (t : BlockType) (f : FuncType) (go : FuncType → Move) → block_type (body a lt) t ≡ Some f → Ok (go f)
+    blocked : (t : BlockType) (f : FuncType) (go : FuncType → Move) → block_type (body a) t ≡ Some f → Ok (go f)
         → Ok (block_with (expanded (N a.unit).types t) go)
-    blocked t f go e h = rw (block_is (body a lt) t, e) h
+    blocked t f go e h = rw (block_is (body a) t, e) h
 
     if_fits : (t : BlockType) (x : Expr) (o : Option Expr) → every_here constant_fits (with_inside constants_fit (Open.If t x o)) ≡ true
         → (constants_fit x.list ≡ true) × (constants_fit (else_of o) ≡ true)
@@ -531,35 +533,35 @@ module _ {Units : Type 0} (V : View Units) (N : ℕ → Context) (own : List Val
     if_deep t x (Some y) n le = (omega arith, omega arith)
 
     pub instr_ok : (x : Open.Instr-F Instr Expr) (ts : List ValType) (r : Reach) → HaveTypes V ts a.values → length a.values ≤ room a
-        → typed_here (body a lt) (with_inside (afters (body a lt)) x) labels (known ts) ≡ Some r → count_below a.levels + r.high ≤ room a
+        → typed_here (body a) (with_inside (afters (body a)) x) labels (known ts) ≡ Some r → count_below a.levels + r.high ≤ room a
         → every_here constant_fits (with_inside constants_fit x) ≡ true → length labels + nesting_here (with_inside nesting_all x) ≤ suc most_nested
         → After r.stack → Ok (instr_move (N a.unit).types x a)
     instr_ok (Open.Plain op) ts r h fits e high fit deep g = plain_ok op (plain_form op) refl ts r h fits e g
     instr_ok (Open.Index op n) ts r h fits e high fit deep g = index_ok n (index_form op) ts r h fits e g
     instr_ok (Open.Block t x) ts r h fits e high fit deep g =
-        let b = went_on (block_type (body a lt) t) (λ f. nested (afters (body a lt) x.list) f.results f labels (known ts)) r e in
-        let d = nested_known (afters (body a lt) x.list) b.0.results b.0 labels ts r b.2 in
+        let b = went_on (block_type (body a) t) (λ f. nested (afters (body a) x.list) f.results f labels (known ts)) r e in
+        let d = nested_known (afters (body a) x.list) b.0.results b.0 labels ts r b.2 in
         let eq = d.high in
         blocked t b.0 (block_move a x.list) b.1
-        (entered_ok a lt labels ending res locs levs b.0 d.kept b.0.results None x.list (length b.0.results) d.q
+        (entered_ok a labels ending res locs levs b.0 d.kept b.0.results None x.list (length b.0.results) d.q
         (subst (λ z. HaveTypes V z a.values) d.is_on h) (subst After d.leaves g) refl d.inner d.ended (omega arith) fit
         (omega arith) (λ b x. refl))
     instr_ok (Open.Loop t x) ts r h fits e high fit deep g =
-        let b = went_on (block_type (body a lt) t) (λ f. nested (afters (body a lt) x.list) f.params f labels (known ts)) r e in
-        let d = nested_known (afters (body a lt) x.list) b.0.params b.0 labels ts r b.2 in
+        let b = went_on (block_type (body a) t) (λ f. nested (afters (body a) x.list) f.params f labels (known ts)) r e in
+        let d = nested_known (afters (body a) x.list) b.0.params b.0 labels ts r b.2 in
         let eq = d.high in
         blocked t b.0 (loop_move a x.list) b.1
-        (entered_ok a lt labels ending res locs levs b.0 d.kept b.0.params (Some x.list) x.list (length b.0.params) d.q
+        (entered_ok a labels ending res locs levs b.0 d.kept b.0.params (Some x.list) x.list (length b.0.params) d.q
         (subst (λ z. HaveTypes V z a.values) d.is_on h) (subst After d.leaves g) refl d.inner d.ended (omega arith) fit
         (omega arith) (λ b x. x))
     instr_ok (Open.If t x o) ts r h fits e high fit deep g =
-        let b = went_on (block_type (body a lt) t)
-        (λ f. either_way (afters (body a lt) x.list) (or_nothing (inside_else (afters (body a lt)) o)) f labels (known ts)) r e in
-        let d = either_known (afters (body a lt) x.list) (or_nothing (inside_else (afters (body a lt)) o)) b.0 labels ts r b.2 in
+        let b = went_on (block_type (body a) t)
+        (λ f. either_way (afters (body a) x.list) (or_nothing (inside_else (afters (body a)) o)) f labels (known ts)) r e in
+        let d = either_known (afters (body a) x.list) (or_nothing (inside_else (afters (body a)) o)) b.0 labels ts r b.2 in
         let eq = d.high in
         let parts = if_fits t x o fit in
         let levels = if_deep t x o (length labels) deep in
-        let other = subst (λ m. m (b.0.results ∷ labels) (known (reverse b.0.params)) ≡ Some d.p) (else_is (body a lt) o) d.inner_other in
+        let other = subst (λ m. m (b.0.results ∷ labels) (known (reverse b.0.params)) ≡ Some d.p) (else_is (body a) o) d.inner_other in
         blocked t b.0 (λ f. with_i32 a.values (λ n vs. if_move (with_values a vs) x.list (else_of o) f n)) b.1
         (i32_ok (reverse b.0.params ++ d.kept) a.values (λ n vs. if_move (with_values a vs) x.list (else_of o) b.0 n)
         (subst (λ z. HaveTypes V z a.values) d.is_on h)
@@ -570,10 +572,10 @@ module _ {Units : Type 0} (V : View Units) (N : ℕ → Context) (own : List Val
         let h' : HaveTypes V (I32 ∷ q.1) a.values = subst (λ z. HaveTypes V z a.values) q.2 h in
         i32_ok q.1 a.values (λ n vs. branch_move (with_values a vs) (unwrap_or (slice_get ks n) k)) h' (λ n us hs.
         let y = land_known ks q.0 k n labels q.1 q.3 in
-        branch_ok (with_values a us) lt res locs (unwrap_or (slice_get ks n) k) a.levels labels ending y.0 y.1 levs y.2
+        branch_ok (with_values a us) res locs (unwrap_or (slice_get ks n) k) a.levels labels ending y.0 y.1 levs y.2
         (subst (λ z. HaveTypes V z us) y.3 hs) (short I32 q.1 us hs h' fits))
     instr_ok (Open.CallIndirect ty table) ts r h fits e high fit deep g =
-        let p = plainly_some (indirect_shape (body a lt) ty table) (known ts) r e in
+        let p = plainly_some (indirect_shape (body a) ty table) (known ts) r e in
         let t = went_on ((N a.unit).tables table) _ p.0 p.1 in
         let f = went_on ((N a.unit).types ty) _ p.0 t.2 in
         let shape : plainly (given (same_type t.0 FuncRef) (from_to (f.0.params ++ I32 ∷ []) f.0.results)) (known ts) ≡ Some r =
@@ -608,30 +610,31 @@ module _ {Units : Type 0} (V : View Units) (N : ℕ → Context) (own : List Val
 
   -- ---- the end of a block, and the whole step
 
-  end_ok : (a : Activation) (lt : List ValType) (labels : Labels) (ending : List ValType) (res : length own ≡ a.results)
-      (locs : HaveTypes V lt a.locals) (ls : List Level) → AreOpen V (body a lt) (room a) ls labels ending → HaveTypes V (reverse ending) a.values
+  end_ok : (a : Activation) (labels : Labels) (ending : List ValType) (res : IsOf V function a)
+      (locs : HaveTypes V held a.locals) (ls : List Level) → AreOpen V (body a) (room a) ls labels ending → HaveTypes V (reverse ending) a.values
       → Ok (end_move ls a)
-  end_ok a lt labels ending res locs [] levs h =
+  end_ok a labels ending res locs [] levs h =
       let h' : HaveTypes V (reverse own) a.values = subst (λ z. HaveTypes V (reverse z) a.values) levs.1 h in
       let n = have_length V (reverse own) a.values h' in
       let l = length-reverse own in
+      let r = res.1 in
       let same_length : nat_eq (length a.values) a.results ≡ true = grind (arith, nat_tests) in
       rw same_length h'
-  end_ok a lt [] ending res locs (l ∷ ls) levs h = absurd levs
-  end_ok a lt (t ∷ labels) ending res locs (l ∷ ls) levs h = left_ok a lt res locs l ls t labels ending levs.0 a.values levs.1 levs.2 h
+  end_ok a [] ending res locs (l ∷ ls) levs h = absurd levs
+  end_ok a (t ∷ labels) ending res locs (l ∷ ls) levs h = left_ok a res locs l ls t labels ending levs.0 a.values levs.1 levs.2 h
 
-  code_ok : (is : List Instr) (a : Activation) (lt : List ValType) (labels : Labels) (ending ts : List ValType) (res : length own ≡ a.results)
-      (locs : HaveTypes V lt a.locals) → AreOpen V (body a lt) (room a) a.levels labels ending → HaveTypes V ts a.values
-      → Leads (body a lt) labels (count_below a.levels) (room a) (known ts) ending is → Ok (code_move (N a.unit).types is a)
-  code_ok [] a lt labels ending ts res locs levs h r =
+  code_ok : (is : List Instr) (a : Activation) (labels : Labels) (ending ts : List ValType) (res : IsOf V function a)
+      (locs : HaveTypes V held a.locals) → AreOpen V (body a) (room a) a.levels labels ending → HaveTypes V ts a.values
+      → Leads (body a) labels (count_below a.levels) (room a) (known ts) ending is → Ok (code_move (N a.unit).types is a)
+  code_ok [] a labels ending ts res locs levs h r =
       let q : ends_with ending (known ts) ≡ true = subst (λ z. ends_with ending z.stack ≡ true) (sym (some_same r.typed)) r.ends in
-      end_ok a lt labels ending res locs a.levels levs (subst (λ z. HaveTypes V z a.values) (ends_known ending ts q) h)
-  code_ok (i ∷ is) a lt labels ending ts res locs levs h r =
-      let e = opened (body a lt) labels (count_below a.levels) (room a) ts ending i is r in
-      let n = listed (body a lt) labels (count_below a.levels) (room a) ts ending (i ∷ is) r in
+      end_ok a labels ending res locs a.levels levs (subst (λ z. HaveTypes V z a.values) (ends_known ending ts q) h)
+  code_ok (i ∷ is) a labels ending ts res locs levs h r =
+      let e = opened (body a) labels (count_below a.levels) (room a) ts ending i is r in
+      let n = listed (body a) labels (count_below a.levels) (room a) ts ending (i ∷ is) r in
       let l = have_length V ts a.values h in
-      instr_ok (record a { rest = is }) lt labels ending res locs levs (out-Instr i) ts e.reach h (omega arith) e.typed e.high e.constants e.nested e.rest
+      instr_ok (record a { rest = is }) labels ending res locs levs (out-Instr i) ts e.reach h (omega arith) e.typed e.high e.constants e.nested e.rest
 
   -- a typed activation has a move, and what it leads to is typed
-  pub move_ok : (a : Activation) → IsTyped V N own [] [] a → Ok (move (N a.unit).types a)
-  move_ok a x = code_ok a.rest a x.local_types x.labels x.ends x.kept x.results_are x.locals x.levels x.values x.rest
+  pub move_ok : (a : Activation) → IsTyped V N function [] [] a → Ok (move (N a.unit).types a)
+  move_ok a x = code_ok a.rest a x.labels x.ends x.kept x.is_of x.locals x.levels x.values x.rest

@@ -1,5 +1,5 @@
 -- What is typed and counted names only what there is: units that hold types, frames that stand, and the code of a view.
-use Rattle.std.proofs.Common.{◌≡◌, ℕ, ◌<◌, List, Option, Some, None, Bool, true, refl, sym, ap, ◌∙◌}
+use Rattle.std.proofs.Common.{◌≡◌, ℕ, ◌<◌, List, ◌++◌, Option, Some, None, Bool, true, refl, sym, ap, ◌∙◌}
 use Rattle.std.specs.Prelude.{is_some, IsTrue, nat_lt}
 use Rattle.std.proofs.lemmas.Bool.{lt-ltb}
 use Rattle.spec_execution.specs.wasm_form.declared.types.ValType.{ValType}
@@ -8,6 +8,7 @@ use Rattle.spec_execution.specs.wasm_form.declared.instr.Instr.{Instr}
 use Rattle.spec_execution.specs.wasm_form.declared.runtime.Ref.{Ref}
 use Rattle.spec_execution.specs.wasm_form.declared.runtime.Value.{Value}
 use Rattle.spec_execution.specs.wasm_form.declared.runtime.Value.TheVariants.{Num, Func}
+use Rattle.spec_execution.specs.spec_binary.Indices.{Function}
 use Rattle.spec_execution.specs.spec_validation.Stacks.{Stack}
 use Rattle.spec_execution.specs.spec_validation.Context.{Context, Labels}
 use Rattle.spec_execution.specs.Activations.{Activation}
@@ -52,8 +53,10 @@ module _ {Units : Type 0} (V : View Units) (N : ℕ → Context) (Kept : Units �
     code_in labels under s ends is x = typed_in_range c (V.counts unit) (numbered unit locals results) is labels s x.reach x.typed
 
   -- what is left of an activation's code
-  pub rest_in : (results taken given : List ValType) (a : Activation) → IsTyped V N results taken given a → AreInRange (V.counts a.unit) a.rest
-  rest_in results taken given a x = code_in a.unit x.local_types results (V.height a.unit a.func) x.labels _ _ x.ends a.rest x.rest
+  pub rest_in : (function : Function) (taken given : List ValType) (a : Activation) → IsTyped V N function taken given a
+      → AreInRange (V.counts a.unit) a.rest
+  rest_in function taken given a x =
+      code_in a.unit (function.ty.params ++ function.locals) function.ty.results (V.height a.unit a.func) x.labels _ _ x.ends a.rest x.rest
 
   -- the units
   pub units_in : (us : Units) → HoldTypes V N us → HoldsAll V us

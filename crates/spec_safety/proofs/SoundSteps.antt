@@ -30,7 +30,7 @@ use Rattle.spec_safety.specs.ValueTypes.{HaveTypes, IsMemory}
 use Rattle.spec_safety.specs.TypedActivations.{within, IsTyped}
 use Rattle.spec_safety.specs.TypedMoves.{IsTypedMove}
 use Rattle.spec_safety.specs.TypedViews.{HoldTypes, IsTypedView}
-use Rattle.spec_safety.specs.TypedFrames.{OnMark, Stand, IsSoundNext}
+use Rattle.spec_safety.specs.TypedFrames.{OnMark, IsCalledOver, Stand, IsSoundNext}
 use Rattle.spec_safety.specs.NeverStuck.{CodeStepIsSound}
 use Rattle.spec_safety.proofs.HeldValues.{have_append, have_reverse, have_zeros, split}
 use Rattle.spec_safety.proofs.OpenBlocks.{body_leads}
@@ -45,15 +45,14 @@ module _ {Units Mark : Type 0} (V : View Units) (N : ℕ → Context) (Kept : Un
   Ok o = IsSoundNext V N Kept M o
 
   -- values are given
-  pub given_ok : (results rs : List ValType) (a : Activation) (vs : List Value) → IsTyped V N results [] rs a → HaveTypes V rs vs
-      → IsTyped V N results [] [] (with_values a (vs ++ a.values))
-  given_ok results rs a vs x h =
+  pub given_ok : (function : Function) (rs : List ValType) (a : Activation) (vs : List Value) → IsTyped V N function [] rs a → HaveTypes V rs vs
+      → IsTyped V N function [] [] (with_values a (vs ++ a.values))
+  given_ok function rs a vs x h =
       record {
-        local_types = x.local_types;
         labels = x.labels;
         ends = x.ends;
         kept = rs ++ x.kept;
-        results_are = x.results_are;
+        is_of = x.is_of;
         locals = x.locals;
         values = have_append V rs x.kept vs a.values h x.values;
         rest = x.rest;
@@ -63,7 +62,7 @@ module _ {Units Mark : Type 0} (V : View Units) (N : ℕ → Context) (Kept : Un
   -- what called goes on with these
   pub given_stand : (f : Frame Mark) (fs : List (Frame Mark)) (rs : List ValType) (vs : List Value) → Stand V N M (f ∷ fs) rs → HaveTypes V rs vs
       → Stand V N M (given vs f ∷ fs) []
-  given_stand (Active a) fs rs vs st h = (st.0, given_ok st.0 rs a vs st.1 h, st.2)
+  given_stand (Active a) fs rs vs st h = (st.0, given_ok st.0 rs a vs st.1 h, st.2, st.3)
   given_stand (Marked mark) fs rs vs st h = (refl, st.1)
 
   module _ (us : Units) (memory : MemoryInstance) (kept : Kept us) (is : IsMemory memory) where
@@ -85,34 +84,37 @@ module _ {Units Mark : Type 0} (V : View Units) (N : ℕ → Context) (Kept : Un
       abbrev Returns : List ValType → Type 0
       Returns rs = (ws : List Value) → HaveTypes V under ws → Stand V N M (caller ws) rs
 
+      -- so that a function of this type may be called from there
+      abbrev CalledFrom : FuncType → Type 0
+      CalledFrom ty = (ws : List Value) → IsCalledOver (caller ws) ty
+
       entered_ok : (unit f : ℕ) (x : Function) → V.code unit f ≡ Some x → HaveTypes V (reverse x.ty.params ++ under) vs
-          → Returns (reverse x.ty.results) → Ok (call_own us memory caller vs unit f x)
-      entered_ok unit f x e h st =
+          → Returns (reverse x.ty.results) → CalledFrom x.ty → Ok (call_own us memory caller vs unit f x)
+      entered_ok unit f x e h st from =
           let s = split V (reverse x.ty.params) under vs h in
           let args : List Value = take (length (reverse x.ty.params)) vs in
           let turned : HaveTypes V x.ty.params (reverse args) =
           subst (λ z. HaveTypes V z (reverse args)) (reverse-reverse x.ty.params) (have_reverse V (reverse x.ty.params) args s.top) in
           let body = typed.code unit f x e in
           let leads = body_leads (within (N unit) (x.ty.params ++ x.locals) x.ty.results) x.body (V.height unit f) body.0 body.1 body.2 body.3 body.4 in
-          let a : IsTyped V N x.ty.results [] [] (entered unit f x args) =
+          let a : IsTyped V N x [] [] (entered unit f x args) =
           record {
-            local_types = x.ty.params ++ x.locals;
             labels = x.ty.results ∷ [];
             ends = x.ty.results;
             kept = [];
-            results_are = refl;
+            is_of = (e, refl);
             locals = have_append V x.ty.params x.locals (reverse args) (map zero_of x.locals) turned (have_zeros V x.locals);
             values = tt;
             rest = leads;
             levels = (refl, refl);
           } in
-          rw s.taken (goes_ok (Active (entered unit f x args)) (caller _) (x.ty.results, a, st _ s.under))
+          rw s.taken (goes_ok (Active (entered unit f x args)) (caller _) (x, a, from _, st _ s.under))
 
       host_ok : (entry : ℕ) (ty : FuncType) → V.host entry ≡ Some ty → HaveTypes V (reverse ty.params ++ under) vs → Returns (reverse ty.results)
-          → Ok (call_host caller vs entry ty)
-      host_ok entry ty e h st =
+          → CalledFrom ty → Ok (call_host caller vs entry ty)
+      host_ok entry ty e h st from =
           let s = split V (reverse ty.params) under vs h in
-          rw s.taken (ty, e, (_, s.top, refl), st _ s.under)
+          rw s.taken (ty, e, (_, s.top, refl), from _, st _ s.under)
 
       loader_ok : (which : LoaderCall) → V.has_loader ≡ true → HaveTypes V (reverse (loader_type which).params ++ under) vs
           → Returns (reverse (loader_type which).results) → Ok (call_loader caller vs which (loader_type which))
@@ -125,11 +127,12 @@ module _ {Units Mark : Type 0} (V : View Units) (N : ℕ → Context) (Kept : Un
       stub_ok ty h = let s = split V (reverse ty.params) under vs h in rw s.taken tt
 
       own_called : (unit f : ℕ) (ty : FuncType) (o : Option Function) → V.code unit f ≡ o → (o >>= λ x. Some x.ty) ≡ Some ty
-          → HaveTypes V (reverse ty.params ++ under) vs → Returns (reverse ty.results) → Ok (o >>= call_own us memory caller vs unit f)
-      own_called unit f ty None q e h st = absurd cc
-      own_called unit f ty (Some x) q e h st =
+          → HaveTypes V (reverse ty.params ++ under) vs → Returns (reverse ty.results) → CalledFrom ty → Ok (o >>= call_own us memory caller vs unit f)
+      own_called unit f ty None q e h st from = absurd cc
+      own_called unit f ty (Some x) q e h st from =
           let same : ty ≡ x.ty = cc in
           entered_ok unit f x q (subst (λ z. HaveTypes V (reverse z.params ++ under) vs) same h) (subst (λ z. Returns (reverse z.results)) same st)
+          (subst CalledFrom same from)
 
       loader_called : (which : LoaderCall) (ty : FuncType) (b : Bool) → V.has_loader ≡ b → only_if b (loader_type which) ≡ Some ty
           → HaveTypes V (reverse ty.params ++ under) vs → Returns (reverse ty.results)
@@ -140,17 +143,17 @@ module _ {Units Mark : Type 0} (V : View Units) (N : ℕ → Context) (Kept : Un
           loader_ok which q (subst (λ z. HaveTypes V (reverse z.params ++ under) vs) same h) (subst (λ z. Returns (reverse z.results)) same st)
 
       pub call_ok : (r : Ref) (ty : FuncType) → type_of V r ≡ Some ty → HaveTypes V (reverse ty.params ++ under) vs → Returns (reverse ty.results)
-          → Ok (call V us memory caller vs r)
-      call_ok (Own unit f) ty e h st = own_called unit f ty (V.code unit f) refl e h st
-      call_ok (Host entry) ty e h st = rw e (host_ok entry ty e h st)
-      call_ok (Loader which) ty e h st = loader_called which ty V.has_loader refl e h st
-      call_ok (Stub unit f) ty e h st = rw e (stub_ok ty h)
+          → CalledFrom ty → Ok (call V us memory caller vs r)
+      call_ok (Own unit f) ty e h st from = own_called unit f ty (V.code unit f) refl e h st from
+      call_ok (Host entry) ty e h st from = rw e (host_ok entry ty e h st from)
+      call_ok (Loader which) ty e h st from = loader_called which ty V.has_loader refl e h st
+      call_ok (Stub unit f) ty e h st from = rw e (stub_ok ty h)
 
     -- ---- moves
 
-    module _ (fs : List (Frame Mark)) (own : List ValType) (stands : Stand V N M fs (reverse own)) where
+    module _ (fs : List (Frame Mark)) (own : Function) (over : IsCalledOver fs own.ty) (stands : Stand V N M fs (reverse own.ty.results)) where
       on_ok : (a : Activation) → IsTyped V N own [] [] a → Ok (Some (Goes us memory (Active a ∷ fs)))
-      on_ok a x = goes_ok (Active a) fs (own, x, stands)
+      on_ok a x = goes_ok (Active a) fs (own, x, over, stands)
 
       calls_ok : (a : Activation) (r : Ref) (ty : FuncType) → type_of V r ≡ Some ty → IsTyped V N own (reverse ty.params) (reverse ty.results) a
           → Ok (call V us memory (calling a fs) a.values r)
@@ -159,18 +162,19 @@ module _ {Units Mark : Type 0} (V : View Units) (N : ℕ → Context) (Kept : Un
           (λ ws h. (
             own,
             record {
-              local_types = x.local_types;
               labels = x.labels;
               ends = x.ends;
               kept = x.kept;
-              results_are = x.results_are;
+              is_of = x.is_of;
               locals = x.locals;
               values = h;
               rest = x.rest;
               levels = x.levels;
             },
+            over,
             stands,
           ))
+          (λ ws. tt)
 
       entry_ok : (a : Activation) (ty : FuncType) (o : Option (Option Ref)) → ((r : Option Ref) → o ≡ Some r → ReferenceExists V r)
           → IsTyped V N own (reverse ty.params) (reverse ty.results) a → Ok (call_entry V us memory fs a ty o)
@@ -191,7 +195,7 @@ module _ {Units Mark : Type 0} (V : View Units) (N : ℕ → Context) (Kept : Un
       effected_ok : (a : Activation) (rs : List ValType) (o : Option (Effected Units)) → IsTyped V N own [] rs a → IsThere V N Kept typed rs o
           → Ok (o >>= λ e. Some (effected_with fs a e))
       effected_ok a rs None x h = absurd h
-      effected_ok a rs (Some (effects.Gives values us' memory')) x h = (h.1, h.2, not_empty _ _, (own, given_ok own rs a values x h.0, stands))
+      effected_ok a rs (Some (effects.Gives values us' memory')) x h = (h.1, h.2, not_empty _ _, (own, given_ok own rs a values x h.0, over, stands))
       effected_ok a rs (Some (effects.Traps why)) x h = tt
 
       pub carried_ok : (m : Move) → IsTypedMove V N own m → Ok (carried_out V us memory fs m)
@@ -209,11 +213,11 @@ module _ {Units Mark : Type 0} (V : View Units) (N : ℕ → Context) (Kept : Un
           rw r.1 (on_ok (pushed a (Func (Some r.0))) (given_ok own (FuncRef ∷ []) a (Func (Some r.0) ∷ []) x.1 ((refl, ap is_some r.2), tt)))
       carried_ok (Does effect a) x = effected_ok a x.0 (performed V us memory a.unit effect) x.2
           (performed_ok V N Kept typed us memory kept is a.unit effect x.0 x.1)
-      carried_ok (Leaves values) x = left_ok fs (reverse own) values stands x
+      carried_ok (Leaves values) x = left_ok fs (reverse own.ty.results) values stands x
       carried_ok (Fails why) x = tt
       carried_ok Stuck x = absurd x
 
 pub code_step : {Units Mark : Type 0} (V : View Units) (N : ℕ → Context) (Kept : Units → Type 0) (M : OnMark Mark) → CodeStepIsSound V N Kept M
 code_step V N Kept M typed us memory a frames kept is st =
-    carried_ok V N Kept M typed us memory kept is frames st.0 st.2 (move (V.declared a.unit) a)
+    carried_ok V N Kept M typed us memory kept is frames st.0 st.2 st.3 (move (V.declared a.unit) a)
     (subst (λ (d : _). IsTypedMove V N st.0 (move d a)) (typed.types a.unit) (move_ok V N st.0 typed.tables a st.1))

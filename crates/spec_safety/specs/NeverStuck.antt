@@ -1,4 +1,6 @@
 -- A sound activation has a step, and what it comes to is sound.
+-- Part of the statement of laws: docs/LAWS.md, "Valid modules never get stuck" and "Laws of the
+-- parts".
 use Rattle.std.specs.Prelude.{◌≡◌, ℕ, List, [], ◌∷◌, Some, Ok, IsTrue}
 use Rattle.std.specs.List.{All}
 use Rattle.spec_execution.specs.spec_runs.Systems.{Moving, Waits}

@@ -1,4 +1,5 @@
 -- When a state of the run of one module is sound.
+-- Part of the statement of laws: docs/LAWS.md, "Valid modules never get stuck".
 use Rattle.std.specs.Prelude.{◌≡◌, ◌≢◌, ℕ, List, [], reverse, Some, IfSome, IsTrue}
 use Rattle.std.specs.List.{All}
 use Rattle.spec_execution.specs.spec_runs.Systems.{Status, Moving, Waits, Returned, Exited, Trapped}
@@ -9,12 +10,12 @@ use Rattle.spec_execution.specs.wasm_form.declared.module.GlobalDef.{GlobalDef}
 use Rattle.spec_execution.specs.wasm_form.declared.module.Module.{Module}
 use Rattle.spec_execution.specs.spec_binary.Indices.{function_type, nullary}
 use Rattle.spec_execution.specs.spec_runtime.Hosts.{HostCall}
-use Rattle.spec_execution.specs.Instances.{module_names, module_view}
+use Rattle.spec_execution.specs.Instances.{module_hosts, module_names, module_view}
 use Rattle.spec_execution.specs.OneModule.{Starting, ModuleState}
 use Rattle.spec_execution.specs.Runs.{Frame}
 use Rattle.spec_safety.specs.ValueTypes.{AreArguments, constants_fit, AreBytes, IsMemory}
 use Rattle.spec_safety.specs.TypedViews.{HoldTypes}
-use Rattle.spec_safety.specs.TypedFrames.{OnMark, Stand}
+use Rattle.spec_safety.specs.TypedFrames.{OnMark, IsCalledOver, Stand}
 
 -- its data segments are of bytes
 abbrev pub HoldsBytes : Module → Type 0
@@ -38,11 +39,12 @@ pub record StartsOn (m : Module) (starting : Starting) (under : List (Frame Star
 abbrev pub on_start : Module → OnMark Starting
 on_start m starting under stands = StartsOn m starting under
 
--- A moving state has something on its call stack. A wait is for a host function with arguments of its type, and stands on what takes its results.
+-- A moving state has something on its call stack. A wait is for a host function that an entry names, with arguments of its type, and
+-- stands on what takes its results.
 abbrev pub StacksFit : Module → Status HostCall Trap → List (Frame Starting) → Type 0
 StacksFit m Moving stack = (stack ≢ []) × Stand (module_view m) (module_names m) (on_start m) stack []
-StacksFit m (Waits call) stack = AreArguments (module_view m) call.host.ty call.args
-    × Stand (module_view m) (module_names m) (on_start m) stack (reverse call.host.ty.results)
+StacksFit m (Waits call) stack = (entry : ℕ) × (module_hosts m entry ≡ Some call.host) × AreArguments (module_view m) call.host.ty call.args
+    × IsCalledOver stack call.host.ty × Stand (module_view m) (module_names m) (on_start m) stack (reverse call.host.ty.results)
 StacksFit m Returned stack = Unit {0}
 StacksFit m (Exited code) stack = Unit {0}
 StacksFit m (Trapped why) stack = Unit {0}

@@ -4,6 +4,7 @@ use Rattle.spec_execution.specs.wasm_form.declared.types.ValType.{ValType}
 use Rattle.spec_execution.specs.wasm_form.declared.instr.Instr.{Instr}
 use Rattle.spec_execution.specs.spec_binary.Trees.{nesting_all}
 use Rattle.spec_execution.specs.spec_binary.BodyLimits.{most_nested}
+use Rattle.spec_execution.specs.spec_binary.Indices.{Function}
 use Rattle.spec_execution.specs.spec_validation.Stacks.{Stack, ends_with}
 use Rattle.spec_execution.specs.spec_validation.Context.{Context, Labels}
 use Rattle.spec_execution.specs.spec_validation.Typing.{Reach, afters}
@@ -57,14 +58,19 @@ AreOpen V c most (l ∷ ls) (taken ∷ labels) ends = (outer : List ValType) × 
 abbrev pub within : Context → List ValType → List ValType → Context
 within c locals results = record c { locals = locals; results = results }
 
--- An activation that returns these results, and goes on once the values of types `taken` on top were replaced by values of types `given`.
-pub record IsTyped {Units : Type 0} (V : View Units) (N : ℕ → Context) (results taken given : List ValType) (a : Activation) : Type 0 where
-  pub local_types : List ValType
+-- an activation of this function of its unit, with as many results
+abbrev pub IsOf : {Units : Type 0} → View Units → Function → Activation → Type 0
+IsOf V x a = (V.code a.unit a.func ≡ Some x) × (length x.ty.results ≡ a.results)
+
+-- An activation of a function, which returns its results and whose locals hold its parameters and its other locals. It goes on once the
+-- values of types `taken` on top were replaced by values of types `given`.
+pub record IsTyped {Units : Type 0} (V : View Units) (N : ℕ → Context) (x : Function) (taken given : List ValType) (a : Activation) : Type 0 where
   pub labels : Labels
   pub ends : List ValType
   pub kept : List ValType
-  pub results_are : length results ≡ a.results
-  pub locals : HaveTypes V local_types a.locals
+  pub is_of : IsOf V x a
+  pub locals : HaveTypes V (x.ty.params ++ x.locals) a.locals
   pub values : HaveTypes V (taken ++ kept) a.values
-  pub rest : Leads (within (N a.unit) local_types results) labels (count_below a.levels) (V.height a.unit a.func) (known (given ++ kept)) ends a.rest
-  pub levels : AreOpen V (within (N a.unit) local_types results) (V.height a.unit a.func) a.levels labels ends
+  pub rest : Leads (within (N a.unit) (x.ty.params ++ x.locals) x.ty.results) labels (count_below a.levels) (V.height a.unit a.func)
+      (known (given ++ kept)) ends a.rest
+  pub levels : AreOpen V (within (N a.unit) (x.ty.params ++ x.locals) x.ty.results) (V.height a.unit a.func) a.levels labels ends

@@ -1,10 +1,12 @@
 -- What a typed activation does next.
+-- Part of the statement of laws (WebAssembly Core 2.0, appendix on soundness).
 use Rattle.std.specs.Prelude.{◌≡◌, ◌<◌, ℕ, List, [], ◌∷◌, reverse, Some, true, false}
 use Rattle.spec_execution.specs.wasm_form.declared.types.ValType.{ValType}
 use Rattle.spec_execution.specs.wasm_form.declared.types.ValType.TheVariants.{I32, FuncRef}
 use Rattle.spec_execution.specs.wasm_form.declared.types.FuncType.{FuncType}
 use Rattle.spec_execution.specs.wasm_form.declared.types.GlobalType.{GlobalType}
 use Rattle.spec_execution.specs.wasm_form.Access.{memory_access}
+use Rattle.spec_execution.specs.spec_binary.Indices.{Function}
 use Rattle.spec_execution.specs.spec_validation.Context.{Context}
 use Rattle.spec_execution.specs.Activations.{Effect, GlobalGet, GlobalSet, TableGet, TableSet, TableSize, TableGrow, TableFill, TableCopy, TableInit, ElemDrop, Load, Store, MemorySize, MemoryGrow, MemoryCopy, MemoryFill, MemoryInit, DataDrop, Move, On, Calls, CallsEntry, Refers, Does, Leaves, Fails, Stuck}
 use Rattle.spec_execution.specs.Views.{View}
@@ -35,16 +37,16 @@ IsTypedEffect V c (MemoryFill to byte n) given = (byte < 256) × (given ≡ [])
 IsTypedEffect V c (MemoryInit d to from n) given = (d < c.datas) × (given ≡ [])
 IsTypedEffect V c (DataDrop d) given = (d < c.datas) × (given ≡ [])
 
--- a move of an activation that returns these results; it isn't stuck
-abbrev pub IsTypedMove : {Units : Type 0} → View Units → (ℕ → Context) → List ValType → Move → Type 0
-IsTypedMove V N results (On a) = IsTyped V N results [] [] a
-IsTypedMove V N results (Calls f a) = (ty : FuncType) × ((N a.unit).functions f ≡ Some ty)
-    × IsTyped V N results (reverse ty.params) (reverse ty.results) a
-IsTypedMove V N results (CallsEntry table t i a) =
+-- a move of an activation of this function; it isn't stuck
+abbrev pub IsTypedMove : {Units : Type 0} → View Units → (ℕ → Context) → Function → Move → Type 0
+IsTypedMove V N x (On a) = IsTyped V N x [] [] a
+IsTypedMove V N x (Calls f a) = (ty : FuncType) × ((N a.unit).functions f ≡ Some ty)
+    × IsTyped V N x (reverse ty.params) (reverse ty.results) a
+IsTypedMove V N x (CallsEntry table t i a) =
     (ty : FuncType) × (item : ValType) × ((N a.unit).tables table ≡ Some item) × ((N a.unit).types t ≡ Some ty)
-    × IsTyped V N results (reverse ty.params) (reverse ty.results) a
-IsTypedMove V N results (Refers f a) = ((N a.unit).refers f ≡ true) × IsTyped V N results [] (FuncRef ∷ []) a
-IsTypedMove V N results (Does effect a) = (given : List ValType) × IsTypedEffect V (N a.unit) effect given × IsTyped V N results [] given a
-IsTypedMove V N results (Leaves values) = HaveTypes V (reverse results) values
-IsTypedMove V N results (Fails why) = Unit {0}
-IsTypedMove V N results Stuck = ⊥
+    × IsTyped V N x (reverse ty.params) (reverse ty.results) a
+IsTypedMove V N x (Refers f a) = ((N a.unit).refers f ≡ true) × IsTyped V N x [] (FuncRef ∷ []) a
+IsTypedMove V N x (Does effect a) = (given : List ValType) × IsTypedEffect V (N a.unit) effect given × IsTyped V N x [] given a
+IsTypedMove V N x (Leaves values) = HaveTypes V (reverse x.ty.results) values
+IsTypedMove V N x (Fails why) = Unit {0}
+IsTypedMove V N x Stuck = ⊥

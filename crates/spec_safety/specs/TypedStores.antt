@@ -1,4 +1,5 @@
 -- Units over one store, whose names have types.
+-- Part of the statement of laws (WebAssembly Core 2.0, appendix on soundness).
 use Rattle.std.specs.Prelude.{◌≡◌, ℕ, Some, true, false}
 use Rattle.spec_execution.specs.wasm_form.declared.types.ValType.{ValType}
 use Rattle.spec_execution.specs.wasm_form.declared.types.FuncType.{FuncType}

@@ -1,4 +1,5 @@
 -- Views whose code is typed, and what typed code keeps of their units.
+-- Part of the statement of laws (WebAssembly Core 2.0, appendix on soundness).
 use Rattle.std.specs.Prelude.{◌≡◌, ◌≤◌, ◌<◌, ℕ, List, ◌++◌, Option, Some, true, false, is_some, nat_lt}
 use Rattle.spec_execution.specs.wasm_form.declared.types.ValType.{ValType}
 use Rattle.spec_execution.specs.wasm_form.declared.types.FuncType.{FuncType}
@@ -16,6 +17,7 @@ use Rattle.spec_execution.specs.Views.{View, Counts, type_of}
 use Rattle.spec_execution.specs.Ranges.{AllExist}
 use Rattle.spec_safety.specs.ValueTypes.{HasType, constants_fit, AreBytes, IsTable}
 use Rattle.spec_safety.specs.TypedActivations.{within}
+use Rattle.spec_safety.specs.StoredUnits.{AreStored}
 
 -- a function whose body has its type, within this height, and constants of their types, and nests no more blocks than a body may
 abbrev pub HasBody : Context → ℕ → Function → Type 0
@@ -55,7 +57,8 @@ pub record AreCounted (c : Context) (n : Counts) : Type 0 where
   pub elems : (k : ℕ) → is_some (c.elems k) ≡ nat_lt k n.elems
   pub datas : c.datas ≡ n.datas
 
--- the view is typed under its own names, of which it has as many as it counts
+-- the view is typed under its own names, of which it has as many as it counts, and its units are in a store
 pub record IsSoundView {Units : Type 0} (V : View Units) : Type 0 where
   pub typed : IsTypedView V V.names (HoldTypes V V.names)
   pub counted : (unit : ℕ) → AreCounted (V.names unit) (V.counts unit)
+  pub stored : AreStored V

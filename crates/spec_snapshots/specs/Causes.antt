@@ -1,4 +1,5 @@
 -- Which state of a start-up is the first one of which something is to be said, and what: the snapshot is made of it, or why there is none.
+-- This profile: docs/FORMATS.md, "The snapshot".
 use Rattle.std.specs.Prelude.{◌≡◌, ◌<◌, ℕ, [], Bool, nat_eq, Option, Some, None, if◌then◌else◌}
 use Rattle.spec_loading.specs.wasm_form.declared.runtime.Trap.{Trap}
 use Rattle.spec_loading.specs.spec_runs.Systems.{Status, Moving, Waits, Returned, Exited, Trapped}

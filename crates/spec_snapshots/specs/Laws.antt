@@ -1,4 +1,5 @@
 -- What is so of what is written of a memory and of tables.
+-- Part of the statement of laws: docs/LAWS.md, "Laws of the parts".
 use Rattle.std.specs.Prelude.{◌≡◌, ◌≤◌, ℕ, List, length}
 use Rattle.spec_loading.specs.spec_runtime.Memories.{MemoryInstance}
 use Rattle.spec_loading.specs.spec_runtime.Tables.{TableInstance}

@@ -1,14 +1,14 @@
 -- What it is that a module is a snapshot of a linked set after its start-up. None of it is about how the module is made.
-use Rattle.std.specs.Prelude.{◌≡◌, ◌≤◌, ℕ, [], ◌∷◌, Bool, true, false, map, codes, IsTrue, None, Ok}
+-- This profile: docs/FORMATS.md, "The snapshot".
+use Rattle.std.specs.Prelude.{◌≡◌, ◌≤◌, ℕ, [], ◌∷◌, Bool, true, false, map, IsTrue, None, Ok}
 use Rattle.std.specs.List.{count_by}
 use Rattle.spec_loading.specs.wasm_form.declared.types.Limits.{Limits}
-use Rattle.spec_loading.specs.wasm_form.declared.module.ExportDesc.TheVariants as exported
 use Rattle.spec_loading.specs.wasm_form.declared.module.DataMode.{DataMode}
 use Rattle.spec_loading.specs.wasm_form.declared.module.DataMode.TheVariants.{Active, Passive}
 use Rattle.spec_loading.specs.wasm_form.declared.module.Data.{Data}
 use Rattle.spec_loading.specs.wasm_form.declared.module.Module.{Module}
+use Rattle.spec_merging.specs.Exports.{entry_exports}
 use Rattle.spec_loading.specs.spec_runs.Agreement.{Agree}
-use Rattle.spec_loading.specs.spec_binary.Exports.{start_name}
 use Rattle.spec_loading.specs.spec_validation.Faults.{fault}
 use Rattle.spec_loading.specs.spec_runtime.Memories.{MemoryInstance, pages}
 use Rattle.spec_loading.specs.spec_execution.OneModule.{ModuleState, module_system, module_opening}
@@ -31,7 +31,7 @@ least_pages l = l.min
 pub record HasSnapshotForm (memory : MemoryInstance) (wasm : Module) : Type 0 where
   pub imports : IsTrue (imports_functions wasm)
   pub entry : ℕ
-  pub exports : wasm.exports ≡ record { name = start_name; desc = exported.Func entry } ∷ record { name = codes "memory"; desc = exported.Space 0 } ∷ []
+  pub exports : wasm.exports ≡ entry_exports entry
   pub start : wasm.start ≡ None
   pub customs : wasm.customs ≡ []
   pub size : map least_pages wasm.memories ≡ pages memory ∷ []

@@ -1,4 +1,5 @@
 -- What is written of long lists, so that little is written where one item stands almost everywhere.
+-- This profile: docs/FORMATS.md, "The snapshot".
 use Rattle.std.specs.Prelude.{◌≡◌, ◌≢◌, ℕ, ◌+◌, ◌-◌, ◌/◌, ◌<◌, ◌≤◌, List, [], ◌∷◌, ◌++◌, length, take, drop, replicate, max, slice_index_or, sum_by, Option, None}
 use Rattle.std.specs.List.{All}
 use Rattle.spec_loading.specs.wasm_form.declared.runtime.Ref.{Ref}

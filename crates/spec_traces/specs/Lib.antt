@@ -1,5 +1,6 @@
 pub mod Texts
 pub mod Traces
+pub mod Lawful
 pub mod Laws
 pub mod Lines
 pub mod Reading

@@ -1,4 +1,5 @@
 -- The lines of the text of a trace by what they say: a device by which the law of the text is proved, and by which it is read.
+-- Serves the proof of laws: docs/LAWS.md, "One text is of one trace".
 use Rattle.std.specs.Prelude.{◌<◌, ◌^◌, ℕ, List, [], ◌∷◌, ◌++◌, map, flat_map, codes, decimal, IsUtf8}
 use Rattle.std.specs.List.{All}
 use Rattle.spec_hosts.specs.wasm_form.declared.runtime.Answer.{Answer}

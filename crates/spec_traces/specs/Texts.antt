@@ -1,4 +1,5 @@
 -- The text of a trace.
+-- This profile: docs/FORMATS.md, "The trace".
 use Rattle.std.specs.Prelude.{◌≡◌, ◌<◌, ◌≤◌, ◌^◌, ℕ, suc, List, [], ◌∷◌, ◌++◌, length, map, take, flat_map, codes, decimal, nat_eq, IsUtf8, if◌then◌else◌}
 use Rattle.std.specs.List.{All}
 use Rattle.spec_hosts.specs.wasm_form.declared.runtime.Answer.{Answer}

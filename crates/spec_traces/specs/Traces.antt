@@ -1,4 +1,5 @@
 -- When a run is that of a trace.
+-- This profile: docs/FORMATS.md, "The trace".
 use Rattle.std.specs.Prelude.{◌≡◌, ◌≤◌, ◌<◌, ℕ, suc, List, length, map, drop, slice_get, Bool, Some, IsTrue}
 use Rattle.spec_hosts.specs.wasm_form.declared.runtime.Trap.{Trap}
 use Rattle.spec_hosts.specs.wasm_form.declared.runtime.Answer.{Answer}

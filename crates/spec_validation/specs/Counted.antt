@@ -1,5 +1,6 @@
 -- What each instruction of a constant expression does to the number of values there. All of them have one type, so that an expression is
 -- typed just where counting says so (a law).
+-- Serves the contracts of `wasm_check`: docs/DECISIONS.md, "The binary format".
 use Rattle.std.specs.Prelude.{ℕ, Option, Some, None, if◌then◌else◌}
 use Rattle.spec_binary.specs.wasm_form.declared.types.ValType.{ValType}
 use Rattle.spec_binary.specs.wasm_form.declared.types.ValType.TheVariants.{I32, I64}

@@ -1,4 +1,4 @@
--- The first fault of a module (WebAssembly Core 2.0, section 3.4, and what this program supports).
+-- The first fault of a module (WebAssembly Core 2.0, section 3.4, and what this profile supports).
 use Rattle.std.specs.Prelude.{ℕ, ◌+◌, length, ◌&&◌, ◌||◌, not, nat_eq, nat_le, nat_lt, Bool, true, false, List, [], ◌∷◌, ◌++◌, slice_get, Option, Some, None, is_some, if◌then◌else◌, bytes_eq}
 use Rattle.std.specs.List.{list_all, list_any}
 use Rattle.spec_binary.specs.wasm_form.declared.types.ValType.{ValType}

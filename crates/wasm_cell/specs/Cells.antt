@@ -1,4 +1,5 @@
 -- The value that is in a cell, and the cell of a value.
+-- Serves the contracts of this crate: docs/DECISIONS.md, "The parts of a machine".
 use Rattle.std.specs.Prelude.{◌≡◌, ◌<◌, ℕ, Bool, true, false, Option, Some, None, nat_eq, if◌then◌else◌}
 use Rattle.wasm_form.specs.declared.runtime.Ref.{Ref}
 use Rattle.wasm_form.specs.declared.runtime.Ref.TheVariants.{Own, Loader, Host, Stub}

@@ -1,4 +1,5 @@
 -- What a check answers, beside the fault that a module has.
+-- Serves the contracts of this crate, which follow Faults of `spec_validation`.
 use Rattle.std.specs.Prelude.{◌≡◌, ◌≢◌, Some, None, Result, Ok, Err}
 use Rattle.spec_execution.specs.spec_validation.declared.fault.CheckFault.{CheckFault}
 use Rattle.spec_execution.specs.spec_validation.declared.fault.CheckFault.TheVariants.{Memory}

@@ -1,4 +1,5 @@
 -- How the check of a constant expression counts.
+-- Serves the contracts of this crate, which follow Counted of `spec_validation`.
 use Rattle.std.specs.Prelude.{ℕ, Option, Some}
 use Rattle.wasm_form.specs.declared.types.ValType.{ValType}
 use Rattle.spec_execution.specs.spec_binary.Options.{◌>>=◌}

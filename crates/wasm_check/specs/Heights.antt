@@ -1,4 +1,5 @@
 -- The heights of bodies, as they are kept.
+-- Serves the contracts of this crate, which follow Faults of `spec_validation`.
 use Rattle.std.specs.Prelude.{◌≡◌, ℕ, ◌<◌, List, length, slice_get, Option, Some, None}
 use Rattle.wasm_form.specs.declared.module.Module.{Module}
 use Rattle.spec_execution.specs.spec_binary.Saturated.{saturated}

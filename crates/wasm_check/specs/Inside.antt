@@ -1,4 +1,5 @@
 -- What is not supported, as it is looked for.
+-- Serves the contracts of this crate, which follow Faults of `spec_validation`.
 use Rattle.std.specs.Prelude.{◌≡◌, ℕ, Bool, true, List, map, Option, Some, None}
 use Rattle.wasm_form.specs.declared.instr.Expr.{Expr}
 use Rattle.wasm_form.specs.declared.module.Module.{Module}

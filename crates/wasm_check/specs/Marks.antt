@@ -1,4 +1,5 @@
 -- Marks of functions, by their indices.
+-- Serves the contracts of this crate, which follow Faults of `spec_validation`.
 use Rattle.std.specs.Prelude.{◌≡◌, ℕ, ◌<◌, Bool, true, false, ◌||◌, List, length, get_or, slice_get, Option, Some}
 use Rattle.wasm_form.specs.declared.module.Module.{Module}
 use Rattle.wasm_form.specs.declared.index.IndexForm.{IndexForm}

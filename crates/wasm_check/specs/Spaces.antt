@@ -1,4 +1,5 @@
 -- The index spaces of a module, as they are kept.
+-- Serves the contracts of this crate, which follow IndexSpaces of `spec_binary`.
 use Rattle.std.specs.Prelude.{◌≡◌, List, length, map}
 use Rattle.wasm_form.specs.declared.types.ValType.{ValType}
 use Rattle.wasm_form.specs.declared.types.TableType.{TableType}

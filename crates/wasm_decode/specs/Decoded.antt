@@ -1,4 +1,5 @@
 -- What a decoded result says of the bytes.
+-- Serves the contracts of this crate, which follow DecodeAnswers of `spec_binary`.
 use Rattle.std.specs.Prelude.{ℕ, List, Result, Err}
 use Rattle.wasm_form.specs.declared.module.Module.{Module}
 use Rattle.spec_reading.specs.spec_binary.declared.fault.DecodeFault.{DecodeFault}

@@ -1,4 +1,5 @@
 -- What a reader returned stands for what reading from left to right finds, unless memory ran out.
+-- Serves the contracts of this crate, which follow Sections of `spec_reading`.
 use Rattle.std.specs.Prelude.{◌≡◌, ℕ, Result, Ok, Err}
 use Rattle.wasm_read.specs.declared.broken.Break.{Break}
 use Rattle.wasm_read.specs.declared.broken.Break.TheVariants as breaks

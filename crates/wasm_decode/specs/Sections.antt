@@ -1,4 +1,5 @@
 -- What the sections so far say, as the definition of spelling has it.
+-- Serves the contracts of this crate, which follow Sections of `spec_binary`.
 use Rattle.spec_reading.specs.spec_binary.Sections as said
 use Rattle.wasm_decode.specs.declared.section.Progress.{Progress}
 

@@ -1,4 +1,4 @@
-// Bodies, with their limits (WebAssembly Core 2.0, section 5.5.13, and appendix A.1.2).
+// Bodies, with their limits (WebAssembly Core 2.0, section 5.5.13, and appendix A.2).
 ghost use Rattle.std.specs.Prelude.{◌≡◌, ℕ, ◌≤◌, ◌<◌, [], length, IfOk};
 ghost use Rattle.spec_reading.specs.Steps.{whole};
 ghost use Rattle.spec_reading.specs.Bodies.{usual_room, groups_at, locals_at, func_at, code_at, bodies_at};

@@ -10,12 +10,13 @@ use Rattle.wasm_form.specs.declared.instr.Expr.{Expr}
 use Rattle.spec_reading.specs.spec_binary.Number.{SpellsUnsigned, SpellsSigned, IsShortest, Appends}
 use Rattle.spec_reading.specs.spec_binary.Sequence.{SpellsEach, none, next as each_next, SpellsVec}
 use Rattle.spec_reading.specs.spec_binary.Types.{SpellsRefType, SpellsValType}
-use Rattle.spec_reading.specs.spec_binary.Operands.{NoOperand, OneIndex, MemoryArgument, control_operands, access_operands, reference_operands, operands}
+use Rattle.spec_reading.specs.spec_binary.Operands.{NoOperand, OneIndex, BlockBody, LoopBody, IfBodies, Labels, TypeAndTable, ValueTypes, OneRefType, MemoryArgument, MemorySizeByte, MemoryGrowByte, OneI32, OneI64, OneF32, OneF64, SecondOpcode, control_operands, access_operands, reference_operands, operands}
 use Rattle.spec_reading.specs.spec_binary.Instructions.{SpellsBlockType, empty, value, index as type_index, SpellsBits, SpellsSecond, SpellsInstr, plain, index, block, loop, if_alone, if_else, labels, type_and_table, value_types, ref_type, memory_argument, memory_size, memory_grow, i32_const, i64_const, f32_const, f64_const, second, SpellsInstrs, done, next, SpellsExpr, expr}
 use Rattle.spec_reading.specs.spec_binary.Joined.{IsByte, Joined}
 use Rattle.wasm_encode.specs.Bodies.{IsBody, IsBodies}
 use Rattle.spec_reading.proofs.of_spec_binary.Joined.{joined, behind, unjoined, after_byte, AtMost, itself, appends_byte, appends_joined, appends_like}
 use Rattle.wasm_encode.proofs.TypeForms.{coded_written}
+use Rattle.wasm_encode.proofs.OneOpcode.{opcode_is}
 
 -- what follows the opcode
 abbrev pub Immediate : Open.Instr-F Instr Expr → List ℕ → Type 0
@@ -38,51 +39,72 @@ Immediate (Open.F64Const bits) w = SpellsBits 8 bits w
 Immediate (Open.RefNull t) w = SpellsRefType t w
 Immediate (Open.Prefixed op x y) w = Joined (SpellsUnsigned 32 op) (SpellsSecond op x y) w
 
+-- the opcode of an instruction
+abbrev pub opcode_of : Open.Instr-F Instr Expr → ℕ
+opcode_of (Open.Plain op) = op
+opcode_of (Open.Index op n) = op
+opcode_of (Open.Block t e) = 0x02
+opcode_of (Open.Loop t e) = 0x03
+opcode_of (Open.If t e other) = 0x04
+opcode_of (Open.BrTable ls last) = 0x0E
+opcode_of (Open.CallIndirect ty table) = 0x11
+opcode_of (Open.Select ts) = 0x1C
+opcode_of (Open.Access op align offset) = op
+opcode_of Open.MemorySize = 0x3F
+opcode_of Open.MemoryGrow = 0x40
+opcode_of (Open.I32Const n) = 0x41
+opcode_of (Open.I64Const n) = 0x42
+opcode_of (Open.F32Const bits) = 0x43
+opcode_of (Open.F64Const bits) = 0x44
+opcode_of (Open.RefNull t) = 0xD0
+opcode_of (Open.Prefixed op x y) = 0xFC
+
 -- an opcode, and what follows it
-record IsCoded (i : Instr) (w : List ℕ) : Type 0 where
-  opcode : ℕ
-  after : List ℕ
-  parts : w ≡ opcode ∷ after
-  immediate : Immediate (out-Instr i) after
+pub record IsCoded (i : Instr) (w : List ℕ) : Type 0 where
+  pub opcode : ℕ
+  pub known : opcode ≡ opcode_of (out-Instr i)
+  pub after : List ℕ
+  pub parts : w ≡ opcode ∷ after
+  pub immediate : Immediate (out-Instr i) after
 
-module _ {i : Instr} (b : ℕ) (v : List ℕ) (x : Open.Instr-F Instr Expr) (e : out-Instr i ≡ x) (s : Immediate x v) where
+module _ {i : Instr} (b : ℕ) (v : List ℕ) (x : Open.Instr-F Instr Expr) (e : out-Instr i ≡ x) (k : b ≡ opcode_of x) (s : Immediate x v) where
   coded : IsCoded i (b ∷ v)
-  coded = record { opcode = b; after = v; parts = refl; immediate = subst (λ y. Immediate y v) (sym e) s }
+  coded = record { opcode = b; known = k ∙ ap opcode_of (sym e); after = v; parts = refl; immediate = subst (λ y. Immediate y v) (sym e) s }
 
-body_joined : {t : BlockType} {e : Expr} (w v : List ℕ) → SpellsBlockType t w → SpellsInstrs e.list v → IsBody t e (w ++ (v ++ 0x0B ∷ []))
+pub body_joined : {t : BlockType} {e : Expr} (w v : List ℕ) → SpellsBlockType t w → SpellsInstrs e.list v → IsBody t e (w ++ (v ++ 0x0B ∷ []))
 body_joined w v s r = joined _ _ s (joined _ _ r refl)
 
-bodies_joined : {t : BlockType} {e other : Expr} (w v u : List ℕ) → SpellsBlockType t w → SpellsInstrs e.list v → SpellsInstrs other.list u
+pub bodies_joined : {t : BlockType} {e other : Expr} (w v u : List ℕ) → SpellsBlockType t w → SpellsInstrs e.list v → SpellsInstrs other.list u
     → IsBodies t e other (w ++ (v ++ 0x05 ∷ u ++ 0x0B ∷ []))
 bodies_joined {t} {e} {other} w v u s r q =
     subst (λ x. IsBodies t e other (w ++ x)) (sym (append_assoc v (0x05 ∷ u) (0x0B ∷ []))) (joined _ _ s (joined _ _ r (behind 0x05 _ (joined _ _ q refl))))
 
-is_coded : {i : Instr} {w : List ℕ} → SpellsInstr i w → IsCoded i w
-is_coded (plain {b} o) = coded b [] (Open.Plain b) (ap out-Instr (sym (rolls-Plain b)) ∙ out-roll-Instr (Open.Plain b)) refl
-is_coded (index {b} {n} {w} o s) = coded b w (Open.Index b n) (ap out-Instr (sym (rolls-Index b n)) ∙ out-roll-Instr (Open.Index b n)) s
+pub is_coded : {i : Instr} {w : List ℕ} → SpellsInstr i w → IsCoded i w
+is_coded (plain {b} o) = coded b [] (Open.Plain b) (ap out-Instr (sym (rolls-Plain b)) ∙ out-roll-Instr (Open.Plain b)) refl refl
+is_coded (index {b} {n} {w} o s) = coded b w (Open.Index b n) (ap out-Instr (sym (rolls-Index b n)) ∙ out-roll-Instr (Open.Index b n)) refl s
 is_coded (block {b} {t} {e} {w} {v} o s r) =
-    coded b (w ++ (v ++ 0x0B ∷ [])) (Open.Block t e) (ap out-Instr (sym (rolls-Block t e)) ∙ out-roll-Instr (Open.Block t e)) (body_joined w v s r)
-is_coded (loop {b} {t} {e} {w} {v} o s r) = coded b (w ++ (v ++ 0x0B ∷ [])) (Open.Loop t e) (ap out-Instr (sym (rolls-Loop t e)) ∙ out-roll-Instr (Open.Loop t e)) (body_joined w v s r)
+    coded b (w ++ (v ++ 0x0B ∷ [])) (Open.Block t e) (ap out-Instr (sym (rolls-Block t e)) ∙ out-roll-Instr (Open.Block t e)) (opcode_is b BlockBody o) (body_joined w v s r)
+is_coded (loop {b} {t} {e} {w} {v} o s r) = coded b (w ++ (v ++ 0x0B ∷ [])) (Open.Loop t e) (ap out-Instr (sym (rolls-Loop t e)) ∙ out-roll-Instr (Open.Loop t e)) (opcode_is b LoopBody o) (body_joined w v s r)
 is_coded (if_alone {b} {t} {e} {w} {v} o s r) =
-    coded b (w ++ (v ++ 0x0B ∷ [])) (Open.If t e None) (ap out-Instr (sym (rolls-If t e None)) ∙ out-roll-Instr (Open.If t e None)) (body_joined w v s r)
+    coded b (w ++ (v ++ 0x0B ∷ [])) (Open.If t e None) (ap out-Instr (sym (rolls-If t e None)) ∙ out-roll-Instr (Open.If t e None)) (opcode_is b IfBodies o) (body_joined w v s r)
 is_coded (if_else {b} {t} {e} {other} {w} {v} {u} o s r q) =
-    coded b (w ++ (v ++ 0x05 ∷ u ++ 0x0B ∷ [])) (Open.If t e (Some other)) (ap out-Instr (sym (rolls-If t e (Some other))) ∙ out-roll-Instr (Open.If t e (Some other)))
+    coded b (w ++ (v ++ 0x05 ∷ u ++ 0x0B ∷ [])) (Open.If t e (Some other)) (ap out-Instr (sym (rolls-If t e (Some other))) ∙ out-roll-Instr (Open.If t e (Some other))) (opcode_is b IfBodies o)
     (bodies_joined w v u s r q)
-is_coded (labels {b} {last} {ls} {w} {v} o s r) = coded b (w ++ v) (Open.BrTable ls last) (ap out-Instr (sym (rolls-BrTable ls last)) ∙ out-roll-Instr (Open.BrTable ls last)) (joined _ _ s r)
+is_coded (labels {b} {last} {ls} {w} {v} o s r) = coded b (w ++ v) (Open.BrTable ls last) (ap out-Instr (sym (rolls-BrTable ls last)) ∙ out-roll-Instr (Open.BrTable ls last)) (opcode_is b Labels o) (joined _ _ s r)
 is_coded (type_and_table {b} {ty} {table} {w} {v} o s r) =
-    coded b (w ++ v) (Open.CallIndirect ty table) (ap out-Instr (sym (rolls-CallIndirect ty table)) ∙ out-roll-Instr (Open.CallIndirect ty table)) (joined _ _ s r)
-is_coded (value_types {b} {ts} {w} o s) = coded b w (Open.Select ts) (ap out-Instr (sym (rolls-Select ts)) ∙ out-roll-Instr (Open.Select ts)) s
-is_coded (ref_type {b} {t} {w} o s) = coded b w (Open.RefNull t) (ap out-Instr (sym (rolls-RefNull t)) ∙ out-roll-Instr (Open.RefNull t)) s
+    coded b (w ++ v) (Open.CallIndirect ty table) (ap out-Instr (sym (rolls-CallIndirect ty table)) ∙ out-roll-Instr (Open.CallIndirect ty table)) (opcode_is b TypeAndTable o) (joined _ _ s r)
+is_coded (value_types {b} {ts} {w} o s) = coded b w (Open.Select ts) (ap out-Instr (sym (rolls-Select ts)) ∙ out-roll-Instr (Open.Select ts)) (opcode_is b ValueTypes o) s
+is_coded (ref_type {b} {t} {w} o s) = coded b w (Open.RefNull t) (ap out-Instr (sym (rolls-RefNull t)) ∙ out-roll-Instr (Open.RefNull t)) (opcode_is b OneRefType o) s
 is_coded (memory_argument {b} {align} {offset} {w} {v} o s r) =
-    coded b (w ++ v) (Open.Access b align offset) (ap out-Instr (sym (rolls-Access b align offset)) ∙ out-roll-Instr (Open.Access b align offset)) (joined _ _ s r)
-is_coded (memory_size {b} o) = coded b (0x00 ∷ []) Open.MemorySize (ap out-Instr (sym rolls-MemorySize) ∙ out-roll-Instr Open.MemorySize) refl
-is_coded (memory_grow {b} o) = coded b (0x00 ∷ []) Open.MemoryGrow (ap out-Instr (sym rolls-MemoryGrow) ∙ out-roll-Instr Open.MemoryGrow) refl
-is_coded (i32_const {b} {n} {w} o s) = coded b w (Open.I32Const n) (ap out-Instr (sym (rolls-I32Const n)) ∙ out-roll-Instr (Open.I32Const n)) s
-is_coded (i64_const {b} {n} {w} o s) = coded b w (Open.I64Const n) (ap out-Instr (sym (rolls-I64Const n)) ∙ out-roll-Instr (Open.I64Const n)) s
-is_coded (f32_const {b} {bits} {w} o s) = coded b w (Open.F32Const bits) (ap out-Instr (sym (rolls-F32Const bits)) ∙ out-roll-Instr (Open.F32Const bits)) s
-is_coded (f64_const {b} {bits} {w} o s) = coded b w (Open.F64Const bits) (ap out-Instr (sym (rolls-F64Const bits)) ∙ out-roll-Instr (Open.F64Const bits)) s
+    coded b (w ++ v) (Open.Access b align offset) (ap out-Instr (sym (rolls-Access b align offset)) ∙ out-roll-Instr (Open.Access b align offset)) refl (joined _ _ s r)
+is_coded (memory_size {b} o) = coded b (0x00 ∷ []) Open.MemorySize (ap out-Instr (sym rolls-MemorySize) ∙ out-roll-Instr Open.MemorySize) (opcode_is b MemorySizeByte o) refl
+is_coded (memory_grow {b} o) = coded b (0x00 ∷ []) Open.MemoryGrow (ap out-Instr (sym rolls-MemoryGrow) ∙ out-roll-Instr Open.MemoryGrow) (opcode_is b MemoryGrowByte o) refl
+is_coded (i32_const {b} {n} {w} o s) = coded b w (Open.I32Const n) (ap out-Instr (sym (rolls-I32Const n)) ∙ out-roll-Instr (Open.I32Const n)) (opcode_is b OneI32 o) s
+is_coded (i64_const {b} {n} {w} o s) = coded b w (Open.I64Const n) (ap out-Instr (sym (rolls-I64Const n)) ∙ out-roll-Instr (Open.I64Const n)) (opcode_is b OneI64 o) s
+is_coded (f32_const {b} {bits} {w} o s) = coded b w (Open.F32Const bits) (ap out-Instr (sym (rolls-F32Const bits)) ∙ out-roll-Instr (Open.F32Const bits)) (opcode_is b OneF32 o) s
+is_coded (f64_const {b} {bits} {w} o s) = coded b w (Open.F64Const bits) (ap out-Instr (sym (rolls-F64Const bits)) ∙ out-roll-Instr (Open.F64Const bits)) (opcode_is b OneF64 o) s
 is_coded (second {b} {op} {x} {y} {w} {v} o s r) =
-    coded b (w ++ v) (Open.Prefixed op x y) (ap out-Instr (sym (rolls-Prefixed op x y)) ∙ out-roll-Instr (Open.Prefixed op x y)) (joined _ _ s r)
+    coded b (w ++ v) (Open.Prefixed op x y) (ap out-Instr (sym (rolls-Prefixed op x y)) ∙ out-roll-Instr (Open.Prefixed op x y)) (opcode_is b SecondOpcode o) (joined _ _ s r)
 
 -- an instruction from its opcode and what follows it
 module _ (i : Instr) (x : Open.Instr-F Instr Expr) (out : out-Instr i ≡ x) (b : ℕ) where
@@ -95,6 +117,24 @@ module _ (i : Instr) (x : Open.Instr-F Instr Expr) (out : out-Instr i ≡ x) (b 
       → Appends (IsShortest (SpellsInstr j)) old new
   form_written j old new is make written =
       subst (λ k. Appends (IsShortest (SpellsInstr k)) old new) (sym is) (coded_written b old new make (λ other s. coded_least s) written)
+
+-- what follows the opcode of a block, made from its parts
+pub body_made : {i : Instr} {t : BlockType} {e : Expr} (b : ℕ) → ((w v : List ℕ) → SpellsBlockType t w → SpellsInstrs e.list v → SpellsInstr i (b ∷ w ++ (v ++ 0x0B ∷ []))) → (u : List ℕ) → IsBody t e u
+    → SpellsInstr i (b ∷ u)
+body_made {i} b make =
+    unjoined (λ u. SpellsInstr i (b ∷ u)) (λ w x s. unjoined (λ u. SpellsInstr i (b ∷ (w ++ u))) (λ v end r e. subst (λ z. SpellsInstr i (b ∷ (w ++ (v ++ z)))) (sym e) (make w v s r)) x)
+
+pub bodies_made : (b : ℕ) → operands b ≡ IfBodies → (t : BlockType) (e other : Expr) (u : List ℕ) → IsBodies t e other u → SpellsInstr (If t e (Some other)) (b ∷ u)
+bodies_made b o t e other u p =
+    let second = p.rest in
+    let third = second.rest in
+    let fourth = third.rest in
+    let whole : SpellsInstr (If t e (Some other)) (b ∷ p.before ++ (second.before ++ 0x05 ∷ fourth.before ++ 0x0B ∷ [])) = if_else o p.first second.first fourth.first in
+    let same : (second.before ++ 0x05 ∷ fourth.before) ++ 0x0B ∷ [] ≡ p.after =
+    append_assoc second.before (0x05 ∷ fourth.before) (0x0B ∷ []) ∙ ap (λ z. second.before ++ (0x05 ∷ (fourth.before ++ z))) (sym fourth.rest) ∙ ap (λ z. second.before ++ (0x05 ∷ z)) (sym fourth.parts)
+    ∙ ap (λ z. second.before ++ (z ++ third.after)) (sym third.first) ∙ ap (λ z. second.before ++ z) (sym third.parts) ∙ sym second.parts
+    in
+    subst (λ z. SpellsInstr (If t e (Some other)) (b ∷ z)) (ap (λ z. p.before ++ z) same ∙ sym p.parts) whole
 
 -- the forms, one by one
 module _ (j : Instr) (old new : List ℕ) where
@@ -112,11 +152,6 @@ module _ (j : Instr) (old new : List ℕ) where
       form_written (Access op align offset) (Open.Access op align offset) (ap out-Instr (sym (rolls-Access op align offset)) ∙ out-roll-Instr (Open.Access op align offset)) op j old new is
       (unjoined (λ u. SpellsInstr (Access op align offset) (op ∷ u)) (λ w v p q. memory_argument o p q))
 
-  body_made : {i : Instr} {t : BlockType} {e : Expr} (b : ℕ) → ((w v : List ℕ) → SpellsBlockType t w → SpellsInstrs e.list v → SpellsInstr i (b ∷ w ++ (v ++ 0x0B ∷ []))) → (u : List ℕ) → IsBody t e u
-      → SpellsInstr i (b ∷ u)
-  body_made {i} b make =
-      unjoined (λ u. SpellsInstr i (b ∷ u)) (λ w x s. unjoined (λ u. SpellsInstr i (b ∷ (w ++ u))) (λ v end r e. subst (λ z. SpellsInstr i (b ∷ (w ++ (v ++ z)))) (sym e) (make w v s r)) x)
-
   pub block_written : (t : BlockType) (e : Expr) → j ≡ Block t e → Appends (IsShortest (Joined (IsByte 0x02) (IsBody t e))) old new → Appends (IsShortest (SpellsInstr j)) old new
   unfolding control_operands
   block_written t e is =
@@ -133,22 +168,10 @@ module _ (j : Instr) (old new : List ℕ) where
       form_written (If t e None) (Open.If t e None) (ap out-Instr (sym (rolls-If t e None)) ∙ out-roll-Instr (Open.If t e None)) 0x04 j old new is
       (body_made {t = t} {e = e} 0x04 (λ w v s r. if_alone refl s r))
 
-  else_made : (t : BlockType) (e other : Expr) (u : List ℕ) → IsBodies t e other u → SpellsInstr (If t e (Some other)) (0x04 ∷ u)
-  unfolding control_operands
-  else_made t e other u b =
-      let second = b.rest in
-      let third = second.rest in
-      let fourth = third.rest in
-      let whole : SpellsInstr (If t e (Some other)) (0x04 ∷ b.before ++ (second.before ++ 0x05 ∷ fourth.before ++ 0x0B ∷ [])) = if_else refl b.first second.first fourth.first in
-      let same : (second.before ++ 0x05 ∷ fourth.before) ++ 0x0B ∷ [] ≡ b.after =
-      append_assoc second.before (0x05 ∷ fourth.before) (0x0B ∷ []) ∙ ap (λ z. second.before ++ (0x05 ∷ (fourth.before ++ z))) (sym fourth.rest) ∙ ap (λ z. second.before ++ (0x05 ∷ z)) (sym fourth.parts)
-      ∙ ap (λ z. second.before ++ (z ++ third.after)) (sym third.first) ∙ ap (λ z. second.before ++ z) (sym third.parts) ∙ sym second.parts
-      in
-      subst (λ z. SpellsInstr (If t e (Some other)) (0x04 ∷ z)) (ap (λ z. b.before ++ z) same ∙ sym b.parts) whole
-
   pub else_written : (t : BlockType) (e other : Expr) → j ≡ If t e (Some other) → Appends (IsShortest (Joined (IsByte 0x04) (IsBodies t e other))) old new → Appends (IsShortest (SpellsInstr j)) old new
+  unfolding control_operands
   else_written t e other is =
-      form_written (If t e (Some other)) (Open.If t e (Some other)) (ap out-Instr (sym (rolls-If t e (Some other))) ∙ out-roll-Instr (Open.If t e (Some other))) 0x04 j old new is (else_made t e other)
+      form_written (If t e (Some other)) (Open.If t e (Some other)) (ap out-Instr (sym (rolls-If t e (Some other))) ∙ out-roll-Instr (Open.If t e (Some other))) 0x04 j old new is (bodies_made 0x04 refl t e other)
 
   pub labels_written : (ls : List ℕ) (last : ℕ) → j ≡ BrTable ls last → Appends (IsShortest (Joined (IsByte 0x0E) (Joined (SpellsVec (SpellsUnsigned 32) ls) (SpellsUnsigned 32 last)))) old new
       → Appends (IsShortest (SpellsInstr j)) old new
@@ -222,18 +245,18 @@ bodies_written t e other old start first inside third fourth new a p q b r end =
     (appends_joined start first new p (appends_joined first inside new q (appends_joined inside third new (appends_byte inside third 0x05 b) (appends_joined third fourth new r (appends_byte fourth new 0x0B end)))))
 
 -- instructions one after the other
-each_of_instrs : {is : List Instr} {w : List ℕ} → SpellsInstrs is w → SpellsEach SpellsInstr is w
+pub each_of_instrs : {is : List Instr} {w : List ℕ} → SpellsInstrs is w → SpellsEach SpellsInstr is w
 each_of_instrs done = none
 each_of_instrs (next s rest) = each_next s (each_of_instrs rest)
 
-instrs_of_each : {is : List Instr} {w : List ℕ} → SpellsEach SpellsInstr is w → SpellsInstrs is w
+pub instrs_of_each : {is : List Instr} {w : List ℕ} → SpellsEach SpellsInstr is w → SpellsInstrs is w
 instrs_of_each none = done
 instrs_of_each (each_next s rest) = next s (instrs_of_each rest)
 
 pub instrs_written : (is : List Instr) (old new : List ℕ) → Appends (IsShortest (SpellsEach SpellsInstr is)) old new → Appends (IsShortest (SpellsInstrs is)) old new
 instrs_written is old new = appends_like old new (λ w s. instrs_of_each s) (λ other s. itself other (each_of_instrs s))
 
-expr_parts : {e : Expr} {w : List ℕ} → SpellsExpr e w → Joined (SpellsInstrs e.list) (IsByte 0x0B) w
+pub expr_parts : {e : Expr} {w : List ℕ} → SpellsExpr e w → Joined (SpellsInstrs e.list) (IsByte 0x0B) w
 expr_parts (expr s) = joined _ _ s refl
 
 pub expr_written : (e : Expr) (old middle new : List ℕ) → Appends (IsShortest (SpellsInstrs e.list)) old middle → new ≡ middle ++ 0x0B ∷ [] → Appends (IsShortest (SpellsExpr e)) old new
@@ -242,13 +265,13 @@ expr_written e old middle new each end =
     (appends_joined old middle new each (appends_byte middle new 0x0B end))
 
 -- block types
-block_type_empty : {w : List ℕ} → SpellsBlockType Empty w → IsByte 0x40 w
+pub block_type_empty : {w : List ℕ} → SpellsBlockType Empty w → IsByte 0x40 w
 block_type_empty empty = refl
 
-block_type_value : {t : ValType} {w : List ℕ} → SpellsBlockType (Value t) w → SpellsValType t w
+pub block_type_value : {t : ValType} {w : List ℕ} → SpellsBlockType (Value t) w → SpellsValType t w
 block_type_value (value s) = s
 
-block_type_index : {n : ℕ} {w : List ℕ} → SpellsBlockType (TypeIndex n) w → SpellsSigned 33 (pos n) w
+pub block_type_index : {n : ℕ} {w : List ℕ} → SpellsBlockType (TypeIndex n) w → SpellsSigned 33 (pos n) w
 block_type_index (type_index s) = s
 
 module _ (t : BlockType) (old new : List ℕ) where

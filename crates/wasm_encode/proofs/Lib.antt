@@ -16,3 +16,9 @@ pub mod Begun
 pub mod SectionSteps
 pub mod Steps
 pub mod Sizes
+pub mod OneWord
+pub mod OneForm
+pub mod OneOpcode
+pub mod OneCode
+pub mod OnePart
+pub mod OneModule

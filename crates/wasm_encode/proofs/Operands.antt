@@ -36,7 +36,7 @@ pub access_opcode : (op align offset : ℕ) → IsTrue (has_form (Open.Access op
 access_opcode op align offset = access_form op align offset (operands op) refl
 
 -- the operands of a second opcode, by their form
-abbrev SecondWord : SecondOperands → ℕ → ℕ → List ℕ → Type 0
+abbrev pub SecondWord : SecondOperands → ℕ → ℕ → List ℕ → Type 0
 SecondWord NoNumber x y w = w ≡ []
 SecondWord OneNumber x y w = SpellsUnsigned 32 x w
 SecondWord TwoNumbers x y w = Joined (SpellsUnsigned 32 x) (SpellsUnsigned 32 y) w
@@ -45,7 +45,7 @@ SecondWord OneZero x y w = IsByte 0x00 w
 SecondWord TwoZeros x y w = Joined (IsByte 0x00) (IsByte 0x00) w
 SecondWord NoSecondOpcode x y w = ⊥
 
-second_word : {op x y : ℕ} {w : List ℕ} (o : SecondOperands) → second_operands op ≡ o → SpellsSecond op x y w → SecondWord o x y w
+pub second_word : {op x y : ℕ} {w : List ℕ} (o : SecondOperands) → second_operands op ≡ o → SpellsSecond op x y w → SecondWord o x y w
 second_word {x} {y} {w} o e (no_number f) = subst (λ p. SecondWord p x y w) (sym f ∙ e) refl
 second_word {x} {y} {w} o e (one_number f s) = subst (λ p. SecondWord p x y w) (sym f ∙ e) s
 second_word {x} {y} {w} o e (two_numbers f s t) = subst (λ p. SecondWord p x y w) (sym f ∙ e) (joined _ _ s t)

@@ -26,29 +26,29 @@ use Rattle.wasm_encode.specs.SectionSizes.{IsTooLongBody}
 use Rattle.spec_reading.proofs.of_spec_binary.Joined.{joined, behind, unjoined, itself, whole, appends_byte, appends_joined, appends_like, appends_after, shortest_size}
 use Rattle.wasm_encode.proofs.TypeForms.{coded_written}
 
-byte_is : {b : ℕ} {w : List ℕ} → SpellsByte b w → IsByte b w
+pub byte_is : {b : ℕ} {w : List ℕ} → SpellsByte b w → IsByte b w
 byte_is byte = refl
 
 pub byte_written : (b : ℕ) (old new : List ℕ) → new ≡ old ++ b ∷ [] → Appends (IsShortest (SpellsByte b)) old new
 byte_written b old new e = appends_like old new (λ w p. subst (SpellsByte b) (sym p) byte) (λ other s. itself other (byte_is s)) (appends_byte old new b e)
 
-constant_expr : {e : Expr} {w : List ℕ} → SpellsConstant e w → SpellsExpr e w
+pub constant_expr : {e : Expr} {w : List ℕ} → SpellsConstant e w → SpellsExpr e w
 constant_expr (constant flat s) = s
 
 pub constant_written : (e : Expr) (old new : List ℕ) → nesting_all e.list ≡ 0 → Appends (IsShortest (SpellsExpr e)) old new → Appends (IsShortest (SpellsConstant e)) old new
 constant_written e old new flat = appends_like old new (λ w s. constant flat s) (λ other s. itself other (constant_expr s))
 
 -- imports
-import_function : {n : ℕ} {w : List ℕ} → SpellsImportDesc (imported.Func n) w → Joined (IsByte 0x00) (SpellsUnsigned 32 n) w
+pub import_function : {n : ℕ} {w : List ℕ} → SpellsImportDesc (imported.Func n) w → Joined (IsByte 0x00) (SpellsUnsigned 32 n) w
 import_function (part.function s) = behind _ _ s
 
-import_table : {ty : TableType} {w : List ℕ} → SpellsImportDesc (imported.Table ty) w → Joined (IsByte 0x01) (SpellsTableType ty) w
+pub import_table : {ty : TableType} {w : List ℕ} → SpellsImportDesc (imported.Table ty) w → Joined (IsByte 0x01) (SpellsTableType ty) w
 import_table (part.table s) = behind _ _ s
 
-import_memory : {limits : Limits} {w : List ℕ} → SpellsImportDesc (imported.Space limits) w → Joined (IsByte 0x02) (SpellsLimits limits) w
+pub import_memory : {limits : Limits} {w : List ℕ} → SpellsImportDesc (imported.Space limits) w → Joined (IsByte 0x02) (SpellsLimits limits) w
 import_memory (part.memory s) = behind _ _ s
 
-import_global : {ty : GlobalType} {w : List ℕ} → SpellsImportDesc (imported.Global ty) w → Joined (IsByte 0x03) (SpellsGlobalType ty) w
+pub import_global : {ty : GlobalType} {w : List ℕ} → SpellsImportDesc (imported.Global ty) w → Joined (IsByte 0x03) (SpellsGlobalType ty) w
 import_global (part.global s) = behind _ _ s
 
 module _ (d : ImportDesc) (old : List ℕ) where
@@ -74,7 +74,7 @@ module _ (d : ImportDesc) (old : List ℕ) where
       subst (λ e. Appends (IsShortest (SpellsImportDesc e)) old new) (sym is)
       (coded_written 0x03 old new (λ w s. part.global s) (λ other s. itself other (import_global s)) (appends_after 0x03 old middle new e written))
 
-import_parts : {i : Import} {w : List ℕ} → SpellsImport i w → Joined (SpellsName i.module) (Joined (SpellsName i.field) (SpellsImportDesc i.desc)) w
+pub import_parts : {i : Import} {w : List ℕ} → SpellsImport i w → Joined (SpellsName i.module) (Joined (SpellsName i.field) (SpellsImportDesc i.desc)) w
 import_parts (import s t u) = joined _ _ s (joined _ _ t u)
 
 pub import_written : (i : Import) (old first second new : List ℕ) → Appends (IsShortest (SpellsName i.module)) old first → Appends (IsShortest (SpellsName i.field)) first second
@@ -84,7 +84,7 @@ import_written i old first second new a b c =
     (appends_joined old first new a (appends_joined first second new b c))
 
 -- globals
-global_parts : {g : GlobalDef} {w : List ℕ} → SpellsGlobal g w → Joined (SpellsGlobalType g.ty) (SpellsConstant g.init) w
+pub global_parts : {g : GlobalDef} {w : List ℕ} → SpellsGlobal g w → Joined (SpellsGlobalType g.ty) (SpellsConstant g.init) w
 global_parts (part.global s t) = joined _ _ s t
 
 pub global_written : (g : GlobalDef) (old middle new : List ℕ) → Appends (IsShortest (SpellsGlobalType g.ty)) old middle → Appends (IsShortest (SpellsConstant g.init)) middle new
@@ -93,25 +93,25 @@ global_written g old middle new a b =
     appends_like old new (unjoined (SpellsGlobal g) (λ w v s t. part.global s t)) (λ other s. itself other (global_parts s)) (appends_joined old middle new a b)
 
 -- exports
-abbrev kind_of : ExportDesc → ℕ
+abbrev pub kind_of : ExportDesc → ℕ
 kind_of (exported.Func n) = 0x00
 kind_of (exported.Table n) = 0x01
 kind_of (exported.Space n) = 0x02
 kind_of (exported.Global n) = 0x03
 
-abbrev number_of : ExportDesc → ℕ
+abbrev pub number_of : ExportDesc → ℕ
 number_of (exported.Func n) = n
 number_of (exported.Table n) = n
 number_of (exported.Space n) = n
 number_of (exported.Global n) = n
 
-export_parts : {d : ExportDesc} {w : List ℕ} → SpellsExportDesc d w → Joined (IsByte (kind_of d)) (SpellsUnsigned 32 (number_of d)) w
+pub export_parts : {d : ExportDesc} {w : List ℕ} → SpellsExportDesc d w → Joined (IsByte (kind_of d)) (SpellsUnsigned 32 (number_of d)) w
 export_parts (part.function s) = behind _ _ s
 export_parts (part.table s) = behind _ _ s
 export_parts (part.memory s) = behind _ _ s
 export_parts (part.global s) = behind _ _ s
 
-export_made : (d : ExportDesc) (w : List ℕ) → SpellsUnsigned 32 (number_of d) w → SpellsExportDesc d (kind_of d ∷ w)
+pub export_made : (d : ExportDesc) (w : List ℕ) → SpellsUnsigned 32 (number_of d) w → SpellsExportDesc d (kind_of d ∷ w)
 export_made (exported.Func n) w s = part.function s
 export_made (exported.Table n) w s = part.table s
 export_made (exported.Space n) w s = part.memory s
@@ -122,7 +122,7 @@ pub desc_written : (d e : ExportDesc) (old new : List ℕ) → e ≡ d → Appen
 desc_written d e old new same written =
     subst (λ x. Appends (IsShortest (SpellsExportDesc x)) old new) (sym same) (coded_written (kind_of d) old new (export_made d) (λ other s. itself other (export_parts s)) written)
 
-whole_export_parts : {e : Export} {w : List ℕ} → SpellsExport e w → Joined (SpellsName e.name) (SpellsExportDesc e.desc) w
+pub whole_export_parts : {e : Export} {w : List ℕ} → SpellsExport e w → Joined (SpellsName e.name) (SpellsExportDesc e.desc) w
 whole_export_parts (export s t) = joined _ _ s t
 
 pub export_written : (e : Export) (old middle new : List ℕ) → Appends (IsShortest (SpellsName e.name)) old middle → Appends (IsShortest (SpellsExportDesc e.desc)) middle new
@@ -131,7 +131,7 @@ export_written e old middle new a b =
     appends_like old new (unjoined (SpellsExport e) (λ w v s t. export s t)) (λ other s. itself other (whole_export_parts s)) (appends_joined old middle new a b)
 
 -- bodies
-group_parts : {g : Group} {w : List ℕ} → SpellsGroup g w → Joined (SpellsUnsigned 32 g.count) (SpellsValType g.ty) w
+pub group_parts : {g : Group} {w : List ℕ} → SpellsGroup g w → Joined (SpellsUnsigned 32 g.count) (SpellsValType g.ty) w
 group_parts (group s t) = joined _ _ s t
 
 pub group_written : (g : Group) (old middle new : List ℕ) → Appends (IsShortest (SpellsUnsigned 32 g.count)) old middle → Appends (IsShortest (SpellsValType g.ty)) middle new
@@ -139,7 +139,7 @@ pub group_written : (g : Group) (old middle new : List ℕ) → Appends (IsShort
 group_written g old middle new a b =
     appends_like old new (unjoined (SpellsGroup g) (λ w v s t. group s t)) (λ other s. itself other (group_parts s)) (appends_joined old middle new a b)
 
-func_parts : {c : Code} {w : List ℕ} → SpellsFunc c w → Joined (SpellsVec SpellsGroup c.locals) (SpellsExpr c.body) w
+pub func_parts : {c : Code} {w : List ℕ} → SpellsFunc c w → Joined (SpellsVec SpellsGroup c.locals) (SpellsExpr c.body) w
 func_parts (func s t) = joined _ _ s t
 
 func_written : (c : Code) (old middle new : List ℕ) → Appends (IsShortest (SpellsVec SpellsGroup c.locals)) old middle → Appends (IsShortest (SpellsExpr c.body)) middle new

@@ -22,7 +22,7 @@ use Rattle.wasm_encode.specs.Segments.{IsPlace, is_func_ref, plain_items, names_
 use Rattle.spec_reading.proofs.of_spec_binary.Joined.{joined, behind, unjoined, AtMost, itself, appends_joined, appends_like, appends_nothing}
 
 -- flags below 128 take one byte
-flags_least : {n : ℕ} {w : List ℕ} (flags : ℕ) → flags < 128 → SpellsUnsigned 32 n w → AtMost (SpellsUnsigned 32 flags) w
+pub flags_least : {n : ℕ} {w : List ℕ} (flags : ℕ) → flags < 128 → SpellsUnsigned 32 n w → AtMost (SpellsUnsigned 32 flags) w
 flags_least {w} flags h s = let some : 0 < length w = unsigned_some s in (flags ∷ [], last h (omega arith), omega arith)
 
 joined_least : {P Q : List ℕ → Type 0} (w v : List ℕ) → AtMost P w → AtMost Q v → AtMost (Joined P Q) (w ++ v)
@@ -116,7 +116,7 @@ items_least false h (part.expressions s) = itself _ s
 items_least true h (part.type_and_expressions k l s t) = itself _ (joined _ _ s t)
 items_least false h (part.type_and_expressions {w} {v} k l s t) = longer_least w v t
 
-few_flags : (named : Bool) (mode : ElemMode) (items : ElemItems) → elem_flags named mode items < 128
+pub few_flags : (named : Bool) (mode : ElemMode) (items : ElemItems) → elem_flags named mode items < 128
 few_flags true (element.Active table offset) (Funcs ns) = omega arith
 few_flags false (element.Active table offset) (Funcs ns) = omega arith
 few_flags true (element.Active table offset) (Exprs t es) = omega arith
@@ -127,10 +127,10 @@ few_flags named element.Declarative (Funcs ns) = omega arith
 few_flags named element.Declarative (Exprs t es) = omega arith
 
 -- element segments
-abbrev ElemWord : Bool → ElemMode → ElemItems → List ℕ → Type 0
+abbrev pub ElemWord : Bool → ElemMode → ElemItems → List ℕ → Type 0
 ElemWord named mode items = Joined (SpellsUnsigned 32 (elem_flags named mode items)) (Joined (IsElemMode named mode) (IsItems named items))
 
-elem_made : (s : Elem) (named : Bool) → named ≡ names_table s.mode s.items → (u : List ℕ) → ElemWord named s.mode s.items u → SpellsElem s u
+pub elem_made : (s : Elem) (named : Bool) → named ≡ names_table s.mode s.items → (u : List ℕ) → ElemWord named s.mode s.items u → SpellsElem s u
 elem_made s named is =
     unjoined (SpellsElem s) (λ w x f. unjoined (λ y. SpellsElem s (w ++ y)) (λ v y m i. part.segment f (mode_spelled named s.mode s.items is m) (items_spelled named s.mode s.items is i)) x)
 
@@ -159,15 +159,15 @@ data_mode_least true e (part.named_memory s t) = itself _ (joined _ _ s t)
 data_mode_least false e (part.named_memory {w} {v} s t) = longer_least w v t
 data_mode_least named e part.passive = itself _ refl
 
-few_data_flags : (named : Bool) (mode : DataMode) → data_flags named mode < 128
+pub few_data_flags : (named : Bool) (mode : DataMode) → data_flags named mode < 128
 few_data_flags true (data_mode.Active memory offset) = omega arith
 few_data_flags false (data_mode.Active memory offset) = omega arith
 few_data_flags named data_mode.Passive = omega arith
 
-abbrev DataWord : Bool → Data → List ℕ → Type 0
+abbrev pub DataWord : Bool → Data → List ℕ → Type 0
 DataWord named s = Joined (SpellsUnsigned 32 (data_flags named s.mode)) (Joined (IsDataMode named s.mode) (SpellsVec SpellsByte s.bytes))
 
-data_made : (s : Data) (named : Bool) → named ≡ names_memory s.mode → (u : List ℕ) → DataWord named s u → SpellsData s u
+pub data_made : (s : Data) (named : Bool) → named ≡ names_memory s.mode → (u : List ℕ) → DataWord named s u → SpellsData s u
 data_made s named is = unjoined (SpellsData s) (λ w x f. unjoined (λ y. SpellsData s (w ++ y)) (λ v y m b. part.segment f (data_mode_spelled named s.mode is m) b) x)
 
 data_least : {s : Data} {other : List ℕ} (named : Bool) → named ≡ names_memory s.mode → SpellsData s other → AtMost (DataWord named s) other

@@ -47,7 +47,7 @@ pub ref_type_written : (t : ValType) (b : ℕ) (old new : List ℕ) → SpellsVa
 ref_type_written t b old new s r e = (b ∷ [], record { spelled = reference_of s r; least = λ other o. ref_type_some o }, e)
 
 -- functions
-func_type_parts : {ty : FuncType} {w : List ℕ} → SpellsFuncType ty w → Joined (IsByte 0x60) (Joined (SpellsVec SpellsValType ty.params) (SpellsVec SpellsValType ty.results)) w
+pub func_type_parts : {ty : FuncType} {w : List ℕ} → SpellsFuncType ty w → Joined (IsByte 0x60) (Joined (SpellsVec SpellsValType ty.params) (SpellsVec SpellsValType ty.results)) w
 func_type_parts (function s t) = behind _ _ (joined _ _ s t)
 
 pub func_type_written : (ty : FuncType) (old start middle new : List ℕ) → start ≡ old ++ 0x60 ∷ [] → Appends (IsShortest (SpellsVec SpellsValType ty.params)) start middle
@@ -57,7 +57,7 @@ func_type_written ty old start middle new e params results =
     (appends_joined old start new (appends_byte old start 0x60 e) (appends_joined start middle new params results))
 
 -- size ranges
-open_parts : {limits : Limits} {w : List ℕ} → limits.max ≡ None → SpellsLimits limits w → Joined (IsByte 0x00) (SpellsUnsigned 32 limits.min) w
+pub open_parts : {limits : Limits} {w : List ℕ} → limits.max ≡ None → SpellsLimits limits w → Joined (IsByte 0x00) (SpellsUnsigned 32 limits.min) w
 open_parts e (open_ended _ s) = behind _ _ s
 open_parts e (bounded f s t) = absurd cc
 
@@ -68,7 +68,7 @@ open_written limits old new e = coded_written 0x00 old new (λ w p. open_ended e
 same_some : (m n : ℕ) → Some m ≡ Some n → m ≡ n
 same_some m n e = cc
 
-bounded_parts : {limits : Limits} {w : List ℕ} (max : ℕ) → limits.max ≡ Some max → SpellsLimits limits w → Joined (Joined (IsByte 0x01) (SpellsUnsigned 32 limits.min)) (SpellsUnsigned 32 max) w
+pub bounded_parts : {limits : Limits} {w : List ℕ} (max : ℕ) → limits.max ≡ Some max → SpellsLimits limits w → Joined (Joined (IsByte 0x01) (SpellsUnsigned 32 limits.min)) (SpellsUnsigned 32 max) w
 bounded_parts max e (open_ended f s) = absurd cc
 bounded_parts max e (bounded {max = m} {v} f s t) = joined _ _ (behind _ _ s) (subst (λ n. SpellsUnsigned 32 n v) (same_some m max (sym f ∙ e)) t)
 
@@ -79,7 +79,7 @@ bounded_written limits max old middle new e first rest =
     (appends_joined old middle new first rest)
 
 -- tables and globals
-table_parts : {ty : TableType} {w : List ℕ} → SpellsTableType ty w → Joined (SpellsRefType ty.elem) (SpellsLimits ty.limits) w
+pub table_parts : {ty : TableType} {w : List ℕ} → SpellsTableType ty w → Joined (SpellsRefType ty.elem) (SpellsLimits ty.limits) w
 table_parts (table s t) = joined _ _ s t
 
 pub table_written : (ty : TableType) (old middle new : List ℕ) → Appends (IsShortest (SpellsRefType ty.elem)) old middle → Appends (IsShortest (SpellsLimits ty.limits)) middle new
@@ -91,7 +91,7 @@ mutability_some : {m : Bool} {w : List ℕ} → SpellsMutability m w → 0 < len
 mutability_some constant = omega arith
 mutability_some variable = omega arith
 
-global_parts : {ty : GlobalType} {w : List ℕ} → SpellsGlobalType ty w → Joined (SpellsValType ty.value) (SpellsMutability ty.mutable) w
+pub global_parts : {ty : GlobalType} {w : List ℕ} → SpellsGlobalType ty w → Joined (SpellsValType ty.value) (SpellsMutability ty.mutable) w
 global_parts (global s t) = joined _ _ s t
 
 pub global_written : (ty : GlobalType) (b c : ℕ) (old middle new : List ℕ) → SpellsValType ty.value (b ∷ []) → SpellsMutability ty.mutable (c ∷ []) → middle ≡ old ++ b ∷ [] → new ≡ middle ++ c ∷ []

@@ -1,4 +1,5 @@
 -- The bytes of a module so far.
+-- Serves the contracts of this crate, which follow Sections of `spec_binary`.
 use Rattle.std.specs.Prelude.{◌≡◌, ℕ, zero, suc, ◌+◌, ◌*◌, ◌≤◌, Bool, true, false, List, [], ◌++◌, length, Contains, Option, None, nat_lt, ◌⊎◌}
 use Rattle.wasm_form.specs.declared.module.Custom.{Custom}
 use Rattle.wasm_form.specs.declared.module.Module.{Module}

@@ -1,4 +1,5 @@
 -- What follows the opcode of a block.
+-- Serves the contracts of this crate, which follow Instructions of `spec_binary`.
 use Rattle.std.specs.Prelude.{ℕ, List}
 use Rattle.wasm_form.specs.declared.instr.BlockType.{BlockType}
 use Rattle.wasm_form.specs.declared.instr.Expr.{Expr}

@@ -1,7 +1,9 @@
 -- Laws of what is written.
-use Rattle.std.specs.Prelude.{ℕ, ◌+◌, ◌*◌, ◌≤◌, ◌^◌, List, length, Contains}
+-- Part of the statement of laws: docs/LAWS.md, "Laws of the parts".
+use Rattle.std.specs.Prelude.{◌≡◌, ℕ, ◌+◌, ◌*◌, ◌≤◌, ◌^◌, List, [], length, Contains}
 use Rattle.wasm_form.specs.declared.module.Code.{Code}
 use Rattle.wasm_form.specs.declared.module.Module.{Module}
+use Rattle.spec_reading.specs.spec_binary.Number.{IsShortest}
 use Rattle.spec_reading.specs.spec_binary.Parts.{SpellsFunc}
 use Rattle.spec_reading.specs.spec_binary.Modules.{SpellsModule}
 use Rattle.wasm_encode.specs.SectionSizes.{IsContents, IsFirstTooLong}
@@ -22,3 +24,9 @@ SectionsAreBounded = (m : Module) (id : ℕ) (w : List ℕ) → IsContents m id 
 -- a body takes at most 16 bytes for each that the code section weighs
 abbrev pub BodiesAreBounded : Type 0
 BodiesAreBounded = (m : Module) (c : Code) → Contains m.codes c → (w : List ℕ) → SpellsFunc c w → length w ≤ 16 * section_weight m 10
+
+-- A module without custom sections has one shortest spelling. (Where one stands next to a start section or a data count section, it may stand
+-- before it or behind it.)
+abbrev pub OneShortestModule : Type 0
+OneShortestModule =
+    (m : Module) → m.customs ≡ [] → (word other : List ℕ) → IsShortest (SpellsModule m) word → IsShortest (SpellsModule m) other → word ≡ other

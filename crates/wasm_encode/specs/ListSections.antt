@@ -1,4 +1,5 @@
 -- What a section does to the bytes of a module so far.
+-- Serves the contracts of this crate, which follow Sections of `spec_binary`.
 use Rattle.std.specs.Prelude.{◌≡◌, ℕ, suc, ◌*◌, ◌<◌, List, []}
 use Rattle.wasm_form.specs.declared.module.Custom.{Custom}
 use Rattle.wasm_form.specs.declared.module.Module.{Module}

@@ -1,4 +1,5 @@
 -- When a section is too long to be written: its contents take 2 ^ 32 bytes or more, and their size is a number of 32 bits.
+-- By WebAssembly Core 2.0, sections 5.5.2, 5.5.3 and 5.5.13.
 use Rattle.std.specs.Prelude.{ℕ, ◌+◌, ◌*◌, ◌^◌, ◌<◌, ◌≤◌, List, ◌++◌, length, Contains, nat_eq, if◌then◌else◌}
 use Rattle.wasm_form.specs.declared.module.Code.{Code}
 use Rattle.wasm_form.specs.declared.module.Custom.{Custom}

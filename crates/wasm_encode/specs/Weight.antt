@@ -1,4 +1,5 @@
 -- How much there is to write of a module: its items, the bytes of its texts, and the instructions of its code with their labels and types.
+-- Part of the statement of laws: docs/LAWS.md, "Laws of the parts".
 use Rattle.std.specs.Prelude.{ℕ, suc, ◌+◌, List, [], ◌∷◌, length, Some, None, nat_eq, if◌then◌else◌}
 use Rattle.wasm_form.specs.declared.types.FuncType.{FuncType}
 use Rattle.wasm_form.specs.declared.instr.Instr.{Instr, fold-Instr}

@@ -1,4 +1,5 @@
 -- What writing sections does.
+-- Serves the contracts of this crate, which follow Sections of `spec_binary`.
 use Rattle.std.specs.Prelude.{◌≡◌, ◌≢◌, ℕ, ◌^◌, ◌≤◌, List, ◌∷◌, ◌++◌, length, take, drop, All, Contains, Option, Some}
 use Rattle.wasm_form.specs.declared.module.Custom.{Custom}
 use Rattle.spec_reading.specs.spec_binary.Number.{SpellsUnsigned, IsShortest, Appends}

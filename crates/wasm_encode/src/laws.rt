@@ -1,5 +1,5 @@
 // Laws of what is written, which say nothing of code.
-ghost use Rattle.wasm_encode.specs.Laws.{BodiesAreBounded, LightModulesFit, SectionsAreBounded, WeightIsLeast};
+ghost use Rattle.wasm_encode.specs.Laws.{BodiesAreBounded, LightModulesFit, OneShortestModule, SectionsAreBounded, WeightIsLeast};
 
 /// A module of which there is little to write has no section that is too long.
 pub fn light_modules_fit()
@@ -12,4 +12,9 @@ pub fn weights_bound_lengths()
     ensures least { WeightIsLeast }
     ensures sections { SectionsAreBounded }
     ensures bodies { BodiesAreBounded }
+{}
+
+/// A module without custom sections has one shortest spelling: what `encode` gives.
+pub fn one_shortest_module()
+    ensures { OneShortestModule }
 {}

@@ -15,5 +15,5 @@ mod types;
 
 pub use codec::round_trip;
 pub use fault::EncodeFault;
-pub use laws::{light_modules_fit, weights_bound_lengths};
+pub use laws::{light_modules_fit, one_shortest_module, weights_bound_lengths};
 pub use module::encode;

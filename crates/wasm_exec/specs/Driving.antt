@@ -1,4 +1,5 @@
 -- A run that is driven: what is kept of it between its steps.
+-- Serves the contracts of this crate, which follow Ends and Hosted of `spec_hosts`.
 use Rattle.std.specs.Prelude.{◌≡◌, ◌<◌, ℕ, List, ◌++◌, map, sum, Option, Some, None, true, false, Result, Ok, Err, OnOk, IsTrue}
 use Rattle.spec_hosts.specs.wasm_form.declared.memory.Memory.{Memory}
 use Rattle.spec_hosts.specs.wasm_form.declared.runtime.Trap.{Trap}

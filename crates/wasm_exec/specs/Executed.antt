@@ -1,4 +1,5 @@
 -- What came of running a module, or a linked set.
+-- This profile: docs/FORMATS.md, "Runs".
 use Rattle.std.specs.Prelude.{◌≡◌, ◌⊎◌, ℕ, Result, Ok, Err, IfOk}
 use Rattle.spec_hosts.specs.wasm_form.declared.memory.Memory.{Memory}
 use Rattle.spec_hosts.specs.wasm_form.declared.module.Module.{Module}

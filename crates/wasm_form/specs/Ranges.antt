@@ -1,4 +1,5 @@
 -- Opcodes that stand together.
+-- By WebAssembly Core 2.0, section 5.4.
 use Rattle.std.specs.Prelude.{ℕ, Bool, ◌&&◌, nat_le}
 
 abbrev pub within : ℕ → ℕ → ℕ → Bool

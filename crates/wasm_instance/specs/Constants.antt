@@ -1,4 +1,5 @@
 -- The values of constant expressions.
+-- Serves the contracts of this crate, which follow Constants of `spec_runtime`.
 use Rattle.std.specs.Prelude.{ℕ, Some, None}
 use Rattle.wasm_form.specs.declared.runtime.Value.{Value}
 use Rattle.wasm_form.specs.declared.runtime.Value.TheVariants.{Num, Func}

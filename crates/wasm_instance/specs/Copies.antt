@@ -1,4 +1,5 @@
 -- Copies between the tables of a unit.
+-- Serves the contracts of this crate, which follow Tables of `spec_runtime`.
 use Rattle.std.specs.Prelude.{ℕ, List, Option, Some, slice_get, slice_set}
 use Rattle.spec_safety.specs.spec_binary.Options.{◌>>=◌}
 use Rattle.spec_safety.specs.spec_runtime.Tables.{TableInstance, entries_copied_from}

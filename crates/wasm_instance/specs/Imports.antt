@@ -1,4 +1,5 @@
 -- What a module imports, and what its function numbers name.
+-- Serves the contracts of this crate, which follow Instances of `spec_execution`.
 use Rattle.std.specs.Prelude.{◌≡◌, ℕ, nat_lt, if◌then◌else◌}
 use Rattle.wasm_form.specs.declared.module.Module.{Module}
 use Rattle.wasm_form.specs.declared.runtime.Ref.{Ref}

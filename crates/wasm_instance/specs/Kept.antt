@@ -1,4 +1,5 @@
 -- What is kept of an instance.
+-- Serves the contracts of this crate, which follow Instances of `spec_execution`.
 use Rattle.std.specs.Prelude.{◌≡◌, length, map}
 use Rattle.wasm_form.specs.declared.module.Module.{Module}
 use Rattle.spec_safety.specs.spec_binary.IndexSpaces.{functions_in, imports_of}

@@ -1,4 +1,5 @@
 -- The rooms of a module's functions, as they are kept.
+-- Serves the contracts of this crate, which follow Limits of `spec_execution`.
 use Rattle.std.specs.Prelude.{◌≡◌, ℕ, ◌+◌, ◌<◌, List, slice_get, Some}
 use Rattle.wasm_form.specs.declared.module.Module.{Module}
 use Rattle.spec_safety.specs.spec_execution.Limits.{room_of}

@@ -1,4 +1,5 @@
 -- An instance, as contracts see it.
+-- Serves the contracts of this crate, which follow Instances of `spec_execution`.
 use Rattle.wasm_form.specs.declared.module.Module.{Module}
 use Rattle.spec_safety.specs.spec_runtime.Memories.{MemoryInstance}
 use Rattle.spec_safety.specs.spec_execution.Instances.{ModuleParts, module_view}

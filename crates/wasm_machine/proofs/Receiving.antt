@@ -61,7 +61,7 @@ module _ {Units : Type 0} (V : View Units) where
   -- the call stack takes numbers of these types
   reply_stands : (s : Standing) (frames : List (Frame ℕ)) (memory : MemoryInstance) (results : List ℕ) (writes : List Write) → StackFits V s frames → FitsAnswer V memory (Reply results writes) s
       → (types : List ValType) × (numbers_fit types results ≡ true) × Stand V V.names on_tag frames (reverse types)
-  reply_stands (standing.Asking entry count) frames memory results writes st f = (st.0.results, typed_at (V.host entry) st.0 memory results writes st.1 f, st.2)
+  reply_stands (standing.Asking entry count) frames memory results writes st f = (st.0.results, typed_at (V.host entry) st.0 memory results writes st.1 f, st.3)
   reply_stands standing.Moving frames memory results writes st f = absurd f
   reply_stands standing.Loading frames memory results writes st f = absurd f
   reply_stands standing.Returned frames memory results writes st f = absurd f

@@ -23,6 +23,7 @@ use Rattle.spec_safety.specs.TypedActivations.{count_below}
 use Rattle.spec_safety.specs.TypedViews.{HoldTypes, IsSoundView}
 use Rattle.spec_safety.specs.TypedFrames.{Stand, IsSoundNext}
 use Rattle.spec_safety.proofs.Rooms.{top_within}
+use Rattle.spec_safety.proofs.ModuleSteps.{nullary_over}
 use Rattle.spec_safety.proofs.SoundRanges.{rest_in, units_in, types_there, functions_there}
 use Rattle.spec_safety.proofs.SoundSteps.{code_step, call_ok}
 use Rattle.wasm_step.specs.Tops.{below_count}
@@ -83,7 +84,7 @@ module _ {Units : Type 0} (V : View Units) where
   pub called_sound : (us : Units) (memory : MemoryInstance) (frames : List (Frame ℕ)) (r : Ref) → IsSoundView V → HoldTypes V V.names us → IsMemory memory → Stand V V.names on_tag frames [] → HaveLocals V frames → type_of V r ≡ Some nullary
       → NextIsSound V (call V us memory (λ _. frames) [] r)
   called_sound us memory frames r h holds is st locals typed =
-      (call_ok V V.names (HoldTypes V V.names) on_tag h.typed us memory holds is (λ _. frames) [] [] r nullary typed tt (λ ws k. st), call_has V us memory (λ _. frames) [] (λ vs. locals) r)
+      (call_ok V V.names (HoldTypes V V.names) on_tag h.typed us memory holds is (λ _. frames) [] [] r nullary typed tt (λ ws k. st) (λ ws. nullary_over frames), call_has V us memory (λ _. frames) [] (λ vs. locals) r)
 
   -- it stays within the room
   pub stays_within : (next : Option (Next Units ℕ)) → NextIsSound V next → StaysWithin V next
@@ -138,7 +139,7 @@ module _ {Units : Type 0} (V : View Units) where
     told_left : (e : Event) (next : Option (Next Units ℕ)) → NextIsSound V next → Told V e next old new c → IsLeft new c.new_units c.new_memory
     told_left event.Moved (Some (Goes us memory frames)) n t = (rw t.2 n.0.0, rw t.3 n.0.1, stands_fit new frames standing.Moving t.0 n.0.3 n.1)
     told_left (event.Waits asked) (Some (Asks entry args frames)) n t =
-        (units_kept t.4, memory_kept t.4, stands_fit new frames (standing.Asking entry t.0) t.1 (n.0.0, n.0.1, n.0.3) n.1)
+        (units_kept t.4, memory_kept t.4, stands_fit new frames (standing.Asking entry t.0) t.1 (n.0.0, n.0.1, n.0.3, n.0.4) n.1)
     told_left (event.Loader which first second) (Some (Loads called args frames)) n t =
         (units_kept t.4, memory_kept t.4, stands_fit new frames standing.Loading t.0 (subst (Stand V V.names on_tag frames) (one_i32 called) n.0.2) n.1)
     told_left event.Returned (Some Ends) n t = (units_kept t.1, memory_kept t.1, stands_fit new [] standing.Returned t.0 tt tt)

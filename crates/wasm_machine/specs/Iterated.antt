@@ -1,4 +1,5 @@
 -- A relation, so many times.
+-- Serves the contracts of this crate.
 use Rattle.std.specs.Prelude.{◌≡◌, ℕ, zero, suc}
 
 -- so many steps, each of which is one of the relation, lead from the first to the second

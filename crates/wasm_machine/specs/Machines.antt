@@ -1,4 +1,5 @@
 -- What a machine is, and what it answers of a step, beside what the definition of the step says.
+-- Serves the contracts of this crate, which follow Runs of `spec_execution`.
 use Rattle.std.specs.Prelude.{◌≡◌, ◌≢◌, ◌≤◌, ◌⊎◌, ◌||◌, ◌+◌, ℕ, List, [], ◌∷◌, map, length, reverse, drop, Option, Some, None, IfSome, Bool, true, false, IsTrue, if◌then◌else◌}
 use Rattle.wasm_form.specs.declared.types.ValType.TheVariants.{I32}
 use Rattle.wasm_form.specs.declared.types.FuncType.{FuncType}
@@ -27,7 +28,7 @@ use Rattle.spec_safety.specs.spec_execution.Runs.{is_running, Frame, Active, Mar
 use Rattle.spec_safety.specs.spec_execution.Limits.{room_of, room_with, activations, is_deep, passes_limit}
 use Rattle.spec_safety.specs.ValueTypes.{IsMemory}
 use Rattle.spec_safety.specs.TypedViews.{HoldTypes, IsSoundView}
-use Rattle.spec_safety.specs.TypedFrames.{OnMark, Stand}
+use Rattle.spec_safety.specs.TypedFrames.{OnMark, IsCalledOver, Stand}
 use Rattle.wasm_step.specs.Tops.{height_of}
 use Rattle.wasm_step.specs.Primitives.{number_on, with_rest}
 use Rattle.wasm_view.specs.Seen.{Seen}
@@ -76,7 +77,7 @@ on_tag tag under stands = (under ≡ []) ⊎ stands (I32 ∷ [])
 -- the call stack fits what the machine is at: a wait stands on what takes the results that are waited for
 abbrev pub StackFits : {Units : Type 0} → View Units → Standing → List (Frame ℕ) → Type 0
 StackFits V standing.Moving frames = Stand V V.names on_tag frames []
-StackFits V (standing.Asking entry count) frames = (ty : FuncType) × (V.host entry ≡ Some ty) × Stand V V.names on_tag frames (reverse ty.results)
+StackFits V (standing.Asking entry count) frames = (ty : FuncType) × (V.host entry ≡ Some ty) × IsCalledOver frames ty × Stand V V.names on_tag frames (reverse ty.results)
 StackFits V standing.Loading frames = Stand V V.names on_tag frames (I32 ∷ [])
 StackFits V _ frames = Unit {0}
 
@@ -277,6 +278,10 @@ IsMarked m = (m.standing ≡ standing.Moving) × go m.stack.frames
     go : List (Frame ℕ) → Type 0
     go (Marked tag ∷ frames) = Unit {0}
     go _ = ⊥
+
+-- it may be ended by a trap of what was called: a function of the loader that is waited for, or what put the mark on top
+abbrev pub MayTrap : MachineState → Type 0
+MayTrap m = (m.standing ≡ standing.Loading) ⊎ IsMarked m
 
 -- what a machine is at over what was under a mark
 abbrev pub waits_under : List (Frame ℕ) → Standing

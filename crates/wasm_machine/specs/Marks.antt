@@ -1,4 +1,5 @@
 -- The call stack of a machine, where each mark stands for something of a run.
+-- Serves the contracts of this crate, which follow Runs of `spec_execution`.
 use Rattle.std.specs.Prelude.{◌≡◌, ◌≢◌, ℕ, zero, suc, List, [], ◌∷◌, true}
 use Rattle.spec_safety.specs.spec_execution.Views.{View}
 use Rattle.spec_safety.specs.spec_execution.Runs.{Frame, Active, Marked, Next, Goes, Asks, Loads, Ends, Traps}

@@ -1,4 +1,5 @@
 -- What an instruction calls, and a call that leaves the code.
+-- Serves the contracts of this crate, which follow Runs of `spec_execution`.
 use Rattle.std.specs.Prelude.{◌≡◌, ◌<◌, ◌≤◌, ℕ, List, ◌∷◌, length, true, Option, Some, None}
 use Rattle.wasm_form.specs.declared.instr.Instr.{Instr}
 use Rattle.wasm_form.specs.declared.instr.Instr.TheOpen as Open

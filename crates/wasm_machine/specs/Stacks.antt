@@ -1,4 +1,5 @@
 -- The call stack, over the flat lists: the places of what lies under the topmost activation, the latest last.
+-- Serves the contracts of this crate, which follow Runs of `spec_execution`.
 use Rattle.std.specs.Prelude.{◌≡◌, ◌≤◌, ◌||◌, ℕ, ◌+◌, List, [], ◌∷◌, length, take, reverse, nat_lt, Option, Some, None, Bool, true, false, if◌then◌else◌}
 use Rattle.wasm_form.specs.declared.runtime.Value.{Value}
 use Rattle.spec_safety.specs.spec_execution.Limits.{most_activations, most_values}

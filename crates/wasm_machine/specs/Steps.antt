@@ -1,4 +1,5 @@
 -- What is told of the steps of a run, over its course and what is recorded of it.
+-- Serves the contracts of this crate, which follow Recorded of `spec_runtime`.
 use Rattle.std.specs.Prelude.{◌≡◌, ◌≤◌, ◌<◌, ◌⊎◌, ◌^◌, ℕ, Option, Some, Bool, true, false, IsTrue, IfSome}
 use Rattle.std.specs.List.{All}
 use Rattle.wasm_form.specs.declared.runtime.Trap.{Trap}

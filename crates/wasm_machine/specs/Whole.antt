@@ -1,4 +1,5 @@
 -- What a machine is seen as.
+-- Serves the contracts of this crate, which follow Runs of `spec_execution`.
 use Rattle.std.specs.Prelude.{◌≡◌, List, true}
 use Rattle.wasm_machine.specs.declared.machine.Machine.TheInside.{Inside}
 use Rattle.wasm_machine.specs.declared.machine.Standing.{Standing}

@@ -6,17 +6,17 @@ ghost use Rattle.wasm_form.specs.declared.runtime.Value.TheVariants.{Num};
 ghost use Rattle.spec_safety.specs.spec_execution.Values.{take_values, numbers_of};
 ghost use Rattle.spec_safety.specs.spec_execution.Activations.{with_values};
 ghost use Rattle.spec_safety.specs.spec_execution.Views.{type_of as type_seen};
-ghost use Rattle.spec_safety.specs.ValueTypes.{IsOfBytes};
 ghost use Rattle.wasm_step.specs.Tops.{with_act};
 ghost use Rattle.wasm_step.specs.Primitives.{HasSpare, IsIdle, Widened, with_rest};
 ghost use Rattle.wasm_machine.specs.Stacks.{empty_stack, is_live, joined, IsJoined};
 ghost use Rattle.wasm_step.specs.Moves.{AreSame, between};
-ghost use Rattle.wasm_machine.specs.Machines.{IsOver, IsReady, IsStart, Stepped, QuickStepped, Told, IsWanting, FitsAnswer, Answered, IsCallingOutside, MayMark, Marks, IsMarked, IsExited, IsAtMark, Unmarks, IsExpecting, Received, IsEnd};
+ghost use Rattle.wasm_machine.specs.Machines.{IsOver, IsReady, IsStart, Stepped, QuickStepped, Told, IsWanting, FitsAnswer, Answered, IsCallingOutside, MayMark, MayTrap, Marks, IsMarked, IsExited, IsAtMark, Unmarks, IsExpecting, Received, IsEnd};
 ghost use Rattle.wasm_machine.specs.Machines.{Begins, next_in, is_deep_next, is_deep_call, lost_machine, ended, going, settled, at_point, Runs, on_top};
 
 use crate::callers::{Caller, Callers};
 use crate::calls::{advance, begin_own, begin_passes, end, next_passes, outside_call};
 use crate::event::Event;
+use crate::told::is_of_bytes;
 use std::alloc::Global;
 use std::marker::Model;
 use std::mem;
@@ -444,11 +444,11 @@ impl<'m> Machine<'m> {
     pub fn answer<V: View<'m>>(&mut self, view: &mut V, a: &Answer)
         requires over { IsOver (V.seen view.old).fixed (V.seen view.old).units (V.seen view.old).memory self.old }
         requires fits { FitsAnswer (V.seen view.old).fixed (V.seen view.old).memory a.now self.old.standing }
-        requires bytes { IsOfBytes a.now }
         ensures answered { Answered a.now self.old self.new (between (V.seen view.old) (V.seen view.new)) }
         ensures over { IsOver (V.seen view.old).fixed (V.seen view.new).units (V.seen view.new).memory self.new }
         ensures fixed { (V.seen view.new).fixed ≡ (V.seen view.old).fixed }
     {
+        is_of_bytes(a);
         match a {
             Answer::Exit(code) => self.end(Standing::Exited(*code)),
             Answer::Reply { results, writes } => {
@@ -486,9 +486,9 @@ impl<'m> Machine<'m> {
         self.standing = Standing::Moving;
     }
 
-    /// Ends by a trap of what was called outside the code.
+    /// Ends by a trap of what was called outside the code: a function of the loader, or what put the mark on top.
     pub fn trap(&mut self, why: Trap)
-        requires { self.old.standing ≢ Standing.Lost }
+        requires { MayTrap self.old }
         ensures { self.new ≡ ended (Standing.Trapped why) }
     {
         self.end(Standing::Trapped(why));

@@ -1,4 +1,5 @@
 -- How the functions of this crate answer, and what an operand must be.
+-- Serves the contracts of this crate, which follow Numerics of `spec_runtime`.
 use Rattle.std.specs.Prelude.{ℕ, ◌<◌, ◌^◌, Result, Ok, Err, ⊤}
 use Rattle.spec_runtime.specs.wasm_form.declared.runtime.Trap.{Trap}
 use Rattle.spec_runtime.specs.Numerics.{Outcome, Whole, Traps, Width, bits, Compare, Eqz}

@@ -1,4 +1,4 @@
-//! The integer operators of the machine (WebAssembly Core 2.0, section 4.3.2), by their opcodes (section 5.4.6).
+//! The integer operators of the machine (WebAssembly Core 2.0, sections 4.3.2 and 4.3.4), by their opcodes (section 5.4.7).
 //!
 //! A number of 32 bits stands in the low half of a `u64`, and the high half is 0.
 #![tactic(auto)]

@@ -1,4 +1,5 @@
 -- What a reader returned stands for what reading from left to right finds, unless memory ran out.
+-- Serves the contracts of this crate, which follow Steps of `spec_reading`.
 use Rattle.std.specs.Prelude.{◌≡◌, Result, Ok, Err}
 use Rattle.spec_reading.specs.Steps as steps
 use Rattle.wasm_read.specs.declared.broken.Break.{Break}

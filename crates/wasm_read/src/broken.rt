@@ -2,7 +2,7 @@
 use std::alloc::{AllocError, AllocFailed};
 
 /// Why reading ends: the bytes break off being well spelled, or a limit of this program is passed before that
-/// (WebAssembly Core 2.0, appendix A.1.2), or no memory could be had.
+/// (WebAssembly Core 2.0, appendix A.2), or no memory could be had.
 #[derive(Clone, Copy, Debug, PartialEq, Eq)]
 pub enum Break {
     /// The bytes spell nothing of this kind.

@@ -1,4 +1,5 @@
 -- A run without what is recorded of it, as the recorder sees it.
+-- Serves the contracts of this crate, which follow Courses of `spec_runtime`.
 use Rattle.std.specs.Prelude.{◌≡◌, List, slice_get, Some}
 use Rattle.wasm_form.specs.declared.runtime.Trap.{Trap}
 use Rattle.spec_safety.specs.spec_runs.Systems.{Status, Moving, Waits, Returned, Exited, Trapped}

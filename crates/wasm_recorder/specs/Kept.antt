@@ -1,4 +1,5 @@
 -- What is kept of a run.
+-- Serves the contracts of this crate, which follow Recorded of `spec_runtime`.
 use Rattle.std.specs.Prelude.{◌≡◌, ℕ, List, Bool, false}
 use Rattle.std.specs.List.{All}
 use Rattle.wasm_form.specs.declared.runtime.Answer.{Answer}

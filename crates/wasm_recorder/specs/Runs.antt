@@ -1,4 +1,5 @@
 -- What is told of the steps of a run, from wherever it stands.
+-- Serves the contracts of this crate, which follow Recorded of `spec_runtime`.
 use Rattle.std.specs.Prelude.{◌≡◌, ◌≢◌, ◌<◌, ◌≤◌, ◌⊎◌, ◌+◌, ℕ, suc, Some, Bool, true, false}
 use Rattle.std.specs.List.{All}
 use Rattle.wasm_form.specs.declared.runtime.Answer.{Answer}

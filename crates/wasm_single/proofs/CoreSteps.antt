@@ -1,35 +1,39 @@
 -- The steps of the machine and the answers that it takes are those of the run.
 use Rattle.std.proofs.Common.{◌≡◌, ◌≢◌, inl, inr, ℕ, zero, suc, List, [], ◌∷◌, Option, Some, None, refl, ap, sym, ◌∙◌, subst, Bool, true, false}
-use Rattle.std.specs.Prelude.{IfSome, IsTrue}
+use Rattle.std.specs.Prelude.{IfSome, IsTrue, map, reverse}
 use Rattle.std.specs.Option.{option_map}
 use Rattle.wasm_form.specs.declared.module.Module.{Module}
 use Rattle.wasm_form.specs.declared.runtime.Answer.{Answer}
+use Rattle.wasm_form.specs.declared.runtime.Answer.TheVariants.{Reply, Exit}
+use Rattle.wasm_form.specs.declared.runtime.Value.{Value}
+use Rattle.wasm_form.specs.declared.runtime.Value.TheVariants.{Num}
 use Rattle.spec_safety.specs.spec_runtime.Memories.{MemoryInstance}
 use Rattle.spec_safety.specs.spec_runtime.Names.{HostName}
 use Rattle.spec_safety.specs.spec_runtime.Hosts.{fits_results}
 use Rattle.spec_safety.specs.spec_execution.Views.{View}
-use Rattle.spec_safety.specs.spec_execution.Runs.{is_running, Frame, Active, Marked}
+use Rattle.spec_safety.specs.spec_execution.Runs.{is_running, Frame, Active, Marked, given}
 use Rattle.spec_safety.specs.spec_execution.Instances.{ModuleParts, module_view, module_hosts, host_type}
 use Rattle.spec_safety.specs.spec_execution.OneModule.{Starting, ModuleState, module_next}
 use Rattle.wasm_step.specs.Moves.{Changes, AreSame}
 use Rattle.wasm_step.specs.declared.done.Done.{Done}
 use Rattle.wasm_step.specs.declared.done.Done.TheVariants as done
 use Rattle.wasm_instance.specs.States.{InstanceState}
-use Rattle.wasm_machine.specs.Machines.{MachineState, IsOver, next_of, LeavesCode, Told, Repeats, IsAtMark, IsMarked, IsCallingOutside, IsExited, Stepped, QuickStepped, FitsAnswer, MayGrow, IsWanting, Point, passed, GoesOn, Runs}
+use Rattle.wasm_machine.specs.Machines.{MachineState, IsOver, next_of, LeavesCode, Told, Repeats, IsAtMark, IsMarked, IsCallingOutside, IsExited, Stepped, QuickStepped, FitsAnswer, Answered, Received, MayGrow, IsWanting, Point, passed, GoesOn, Runs}
 use Rattle.wasm_machine.specs.Iterated.{Iterated}
 use Rattle.wasm_machine.specs.declared.machine.Standing.{Standing}
 use Rattle.wasm_machine.specs.declared.machine.Standing.TheVariants as standing
 use Rattle.wasm_machine.specs.declared.event.Event.{Event}
 use Rattle.wasm_machine.specs.declared.event.Event.TheVariants as event
 use Rattle.wasm_single.specs.declared.bare_run.Core.{Core}
+use Rattle.wasm_single.specs.declared.bare_run.Phase.{Phase}
 use Rattle.wasm_single.specs.declared.bare_run.Phase.TheVariants as phase
 use Rattle.wasm_single.specs.Singles.{CallsOrGrows, MayWant}
-use Rattle.wasm_single.specs.Cores.{seen, starting_of, IsLive, IsCore, IsState, StandsAs, Steps, QuickSteps, CodeStep, StopsAt, RunsTo, IsCodeNext, FitsHost, MayTake, is_begun, is_mark}
-use Rattle.wasm_machine.specs.Marks.{KeepsUnder}
+use Rattle.wasm_single.specs.Cores.{seen, starting_of, IsInPhase, IsLive, IsCore, IsState, StandsAs, Steps, QuickSteps, CodeStep, StopsAt, RunsTo, IsCodeNext, FitsHost, MayTake, is_begun, is_mark}
+use Rattle.wasm_machine.specs.Marks.{AreMarks, KeepsUnder}
 use Rattle.wasm_machine.proofs.Under.{step_under}
 use Rattle.wasm_machine.proofs.Stepping.{stepped_on}
 use Rattle.wasm_single.proofs.Seen.{seen_next, seen_step}
-use Rattle.wasm_single.proofs.Telling.{marks_in, under_phase, stack_called, steps_told, deep_told, leaves_moving, live_told}
+use Rattle.wasm_single.proofs.Telling.{marks_in, under_phase, stack_called, steps_told, deep_told, leaves_moving, live_at, live_told}
 use Rattle.wasm_single.proofs.Calling.{live_moving, state_moving, deep_same, is_deep_event}
 
 -- ---- what is on top
@@ -326,3 +330,42 @@ fits_standing m memory a st fits = absurd fits
 
 pub fits_view : (c : Core) (a : Answer) → IsCore c → MayTake c a → FitsAnswer (module_view c.instance.wasm) c.instance.memory a c.machine.standing
 fits_view c a h fits = subst (λ (V : View ModuleParts). FitsAnswer V c.instance.memory a c.machine.standing) (sym h.fixed) (fits_standing c.checked.now c.instance.memory a c.machine.standing fits)
+
+-- values are given to what waited, and the marks stay
+given_marks : (values : List Value) (n : ℕ) (f : Frame ℕ) (frames : List (Frame ℕ)) → AreMarks n (f ∷ frames) → AreMarks n (given values f ∷ frames)
+given_marks values n (Active a) frames h = h
+given_marks values n (Marked tag) frames h = h
+
+given_phase : (p : Phase) (values : List Value) (f : Frame ℕ) (frames : List (Frame ℕ)) → p ≢ phase.Opened → IsInPhase p (f ∷ frames) → IsInPhase p (given values f ∷ frames)
+given_phase phase.Opened values f frames called h = absurd (called refl)
+given_phase phase.Marked values f frames called h = given_marks values 1 f frames h
+given_phase phase.Entered values f frames called h = (λ e. cc, given_marks values 0 f frames h.1)
+
+live_received : (p : Phase) (results : List ℕ) (frames : List (Frame ℕ)) (n : MachineState) → p ≢ phase.Opened → IsInPhase p frames → Received frames results n → IsLive n.standing n.stack.frames p
+live_received p results [] n called h r = live_at p n [] standing.Returned r tt
+live_received p results (f ∷ frames) n called h r =
+    live_at p n (given (reverse (map Num results)) f ∷ frames) standing.Moving r (given_phase p (reverse (map Num results)) f frames called h)
+
+live_answered : (m : Module) (memory : MemoryInstance) (p : Phase) (a : Answer) (old n : MachineState) (c : Changes ModuleParts)
+    → IsLive old.standing old.stack.frames p → FitsHost m memory a old.standing → Answered a old n c → IsLive n.standing n.stack.frames p
+live_answered m memory p a old n c h fits t = go old.standing h fits
+  where
+    taken : (x : Answer) → IsInPhase p old.stack.frames → p ≢ phase.Opened → Answered x old n c → IsLive n.standing n.stack.frames p
+    taken (Reply results writes) k called u = live_received p results old.stack.frames n called k u.0
+    taken (Exit code) k called u = live_at p n [] (standing.Exited code) u.0 tt
+
+    go : (st : Standing) → IsLive st old.stack.frames p → FitsHost m memory a st → IsLive n.standing n.stack.frames p
+    go (standing.Asking entry count) k f = taken a k.0 k.1 t
+    go st k f = absurd f
+
+-- what is so of a core stays so when an answer is taken
+pub core_answered : (c : Core) (i : InstanceState) (n : MachineState) (a : Answer) → IsCore c → MayTake c a → module_view i.wasm ≡ module_view c.instance.wasm → IsOver (module_view c.instance.wasm) i.parts i.memory n
+    → Answered a c.machine n (changes c.instance i) → IsCore (with_both c i n)
+core_answered c i n a h fits fixed over t = record {
+  fixed = fixed ∙ h.fixed;
+  over = subst (λ (V : View ModuleParts). IsOver V i.parts i.memory n) h.fixed over;
+  live = live_answered c.checked.now c.instance.memory c.phase a c.machine n (changes c.instance i) h.live fits t;
+  start = h.start;
+  entry = h.entry;
+  own = h.own;
+}

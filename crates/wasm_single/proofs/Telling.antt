@@ -174,7 +174,7 @@ steps_told new s old us memory event.Deep (Some (Goes us' memory' frames)) begun
 steps_told new s old us memory e next begun called units space comes t under host = absurd t
 
 -- what is so of the machine after a step that is made
-live_at : (p : Phase) (n : MachineState) (frames : List (Frame ℕ)) (st : Standing) → StandsAt n frames st → IsLive st frames p → IsLive n.standing n.stack.frames p
+pub live_at : (p : Phase) (n : MachineState) (frames : List (Frame ℕ)) (st : Standing) → StandsAt n frames st → IsLive st frames p → IsLive n.standing n.stack.frames p
 live_at p n frames st at h = subst (λ (x : Standing). IsLive x n.stack.frames p) (sym at.standing_is) (subst (λ (fs : List (Frame ℕ)). IsLive st fs p) (sym at.frames_are) h)
 
 pub live_told : (V : View ModuleParts) (alone : V.has_loader ≡ false) (p : Phase) (old n : MachineState) (c : Changes ModuleParts) (e : Event) (next : Option (Next ModuleParts ℕ))

@@ -1,4 +1,5 @@
 -- A module in its run: its instance, the machine, and what is still to be called.
+-- Serves the contracts of this crate, which follow OneModule of `spec_execution`.
 use Rattle.std.specs.Prelude.{◌≡◌, ◌≢◌, ◌≤◌, ◌⊎◌, ℕ, List, [], ◌∷◌, Some, Bool, true, false, IfSome, IsTrue}
 use Rattle.spec_safety.specs.spec_runs.Systems.{Moving, Waits, Returned, Exited, Trapped}
 use Rattle.wasm_form.specs.declared.module.Module.{Module}

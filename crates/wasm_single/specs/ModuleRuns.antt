@@ -1,4 +1,5 @@
 -- A module with its host functions in its run, as the recorder sees it.
+-- Serves the contracts of this crate, which follow OneModule of `spec_execution`.
 use Rattle.std.specs.Prelude.{◌≡◌, map, Ok, true}
 use Rattle.wasm_form.specs.declared.module.Module.{Module}
 use Rattle.spec_safety.specs.spec_execution.Runs.{is_running}

@@ -1,4 +1,5 @@
 -- The run of one module, as contracts see it.
+-- Serves the contracts of this crate, which follow OneModule of `spec_execution`.
 use Rattle.std.specs.Prelude.{◌≡◌, List, [], ◌∷◌, Result, Ok, Err, IsTrue}
 use Rattle.wasm_form.specs.declared.module.Module.{Module}
 use Rattle.spec_safety.specs.spec_runtime.Names.{HostNames}

@@ -1,4 +1,5 @@
 -- What a run of one module starts from.
+-- Serves the contracts of this crate, which follow OneModule of `spec_execution`.
 use Rattle.std.specs.Prelude.{◌≡◌, List, [], ◌∷◌, map, slice_get, Option, None, Result, Ok, Err, Vec}
 use Rattle.std.specs.declared.alloc.Global.{Global}
 use Rattle.wasm_form.specs.declared.types.FuncType.{FuncType}

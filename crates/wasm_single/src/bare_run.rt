@@ -11,7 +11,7 @@ use std::alloc::Global;
 use wasm_check::Checked;
 use wasm_form::Memory;
 use wasm_instance::Instance;
-use wasm_machine::{Answer, Done, Event, Machine, Standing, View, is_of_bytes};
+use wasm_machine::{Answer, Done, Event, Machine, Standing, View};
 
 /// How far a run has come: its call stack is still empty; a mark lies under the start function; or the entry was called.
 #[derive(Clone, Copy, Debug, PartialEq, Eq)]
@@ -192,7 +192,6 @@ impl<'m> Core<'m> {
         ensures core { IsCore self.new }
         ensures wasm { self.new.checked ≡ self.old.checked }
     {
-        is_of_bytes(a);
         self.machine.answer(&mut self.instance, a);
     }
 }

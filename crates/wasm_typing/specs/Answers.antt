@@ -1,4 +1,5 @@
 -- What a checker answers.
+-- Serves the contracts of this crate, which follow Typing of `spec_validation`.
 use Rattle.std.specs.Prelude.{◌≡◌, Option, Some, None, Result, Ok, Err}
 use Rattle.wasm_typing.specs.declared.fault.TypingFault.{TypingFault}
 use Rattle.wasm_typing.specs.declared.fault.TypingFault.TheVariants.{Invalid}

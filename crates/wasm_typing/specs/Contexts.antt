@@ -1,4 +1,5 @@
 -- The context that the code of a body is checked in.
+-- Serves the contracts of this crate, which follow Context of `spec_validation`.
 use Rattle.std.specs.Prelude.{Bool, false, ◌++◌, slice_get, Option, Some, None}
 use Rattle.wasm_form.specs.declared.types.FuncType.{FuncType}
 use Rattle.spec_validation.specs.spec_binary.Options.{◌>>=◌}

@@ -1,4 +1,5 @@
 -- Where the groups of declared locals end.
+-- Serves the contracts of this crate, which follow Indices of `spec_binary`.
 use Rattle.std.specs.Prelude.{◌≡◌, ℕ, ◌+◌, ◌-◌, ◌^◌, ◌<◌, min, List, length, take, slice_get, Some}
 use Rattle.wasm_form.specs.declared.module.Group.{Group}
 use Rattle.spec_validation.specs.spec_binary.Indices.{declared_locals}

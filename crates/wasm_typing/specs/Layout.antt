@@ -1,4 +1,5 @@
 -- A state, laid out as one list of entries, the topmost last, and one of labels.
+-- Serves the contracts of this crate, which follow Stacks of `spec_validation`.
 use Rattle.std.specs.Prelude.{Option, ◌≡◌, ◌≤◌, ℕ, Bool, List, [], ◌∷◌, length, take, drop, reverse}
 use Rattle.wasm_form.specs.declared.types.ValType.{ValType}
 use Rattle.wasm_typing.specs.States.{OpenBlock, TypingState}

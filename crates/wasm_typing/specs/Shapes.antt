@@ -1,4 +1,5 @@
 -- What the instructions of an opcode do.
+-- Serves the contracts of this crate, which follow Context of `spec_validation`.
 use Rattle.std.specs.Prelude.{ℕ, Option, Some}
 use Rattle.wasm_form.specs.Plain.{plain_form}
 use Rattle.wasm_form.specs.Index.{index_form}

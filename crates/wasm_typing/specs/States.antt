@@ -1,4 +1,5 @@
 -- The state of typing: a stack in each open block.
+-- Serves the contracts of this crate, which follow Typing of `spec_validation`.
 use Rattle.std.specs.Prelude.{◌≡◌, ℕ, ◌+◌, ◌≤◌, max, List, [], ◌∷◌, length, drop, map, Option, Some, None, Result, Ok, Err}
 use Rattle.wasm_form.specs.declared.types.ValType.{ValType}
 use Rattle.spec_validation.specs.Stacks.{Stack, holding, put_on}

@@ -1,4 +1,5 @@
 -- What a machine sees of its view.
+-- Serves the contracts of this crate, which follow Views of `spec_execution`.
 use Rattle.std.specs.Prelude.{ℕ, List, Option}
 use Rattle.wasm_form.specs.declared.runtime.Ref.{Ref}
 use Rattle.spec_execution.specs.spec_runtime.Memories.{MemoryInstance}

@@ -1,4 +1,5 @@
 -- What the calls on a table of a unit answer, and how they change the units.
+-- Serves the contracts of this crate, which follow Views of `spec_execution`.
 use Rattle.std.specs.Prelude.{◌≡◌, ℕ, Option, MatchOption, Result, Ok, Err, MatchResult}
 use Rattle.wasm_form.specs.declared.Memory.{Memory}
 use Rattle.wasm_form.specs.declared.runtime.Trap.{Trap}

@@ -6,8 +6,8 @@
 
 ghost use Rattle.std.specs.Prelude.{◌≡◌, ◌<◌, ◌%◌};
 
-use dyl_app::{Outcome, Picker, serve, tell};
-use dyl_front::{collected, status};
+use dyl_app::{Outcome, Picker, serve_to_end, tell_to_end};
+use dyl_front::collected;
 use dyl_outside::{DiskFiles, HostAmbient, StreamSink, StreamSource};
 use host_table::HostTable;
 use std::env;
@@ -30,9 +30,9 @@ fn main(rt: HostRuntime) -> ExitCode {
     let mut errors = StreamSink::new(rt.stderr());
     let mut ambient = HostAmbient::new(&rt);
     let host = HostTable::new(alloc);
-    let outcome = match collected(alloc, env::args(&rt)) {
+    let (outcome, code) = match collected(alloc, env::args(&rt)) {
         Ok(words) => match Box::new(alloc, in_turns) {
-            Ok(pick) => serve(
+            Ok(pick) => serve_to_end(
                 alloc,
                 &words,
                 &mut files,
@@ -43,9 +43,10 @@ fn main(rt: HostRuntime) -> ExitCode {
                 &host,
                 &Picker::new(pick),
             ),
-            Err(_) => tell(alloc, Outcome::Memory, &mut errors),
+            Err(_) => tell_to_end(alloc, Outcome::Memory, &mut errors),
         },
-        Err(outcome) => tell(alloc, outcome, &mut errors),
+        Err(outcome) => tell_to_end(alloc, outcome, &mut errors),
     };
-    ExitCode::from(status(&outcome))
+    drop(outcome);
+    code
 }

@@ -123,7 +123,7 @@ fn put_loader(
     }
 }
 
-// Those of the phases of each member, of the entry function, and of the loader.
+// Those of the phases of each member, of the loader, and of the entry function.
 fn put_generated(
     alloc: Global,
     to: &mut Vec<Code>,
@@ -138,8 +138,8 @@ fn put_generated(
 {
     let phases = phase_functions(alloc, linked, s)?;
     put_parts(to, phases)?;
-    to.push(entry_function(alloc, linked, s)?.code)?;
     put_loader(alloc, to, linked, s, loader)?;
+    to.push(entry_function(alloc, linked, s)?.code)?;
     Ok(())
 }
 

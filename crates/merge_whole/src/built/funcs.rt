@@ -1,7 +1,7 @@
 // The functions of the merged module, by the numbers of their types.
 ghost use Rattle.std.specs.Prelude.{◌≡◌, ◌≤◌, ◌<◌, ◌^◌, ◌++◌, ◌∷◌, [], length, map, IfOk, OnOk};
 ghost use Rattle.merge_index.specs.Kept.{numbers_in};
-ghost use Rattle.merge_module.specs.MergedModule.{nullary_number, merged_funcs};
+ghost use Rattle.merge_module.specs.MergedModule.{with_loader, nullary_number, merged_funcs};
 ghost use Rattle.merge_whole.specs.Counts.{members_of};
 ghost use Rattle.merge_whole.specs.Built.{joined, funcs_of, stub_types_of, four_of, one_of, funcs_for_loader, generated_funcs_in, funcs_in};
 
@@ -109,17 +109,25 @@ fn put_loader(to: &mut Vec<u32>, nullary: u32, members: &[Member]) -> Result<(),
     Ok(())
 }
 
+// These, where a member uses the loader.
+fn put_loading(to: &mut Vec<u32>, nullary: u32, linked: &Linked) -> Result<(), Memory>
+    requires { nullary < 2 ^ 31 }
+    ensures { OnOk result (to.new.items ≡ to.old.items ++ with_loader linked.now (funcs_for_loader nullary linked.now.set.members)) }
+{
+    if linked.uses_loader() {
+        put_loader(to, nullary, linked.members())?;
+    }
+    Ok(())
+}
+
 fn put_generated(to: &mut Vec<u32>, linked: &Linked) -> Result<(), Memory>
     requires types { nullary_number linked.now < 2 ^ 31 }
     ensures { OnOk result (to.new.items ≡ to.old.items ++ generated_funcs_in linked.now) }
 {
-    let members = linked.members();
     let nullary = nullary_number(linked);
-    put_phases(to, nullary, members)?;
+    put_phases(to, nullary, linked.members())?;
+    put_loading(to, nullary, linked)?;
     to.push(nullary)?;
-    if linked.uses_loader() {
-        put_loader(to, nullary, members)?;
-    }
     Ok(())
 }
 
@@ -136,7 +144,7 @@ fn funcs(alloc: Global, linked: &Linked, n: &Numbers) -> Result<Vec<u32>, Memory
     Ok(funcs)
 }
 
-// Those of the members, the stubs, the phases of each member, the entry function and those of the loader.
+// Those of the members, the stubs, the phases of each member, those of the loader and the entry function.
 pub(crate) fn merged_funcs(alloc: Global, linked: &Linked, n: &Numbers) -> Result<List<u32>, Memory>
     requires types { nullary_number linked.now < 2 ^ 31 }
     ensures { IfOk result (λ x. x ≡ merged_funcs linked.now (numbers_in n.now)) }

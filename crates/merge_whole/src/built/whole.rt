@@ -1,5 +1,6 @@
 // The parts of a linked set.
 ghost use Rattle.std.specs.Prelude.{◌≡◌, ◌+◌, ◌*◌, ◌<◌, ◌^◌, [], length, Some, None, IfOk, IfSome, OnOk};
+ghost use Rattle.merge_index.specs.Numbering.{loader_size};
 ghost use Rattle.merge_module.specs.MergedModule.{merged_module};
 ghost use Rattle.merge_whole.specs.Given.{IsGiven, AreSmall};
 ghost use Rattle.merge_whole.specs.Parts.{ArePartsOf};
@@ -19,12 +20,18 @@ use merge_start::StartNumbers;
 use std::alloc::Global;
 use wasm_form::{List, Memory, Module};
 
-// The entry function comes behind the four of each member.
+// The entry function comes behind the four of each member and, where a member uses the loader, what there is for it.
 fn starting(linked: &Linked, first: u32) -> u32
     requires { first < 2 ^ 31 }
-    ensures { result ≡ first + 4 * length linked.now.set.members }
+    ensures { result ≡ first + 4 * length linked.now.set.members + loader_size linked.now }
 {
-    first + 4 * linked.member_count()
+    let count = linked.member_count();
+    let opening = first + 4 * count;
+    if linked.uses_loader() {
+        opening + 2 * count + 5
+    } else {
+        opening
+    }
 }
 
 // The sections of a module that has the globals and the segments, but for these.

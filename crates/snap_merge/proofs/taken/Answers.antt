@@ -34,7 +34,7 @@ returns-in-Ok-clause-snapped c =
     let same = ap (λ (x : StoreRun). x.linked) c.requires.fresh in
     let v = c.start_up.new.store in
     let known : IsMergeable L = record { shape = c.links.ensures.shape; links = c.links.ensures.links; pages = c.has_few_pages.ensures; hosts = c.hosts_have_integers.ensures.supported } in
-    snapped_of c.spelled_snapshots_are_snapshots.ensures c.bytes_spell_one_module.ensures L known (subst HoldBytes same c.holds_bytes.ensures) c.args.most v.run.steps
+    snapped_of c.spelled_snapshots_are_snapshots.ensures c.bytes_spell_one_module.ensures c.merged_modules_are_formed.ensures.shape L known (subst HoldBytes same c.holds_bytes.ensures) c.args.most v.run.steps
     (subst (λ (M : LinkedSet). IsFirst M c.args.most v.run.steps Takes) same c.in-Ok.ensures.first) (state_at (set_course L) v.run) (here_is L c.args.most v c.in-Ok.ensures.starting) b.items spelled) c.written.ensures.spelled
 
 pub returns-in-Ok-clause-tells : goal.returns-in-Ok-clause-tells

@@ -1,4 +1,5 @@
 use Rattle.std.proofs.Common.{Ok, refl, arith}
+use Rattle.std.specs.Option.{ForSome}
 use Rattle.spec_hosts.specs.Devices.{devices}
 use Rattle.host_calls.specs.Embedders.{names_of, embedder_of}
 use Rattle.dyl_link.specs.host_table.Table.{functions_of}
@@ -10,6 +11,7 @@ use Rattle.dyl_commands.specs.Served.{Serves}
 use Rattle.dyl_commands.proofs.Writing.{can_write}
 use Rattle.dyl_commands.proofs.Dues.{laws_of, served_due, served_complete}
 use Rattle.dyl_commands.proofs.Performing.{at_merge, at_run, at_exec, at_plan, at_gen, at_trace, at_replay, at_snap, at_board, range_of_merge, range_of_run, range_of_plan, range_of_gen, range_of_trace, range_of_replay, range_of_snap, range_of_board, does_without_picks}
+use Rattle.replay_commands.specs.Written.{WritesFor}
 use Rattle.dyl_app.proofs.service.perform.Goals as goal
 
 pub perform_merge-requires : goal.perform_merge-requires
@@ -57,6 +59,11 @@ returns-in-Merge g c =
           (devices (g.I.Source.seen c.args.input.now) (g.O.Sink.seen c.args.output.now) (g.E.Sink.seen c.args.errors.now) (g.A.Ambient.seen c.args.ambient.now))
           (devices (g.I.Source.seen c.args.input.now) (g.O.Sink.seen c.args.output.now) (g.E.Sink.seen c.perform_merge.new.errors) (g.A.Ambient.seen c.args.ambient.now)))
           c.args.order.now _ _ _ _ c.in-Merge.is c.as_str.ensures (record { errors = g.E.Sink.seen c.args.errors.now; works = refl; line = c.perform_merge.ensures.told });
+      writes = at_merge
+          (λ asked. ForSome (g.F.Files.seen c.args.files.now).told (λ files. WritesFor (λ texts. embedder_of texts c.args.host.now) asked files c.perform_merge.result (g.F.Files.seen c.args.files.now) (g.F.Files.seen c.perform_merge.new.files)
+          (devices (g.I.Source.seen c.args.input.now) (g.O.Sink.seen c.args.output.now) (g.E.Sink.seen c.args.errors.now) (g.A.Ambient.seen c.args.ambient.now))
+          (devices (g.I.Source.seen c.args.input.now) (g.O.Sink.seen c.args.output.now) (g.E.Sink.seen c.perform_merge.new.errors) (g.A.Ambient.seen c.args.ambient.now))))
+          c.args.order.now _ _ _ _ c.in-Merge.is c.as_str.ensures (λ files told. tt);
       quiet = c.perform_merge.ensures.quiet;
     }
 
@@ -83,6 +90,11 @@ returns-in-Run g c =
           at_run (λ asked. Does told (λ texts. embedder_of texts c.args.host.now) (picks_of c.args.picker.now) asked c.perform_run.result begun now)
           c.args.order.now _ _ _ _ _ c.in-Run.is c.items.ensures
           (does_without_picks told (λ texts. embedder_of texts c.args.host.now) (picks_of c.args.picker.now) (Ok (Run _ _ _ _)) c.perform_run.result begun now refl c.perform_run.ensures.does);
+      writes = at_run
+          (λ asked. ForSome (g.F.Files.seen c.args.files.now).told (λ files. WritesFor (λ texts. embedder_of texts c.args.host.now) asked files c.perform_run.result (g.F.Files.seen c.args.files.now) (g.F.Files.seen c.perform_run.new.files)
+          (devices (g.I.Source.seen c.args.input.now) (g.O.Sink.seen c.args.output.now) (g.E.Sink.seen c.args.errors.now) (g.A.Ambient.seen c.args.ambient.now))
+          (devices (g.I.Source.seen c.perform_run.new.input) (g.O.Sink.seen c.perform_run.new.output) (g.E.Sink.seen c.perform_run.new.errors) (g.A.Ambient.seen c.perform_run.new.ambient))))
+          c.args.order.now _ _ _ _ _ c.in-Run.is c.items.ensures (λ files told. tt);
       quiet = c.perform_run.ensures.quiet;
     }
 
@@ -109,6 +121,11 @@ returns-in-Exec g c =
           at_exec (λ asked. Does told (λ texts. embedder_of texts c.args.host.now) (picks_of c.args.picker.now) asked c.perform_exec.result begun now)
           c.args.order.now _ _ _ _ _ c.in-Exec.is c.as_str-in-Exec.ensures c.items-in-Exec.ensures
           (does_without_picks told (λ texts. embedder_of texts c.args.host.now) (picks_of c.args.picker.now) (Ok (Exec _ _ _)) c.perform_exec.result begun now refl c.perform_exec.ensures.does);
+      writes = at_exec
+          (λ asked. ForSome (g.F.Files.seen c.args.files.now).told (λ files. WritesFor (λ texts. embedder_of texts c.args.host.now) asked files c.perform_exec.result (g.F.Files.seen c.args.files.now) (g.F.Files.seen c.perform_exec.new.files)
+          (devices (g.I.Source.seen c.args.input.now) (g.O.Sink.seen c.args.output.now) (g.E.Sink.seen c.args.errors.now) (g.A.Ambient.seen c.args.ambient.now))
+          (devices (g.I.Source.seen c.perform_exec.new.input) (g.O.Sink.seen c.perform_exec.new.output) (g.E.Sink.seen c.perform_exec.new.errors) (g.A.Ambient.seen c.perform_exec.new.ambient))))
+          c.args.order.now _ _ _ _ _ c.in-Exec.is c.as_str-in-Exec.ensures c.items-in-Exec.ensures (λ files told. tt);
       quiet = c.perform_exec.ensures.quiet;
     }
 
@@ -133,6 +150,11 @@ returns-in-Plan g c =
           (devices (g.I.Source.seen c.args.input.now) (g.O.Sink.seen c.args.output.now) (g.E.Sink.seen c.args.errors.now) (g.A.Ambient.seen c.args.ambient.now))
           (devices (g.I.Source.seen c.args.input.now) (g.O.Sink.seen c.perform_plan.new.output) (g.E.Sink.seen c.perform_plan.new.errors) (g.A.Ambient.seen c.args.ambient.now)))
           c.args.order.now _ _ c.in-Plan.is (record { errors = g.E.Sink.seen c.args.errors.now; works = (c.perform_plan.ensures.works, refl); line = c.perform_plan.ensures.told });
+      writes = at_plan
+          (λ asked. ForSome (g.F.Files.seen c.args.files.now).told (λ files. WritesFor (λ texts. embedder_of texts c.args.host.now) asked files c.perform_plan.result (g.F.Files.seen c.args.files.now) (g.F.Files.seen c.perform_plan.new.files)
+          (devices (g.I.Source.seen c.args.input.now) (g.O.Sink.seen c.args.output.now) (g.E.Sink.seen c.args.errors.now) (g.A.Ambient.seen c.args.ambient.now))
+          (devices (g.I.Source.seen c.args.input.now) (g.O.Sink.seen c.perform_plan.new.output) (g.E.Sink.seen c.perform_plan.new.errors) (g.A.Ambient.seen c.args.ambient.now))))
+          c.args.order.now _ _ c.in-Plan.is (λ files told. tt);
       quiet = c.perform_plan.ensures.quiet;
     }
 
@@ -157,6 +179,11 @@ returns-in-Gen g c =
           (devices (g.I.Source.seen c.args.input.now) (g.O.Sink.seen c.args.output.now) (g.E.Sink.seen c.args.errors.now) (g.A.Ambient.seen c.args.ambient.now))
           (devices (g.I.Source.seen c.args.input.now) (g.O.Sink.seen c.perform_gen.new.output) (g.E.Sink.seen c.perform_gen.new.errors) (g.A.Ambient.seen c.args.ambient.now)))
           c.args.order.now _ _ _ c.in-Gen.is (record { errors = g.E.Sink.seen c.args.errors.now; works = (c.perform_gen.ensures.works, refl); line = c.perform_gen.ensures.told });
+      writes = at_gen
+          (λ asked. ForSome (g.F.Files.seen c.args.files.now).told (λ files. WritesFor (λ texts. embedder_of texts c.args.host.now) asked files c.perform_gen.result (g.F.Files.seen c.args.files.now) (g.F.Files.seen c.args.files.now)
+          (devices (g.I.Source.seen c.args.input.now) (g.O.Sink.seen c.args.output.now) (g.E.Sink.seen c.args.errors.now) (g.A.Ambient.seen c.args.ambient.now))
+          (devices (g.I.Source.seen c.args.input.now) (g.O.Sink.seen c.perform_gen.new.output) (g.E.Sink.seen c.perform_gen.new.errors) (g.A.Ambient.seen c.args.ambient.now))))
+          c.args.order.now _ _ _ c.in-Gen.is (λ files told. tt);
       quiet = c.perform_gen.ensures.quiet;
     }
 
@@ -183,6 +210,11 @@ returns-in-Trace g c =
           at_trace (λ asked. Does told (λ texts. embedder_of texts c.args.host.now) (picks_of c.args.picker.now) asked c.perform_trace.result begun now)
           c.args.order.now _ _ _ _ _ _ _ _ c.in-Trace.is c.as_str-in-Trace.ensures c.items-in-Trace.ensures
           (does_without_picks told (λ texts. embedder_of texts c.args.host.now) (picks_of c.args.picker.now) (Ok (Trace _ _ _ _ _ _)) c.perform_trace.result begun now refl c.perform_trace.ensures.does);
+      writes = at_trace
+          (λ asked. ForSome (g.F.Files.seen c.args.files.now).told (λ files. WritesFor (λ texts. embedder_of texts c.args.host.now) asked files c.perform_trace.result (g.F.Files.seen c.args.files.now) (g.F.Files.seen c.perform_trace.new.files)
+          (devices (g.I.Source.seen c.args.input.now) (g.O.Sink.seen c.args.output.now) (g.E.Sink.seen c.args.errors.now) (g.A.Ambient.seen c.args.ambient.now))
+          (devices (g.I.Source.seen c.perform_trace.new.input) (g.O.Sink.seen c.perform_trace.new.output) (g.E.Sink.seen c.perform_trace.new.errors) (g.A.Ambient.seen c.perform_trace.new.ambient))))
+          c.args.order.now _ _ _ _ _ _ _ _ c.in-Trace.is c.as_str-in-Trace.ensures c.items-in-Trace.ensures c.perform_trace.ensures.writes;
       quiet = c.perform_trace.ensures.quiet;
     }
 
@@ -207,6 +239,11 @@ returns-in-Replay g c =
           (devices (g.I.Source.seen c.args.input.now) (g.O.Sink.seen c.args.output.now) (g.E.Sink.seen c.args.errors.now) (g.A.Ambient.seen c.args.ambient.now))
           (devices (g.I.Source.seen c.args.input.now) (g.O.Sink.seen c.args.output.now) (g.E.Sink.seen c.perform_replay.new.errors) (g.A.Ambient.seen c.args.ambient.now)))
           c.args.order.now _ _ _ _ _ _ c.in-Replay.is c.as_str-in-Replay.ensures (record { errors = g.E.Sink.seen c.args.errors.now; works = refl; line = c.perform_replay.ensures.told });
+      writes = at_replay
+          (λ asked. ForSome (g.F.Files.seen c.args.files.now).told (λ files. WritesFor (λ texts. embedder_of texts c.args.host.now) asked files c.perform_replay.result (g.F.Files.seen c.args.files.now) (g.F.Files.seen c.perform_replay.new.files)
+          (devices (g.I.Source.seen c.args.input.now) (g.O.Sink.seen c.args.output.now) (g.E.Sink.seen c.args.errors.now) (g.A.Ambient.seen c.args.ambient.now))
+          (devices (g.I.Source.seen c.args.input.now) (g.O.Sink.seen c.args.output.now) (g.E.Sink.seen c.perform_replay.new.errors) (g.A.Ambient.seen c.args.ambient.now))))
+          c.args.order.now _ _ _ _ _ _ c.in-Replay.is c.as_str-in-Replay.ensures (λ files told. tt);
       quiet = c.perform_replay.ensures.quiet;
     }
 
@@ -231,6 +268,11 @@ returns-in-Snap g c =
           (devices (g.I.Source.seen c.args.input.now) (g.O.Sink.seen c.args.output.now) (g.E.Sink.seen c.args.errors.now) (g.A.Ambient.seen c.args.ambient.now))
           (devices (g.I.Source.seen c.args.input.now) (g.O.Sink.seen c.args.output.now) (g.E.Sink.seen c.perform_snap.new.errors) (g.A.Ambient.seen c.args.ambient.now)))
           c.args.order.now _ _ _ _ _ c.in-Snap.is c.as_str-in-Snap.ensures (record { errors = g.E.Sink.seen c.args.errors.now; works = refl; line = c.perform_snap.ensures.told });
+      writes = at_snap
+          (λ asked. ForSome (g.F.Files.seen c.args.files.now).told (λ files. WritesFor (λ texts. embedder_of texts c.args.host.now) asked files c.perform_snap.result (g.F.Files.seen c.args.files.now) (g.F.Files.seen c.perform_snap.new.files)
+          (devices (g.I.Source.seen c.args.input.now) (g.O.Sink.seen c.args.output.now) (g.E.Sink.seen c.args.errors.now) (g.A.Ambient.seen c.args.ambient.now))
+          (devices (g.I.Source.seen c.args.input.now) (g.O.Sink.seen c.args.output.now) (g.E.Sink.seen c.perform_snap.new.errors) (g.A.Ambient.seen c.args.ambient.now))))
+          c.args.order.now _ _ _ _ _ c.in-Snap.is c.as_str-in-Snap.ensures (λ files told. tt);
       quiet = c.perform_snap.ensures.quiet;
     }
 
@@ -255,5 +297,10 @@ returns-in-Board g c =
           (devices (g.I.Source.seen c.args.input.now) (g.O.Sink.seen c.args.output.now) (g.E.Sink.seen c.args.errors.now) (g.A.Ambient.seen c.args.ambient.now))
           (devices (g.I.Source.seen c.perform_board.new.input) (g.O.Sink.seen c.perform_board.new.output) (g.E.Sink.seen c.perform_board.new.errors) (g.A.Ambient.seen c.perform_board.new.ambient)))
           c.args.order.now _ _ _ _ _ _ c.in-Board.is c.items-in-Board.ensures c.perform_board.ensures.does;
+      writes = at_board
+          (λ asked. ForSome (g.F.Files.seen c.args.files.now).told (λ files. WritesFor (λ texts. embedder_of texts c.args.host.now) asked files c.perform_board.result (g.F.Files.seen c.args.files.now) (g.F.Files.seen c.perform_board.new.files)
+          (devices (g.I.Source.seen c.args.input.now) (g.O.Sink.seen c.args.output.now) (g.E.Sink.seen c.args.errors.now) (g.A.Ambient.seen c.args.ambient.now))
+          (devices (g.I.Source.seen c.perform_board.new.input) (g.O.Sink.seen c.perform_board.new.output) (g.E.Sink.seen c.perform_board.new.errors) (g.A.Ambient.seen c.perform_board.new.ambient))))
+          c.args.order.now _ _ _ _ _ _ c.in-Board.is c.items-in-Board.ensures (λ files told. tt);
       quiet = c.perform_board.ensures.quiet;
     }

@@ -4,6 +4,7 @@ use Rattle.dyl_commands.specs.Runs.{guest_arguments}
 use Rattle.dyl_commands.proofs.HeldNumbers.{read_numbers}
 use Rattle.dyl_commands.proofs.Executing.{set_not_done}
 use Rattle.replay_commands.proofs.Tracing.{module_trace_serves, module_trace_works, module_trace_not_done, file_trace_refused, file_trace_idle}
+use Rattle.replay_commands.proofs.Writing.{module_writes, file_unwritten}
 use Rattle.replay_commands.proofs.Counting.{module_trace_counts, file_trace_counts}
 use Rattle.replay_commands.proofs.trace.trace_file.Goals as goal
 
@@ -45,3 +46,13 @@ returns-in-Ok-clause-counts g c =
 
 pub returns-in-Err-clause-counts : goal.returns-in-Err-clause-counts
 returns-in-Err-clause-counts g c = rw c.refused.ensures (file_trace_counts _ c.in-Err.fault _ _ (rw c.as_str.ensures at c.in-Err.ensures))
+
+pub returns-in-Ok-clause-writes : goal.returns-in-Ok-clause-writes
+returns-in-Ok-clause-writes g c =
+    module_writes (embedder_of (guest_arguments c.args.args.now) c.args.host.now) c.args.set.now c.args.link.now c.args.steps c.args.out.now c.in-Ok.checked _ _ _ (rw c.as_str.ensures at c.in-Ok.ensures) _ _ c.trace_module-outcome.result
+    c.trace_module-outcome.ensures
+
+pub returns-in-Err-clause-writes : goal.returns-in-Err-clause-writes
+returns-in-Err-clause-writes g c =
+    rw c.refused.ensures
+    (file_unwritten (embedder_of (guest_arguments c.args.args.now) c.args.host.now) c.args.set.now c.args.link.now c.args.steps c.args.out.now _ _ _ c.in-Err.fault (rw c.as_str.ensures at c.in-Err.ensures))

@@ -7,6 +7,7 @@ use Rattle.dyl_commands.specs.Served.{BeginsAsSet}
 use Rattle.dyl_commands.specs.Runs.{guest_arguments}
 use Rattle.dyl_commands.proofs.Refusing.{refused_not_done}
 use Rattle.replay_commands.proofs.Tracing.{set_trace_serves, set_trace_works, set_trace_not_done, set_trace_refused, set_trace_idle}
+use Rattle.replay_commands.proofs.Writing.{set_writes, set_unwritten}
 use Rattle.dyl_commands.proofs.Counting.{unmerged_counts}
 use Rattle.replay_commands.proofs.Counting.{set_trace_counts}
 use Rattle.replay_commands.proofs.trace.trace_set.Goals as goal
@@ -50,3 +51,11 @@ pub returns-in-Err-clause-counts : goal.returns-in-Err-clause-counts
 returns-in-Err-clause-counts g c =
     unmerged_counts (names_of c.args.host.now) (options_of c.args.set.now) (links.options_of c.args.link.now) _ _ c.in-Err.ensures.writes c.in-Err.ensures.absents c.in-Err.outcome
     c.in-Err.ensures.fault c.in-Err.ensures.reads c.in-Err.ensures.tried
+
+pub returns-in-Ok-clause-writes : goal.returns-in-Ok-clause-writes
+returns-in-Ok-clause-writes g c =
+    set_writes (embedder_of (guest_arguments c.args.args.now) c.args.host.now) c.args.set.now c.args.link.now c.args.steps c.args.out.now c.in-Ok.linked _ _ _ c.in-Ok.ensures _ _ c.trace_linked-outcome.result c.trace_linked-outcome.ensures
+
+pub returns-in-Err-clause-writes : goal.returns-in-Err-clause-writes
+returns-in-Err-clause-writes g c =
+    set_unwritten (embedder_of (guest_arguments c.args.args.now) c.args.host.now) c.args.set.now c.args.link.now c.args.steps c.args.out.now _ _ c.in-Err.ensures.files _ c.in-Err.outcome c.in-Err.ensures.fault

@@ -14,7 +14,7 @@ pub returns-clause-spelled : goal.returns-clause-spelled
 returns-clause-spelled c =
     let L = c.args.linked.now in
     let s = state_at (set_course L) c.args.store.now.run in
-    if_ok c.encoded-bytes.result (λ bytes spelled. spelled_of L s c.in_ok-module.module c.in_ok-module.ensures bytes.items spelled) c.encoded-bytes.ensures.spelled
+    if_ok c.encoded-bytes.result (λ bytes shortest. spelled_of L s c.in_ok-module.module c.in_ok-module.ensures bytes.items shortest) c.encoded-bytes.ensures.shortest
 
 pub returns-clause-tells : goal.returns-clause-tells
 returns-clause-tells c =

@@ -1,4 +1,5 @@
 -- A `List` holds its elements as a list does, so that a type may hold lists of itself.
+-- Serves the contracts of this crate.
 use mathlib.Core.Path.{◌≡◌, refl, sym}
 use mathlib.Core.List.{List, []}
 use mathlib.Core.Former.{Former, this, list, via, children}

@@ -1,11 +1,14 @@
-use Rattle.std.proofs.Common.{refl, ap, subst}
+use Rattle.std.proofs.Common.{refl, ap, sym, subst, inr}
 use Rattle.std.specs.Prelude.{Result}
 use Rattle.spec_loading.specs.wasm_form.declared.runtime.Trap.{Trap}
-use Rattle.wasm_machine.specs.Machines.{MachineState}
+use Rattle.wasm_machine.specs.Machines.{MachineState, IsMarked}
 use Rattle.dyl_frames.specs.Cores.{raised_stages, PlacesFrom}
 use Rattle.dyl_frames.proofs.Tasks.{live_mark, placed_steps, trap_steps, trapped_core, finished_core, raised_count}
 use Rattle.dyl_frames.proofs.FewFrames.{few_finished, few_ended}
 use Rattle.dyl_frames.proofs.frames.Core.placed.Goals as goal
+
+pub trap-requires : goal.trap-requires
+trap-requires g c = inr (subst IsMarked (sym c.finish.ensures.machine) c.requires.marked)
 
 pub returns-in-Ok-clause-stepped : goal.returns-in-Ok-clause-stepped
 returns-in-Ok-clause-stepped g c D before places s k =

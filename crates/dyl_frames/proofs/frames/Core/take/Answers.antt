@@ -5,7 +5,7 @@ use Rattle.dyl_frames.proofs.FewFrames.{few_answered}
 use Rattle.dyl_frames.proofs.frames.Core.take.Goals as goal
 
 pub answer-requires : goal.answer-requires
-answer-requires g c κs = ((refl, tt), (c.requires.core.sound.over, (fits_answer (g.V.View.seen c.args.view.now).fixed (g.V.View.seen c.args.view.now).memory c.args.a.now c.args.self.now.machine.standing c.requires.fits, c.requires.bytes)))
+answer-requires g c κs = ((refl, tt), (c.requires.core.sound.over, fits_answer (g.V.View.seen c.args.view.now).fixed (g.V.View.seen c.args.view.now).memory c.args.a.now c.args.self.now.machine.standing c.requires.fits))
 
 pub returns-clause-taken : goal.returns-clause-taken
 returns-clause-taken g c D loaded = taken_from D (g.V.View.seen c.args.view.now) (g.V.View.seen c.answer.new.view) c.args.self.now c.answer.new.self c.args.a.now c.requires.fits c.answer.ensures.answered

@@ -9,4 +9,4 @@ returns c = λ n x listed loader.
     (c.in_ok-phases.ensures n x listed)
     (ap code_of (c.in_ok-entry_function.ensures n x listed))
     c.args.to.now.items _ _ _
-    c.in_ok-put_parts.ensures c.in_ok-push.ensures.items (c.in_ok-put_loader.ensures n x listed loader)
+    c.in_ok-put_parts.ensures (c.in_ok-put_loader.ensures n x listed loader) c.in_ok-push.ensures.items

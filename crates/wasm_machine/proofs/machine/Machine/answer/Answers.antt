@@ -9,6 +9,6 @@ receive-requires g c =
 pub returns-in-Reply-clause-over : goal.returns-in-Reply-clause-over
 returns-in-Reply-clause-over g c =
     let fits = rw c.in-Reply.is at c.requires.fits in
-    let bytes = rw c.in-Reply.is at c.requires.bytes in
+    let bytes = rw c.in-Reply.is at c.is_of_bytes.ensures in
     let received = rw c.items-in-Reply.ensures at c.receive.ensures.received in
     rw (c.write_all.ensures.others, c.write_all.ensures.memory, c.items.ensures) (replied_over (g.V.View.seen c.args.view.now).fixed (g.V.View.seen c.args.view.now).units (g.V.View.seen c.args.view.now).memory c.in-Reply.results c.in-Reply.writes c.args.self.now c.receive.new.self c.requires.over fits bytes received c.receive.ensures.rooms)
